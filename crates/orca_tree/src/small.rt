@@ -1,0 +1,87 @@
+//! Small programs: one object type, and one process that makes one object and calls its operations.
+
+use orca_base::{Items, Text};
+
+/// What an operation takes and gives.
+#[derive(Debug, Drop)]
+pub enum HeadKind {
+    /// Neither a parameter nor a result: `()`.
+    Plain,
+    /// An integer as result: `() : integer`.
+    Gives,
+    /// An integer as parameter: `(a : integer)`.
+    Takes { parameter: Text },
+}
+
+/// The head of an operation.
+#[derive(Debug, Drop)]
+pub struct Head {
+    pub name: Text,
+    pub kind: HeadKind,
+}
+
+/// What is assigned to a field: a number, or a field or parameter by its name.
+#[derive(Debug, Drop)]
+pub enum Operand {
+    Number { value: i64 },
+    Named { name: Text },
+}
+
+/// An assignment to a field.
+#[derive(Debug, Drop)]
+pub struct Assignment {
+    pub field: Text,
+    pub value: Operand,
+}
+
+/// What an operation does: it returns a field, or assigns to fields one after the other.
+#[derive(Debug, Drop)]
+pub enum OperationBody {
+    Returns { field: Text },
+    Assigns { assignments: Items<Assignment> },
+}
+
+/// An operation of the implementation.
+#[derive(Debug, Drop)]
+pub struct Operation {
+    pub head: Head,
+    pub body: OperationBody,
+}
+
+/// The implementation's `begin` part, where there is one.
+#[derive(Debug, Drop)]
+pub enum Opening {
+    Absent,
+    Begins { assignments: Items<Assignment> },
+}
+
+/// An argument of a call: a number, or the result of an operation of the object.
+#[derive(Debug, Drop)]
+pub enum Argument {
+    Number { value: i64 },
+    Result { operation: Text },
+}
+
+/// A statement of the process: a call of an operation without result, or `WriteLine`.
+#[derive(Debug, Drop)]
+pub enum Call {
+    Invokes { operation: Text },
+    Passes { operation: Text, argument: Argument },
+    Writes { argument: Argument },
+}
+
+/// The tree of a small program.
+#[derive(Debug, Drop)]
+pub struct SmallProgram {
+    /// The object type's name.
+    pub kind: Text,
+    /// The heads of its specification.
+    pub heads: Items<Head>,
+    /// The object's fields, integers all.
+    pub fields: Items<Text>,
+    pub operations: Items<Operation>,
+    pub opening: Opening,
+    /// The process's variable, of that object type.
+    pub variable: Text,
+    pub calls: Items<Call>,
+}

@@ -1,0 +1,5 @@
+pub mod Datum
+pub mod Code
+pub mod Sizes
+pub mod View
+pub mod Falls

@@ -1,0 +1,133 @@
+//! Values: what variables hold, what operations take and give.
+
+ghost use Rattle.std.specs.Prelude.{◌≡◌, ◌++◌, ◌∷◌, [], length, map, IfOk, OnOk, OnErr};
+ghost use Rattle.value_core.specs.Datum.{list_of};
+ghost use Rattle.value_core.specs.View.{datum_of};
+
+use orca_base::{NoMemory, ObjectId, Text};
+use std::alloc::Global;
+use std::marker::Model;
+
+/// A value of the language.
+#[cycle(value)]
+#[derive(Drop)]
+pub enum Value {
+    /// An integer of 64 bits.
+    Int(i64),
+    /// A boolean.
+    Truth(bool),
+    /// A char, by its code.
+    Char(u8),
+    /// An enumeration's value, by its number from 0.
+    Enum(u16),
+    /// A string.
+    Text(Text),
+    /// An array, its parts from the low bound on.
+    Array(Parts),
+    /// A record, its fields in order of declaration.
+    Fields(Parts),
+    /// A set, its elements rising.
+    Set(Parts),
+    /// A bag, its elements never falling.
+    Bag(Parts),
+    /// The name of an object.
+    Object(ObjectId),
+}
+
+/// A list of values, which clauses see as `Data` of specs/.
+#[cycle(value)]
+#[derive(Drop)]
+pub struct Parts {
+    items: Vec<Value>,
+}
+
+/// The values of an object's fields, in order of declaration.
+pub type ObjectState = Parts;
+
+impl Model for Parts {
+    ghost use Rattle.value_core.specs.Datum.{Data};
+    ghost use Rattle.value_core.specs.Code.{data_code};
+
+    ghost Value = { Data };
+
+    ghost coded = { data_code };
+
+    ghost use Rattle.value_core.specs.Sizes.{count_of_all};
+    ghost use Rattle.value_core.specs.View.{data_in};
+
+    ghost view = { λ p. data_in p.items.items };
+
+    ghost size = { count_of_all };
+
+    ghost use Rattle.std.proofs.Common.{arith};
+    ghost use Rattle.value_core.specs.Falls.{most_le};
+
+    ghost size_decreases = { λ p h. Prim.omega (arith, most_le p.items.items) };
+}
+
+impl Parts {
+    /// No values.
+    pub fn new(alloc: Global) -> Parts
+        ensures { list_of result ≡ [] }
+    {
+        Parts {
+            items: Vec::new(alloc),
+        }
+    }
+
+    /// How many values there are.
+    pub fn len(&self) -> usize
+        ensures { result ≡ length (list_of self.now) }
+    {
+        self.items.len()
+    }
+
+    /// The values in order.
+    pub fn as_slice(&self) -> &[Value]
+        ensures { map datum_of result.now ≡ list_of self.now }
+    {
+        self.items.as_slice()
+    }
+
+    /// Adds a value at the end.
+    pub fn push(&mut self, value: Value) -> Result<(), NoMemory>
+        ensures ok { OnOk result (list_of self.new ≡ list_of self.old ++ datum_of value ∷ []) }
+        ensures err { OnErr result (self.new ≡ self.old) }
+    {
+        self.items.push(value)?;
+        Ok(())
+    }
+
+    /// Equal values.
+    #[cycle(copies)]
+    pub fn copy(&self, alloc: Global) -> Result<Parts, NoMemory>
+        ensures { IfOk result (λ p. p ≡ self.now) }
+    {
+        let mut items = Vec::new(alloc);
+        for value in &self.items {
+            items.push(value.copy(alloc)?)?;
+        }
+        Ok(Parts { items })
+    }
+}
+
+impl Value {
+    /// An equal value.
+    #[cycle(copies)]
+    pub fn copy(&self, alloc: Global) -> Result<Value, NoMemory>
+        ensures { IfOk result (λ v. v ≡ self.now) }
+    {
+        match self {
+            Value::Int(number) => Ok(Value::Int(*number)),
+            Value::Truth(truth) => Ok(Value::Truth(*truth)),
+            Value::Char(code) => Ok(Value::Char(*code)),
+            Value::Enum(number) => Ok(Value::Enum(*number)),
+            Value::Text(text) => Ok(Value::Text(text.copy(alloc)?)),
+            Value::Array(parts) => Ok(Value::Array(parts.copy(alloc)?)),
+            Value::Fields(parts) => Ok(Value::Fields(parts.copy(alloc)?)),
+            Value::Set(parts) => Ok(Value::Set(parts.copy(alloc)?)),
+            Value::Bag(parts) => Ok(Value::Bag(parts.copy(alloc)?)),
+            Value::Object(object) => Ok(Value::Object(*object)),
+        }
+    }
+}
