@@ -5,8 +5,10 @@
 #![tactic(auto)]
 
 mod action;
+mod meaning;
 mod value;
 
 pub use action::{Action, Class, Kept, Line, Message, Reply};
+pub use meaning::{Doing, Making, Tried};
 pub use orca_base::Text as TextValue;
 pub use value::{ObjectState, Parts, Value};
