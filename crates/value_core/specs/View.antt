@@ -1,4 +1,4 @@
-use Rattle.std.specs.Prelude.{ℕ, List, [], ◌∷◌, map}
+use Rattle.std.specs.Prelude.{◌≡◌, ℕ, List, [], ◌∷◌, map, refl}
 use Rattle.value_core.specs.Datum.{Datum, Data, data_of}
 use Rattle.value_core.specs.Datum as datum
 use Rattle.value_core.specs.declared.value.Value.{Value}
@@ -18,3 +18,40 @@ datum_of (Object o) = datum.object o.process o.number
 
 abbrev pub data_in : List Value → Data
 data_in vs = data_of (map datum_of vs)
+
+-- the value that shows so
+abbrev pub value_of : Datum → Value
+value_of (datum.int z) = Int z
+value_of (datum.truth b) = Truth b
+value_of (datum.char c) = Char c
+value_of (datum.enumerated n) = Enum n
+value_of (datum.text t) = Text t
+value_of (datum.array w) = Array w
+value_of (datum.fields w) = Fields w
+value_of (datum.set w) = Set w
+value_of (datum.bag w) = Bag w
+value_of (datum.object p n) = Object (record { process = p; number = n })
+
+pub value_of-datum_of : (v : Value) → value_of (datum_of v) ≡ v
+value_of-datum_of (Int z) = refl
+value_of-datum_of (Truth b) = refl
+value_of-datum_of (Char c) = refl
+value_of-datum_of (Enum n) = refl
+value_of-datum_of (Text t) = refl
+value_of-datum_of (Array w) = refl
+value_of-datum_of (Fields w) = refl
+value_of-datum_of (Set w) = refl
+value_of-datum_of (Bag w) = refl
+value_of-datum_of (Object o) = refl
+
+pub datum_of-value_of : (d : Datum) → datum_of (value_of d) ≡ d
+datum_of-value_of (datum.int z) = refl
+datum_of-value_of (datum.truth b) = refl
+datum_of-value_of (datum.char c) = refl
+datum_of-value_of (datum.enumerated n) = refl
+datum_of-value_of (datum.text t) = refl
+datum_of-value_of (datum.array w) = refl
+datum_of-value_of (datum.fields w) = refl
+datum_of-value_of (datum.set w) = refl
+datum_of-value_of (datum.bag w) = refl
+datum_of-value_of (datum.object p n) = refl

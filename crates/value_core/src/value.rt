@@ -75,6 +75,20 @@ impl Parts {
         }
     }
 
+    /// These values.
+    pub fn from_vec(items: Vec<Value>) -> Parts
+        ensures { list_of result ≡ map datum_of items.items }
+    {
+        Parts { items }
+    }
+
+    /// The values.
+    pub fn into_vec(self) -> Vec<Value>
+        ensures { map datum_of result.items ≡ list_of self }
+    {
+        self.items
+    }
+
     /// How many values there are.
     pub fn len(&self) -> usize
         ensures { result ≡ length (list_of self.now) }

@@ -1,0 +1,96 @@
+-- What the operations and the making of a small program's object mean (docs/LANGUAGE.md, Objects and operations).
+use Rattle.std.specs.Prelude.{◌==◌, ℕ, ℤ, pos, List, [], ◌∷◌, ◌++◌, Option, None, Some, length, map, position, slice_get, slice_set, if◌then◌else◌}
+use Rattle.std.specs.Str.{bytes_eq}
+use Rattle.orca_base.specs.declared.ids.KindNo.{KindNo}
+use Rattle.orca_base.specs.declared.ids.OpNo.{OpNo}
+use Rattle.orca_tree.specs.declared.small.HeadKind.{HeadKind}
+use Rattle.orca_tree.specs.declared.small.HeadKind.TheVariants.{Plain, Gives, Takes}
+use Rattle.orca_tree.specs.declared.small.Operand.{Operand}
+use Rattle.orca_tree.specs.declared.small.Operand.TheVariants.{Number, Named}
+use Rattle.orca_tree.specs.declared.small.Assignment.{Assignment}
+use Rattle.orca_tree.specs.declared.small.OperationBody.{OperationBody}
+use Rattle.orca_tree.specs.declared.small.OperationBody.TheVariants.{Returns, Assigns}
+use Rattle.orca_tree.specs.declared.small.Operation.{Operation}
+use Rattle.orca_tree.specs.declared.small.Opening.{Opening}
+use Rattle.orca_tree.specs.declared.small.Opening.TheVariants.{Absent, Begins}
+use Rattle.orca_tree.specs.declared.small.SmallProgram.{SmallProgram}
+use Rattle.value_core.specs.Datum.{Datum, Data, list_of, data_of}
+use Rattle.value_core.specs.Datum as datum
+use Rattle.value_core.specs.View.{value_of}
+use Rattle.value_core.specs.declared.action.Reply.TheVariants as answer
+use Rattle.value_core.specs.declared.meaning.Making.{Making}
+use Rattle.value_core.specs.declared.meaning.Making.TheVariants as making
+use Rattle.value_core.specs.declared.meaning.Tried.{Tried}
+use Rattle.value_core.specs.declared.meaning.Tried.TheVariants as tried
+
+-- a name
+abbrev pub Name : Type 0
+Name = List ℕ
+
+-- the first place of a name in a list of names, from 0
+abbrev pub place_in : List Name → Name → Option ℕ
+place_in names name = position (λ n. bytes_eq n name) names
+
+-- the value that stands at a place
+abbrev pub value_at : List Datum → Option ℕ → Option Datum
+value_at values None = None
+value_at values (Some place) = slice_get values place
+
+-- the values with the one at a place replaced
+abbrev pub with_value : List Datum → Option ℕ → Datum → List Datum
+with_value values None new = values
+with_value values (Some place) new = slice_set values place new
+
+-- a value, or else another, or else the opening value of an integer
+abbrev pub value_or : Option Datum → Datum → Datum
+value_or None other = other
+value_or (Some v) other = v
+
+abbrev pub opening_value : Datum
+opening_value = datum.int (pos 0)
+
+-- what a number, a field or a parameter stands for
+abbrev pub operand_value : List Name → List Datum → List Name → List Datum → Operand → Datum
+operand_value fields state parameters args (Number n) = datum.int n
+operand_value fields state parameters args (Named name) = value_or (value_at state (place_in fields name)) (value_or (value_at args (place_in parameters name)) opening_value)
+
+-- the parameter that a head names
+abbrev pub parameters_of : HeadKind → List Name
+parameters_of Plain = []
+parameters_of Gives = []
+parameters_of (Takes parameter) = parameter ∷ []
+
+-- the state after assignments, one after the other
+abbrev pub after_assignments : List Name → List Name → List Datum → List Assignment → List Datum → List Datum
+after_assignments fields parameters args [] state = state
+after_assignments fields parameters args (a ∷ assignments) state =
+    after_assignments fields parameters args assignments (with_value state (place_in fields a.field) (operand_value fields state parameters args a.value))
+
+-- what an operation's body does: a small program has no guards, and nothing in it faults
+abbrev pub body_tried : List Name → List Name → List Datum → List Datum → OperationBody → Tried
+body_tried fields parameters args state (Returns field) = tried.Did 0 (data_of state) (answer.Gave (value_of (value_or (value_at state (place_in fields field)) opening_value)))
+body_tried fields parameters args state (Assigns assignments) = tried.Did 0 (data_of (after_assignments fields parameters args assignments state)) answer.Done
+
+abbrev pub operation_tried : List Name → List Datum → List Datum → Option Operation → Tried
+operation_tried fields args state None = tried.Blocked
+operation_tried fields args state (Some operation) = body_tried fields (parameters_of operation.head.kind) args state operation.body
+
+-- a try of an operation: the output object has one, `WriteLine`, which always succeeds and has no state to change
+abbrev pub tries_of : SmallProgram → KindNo → OpNo → Data → Data → Tried
+tries_of program kind op state args =
+    if kind.0 == 0 then tried.Did 0 state answer.Done
+    else operation_tried program.fields (list_of args) (list_of state) (slice_get program.operations op.0)
+
+-- the assignments of the opening part
+abbrev pub opening_assignments : Opening → List Assignment
+opening_assignments Absent = []
+opening_assignments (Begins assignments) = assignments
+
+-- the opening values of the fields: they are integers all
+abbrev pub opening_values : List Name → List Datum
+opening_values fields = map (λ _. opening_value) fields
+
+-- the making of the object: its fields open, and the opening part runs
+abbrev pub making_of : SmallProgram → KindNo → Making
+making_of program kind =
+    making.Made (data_of (after_assignments program.fields [] [] (opening_assignments program.opening) (opening_values program.fields)))

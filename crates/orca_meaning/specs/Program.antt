@@ -1,0 +1,20 @@
+-- The meanings of a small program.
+use Rattle.value_core.specs.declared.action.Class.TheVariants.{Writes}
+use Rattle.value_core.specs.Meaning.{Performs, Computes}
+use Rattle.orca_tree.specs.declared.small.SmallProgram.{SmallProgram}
+use Rattle.orca_meaning.specs.Operations.{tries_of, making_of}
+use Rattle.orca_meaning.specs.Processes.{doing_of}
+
+-- each operation is taken as one that may change its object
+abbrev pub performs_of : SmallProgram → Performs
+performs_of program = record {
+  class_of = λ kind op. Writes;
+  made = making_of program;
+  tries = tries_of program;
+}
+
+abbrev pub computes_of : SmallProgram → Computes
+computes_of program = record {
+  main = record { 0 = 0 };
+  doing = λ text number args replies turns. doing_of program number replies;
+}

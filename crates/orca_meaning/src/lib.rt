@@ -1,0 +1,4 @@
+//! What a program means: the next action of a process, and what its operations do.
+#![tactic(auto)]
+
+mod operations;
