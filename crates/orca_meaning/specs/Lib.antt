@@ -1,3 +1,5 @@
 pub mod Operations
 pub mod Processes
 pub mod Program
+pub mod Stages
+pub mod Known

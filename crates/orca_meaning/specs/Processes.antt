@@ -1,7 +1,7 @@
 -- What the process of a small program does next, by the replies that it received (docs/LANGUAGE.md, Processes). Each phrase
 -- uses the replies of its calls from the front of the list and hands the others on; where there is none left, the process
 -- is at that call.
-use Rattle.std.specs.Prelude.{◌==◌, ℕ, ℤ, pos, List, [], ◌∷◌, ◌+◌, map, if◌then◌else◌}
+use Rattle.std.specs.Prelude.{ℕ, pos, List, [], ◌∷◌, Option, position, unwrap_or}
 use Rattle.std.specs.Str.{bytes_eq}
 use Rattle.std.specs.Fmt.{signed_decimal}
 use Rattle.orca_base.specs.declared.ids.KindNo.{KindNo}
@@ -26,10 +26,13 @@ use Rattle.value_core.specs.declared.meaning.Doing.{Doing}
 use Rattle.value_core.specs.declared.meaning.Doing.TheVariants as doing
 use Rattle.orca_meaning.specs.Operations.{Name}
 
+-- the first place of the operation of a name, from 0
+abbrev pub operation_place : List Operation → Name → Option ℕ
+operation_place operations name = position (λ o. bytes_eq o.head.name name) operations
+
 -- the number of an operation: how many stand before it
 abbrev pub number_in : List Operation → Name → ℕ
-number_in [] name = 0
-number_in (o ∷ operations) name = if bytes_eq o.head.name name then 0 else number_in operations name + 1
+number_in operations name = unwrap_or (operation_place operations name) 0
 
 -- the program's object type, the one that is declared
 abbrev pub small_kind : KindNo

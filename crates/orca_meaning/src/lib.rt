@@ -2,3 +2,6 @@
 #![tactic(auto)]
 
 mod operations;
+mod process;
+
+pub use operations::{make, perform};

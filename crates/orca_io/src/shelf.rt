@@ -1,0 +1,313 @@
+//! Files that are read whole.
+
+ghost use Rattle.std.specs.Prelude.{◌≡◌, ◌≤◌, ◌↔◌, ℕ, List, [], Option, None, Some, Contains, IfOk, IfSome, IsErrOf, vec_len, map, string_bytes};
+ghost use Rattle.orca_io.specs.declared.shelf.ShelfFault.TheVariants.{NoMemory as Without};
+ghost use Rattle.orca_io.specs.Causes.{Rose, counted};
+ghost use Rattle.orca_io.specs.Files.{File, content_of, Reads};
+
+use std::alloc::{AllocError, AllocFailed, Global};
+use std::io::{ErrorKind, Read};
+use std::rt::Files;
+use std::{fs, io};
+use thiserror::Error;
+
+/// Why a file could not be read.
+#[derive(Clone, Copy, Debug, PartialEq, Eq, Error)]
+pub enum ShelfFault {
+    /// There is no file of this name.
+    #[error("no such file")]
+    Absent,
+    /// The file has more bytes than were allowed.
+    #[error("the file is too long")]
+    TooLong,
+    /// The file is there, and can't be read.
+    #[error("the file cannot be read")]
+    Failed,
+    /// There was no memory for the bytes.
+    #[error("out of memory")]
+    NoMemory,
+}
+
+impl From<orca_base::NoMemory> for ShelfFault {
+    ghost from_gives = { λ _ e. e ≡ Without };
+
+    fn from(_: orca_base::NoMemory) -> ShelfFault {
+        ShelfFault::NoMemory
+    }
+}
+
+impl From<AllocError> for ShelfFault {
+    ghost from_gives = { λ _ e. e ≡ Without };
+
+    fn from(_: AllocError) -> ShelfFault {
+        ShelfFault::NoMemory
+    }
+}
+
+impl<T: Drop> From<AllocFailed<T>> for ShelfFault {
+    ghost from_gives = { λ _ e. e ≡ Without };
+
+    fn from(_: AllocFailed<T>) -> ShelfFault {
+        ShelfFault::NoMemory
+    }
+}
+
+/// Files that are read whole, by name.
+pub trait Shelf {
+    /// The files, where the shelf can tell them.
+    ghost told: { Self → Option (List File) };
+
+    /// How many reads have failed. It never falls, and stands still at the end of 64 bits.
+    ghost faults: { Self → ℕ };
+
+    /// All of a file's bytes, if there are at most `limit`.
+    ///
+    /// Of two files of one name the first is read. `Failed` comes only where the count of faults rose in this call.
+    fn read_all(&mut self, alloc: Global, name: &str, limit: u32) -> Result<Vec<u8>, ShelfFault>
+        ensures reads { IfSome (told self.old) (λ files. Reads (λ v. v.items) (content_of files name.now) limit result) }
+        ensures same { told self.new ≡ told self.old }
+        ensures later { faults self.old ≤ faults self.new }
+        ensures failed { IsErrOf result ShelfFault.Failed → Rose (faults self.old) (faults self.new) }
+
+        // A shelf that tells nothing keeps to the limit too.
+        ensures within { IfOk result (λ v. vec_len v ≤ limit) };
+}
+
+/// Files in memory. The calls of `read_all` that have the given numbers fail.
+#[derive(Drop)]
+pub struct MemoryShelf {
+    files: Vec<(String, Vec<u8>)>,
+    failing: Vec<u64>,
+    calls: u64,
+    faults: u64,
+}
+
+impl MemoryShelf {
+    ghost use Rattle.orca_io.specs.Failing.{failing_reads, reads_so_far};
+
+    /// These files, by name and bytes. `failing` has the numbers of the calls that fail, counted from 1.
+    pub fn new(files: Vec<(String, Vec<u8>)>, failing: Vec<u64>) -> MemoryShelf
+        ensures told { ⟦<MemoryShelf as Shelf>⟧.told result ≡ Some (map (λ f. (string_bytes f.0, f.1.items)) files.items) }
+        ensures faults { ⟦<MemoryShelf as Shelf>⟧.faults result ≡ 0 }
+        ensures failing { failing_reads result ≡ failing.items }
+        ensures unread { reads_so_far result ≡ 0 }
+    {
+        MemoryShelf {
+            files,
+            failing,
+            calls: 0,
+            faults: 0,
+        }
+    }
+}
+
+/// The bytes of the first file of this name, if there are at most `limit`.
+fn copy_of(
+    alloc: Global,
+    files: &[(String, Vec<u8>)],
+    name: &str,
+    limit: u32,
+) -> Result<Vec<u8>, ShelfFault>
+    ensures reads { Reads (λ v. v.items) (content_of (map (λ f. (string_bytes f.0, f.1.items)) files.now) name.now) limit result }
+    ensures never { IsErrOf result ShelfFault.Failed → ⊥ }
+{
+    for file in files {
+        if file.0.as_str() == name {
+            if file.1.len() > limit as usize {
+                return Err(ShelfFault::TooLong);
+            }
+            return Ok(Vec::from_slice(alloc, file.1.as_slice())?);
+        }
+    }
+    Err(ShelfFault::Absent)
+}
+
+impl Shelf for MemoryShelf {
+    ghost use Rattle.orca_io.specs.Failing.{failing_reads, reads_so_far};
+
+    ghost told = { λ s. Some (map (λ f. (string_bytes f.0, f.1.items)) s.files.items) };
+
+    ghost faults = { λ s. s.faults };
+
+    fn read_all(&mut self, alloc: Global, name: &str, limit: u32) -> Result<Vec<u8>, ShelfFault>
+        ensures reads { IfSome (⟦<MemoryShelf as Shelf>⟧.told self.old) (λ files. Reads (λ v. v.items) (content_of files name.now) limit result) }
+        ensures same { ⟦<MemoryShelf as Shelf>⟧.told self.new ≡ ⟦<MemoryShelf as Shelf>⟧.told self.old }
+        ensures later { ⟦<MemoryShelf as Shelf>⟧.faults self.old ≤ ⟦<MemoryShelf as Shelf>⟧.faults self.new }
+        ensures failed { IsErrOf result ShelfFault.Failed → Rose (⟦<MemoryShelf as Shelf>⟧.faults self.old) (⟦<MemoryShelf as Shelf>⟧.faults self.new) }
+        ensures within { IfOk result (λ v. vec_len v ≤ limit) }
+
+        // Exactly the calls with the given numbers fail.
+        ensures fails { IsErrOf result ShelfFault.Failed ↔ Contains (failing_reads self.old) (reads_so_far self.new) }
+        ensures counts { reads_so_far self.new ≡ counted (reads_so_far self.old) }
+        ensures failing { failing_reads self.new ≡ failing_reads self.old }
+    {
+        self.calls = self.calls.saturating_add(1);
+        if self.failing.contains(&self.calls) {
+            self.faults = self.faults.saturating_add(1);
+            return Err(ShelfFault::Failed);
+        }
+        copy_of(alloc, &self.files, name, limit)
+    }
+}
+
+/// Files in memory, whose reads never fail.
+#[derive(Drop)]
+pub struct SureShelf {
+    files: Vec<(String, Vec<u8>)>,
+}
+
+impl SureShelf {
+    /// These files, by name and bytes.
+    pub fn new(files: Vec<(String, Vec<u8>)>) -> SureShelf
+        ensures { ⟦<SureShelf as Shelf>⟧.told result ≡ Some (map (λ f. (string_bytes f.0, f.1.items)) files.items) }
+    {
+        SureShelf { files }
+    }
+}
+
+impl Shelf for SureShelf {
+    ghost told = { λ s. Some (map (λ f. (string_bytes f.0, f.1.items)) s.files.items) };
+
+    ghost faults = { λ _. 0 };
+
+    fn read_all(&mut self, alloc: Global, name: &str, limit: u32) -> Result<Vec<u8>, ShelfFault> {
+        copy_of(alloc, &self.files, name, limit)
+    }
+}
+
+/// Real files. It tells nothing: it is an edge of what is proved.
+///
+/// A name that can't be found is `Absent`, and any other fault of a file, as of a folder in its place, is `Failed`. At most
+/// one byte past the limit is taken.
+#[derive(Drop)]
+pub struct FileShelf<'a, R: Files> {
+    rt: &'a R,
+    faults: u64,
+}
+
+impl<'a, R: Files> FileShelf<'a, R> {
+    /// The files of this runtime.
+    pub fn new(rt: &'a R) -> FileShelf<'a, R>
+        ensures { ⟦<FileShelf<'a, R> as Shelf>⟧.faults result ≡ 0 }
+    {
+        FileShelf { rt, faults: 0 }
+    }
+}
+
+impl<R: Files> Shelf for FileShelf<'_, R> {
+    ghost told = { λ _. None };
+
+    ghost faults = { λ s. s.faults };
+
+    fn read_all(&mut self, alloc: Global, name: &str, limit: u32) -> Result<Vec<u8>, ShelfFault> {
+        match read_file(self.rt, alloc, name, limit) {
+            Ok(bytes) if bytes.len() > limit as usize => Err(ShelfFault::TooLong),
+            Ok(bytes) => Ok(bytes),
+            Err(e) => match e.kind() {
+                ErrorKind::NotFound => Err(ShelfFault::Absent),
+                ErrorKind::OutOfMemory => Err(ShelfFault::NoMemory),
+                _ => {
+                    self.faults = self.faults.saturating_add(1);
+                    Err(ShelfFault::Failed)
+                }
+            },
+        }
+    }
+}
+
+/// A file's bytes, cut behind the first that is past the limit.
+fn read_file<R: Files>(rt: &R, alloc: Global, name: &str, limit: u32) -> io::Result<Vec<u8>> {
+    let file = fs::open(rt, name)?;
+    let mut bytes = Vec::new(alloc);
+    file.take(u64::from(limit) + 1).read_to_end(&mut bytes)?;
+    Ok(bytes)
+}
+
+#[cfg(test)]
+mod tests {
+    use super::*;
+    use std::test::Fail;
+
+    /// `a.orca` with the bytes 1, 2, 3, an empty `b.orca`, and another `a.orca`.
+    fn files(alloc: Global) -> Result<Vec<(String, Vec<u8>)>, AllocError> {
+        let mut files = Vec::new(alloc);
+        files.push((String::from_str(alloc, "a.orca")?, [1, 2, 3].to_vec(alloc)?))?;
+        files.push((String::from_str(alloc, "b.orca")?, Vec::new(alloc)))?;
+        files.push((String::from_str(alloc, "a.orca")?, [4].to_vec(alloc)?))?;
+        Ok(files)
+    }
+
+    /// Reads through the trait.
+    fn read<F: Shelf>(
+        shelf: &mut F,
+        alloc: Global,
+        name: &str,
+        limit: u32,
+    ) -> Result<Vec<u8>, ShelfFault> {
+        shelf.read_all(alloc, name, limit)
+    }
+
+    #[test]
+    fn memory_shelf_fails_by_number(rt: HostRuntime) -> Result<(), Fail> {
+        let failing = [2, 4].to_vec(rt.alloc())?;
+        let mut shelf = MemoryShelf::new(files(rt.alloc())?, failing);
+        let first = read(&mut shelf, rt.alloc(), "a.orca", 3)?;
+        assert_eq!(rt; first.as_slice(), [1, 2, 3].as_slice());
+        assert_eq!(rt;
+            read(&mut shelf, rt.alloc(), "a.orca", 3).err(),
+            Some(ShelfFault::Failed)
+        );
+        assert_eq!(rt;
+            read(&mut shelf, rt.alloc(), "a.orca", 2).err(),
+            Some(ShelfFault::TooLong)
+        );
+        assert_eq!(rt;
+            read(&mut shelf, rt.alloc(), "gone.orca", 2).err(),
+            Some(ShelfFault::Failed)
+        );
+        assert_eq!(rt;
+            read(&mut shelf, rt.alloc(), "gone.orca", 2).err(),
+            Some(ShelfFault::Absent)
+        );
+        assert_eq!(rt; read(&mut shelf, rt.alloc(), "b.orca", 0)?.len(), 0);
+        Ok(())
+    }
+
+    #[test]
+    fn sure_shelf_reads(rt: HostRuntime) -> Result<(), Fail> {
+        let mut shelf = SureShelf::new(files(rt.alloc())?);
+        let first = read(&mut shelf, rt.alloc(), "a.orca", 1_000_000)?;
+        assert_eq!(rt; first.as_slice(), [1, 2, 3].as_slice());
+        assert_eq!(rt;
+            read(&mut shelf, rt.alloc(), "", 9).err(),
+            Some(ShelfFault::Absent)
+        );
+        Ok(())
+    }
+
+    #[test]
+    fn file_shelf_reads_files(rt: HostRuntime) -> Result<(), Fail> {
+        fs::create_dir_all(&rt, "shelf_test/drawer")?;
+        fs::write(&rt, "shelf_test/greeting.txt", "good morning\n")?;
+        let mut shelf = FileShelf::new(&rt);
+        let greeting = read(&mut shelf, rt.alloc(), "shelf_test/greeting.txt", 13)?;
+        for (name, limit, want) in [
+            ("shelf_test/gone.txt", 13, ShelfFault::Absent),
+            ("gone/greeting.txt", 13, ShelfFault::Absent),
+            ("", 13, ShelfFault::Absent),
+            ("shelf_test/greeting.txt", 12, ShelfFault::TooLong),
+            ("shelf_test/greeting.txt", 0, ShelfFault::TooLong),
+            ("shelf_test/drawer", 13, ShelfFault::Failed),
+            ("shelf_test/greeting.txt/under", 13, ShelfFault::Failed),
+        ] {
+            assert_eq!(rt;
+                read(&mut shelf, rt.alloc(), name, limit).err(),
+                Some(want),
+                "{name} {limit}"
+            );
+        }
+        fs::remove_dir_all(&rt, "shelf_test")?;
+        assert_eq!(rt; greeting.as_slice(), b"good morning\n".as_slice());
+        Ok(())
+    }
+}
