@@ -1,1 +1,3 @@
 pub mod StageLemmas
+pub mod KnownLemmas
+pub mod ExecutionLemmas

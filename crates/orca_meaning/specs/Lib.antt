@@ -3,3 +3,4 @@ pub mod Processes
 pub mod Program
 pub mod Stages
 pub mod Known
+pub mod Executions

@@ -15,6 +15,7 @@ ghost use Rattle.orca_meaning.specs.Stages.{Stands, asked_in, first_doing, last_
 use orca_base::{FaultKind, KindNo, NoMemory, ObjectId, OpNo, ProcessNo, Text};
 use orca_tree::{Argument, Call, Operation, SmallProgram};
 use std::alloc::Global;
+use std::mem;
 use value_core::{Action, Parts, Reply, Value};
 
 /// Where a process stands: before its object is made, at a statement, at a statement whose argument has come, or ended by
@@ -46,14 +47,12 @@ impl SmallProcess {
         }
     }
 
-    /// The process after one more reply.
-    pub fn reply(self, program: &SmallProgram, reply: Reply) -> SmallProcess
-        ensures { (replies : List Reply) → Stands program.now self.number self replies → Stands program.now self.number result (replies ++ reply ∷ []) }
+    /// The process receives one more reply.
+    pub fn reply(&mut self, program: &SmallProgram, reply: Reply)
+        ensures { (replies : List Reply) → Stands program.now self.old.number self.old replies → Stands program.now self.old.number self.new (replies ++ reply ∷ []) }
     {
-        SmallProcess {
-            number: self.number,
-            stage: after(program, self.stage, reply),
-        }
+        let stage = mem::replace(&mut self.stage, Stage::Making);
+        self.stage = after(program, stage, reply);
     }
 }
 

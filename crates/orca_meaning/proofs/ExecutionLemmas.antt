@@ -1,0 +1,197 @@
+-- An execution, one line on.
+use Rattle.std.proofs.Common.{◌≡◌, ℕ, ◌<◌, ◌≤◌, Bool, true, false, List, [], ◌∷◌, ◌++◌, length, Option, Some, None, refl, sym, ap, ◌∙◌, subst, inl, inr, ◌⊎◌, arith}
+use Rattle.std.specs.Prelude.{slice_get, IfSome}
+use Rattle.std.specs.List.{All}
+use Rattle.std.proofs.lemmas.Option.{slice_get_cases, none-some}
+use Rattle.std.proofs.lemmas.List.Elements.{All-nil, All-push}
+use Rattle.orca_base.specs.declared.ids.OpNo.{OpNo}
+use Rattle.orca_base.specs.declared.ids.KindNo.{KindNo}
+use Rattle.orca_base.specs.declared.ids.ObjectId.{ObjectId}
+use Rattle.orca_base.specs.declared.ids.ProcessNo.{ProcessNo}
+use Rattle.orca_tree.specs.Scope.{IsScoped}
+use Rattle.orca_tree.specs.declared.small.Operation.{Operation}
+use Rattle.orca_tree.specs.declared.small.OperationBody.{OperationBody}
+use Rattle.orca_tree.specs.declared.small.OperationBody.TheVariants.{Returns, Assigns}
+use Rattle.orca_tree.specs.declared.small.SmallProgram.{SmallProgram}
+use Rattle.value_core.specs.Datum.{Datum, Data, list_of}
+use Rattle.value_core.specs.Datum as datum
+use Rattle.value_core.specs.History.{Answers, Configuration, IsStep, Legal, Objects, Performed, after_line, after_lines, after_try, forked, objects_after, opening, output_kind, output_object, Process, replies_in, replies_of}
+use Rattle.value_core.specs.declared.action.Action.{Action}
+use Rattle.value_core.specs.declared.action.Action.TheVariants as action
+use Rattle.value_core.specs.declared.action.Line.{Line}
+use Rattle.value_core.specs.declared.action.Reply.{Reply}
+use Rattle.value_core.specs.declared.meaning.Tried.{Tried}
+use Rattle.value_core.specs.declared.meaning.Tried.TheVariants as tried
+use Rattle.value_core.specs.declared.meaning.Doing.{Doing}
+use Rattle.value_core.specs.declared.meaning.Doing.TheVariants as doing
+use Rattle.value_core.proofs.HistoryLemmas.{after_lines-push, LegalFrom-push}
+use Rattle.orca_meaning.specs.Operations.{Name, body_tried, operation_tried, parameters_of, tries_of}
+use Rattle.orca_meaning.specs.Processes.{doing_of, first_object, small_kind}
+use Rattle.orca_meaning.specs.Program.{performs_of, computes_of}
+use Rattle.orca_meaning.specs.Known.{IsKnown, IsKnownDoing, IsInvocation, IsWriting}
+use Rattle.orca_meaning.specs.Stages.{Stands}
+use Rattle.orca_meaning.specs.Executions.{Follows, HasEnded, IsFaultless, configuration_with, main_process, objects_with, outcome_of, object_outcome, state_or, tried_outcome}
+use Rattle.orca_meaning.specs.declared.execution.Execution.{Execution}
+use Rattle.orca_meaning.specs.declared.execution.Outcome.{Outcome}
+use Rattle.orca_meaning.specs.declared.process.SmallProcess.{SmallProcess}
+use Rattle.orca_meaning.proofs.KnownLemmas.{doing_known, doing_fine, IsFine}
+
+-- the outcome is what the action does on these objects
+pub record IsRight (program : SmallProgram) (object : Option Data) (act : Action) (o : Outcome) : Type 0 where
+  pub performed : Performed (performs_of program) (objects_with object) act o.guard o.reply
+  pub objects : objects_after (performs_of program) (objects_with object) act ≡ objects_with (state_or o.state object)
+  pub alone : forked act ≡ []
+  pub faultless : IsFaultless o.reply
+  pub made : (object ≡ None → ⊥) ⊎ ((state : Data) × (o.state ≡ Some state))
+
+-- where there is no outcome the process has ended
+abbrev pub IsOutcome : SmallProgram → Option Data → Action → Option Outcome → Type 0
+IsOutcome program object act None = (act ≡ action.Ended) ⊎ ((fault : _) × (act ≡ action.Faulted fault))
+IsOutcome program object act (Some o) = IsRight program object act o
+
+-- a call that did something
+did_right : (program : SmallProgram) (op : OpNo) (args state after : Data) (guard : ℕ) (reply : Reply) → tries_of program small_kind op state args ≡ tried.Did guard after reply → IsFaultless reply →
+    IsRight program (Some state) (action.Call small_kind op (first_object main_process) args) (record { guard = guard; reply = reply; state = Some after })
+did_right program op args state after guard reply is fine = record {
+  performed = (record { kind = small_kind; state = state }, refl, subst (λ (t : Tried). Answers t guard reply) (sym is) (refl, refl));
+  objects = ap (λ (t : Tried). after_try (objects_with (Some state)) (first_object main_process) (record { kind = small_kind; state = state }) t) is;
+  alone = refl;
+  faultless = fine;
+  made = inr (after, refl);
+}
+
+body_outcome : (program : SmallProgram) (op : OpNo) (args state : Data) (parameters : List Name) (body : OperationBody) →
+    tries_of program small_kind op state args ≡ body_tried program.fields parameters (list_of args) (list_of state) body →
+    IsOutcome program (Some state) (action.Call small_kind op (first_object main_process) args) (tried_outcome (tries_of program small_kind op state args))
+body_outcome program op args state parameters (Returns field) is =
+    subst (λ (t : Tried). IsOutcome program (Some state) (action.Call small_kind op (first_object main_process) args) (tried_outcome t)) (sym is) (did_right program op args state _ _ _ is tt)
+body_outcome program op args state parameters (Assigns assignments) is =
+    subst (λ (t : Tried). IsOutcome program (Some state) (action.Call small_kind op (first_object main_process) args) (tried_outcome t)) (sym is) (did_right program op args state _ _ _ is tt)
+
+call_outcome : (program : SmallProgram) (op : OpNo) (args state : Data) → op.0 < length program.operations →
+    IsOutcome program (Some state) (action.Call small_kind op (first_object main_process) args) (outcome_of program (Some state) (action.Call small_kind op (first_object main_process) args))
+call_outcome program op args state inside =
+    elim (slice_get_cases program.operations op.0).1 [
+      | inl found ↦ body_outcome program op args state (parameters_of found.0.head.kind) found.0.body
+          (ap (λ (o : Option Operation). operation_tried program.fields (list_of args) (list_of state) o) found.2)
+      | inr past ↦ absurd (omega (arith, past.0))
+    ]
+
+-- a making of the object, at whatever was there
+making_right : (program : SmallProgram) (object : Option Data) → IsOutcome program object (action.Make small_kind (first_object main_process)) (outcome_of program object (action.Make small_kind (first_object main_process)))
+making_right program None = record { performed = (refl, refl); objects = refl; alone = refl; faultless = tt; made = inr (_, refl) }
+making_right program (Some state) = record { performed = (refl, refl); objects = refl; alone = refl; faultless = tt; made = inr (_, refl) }
+
+writing_right : (program : SmallProgram) (object : Option Data) (op : OpNo) (args : Data) → ((object ≡ None) → ⊥) → IsOutcome program object (action.Call output_kind op output_object args) (outcome_of program object (action.Call output_kind op output_object args))
+writing_right program None op args some = absurd (some refl)
+writing_right program (Some state) op args some = record { performed = (_, refl, (refl, refl)); objects = refl; alone = refl; faultless = tt; made = inl some }
+
+-- whatever the object, a known action has its outcome, once the object is made
+outcome_right : (program : SmallProgram) (object : Option Data) (act : Action) → IsKnown program main_process act → ((object ≡ None → ⊥) ⊎ ((kind : KindNo) × (id : ObjectId) × (act ≡ action.Make kind id))) → IsOutcome program object act (outcome_of program object act)
+outcome_right program object (action.Make kind id) known made =
+    subst (λ (k : KindNo). IsOutcome program object (action.Make k id) (outcome_of program object (action.Make k id))) (sym known.0)
+    (subst (λ (i : ObjectId). IsOutcome program object (action.Make small_kind i) (outcome_of program object (action.Make small_kind i))) (sym known.1) (making_right program object))
+outcome_right program object (action.Call kind op id args) (inl w) made =
+    subst (λ (k : KindNo). IsOutcome program object (action.Call k op id args) (outcome_of program object (action.Call k op id args))) (sym w.kind_is)
+    (subst (λ (i : ObjectId). IsOutcome program object (action.Call output_kind op i args) (outcome_of program object (action.Call output_kind op i args))) (sym w.object_is)
+    (writing_right program object op args (elim made [ inl some ↦ some | inr make ↦ cc ])))
+outcome_right program object (action.Call kind op id args) (inr i) made =
+    subst (λ (k : KindNo). IsOutcome program object (action.Call k op id args) (outcome_of program object (action.Call k op id args))) (sym i.kind_is)
+    (subst (λ (o : ObjectId). IsOutcome program object (action.Call small_kind op o args) (outcome_of program object (action.Call small_kind op o args))) (sym i.object_is)
+    (by_object object made))
+  where
+    by_object : (o : Option Data) → ((o ≡ None → ⊥) ⊎ ((k : KindNo) × (d : ObjectId) × (action.Call kind op id args ≡ action.Make k d))) →
+        IsOutcome program o (action.Call small_kind op (first_object main_process) args) (outcome_of program o (action.Call small_kind op (first_object main_process) args))
+    by_object None m = elim m [ inl some ↦ absurd (some refl) | inr make ↦ cc ]
+    by_object (Some state) m = call_outcome program op args state i.op_is
+outcome_right program object (action.Fork process args place_on) known made = absurd known
+outcome_right program object action.Ended known made = inl refl
+outcome_right program object (action.Faulted fault) known made = inr (fault, refl)
+
+-- before the first line
+pub follows_none : (program : SmallProgram) (e : Execution) → e.object ≡ None → e.replies.items ≡ [] → Stands program main_process e.process [] → Follows program e []
+follows_none program e object replies stands = record {
+  legal = tt;
+  configuration = (λ i. configuration_with (sym object i) (sym replies i));
+  process = subst (λ (rs : List Reply). Stands program main_process e.process rs) (sym replies) stands;
+  faultless = subst (λ (rs : List Reply). All IsFaultless rs) (sym replies) (All-nil IsFaultless);
+  made = inl replies;
+}
+
+-- once there is a state there is always one
+some_state : (new old : Option Data) → ((old ≡ None → ⊥) ⊎ ((state : Data) × (new ≡ Some state))) → (state : Data) × (state_or new old ≡ Some state)
+some_state (Some state) old made = (state, refl)
+some_state None None made = elim made [ inl some ↦ absurd (some refl) | inr made ↦ absurd (none-some made.0 made.1) ]
+some_state None (Some state) made = (state, refl)
+
+-- the line of an action's outcome
+abbrev pub line_of : Action → ℕ → Outcome → Line
+line_of act call o = record { process = main_process; call = record { 0 = call }; action = act; guard = o.guard; reply = o.reply }
+
+module _ (program : SmallProgram) (scoped : IsScoped program) (old new : Execution) (lines : List Line) (so_far : Follows program old lines) (act : Action) (next : doing_of program main_process old.replies.items ≡ doing.At act) where
+  known : IsKnown program main_process act
+  known = subst (λ (d : Doing). IsKnownDoing program main_process d) next (doing_known program main_process scoped old.replies.items)
+
+  object_made : (old.object ≡ None → ⊥) ⊎ ((kind : KindNo) × (id : ObjectId) × (act ≡ action.Make kind id))
+  object_made = elim so_far.made [
+    | inl none ↦
+        let first : doing.At (action.Make small_kind (first_object main_process)) ≡ doing.At act = ap (doing_of program main_process) (sym none) ∙ next in
+        let same : act ≡ action.Make small_kind (first_object main_process) = cc in
+        inr (small_kind, first_object main_process, same)
+    | inr made ↦ inl (λ e. none-some made.0 (sym e ∙ made.1))
+  ]
+
+  outcome : IsOutcome program old.object act (outcome_of program old.object act)
+  outcome = outcome_right program old.object act known object_made
+
+  pub follows_more : (o : Outcome) → Some o ≡ outcome_of program old.object act → new.replies.items ≡ old.replies.items ++ o.reply ∷ [] → Stands program main_process new.process (old.replies.items ++ o.reply ∷ []) → new.object ≡ state_or o.state old.object →
+      Follows program new (lines ++ line_of act (length old.replies.items) o ∷ [])
+  follows_more o is replies stands object = record {
+    legal = LegalFrom-push (performs_of program) (computes_of program) (opening (computes_of program)) lines line so_far.legal
+        (subst (λ (c : Configuration). IsStep (performs_of program) (computes_of program) c line) (sym so_far.configuration) step);
+    configuration = after_lines-push (performs_of program) (opening (computes_of program)) lines line ∙ ap (λ (c : Configuration). after_line (performs_of program) c line) so_far.configuration
+        ∙ one_on ∙ (λ i. configuration_with (sym object i) (sym replies i));
+    process = subst (λ (rs : List Reply). Stands program main_process new.process rs) (sym replies) stands;
+    faultless = subst (λ (rs : List Reply). All IsFaultless rs) (sym replies) (All-push IsFaultless old.replies.items o.reply so_far.faultless right.faultless);
+    made = let some = some_state o.state old.object right.made in inr (some.0, object ∙ some.1);
+  }
+    where
+      line : Line
+      line = line_of act (length old.replies.items) o
+
+      right : IsRight program old.object act o
+      right = subst (λ (x : Option Outcome). IsOutcome program old.object act x) (sym is) outcome
+
+      process : Process
+      process = record { text = record { 0 = 0 }; args = datum.none; replies = old.replies.items }
+
+      step : IsStep (performs_of program) (computes_of program) (configuration_with old.object old.replies.items) line
+      step = record { process = process; exists = refl; call = refl; next = next; performed = right.performed }
+
+      one_on : after_line (performs_of program) (configuration_with old.object old.replies.items) line ≡ configuration_with (state_or o.state old.object) (old.replies.items ++ o.reply ∷ [])
+      one_on i = record {
+        objects = right.objects i;
+        processes = record { text = record { 0 = 0 }; args = datum.none; replies = old.replies.items ++ o.reply ∷ [] } ∷ right.alone i;
+      }
+
+  pub ends : None ≡ outcome_of program old.object act → HasEnded program lines
+  ends is =
+      let over : (act ≡ action.Ended) ⊎ ((fault : _) × (act ≡ action.Faulted fault)) = subst (λ (x : Option Outcome). IsOutcome program old.object act x) (sym is) outcome in
+      let so : HasDone act = ap (λ (c : Configuration). doing_of program main_process (replies_in (slice_get c.processes 0))) so_far.configuration ∙ next in
+      elim over [
+        | inl ended ↦ so ∙ ap doing.At ended
+        | inr fault ↦ absurd (subst (λ (d : Doing). IsFine d) (next ∙ ap doing.At fault.1) (doing_fine program main_process old.replies.items so_far.faultless))
+      ]
+    where
+      HasDone : Action → Type 0
+      HasDone a = doing_of program main_process (replies_of (performs_of program) (computes_of program) lines 0) ≡ doing.At a
+
+-- what a process says of its own number it says of the first process
+pub next_of : (program : SmallProgram) (process : SmallProcess) (replies : List Reply) (act : Action) → ((rs : List Reply) → Stands program process.number process rs → doing_of program process.number rs ≡ doing.At act) → Stands program main_process process replies → doing_of program main_process replies ≡ doing.At act
+next_of program process replies act says stands =
+    ap (λ (n : ProcessNo). doing_of program n replies) (sym stands.0) ∙ says replies (subst (λ (n : ProcessNo). Stands program n process replies) (sym stands.0) stands)
+
+pub reply_of : (program : SmallProgram) (old new : SmallProcess) (replies : List Reply) (given reply : Reply) → ((rs : List Reply) → Stands program old.number old rs → Stands program old.number new (rs ++ given ∷ [])) → given ≡ reply → Stands program main_process old replies → Stands program main_process new (replies ++ reply ∷ [])
+reply_of program old new replies given reply says is stands =
+    let after : Stands program old.number new (replies ++ given ∷ []) = says replies (subst (λ (n : ProcessNo). Stands program n old replies) (sym stands.0) stands) in
+    subst (λ (n : ProcessNo). Stands program n new (replies ++ reply ∷ [])) stands.0 (subst (λ (r : Reply). Stands program old.number new (replies ++ r ∷ [])) is after)
