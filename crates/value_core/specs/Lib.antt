@@ -3,3 +3,7 @@ pub mod Code
 pub mod Sizes
 pub mod View
 pub mod Falls
+pub mod Order
+pub mod Sound
+pub mod Size
+pub mod OrderLaws

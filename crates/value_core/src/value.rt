@@ -3,9 +3,11 @@
 ghost use Rattle.std.specs.Prelude.{◌≡◌, ◌++◌, ◌∷◌, [], length, map, IfOk, OnOk, OnErr};
 ghost use Rattle.value_core.specs.Datum.{list_of};
 ghost use Rattle.value_core.specs.View.{datum_of};
+ghost use Rattle.value_core.specs.Order.{tag, datum_cmp, data_cmp};
 
 use orca_base::{NoMemory, ObjectId, Text};
 use std::alloc::Global;
+use std::cmp::Ordering;
 use std::marker::Model;
 
 /// A value of the language.
@@ -109,6 +111,23 @@ impl Parts {
         }
         Ok(Parts { items })
     }
+
+    /// The order of lists of values: by values from the left, a prefix first.
+    #[cycle(compares)]
+    pub fn compare(&self, other: &Parts) -> Ordering
+        ensures { result ≡ data_cmp self.now other.now }
+    {
+        for (index, one) in self.items.iter().enumerate() {
+            let Some(two) = other.items.get(index) else {
+                return Ordering::Greater;
+            };
+            let order = one.compare(two);
+            if order != Ordering::Equal {
+                return order;
+            }
+        }
+        self.items.len().cmp(&other.items.len())
+    }
 }
 
 impl Value {
@@ -128,6 +147,45 @@ impl Value {
             Value::Set(parts) => Ok(Value::Set(parts.copy(alloc)?)),
             Value::Bag(parts) => Ok(Value::Bag(parts.copy(alloc)?)),
             Value::Object(object) => Ok(Value::Object(*object)),
+        }
+    }
+
+    /// The order of values. Values of one type are ordered as docs/LANGUAGE.md, Values, says; values of two kinds by the
+    /// order of the variants.
+    #[cycle(compares)]
+    pub fn compare(&self, other: &Value) -> Ordering
+        ensures { result ≡ datum_cmp (datum_of self.now) (datum_of other.now) }
+    {
+        match (self, other) {
+            (Value::Int(one), Value::Int(two)) => one.cmp(two),
+            (Value::Truth(one), Value::Truth(two)) => one.cmp(two),
+            (Value::Char(one), Value::Char(two)) => one.cmp(two),
+            (Value::Enum(one), Value::Enum(two)) => one.cmp(two),
+            (Value::Text(one), Value::Text(two)) => one.as_bytes().cmp(two.as_bytes()),
+            (Value::Array(one), Value::Array(two)) => one.compare(two),
+            (Value::Fields(one), Value::Fields(two)) => one.compare(two),
+            (Value::Set(one), Value::Set(two)) => one.compare(two),
+            (Value::Bag(one), Value::Bag(two)) => one.compare(two),
+            (Value::Object(one), Value::Object(two)) => one.cmp(two),
+            _ => self.tag().cmp(&other.tag()),
+        }
+    }
+
+    /// The place of the variant, from 1.
+    fn tag(&self) -> u8
+        ensures { result ≡ tag (datum_of self.now) }
+    {
+        match self {
+            Value::Int(_) => 1,
+            Value::Truth(_) => 2,
+            Value::Char(_) => 3,
+            Value::Enum(_) => 4,
+            Value::Text(_) => 5,
+            Value::Array(_) => 6,
+            Value::Fields(_) => 7,
+            Value::Set(_) => 8,
+            Value::Bag(_) => 9,
+            Value::Object(_) => 10,
         }
     }
 }
