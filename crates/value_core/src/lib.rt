@@ -5,6 +5,7 @@
 #![tactic(auto)]
 
 mod action;
+mod order;
 mod value;
 
 pub use action::{Action, Class, Kept, Line, Message, Reply};

@@ -1,6 +1,7 @@
 //! Values: what variables hold, what operations take and give.
 
-ghost use Rattle.std.specs.Prelude.{◌≡◌, ◌++◌, ◌∷◌, [], length, map, IfOk, OnOk, OnErr};
+ghost use Rattle.std.specs.Prelude.{◌≡◌, ◌↔◌, ◌<◌, ◌++◌, ◌∷◌, [], Some, length, map, slice_get, slice_set, option_map, IsTrue, IfOk, OnOk, OnErr};
+ghost use Rattle.std.specs.Option.{option_copied};
 ghost use Rattle.value_core.specs.Datum.{list_of};
 ghost use Rattle.value_core.specs.View.{datum_of};
 ghost use Rattle.value_core.specs.Order.{tag, datum_cmp, data_cmp};
@@ -9,6 +10,7 @@ use orca_base::{NoMemory, ObjectId, Text};
 use std::alloc::Global;
 use std::cmp::Ordering;
 use std::marker::Model;
+use std::mem;
 
 /// A value of the language.
 #[cycle(value)]
@@ -77,6 +79,27 @@ impl Parts {
         }
     }
 
+    /// These values.
+    pub fn from_vec(values: Vec<Value>) -> Parts
+        ensures { list_of result ≡ map datum_of values.items }
+    {
+        Parts { items: values }
+    }
+
+    /// The values in order. It takes no memory.
+    pub fn into_vec(self) -> Vec<Value>
+        ensures { map datum_of result.items ≡ list_of self }
+    {
+        self.items
+    }
+
+    /// Whether there are no values.
+    pub fn is_empty(&self) -> bool
+        ensures { IsTrue result ↔ (list_of self.now ≡ []) }
+    {
+        self.items.is_empty()
+    }
+
     /// How many values there are.
     pub fn len(&self) -> usize
         ensures { result ≡ length (list_of self.now) }
@@ -89,6 +112,22 @@ impl Parts {
         ensures { map datum_of result.now ≡ list_of self.now }
     {
         self.items.as_slice()
+    }
+
+    /// The value at this index from 0, if there is one.
+    pub fn get(&self, index: usize) -> Option<&Value>
+        ensures { option_map datum_of (option_copied result) ≡ slice_get (list_of self.now) index }
+    {
+        self.items.get(index)
+    }
+
+    /// Puts a value in place of the one at this index from 0, and gives that one.
+    pub fn replace(&mut self, index: usize, value: Value) -> Value
+        requires { index < length (list_of self.old) }
+        ensures new { list_of self.new ≡ slice_set (list_of self.old) index (datum_of value) }
+        ensures old { slice_get (list_of self.old) index ≡ Some (datum_of result) }
+    {
+        mem::replace(&mut self.items[index], value)
     }
 
     /// Adds a value at the end.
@@ -127,6 +166,13 @@ impl Parts {
             }
         }
         self.items.len().cmp(&other.items.len())
+    }
+
+    /// Whether both lists have the same values.
+    pub fn is(&self, other: &Parts) -> bool
+        ensures { IsTrue result ↔ (self.now ≡ other.now) }
+    {
+        self.compare(other).is_eq()
     }
 }
 
@@ -169,6 +215,13 @@ impl Value {
             (Value::Object(one), Value::Object(two)) => one.cmp(two),
             _ => self.tag().cmp(&other.tag()),
         }
+    }
+
+    /// Whether both values are the same.
+    pub fn is(&self, other: &Value) -> bool
+        ensures { IsTrue result ↔ (self.now ≡ other.now) }
+    {
+        self.compare(other).is_eq()
     }
 
     /// The place of the variant, from 1.
