@@ -1,7 +1,8 @@
 -- What a list of values shows, and its length, elements and changes.
 use Rattle.std.proofs.Common.{◌≡◌, ◌↔◌, ℕ, ◌<◌, ◌≤◌, Bool, true, List, [], ◌∷◌, ◌++◌, length, Option, Some, None, map, ap, ◌∙◌, sym, refl, Bor, arith}
-use Rattle.std.specs.Prelude.{slice_get, option_map, zero, suc, IsTrue, MatchOption, ◌==◌}
-use Rattle.std.specs.List.{HoldsAt}
+use Rattle.std.specs.Prelude.{slice_get, option_map, zero, suc, IsTrue, MatchOption, ◌==◌, take, drop, insert, remove}
+use Rattle.std.specs.List.{HoldsAt, take-map, drop-map}
+use Rattle.std.proofs.lemmas.List.{map-append}
 use Rattle.std.specs.Option.{option_copied}
 use Rattle.std.proofs.lemmas.Bool.Decides.{nat_tests}
 use Rattle.std.proofs.lemmas.Option.{slice_get-get_or, slice_get_past}
@@ -40,3 +41,15 @@ none_in [] w b n is len e = (λ h. list_in [] w is, λ h. e ∙ ap (λ k. k == 0
 none_in (v ∷ vs) w b n is len e =
     let shown : list_of w ≡ datum_of v ∷ map datum_of vs = list_in (v ∷ vs) w is in
     (λ h. let none : n ≡ 0 = not_zero n b e h in absurd (omega (arith, len)), λ h. cc)
+
+pub insert_in : (vs : List Value) (i : ℕ) (v : Value) → map datum_of (insert vs i v) ≡ insert (map datum_of vs) i (datum_of v)
+insert_in vs i v =
+    map-append datum_of (take i vs) (v ∷ drop i vs)
+    ∙ ap (λ r. r ++ datum_of v ∷ map datum_of (drop i vs)) (sym (take-map datum_of i vs))
+    ∙ ap (λ r. take i (map datum_of vs) ++ datum_of v ∷ r) (sym (drop-map datum_of i vs))
+
+pub remove_in : (vs : List Value) (i : ℕ) → map datum_of (remove vs i) ≡ remove (map datum_of vs) i
+remove_in vs i =
+    map-append datum_of (take i vs) (drop (suc i) vs)
+    ∙ ap (λ r. r ++ map datum_of (drop (suc i) vs)) (sym (take-map datum_of i vs))
+    ∙ ap (λ r. take i (map datum_of vs) ++ r) (sym (drop-map datum_of (suc i) vs))

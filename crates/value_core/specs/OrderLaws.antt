@@ -160,14 +160,14 @@ mutual
 pub datum_total : IsTotalOrder datum_cmp
 datum_total = record {
   antisymm = λ v w.
-    let n = nesting v + nesting w in
-    sym (within-datum v w n (omega arith) (omega arith)) ∙ (cmp_within_total n).antisymm v w ∙ ap ordering_reverse (within-datum w v n (omega arith) (omega arith));
+      let n = nesting v + nesting w in
+      sym (within-datum v w n (omega arith) (omega arith)) ∙ (cmp_within_total n).antisymm v w ∙ ap ordering_reverse (within-datum w v n (omega arith) (omega arith));
   trans = λ u v w p q.
-    let n = nesting u + nesting v + nesting w in
-    sym (within-datum u w n (omega arith) (omega arith)) ∙ (cmp_within_total n).trans u v w (within-datum u v n (omega arith) (omega arith) ∙ p) (within-datum v w n (omega arith) (omega arith) ∙ q);
+      let n = nesting u + nesting v + nesting w in
+      sym (within-datum u w n (omega arith) (omega arith)) ∙ (cmp_within_total n).trans u v w (within-datum u v n (omega arith) (omega arith) ∙ p) (within-datum v w n (omega arith) (omega arith) ∙ q);
   congr = λ u v w p.
-    let n = nesting u + nesting v + nesting w in
-    sym (within-datum u w n (omega arith) (omega arith)) ∙ (cmp_within_total n).congr u v w (within-datum u v n (omega arith) (omega arith) ∙ p) ∙ within-datum v w n (omega arith) (omega arith);
+      let n = nesting u + nesting v + nesting w in
+      sym (within-datum u w n (omega arith) (omega arith)) ∙ (cmp_within_total n).congr u v w (within-datum u v n (omega arith) (omega arith) ∙ p) ∙ within-datum v w n (omega arith) (omega arith);
 }
 
 -- the order of lists of values, as that of the arrays that have them

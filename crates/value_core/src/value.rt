@@ -1,6 +1,6 @@
 //! Values: what variables hold, what operations take and give.
 
-ghost use Rattle.std.specs.Prelude.{◌≡◌, ◌↔◌, ◌<◌, ◌++◌, ◌∷◌, [], Some, length, map, slice_get, slice_set, option_map, IsTrue, IfOk, OnOk, OnErr};
+ghost use Rattle.std.specs.Prelude.{◌≡◌, ◌↔◌, ◌<◌, ◌≤◌, ◌++◌, ◌∷◌, [], Some, length, map, slice_get, slice_set, insert, remove, option_map, IsTrue, IfOk, OnOk, OnErr};
 ghost use Rattle.std.specs.Option.{option_copied};
 ghost use Rattle.value_core.specs.Datum.{list_of};
 ghost use Rattle.value_core.specs.View.{datum_of};
@@ -14,7 +14,7 @@ use std::mem;
 
 /// A value of the language.
 #[cycle(value)]
-#[derive(Drop)]
+#[derive(Debug, Drop)]
 pub enum Value {
     /// An integer of 64 bits.
     Int(i64),
@@ -40,7 +40,7 @@ pub enum Value {
 
 /// A list of values, which clauses see as `Data` of specs/.
 #[cycle(value)]
-#[derive(Drop)]
+#[derive(Debug, Drop)]
 pub struct Parts {
     items: Vec<Value>,
 }
@@ -128,6 +128,33 @@ impl Parts {
         ensures old { slice_get (list_of self.old) index ≡ Some (datum_of result) }
     {
         mem::replace(&mut self.items[index], value)
+    }
+
+    /// Puts a value in place of the one at this index from 0.
+    pub fn set(&mut self, index: usize, value: Value)
+        requires { index < length (list_of self.old) }
+        ensures { list_of self.new ≡ slice_set (list_of self.old) index (datum_of value) }
+    {
+        self.replace(index, value);
+    }
+
+    /// Puts a value before the one at this index from 0, or at the end.
+    pub fn insert(&mut self, index: usize, value: Value) -> Result<(), NoMemory>
+        requires { index ≤ length (list_of self.old) }
+        ensures ok { OnOk result (list_of self.new ≡ insert (list_of self.old) index (datum_of value)) }
+        ensures err { OnErr result (self.new ≡ self.old) }
+    {
+        self.items.insert(index, value)?;
+        Ok(())
+    }
+
+    /// Takes out the value at this index from 0.
+    pub fn remove(&mut self, index: usize) -> Value
+        requires { index < length (list_of self.old) }
+        ensures new { list_of self.new ≡ remove (list_of self.old) index }
+        ensures old { slice_get (list_of self.old) index ≡ Some (datum_of result) }
+    {
+        self.items.remove(index)
     }
 
     /// Adds a value at the end.
