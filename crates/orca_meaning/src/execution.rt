@@ -134,8 +134,8 @@ impl Execution {
         let Some(outcome) = outcome_of(alloc, program, &self.object, &action)? else {
             return Ok(None);
         };
-        let received = copy_of(alloc, &outcome.reply)?;
-        let kept = copy_of(alloc, &outcome.reply)?;
+        let received = outcome.reply.copy(alloc)?;
+        let kept = outcome.reply.copy(alloc)?;
         let call = CallNo(self.replies.len() as u64);
         self.replies.push(kept)?;
         self.process.reply(program, received);
@@ -154,19 +154,6 @@ impl Execution {
         ensures { (program : SmallProgram) (lines : List Line) → Follows program self.now lines → result.now ≡ replies_of (performs_of program) (computes_of program) lines 0 }
     {
         self.replies.as_slice()
-    }
-}
-
-// An equal reply.
-fn copy_of(alloc: Global, reply: &Reply) -> Result<Reply, NoMemory>
-    ensures { IfOk result (λ r. r ≡ reply.now) }
-{
-    match reply {
-        Reply::Done => Ok(Reply::Done),
-        Reply::Gave { value } => Ok(Reply::Gave {
-            value: value.copy(alloc)?,
-        }),
-        Reply::Broke { fault } => Ok(Reply::Broke { fault: *fault }),
     }
 }
 

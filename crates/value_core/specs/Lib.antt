@@ -5,3 +5,7 @@ pub mod View
 pub mod Falls
 pub mod Meaning
 pub mod History
+pub mod Order
+pub mod Sound
+pub mod Size
+pub mod OrderLaws

@@ -1,10 +1,13 @@
 //! Actions, replies, and the lines of a history.
 
+ghost use Rattle.std.specs.Prelude.{◌≡◌, ◌↔◌, IfOk, IsTrue};
+
 use crate::value::{ObjectState, Parts, Value};
-use orca_base::{CallNo, FaultKind, KindNo, ObjectId, OpNo, ProcessNo, TextNo};
+use orca_base::{CallNo, FaultKind, KindNo, NoMemory, ObjectId, OpNo, ProcessNo, TextNo};
+use std::alloc::Global;
 
 /// What a process does next.
-#[derive(Drop)]
+#[derive(Debug, Drop, PartialEq, Eq)]
 pub enum Action {
     /// It makes an object of this type.
     Make {
@@ -40,7 +43,7 @@ pub enum Class {
 }
 
 /// The answer to an action.
-#[derive(Drop)]
+#[derive(Debug, Drop, PartialEq, Eq)]
 pub enum Reply {
     /// It was done, and gives no value.
     Done,
@@ -51,7 +54,7 @@ pub enum Reply {
 }
 
 /// An action that the group orders: a make, a call or a fork.
-#[derive(Drop)]
+#[derive(Debug, Drop, PartialEq, Eq)]
 pub struct Message {
     pub process: ProcessNo,
     pub call: CallNo,
@@ -59,7 +62,7 @@ pub struct Message {
 }
 
 /// A performed operation: who did it, as the how manyeth of its lines, by which guard, and what it was answered.
-#[derive(Drop)]
+#[derive(Debug, Drop, PartialEq, Eq)]
 pub struct Line {
     pub process: ProcessNo,
     pub call: CallNo,
@@ -69,8 +72,187 @@ pub struct Line {
 }
 
 /// An object as it is kept: its type and the values of its fields.
-#[derive(Drop)]
+#[derive(Debug, Drop, PartialEq, Eq)]
 pub struct Kept {
     pub kind: KindNo,
     pub state: ObjectState,
+}
+
+impl Action {
+    /// An equal action.
+    pub fn copy(&self, alloc: Global) -> Result<Action, NoMemory>
+        ensures { IfOk result (λ a. a ≡ self.now) }
+    {
+        match self {
+            Action::Make { kind, object } => Ok(Action::Make {
+                kind: *kind,
+                object: *object,
+            }),
+            Action::Call {
+                kind,
+                op,
+                object,
+                args,
+            } => Ok(Action::Call {
+                kind: *kind,
+                op: *op,
+                object: *object,
+                args: args.copy(alloc)?,
+            }),
+            Action::Fork {
+                process,
+                args,
+                place_on,
+            } => Ok(Action::Fork {
+                process: *process,
+                args: args.copy(alloc)?,
+                place_on: *place_on,
+            }),
+            Action::Ended => Ok(Action::Ended),
+            Action::Faulted { fault } => Ok(Action::Faulted { fault: *fault }),
+        }
+    }
+
+    /// Whether both actions are the same.
+    pub fn is(&self, other: &Action) -> bool
+        ensures { IsTrue result ↔ (self.now ≡ other.now) }
+    {
+        match (self, other) {
+            (
+                Action::Make { kind, object },
+                Action::Make {
+                    kind: other_kind,
+                    object: other_object,
+                },
+            ) => kind == other_kind && object == other_object,
+            (
+                Action::Call {
+                    kind,
+                    op,
+                    object,
+                    args,
+                },
+                Action::Call {
+                    kind: other_kind,
+                    op: other_op,
+                    object: other_object,
+                    args: other_args,
+                },
+            ) => {
+                kind == other_kind
+                    && op == other_op
+                    && object == other_object
+                    && args.is(other_args)
+            }
+            (
+                Action::Fork {
+                    process,
+                    args,
+                    place_on,
+                },
+                Action::Fork {
+                    process: other_process,
+                    args: other_args,
+                    place_on: other_place,
+                },
+            ) => process == other_process && args.is(other_args) && place_on == other_place,
+            (Action::Ended, Action::Ended) => true,
+            (Action::Faulted { fault }, Action::Faulted { fault: other_fault }) => {
+                fault == other_fault
+            }
+            _ => false,
+        }
+    }
+}
+
+impl Reply {
+    /// An equal reply.
+    pub fn copy(&self, alloc: Global) -> Result<Reply, NoMemory>
+        ensures { IfOk result (λ r. r ≡ self.now) }
+    {
+        match self {
+            Reply::Done => Ok(Reply::Done),
+            Reply::Gave { value } => Ok(Reply::Gave {
+                value: value.copy(alloc)?,
+            }),
+            Reply::Broke { fault } => Ok(Reply::Broke { fault: *fault }),
+        }
+    }
+
+    /// Whether both replies are the same.
+    pub fn is(&self, other: &Reply) -> bool
+        ensures { IsTrue result ↔ (self.now ≡ other.now) }
+    {
+        match (self, other) {
+            (Reply::Done, Reply::Done) => true,
+            (Reply::Gave { value }, Reply::Gave { value: other_value }) => value.is(other_value),
+            (Reply::Broke { fault }, Reply::Broke { fault: other_fault }) => fault == other_fault,
+            _ => false,
+        }
+    }
+}
+
+impl Message {
+    /// An equal message.
+    pub fn copy(&self, alloc: Global) -> Result<Message, NoMemory>
+        ensures { IfOk result (λ m. m ≡ self.now) }
+    {
+        Ok(Message {
+            process: self.process,
+            call: self.call,
+            action: self.action.copy(alloc)?,
+        })
+    }
+
+    /// Whether both messages are the same.
+    pub fn is(&self, other: &Message) -> bool
+        ensures { IsTrue result ↔ (self.now ≡ other.now) }
+    {
+        self.process == other.process && self.call == other.call && self.action.is(&other.action)
+    }
+}
+
+impl Line {
+    /// An equal line.
+    pub fn copy(&self, alloc: Global) -> Result<Line, NoMemory>
+        ensures { IfOk result (λ l. l ≡ self.now) }
+    {
+        Ok(Line {
+            process: self.process,
+            call: self.call,
+            action: self.action.copy(alloc)?,
+            guard: self.guard,
+            reply: self.reply.copy(alloc)?,
+        })
+    }
+
+    /// Whether both lines are the same.
+    pub fn is(&self, other: &Line) -> bool
+        ensures { IsTrue result ↔ (self.now ≡ other.now) }
+    {
+        self.process == other.process
+            && self.call == other.call
+            && self.action.is(&other.action)
+            && self.guard == other.guard
+            && self.reply.is(&other.reply)
+    }
+}
+
+impl Kept {
+    /// An equal object.
+    pub fn copy(&self, alloc: Global) -> Result<Kept, NoMemory>
+        ensures { IfOk result (λ k. k ≡ self.now) }
+    {
+        Ok(Kept {
+            kind: self.kind,
+            state: self.state.copy(alloc)?,
+        })
+    }
+
+    /// Whether both objects are the same.
+    pub fn is(&self, other: &Kept) -> bool
+        ensures { IsTrue result ↔ (self.now ≡ other.now) }
+    {
+        self.kind == other.kind && self.state.is(&other.state)
+    }
 }

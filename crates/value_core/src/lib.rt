@@ -6,6 +6,7 @@
 
 mod action;
 mod meaning;
+mod order;
 mod value;
 
 pub use action::{Action, Class, Kept, Line, Message, Reply};

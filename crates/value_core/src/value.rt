@@ -1,16 +1,20 @@
 //! Values: what variables hold, what operations take and give.
 
-ghost use Rattle.std.specs.Prelude.{◌≡◌, ◌++◌, ◌∷◌, [], length, map, IfOk, OnOk, OnErr};
+ghost use Rattle.std.specs.Prelude.{◌≡◌, ◌↔◌, ◌<◌, ◌≤◌, ◌++◌, ◌∷◌, [], Some, length, map, slice_get, slice_set, insert, remove, option_map, IsTrue, IfOk, OnOk, OnErr};
+ghost use Rattle.std.specs.Option.{option_copied};
 ghost use Rattle.value_core.specs.Datum.{list_of};
 ghost use Rattle.value_core.specs.View.{datum_of};
+ghost use Rattle.value_core.specs.Order.{tag, datum_cmp, data_cmp};
 
 use orca_base::{NoMemory, ObjectId, Text};
 use std::alloc::Global;
+use std::cmp::Ordering;
 use std::marker::Model;
+use std::mem;
 
 /// A value of the language.
 #[cycle(value)]
-#[derive(Drop)]
+#[derive(Debug, Drop)]
 pub enum Value {
     /// An integer of 64 bits.
     Int(i64),
@@ -36,7 +40,7 @@ pub enum Value {
 
 /// A list of values, which clauses see as `Data` of specs/.
 #[cycle(value)]
-#[derive(Drop)]
+#[derive(Debug, Drop)]
 pub struct Parts {
     items: Vec<Value>,
 }
@@ -76,17 +80,24 @@ impl Parts {
     }
 
     /// These values.
-    pub fn from_vec(items: Vec<Value>) -> Parts
-        ensures { list_of result ≡ map datum_of items.items }
+    pub fn from_vec(values: Vec<Value>) -> Parts
+        ensures { list_of result ≡ map datum_of values.items }
     {
-        Parts { items }
+        Parts { items: values }
     }
 
-    /// The values.
+    /// The values in order. It takes no memory.
     pub fn into_vec(self) -> Vec<Value>
         ensures { map datum_of result.items ≡ list_of self }
     {
         self.items
+    }
+
+    /// Whether there are no values.
+    pub fn is_empty(&self) -> bool
+        ensures { IsTrue result ↔ (list_of self.now ≡ []) }
+    {
+        self.items.is_empty()
     }
 
     /// How many values there are.
@@ -101,6 +112,49 @@ impl Parts {
         ensures { map datum_of result.now ≡ list_of self.now }
     {
         self.items.as_slice()
+    }
+
+    /// The value at this index from 0, if there is one.
+    pub fn get(&self, index: usize) -> Option<&Value>
+        ensures { option_map datum_of (option_copied result) ≡ slice_get (list_of self.now) index }
+    {
+        self.items.get(index)
+    }
+
+    /// Puts a value in place of the one at this index from 0, and gives that one.
+    pub fn replace(&mut self, index: usize, value: Value) -> Value
+        requires { index < length (list_of self.old) }
+        ensures new { list_of self.new ≡ slice_set (list_of self.old) index (datum_of value) }
+        ensures old { slice_get (list_of self.old) index ≡ Some (datum_of result) }
+    {
+        mem::replace(&mut self.items[index], value)
+    }
+
+    /// Puts a value in place of the one at this index from 0.
+    pub fn set(&mut self, index: usize, value: Value)
+        requires { index < length (list_of self.old) }
+        ensures { list_of self.new ≡ slice_set (list_of self.old) index (datum_of value) }
+    {
+        self.replace(index, value);
+    }
+
+    /// Puts a value before the one at this index from 0, or at the end.
+    pub fn insert(&mut self, index: usize, value: Value) -> Result<(), NoMemory>
+        requires { index ≤ length (list_of self.old) }
+        ensures ok { OnOk result (list_of self.new ≡ insert (list_of self.old) index (datum_of value)) }
+        ensures err { OnErr result (self.new ≡ self.old) }
+    {
+        self.items.insert(index, value)?;
+        Ok(())
+    }
+
+    /// Takes out the value at this index from 0.
+    pub fn remove(&mut self, index: usize) -> Value
+        requires { index < length (list_of self.old) }
+        ensures new { list_of self.new ≡ remove (list_of self.old) index }
+        ensures old { slice_get (list_of self.old) index ≡ Some (datum_of result) }
+    {
+        self.items.remove(index)
     }
 
     /// Adds a value at the end.
@@ -123,6 +177,30 @@ impl Parts {
         }
         Ok(Parts { items })
     }
+
+    /// The order of lists of values: by values from the left, a prefix first.
+    #[cycle(compares)]
+    pub fn compare(&self, other: &Parts) -> Ordering
+        ensures { result ≡ data_cmp self.now other.now }
+    {
+        for (index, one) in self.items.iter().enumerate() {
+            let Some(two) = other.items.get(index) else {
+                return Ordering::Greater;
+            };
+            let order = one.compare(two);
+            if order != Ordering::Equal {
+                return order;
+            }
+        }
+        self.items.len().cmp(&other.items.len())
+    }
+
+    /// Whether both lists have the same values.
+    pub fn is(&self, other: &Parts) -> bool
+        ensures { IsTrue result ↔ (self.now ≡ other.now) }
+    {
+        self.compare(other).is_eq()
+    }
 }
 
 impl Value {
@@ -142,6 +220,52 @@ impl Value {
             Value::Set(parts) => Ok(Value::Set(parts.copy(alloc)?)),
             Value::Bag(parts) => Ok(Value::Bag(parts.copy(alloc)?)),
             Value::Object(object) => Ok(Value::Object(*object)),
+        }
+    }
+
+    /// The order of values. Values of one type are ordered as docs/LANGUAGE.md, Values, says; values of two kinds by the
+    /// order of the variants.
+    #[cycle(compares)]
+    pub fn compare(&self, other: &Value) -> Ordering
+        ensures { result ≡ datum_cmp (datum_of self.now) (datum_of other.now) }
+    {
+        match (self, other) {
+            (Value::Int(one), Value::Int(two)) => one.cmp(two),
+            (Value::Truth(one), Value::Truth(two)) => one.cmp(two),
+            (Value::Char(one), Value::Char(two)) => one.cmp(two),
+            (Value::Enum(one), Value::Enum(two)) => one.cmp(two),
+            (Value::Text(one), Value::Text(two)) => one.as_bytes().cmp(two.as_bytes()),
+            (Value::Array(one), Value::Array(two)) => one.compare(two),
+            (Value::Fields(one), Value::Fields(two)) => one.compare(two),
+            (Value::Set(one), Value::Set(two)) => one.compare(two),
+            (Value::Bag(one), Value::Bag(two)) => one.compare(two),
+            (Value::Object(one), Value::Object(two)) => one.cmp(two),
+            _ => self.tag().cmp(&other.tag()),
+        }
+    }
+
+    /// Whether both values are the same.
+    pub fn is(&self, other: &Value) -> bool
+        ensures { IsTrue result ↔ (self.now ≡ other.now) }
+    {
+        self.compare(other).is_eq()
+    }
+
+    /// The place of the variant, from 1.
+    fn tag(&self) -> u8
+        ensures { result ≡ tag (datum_of self.now) }
+    {
+        match self {
+            Value::Int(_) => 1,
+            Value::Truth(_) => 2,
+            Value::Char(_) => 3,
+            Value::Enum(_) => 4,
+            Value::Text(_) => 5,
+            Value::Array(_) => 6,
+            Value::Fields(_) => 7,
+            Value::Set(_) => 8,
+            Value::Bag(_) => 9,
+            Value::Object(_) => 10,
         }
     }
 }
