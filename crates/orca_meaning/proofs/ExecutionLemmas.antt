@@ -1,5 +1,5 @@
 -- An execution, one line on.
-use Rattle.std.proofs.Common.{◌≡◌, ℕ, ◌<◌, ◌≤◌, Bool, true, false, List, [], ◌∷◌, ◌++◌, length, Option, Some, None, refl, sym, ap, ◌∙◌, subst, inl, inr, ◌⊎◌, arith}
+use Rattle.std.proofs.Common.{length-append, ◌+◌, ◌*◌, ◌≡◌, ℕ, ◌<◌, ◌≤◌, Bool, true, false, List, [], ◌∷◌, ◌++◌, length, Option, Some, None, refl, sym, ap, ◌∙◌, subst, inl, inr, ◌⊎◌, arith}
 use Rattle.std.specs.Prelude.{slice_get, IfSome}
 use Rattle.std.specs.List.{All}
 use Rattle.std.proofs.lemmas.Option.{slice_get_cases, none-some}
@@ -34,7 +34,8 @@ use Rattle.orca_meaning.specs.Executions.{Follows, HasEnded, IsFaultless, config
 use Rattle.orca_meaning.specs.declared.execution.Execution.{Execution}
 use Rattle.orca_meaning.specs.declared.execution.Outcome.{Outcome}
 use Rattle.orca_meaning.specs.declared.process.SmallProcess.{SmallProcess}
-use Rattle.orca_meaning.proofs.KnownLemmas.{doing_known, doing_fine, IsFine}
+use Rattle.orca_meaning.proofs.KnownLemmas.{doing_known, doing_fine, doing_end, IsAtEnd, IsFine}
+use Rattle.std.proofs.lemmas.Bool.{cases_lt}
 
 -- the outcome is what the action does on these objects
 pub record IsRight (program : SmallProgram) (object : Option Data) (act : Action) (o : Outcome) : Type 0 where
@@ -116,6 +117,7 @@ follows_none program e object replies stands = record {
   process = subst (λ (rs : List Reply). Stands program main_process e.process rs) (sym replies) stands;
   faultless = subst (λ (rs : List Reply). All IsFaultless rs) (sym replies) (All-nil IsFaultless);
   made = inl replies;
+  count = ap length replies;
 }
 
 -- once there is a state there is always one
@@ -154,6 +156,7 @@ module _ (program : SmallProgram) (scoped : IsScoped program) (old new : Executi
     process = subst (λ (rs : List Reply). Stands program main_process new.process rs) (sym replies) stands;
     faultless = subst (λ (rs : List Reply). All IsFaultless rs) (sym replies) (All-push IsFaultless old.replies.items o.reply so_far.faultless right.faultless);
     made = let some = some_state o.state old.object right.made in inr (some.0, object ∙ some.1);
+    count = omega (arith, ap length replies, length-append old.replies.items (o.reply ∷ []), length-append lines (line ∷ []), so_far.count);
   }
     where
       line : Line
@@ -173,6 +176,21 @@ module _ (program : SmallProgram) (scoped : IsScoped program) (old new : Executi
         objects = right.objects i;
         processes = record { text = record { 0 = 0 }; args = datum.none; replies = old.replies.items ++ o.reply ∷ [] } ∷ right.alone i;
       }
+
+  -- a process with something left to do has few replies
+  pub few : (o : Outcome) → Some o ≡ outcome_of program old.object act → length lines < 2 * length program.calls + 1
+  few o is = elim (cases_lt (length lines) (2 * length program.calls + 1)) [
+    | inl less ↦ less
+    | inr more ↦
+        absurd (not_at_end act (subst (λ (d : Doing). IsAtEnd d) next (doing_end program main_process old.replies.items (omega (arith, so_far.count)))) is)
+  ]
+    where
+      not_at_end : (a : Action) → IsAtEnd (doing.At a) → Some o ≡ outcome_of program old.object a → ⊥
+      not_at_end (action.Make kind id) over some = over
+      not_at_end (action.Call kind op id args) over some = over
+      not_at_end (action.Fork process args place_on) over some = over
+      not_at_end action.Ended over some = none-some o (sym some)
+      not_at_end (action.Faulted fault) over some = none-some o (sym some)
 
   pub ends : None ≡ outcome_of program old.object act → HasEnded program lines
   ends is =

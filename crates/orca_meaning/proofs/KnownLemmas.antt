@@ -1,5 +1,5 @@
 -- A process of a scoped program names objects and operations that there are, and without a fault among its replies it has none.
-use Rattle.std.proofs.Common.{◌≡◌, ℕ, ◌<◌, ◌+◌, Bool, true, false, cond, List, [], ◌∷◌, length, Option, Some, None, refl, sym, ap, ◌∙◌, inl, inr, arith, get_or}
+use Rattle.std.proofs.Common.{◌≡◌, ℕ, ◌<◌, ◌≤◌, ◌+◌, ◌*◌, Bool, true, false, cond, List, [], ◌∷◌, length, Option, Some, None, refl, sym, ap, ◌∙◌, inl, inr, arith, get_or}
 use Rattle.std.specs.Prelude.{nat_lt, unwrap_or, pos}
 use Rattle.std.specs.List.{All, Any, position, position_or_len}
 use Rattle.std.specs.Str.{bytes_eq}
@@ -113,3 +113,44 @@ module _ (program : SmallProgram) (number : ProcessNo) where
   -- without a fault among its replies the process doesn't end by one
   pub doing_fine : (replies : List Reply) → All IsFaultless replies → IsFine (doing_of program number replies)
   doing_fine replies fine = acting_fine _ replies _ fine tt (λ rs left. all_fine program.calls rs left)
+
+-- the process has ended, by a fault or not
+abbrev pub IsAtEnd : Doing → Type 0
+IsAtEnd doing.Busy = ⊥
+IsAtEnd (doing.At (action.Make kind id)) = ⊥
+IsAtEnd (doing.At (action.Call kind op id args)) = ⊥
+IsAtEnd (doing.At (action.Fork process args place_on)) = ⊥
+IsAtEnd (doing.At action.Ended) = Unit {0}
+IsAtEnd (doing.At (action.Faulted fault)) = Unit {0}
+
+-- each statement takes at most two replies, so a process with more of them has ended
+module _ (program : SmallProgram) (number : ProcessNo) where
+  acting_end : (act : Action) (replies : List Reply) (next : List Reply → Doing) (left : ℕ) → left + 1 ≤ length replies → ((rs : List Reply) → left ≤ length rs → IsAtEnd (next rs)) → IsAtEnd (acting act replies next)
+  acting_end act [] next left enough others = absurd (omega arith)
+  acting_end act (answer.Done ∷ rs) next left enough others = others rs (omega arith)
+  acting_end act (answer.Gave value ∷ rs) next left enough others = others rs (omega arith)
+  acting_end act (answer.Broke fault ∷ rs) next left enough others = tt
+
+  asking_end : (act : Action) (replies : List Reply) (next : Datum → List Reply → Doing) (left : ℕ) → left + 1 ≤ length replies → ((v : Datum) (rs : List Reply) → left ≤ length rs → IsAtEnd (next v rs)) → IsAtEnd (asking act replies next)
+  asking_end act [] next left enough others = absurd (omega arith)
+  asking_end act (answer.Done ∷ rs) next left enough others = others (datum.int (pos 0)) rs (omega arith)
+  asking_end act (answer.Gave value ∷ rs) next left enough others = others (datum_of value) rs (omega arith)
+  asking_end act (answer.Broke fault ∷ rs) next left enough others = tt
+
+  arguing_end : (a : Argument) (replies : List Reply) (next : Datum → List Reply → Doing) (left : ℕ) → left + 1 ≤ length replies → ((v : Datum) (rs : List Reply) → left ≤ length rs → IsAtEnd (next v rs)) → IsAtEnd (arguing program number a replies next)
+  arguing_end (argument.Number n) replies next left enough others = others (datum.int n) replies (omega arith)
+  arguing_end (argument.Result operation) replies next left enough others = asking_end (invocation program number operation datum.none) replies next left enough others
+
+  stating_end : (c : Call) (replies : List Reply) (next : List Reply → Doing) (left : ℕ) → left + 2 ≤ length replies → ((rs : List Reply) → left ≤ length rs → IsAtEnd (next rs)) → IsAtEnd (stating program number c replies next)
+  stating_end (call.Invokes operation) replies next left enough others = acting_end (invocation program number operation datum.none) replies next left (omega arith) others
+  stating_end (call.Passes operation value) replies next left enough others =
+      arguing_end value replies _ (left + 1) (omega arith) (λ v rs rest. acting_end (invocation program number operation (datum.more v datum.none)) rs next left rest others)
+  stating_end (call.Writes value) replies next left enough others =
+      arguing_end value replies _ (left + 1) (omega arith) (λ v rs rest. acting_end (writing (text_of v)) rs next left rest others)
+
+  all_end : (calls : List Call) (replies : List Reply) → 2 * length calls ≤ length replies → IsAtEnd (all_stating program number calls replies)
+  all_end [] replies enough = tt
+  all_end (c ∷ calls) replies enough = stating_end c replies _ (2 * length calls) (omega arith) (λ rs rest. all_end calls rs rest)
+
+  pub doing_end : (replies : List Reply) → 2 * length program.calls + 1 ≤ length replies → IsAtEnd (doing_of program number replies)
+  doing_end replies enough = acting_end _ replies _ (2 * length program.calls) enough (λ rs rest. all_end program.calls rs rest)

@@ -1,5 +1,5 @@
 -- An execution of a small program on one member stands for a configuration.
-use Rattle.std.specs.Prelude.{◌≡◌, ◌⊎◌, ◌==◌, List, [], ◌∷◌, Option, None, Some, if◌then◌else◌}
+use Rattle.std.specs.Prelude.{◌≡◌, ◌⊎◌, ◌==◌, List, [], ◌∷◌, Option, None, Some, length, if◌then◌else◌}
 use Rattle.std.specs.List.{All}
 use Rattle.orca_base.specs.declared.ids.KindNo.{KindNo}
 use Rattle.orca_base.specs.declared.ids.OpNo.{OpNo}
@@ -83,6 +83,7 @@ pub record Follows (program : SmallProgram) (e : Execution) (lines : List Line) 
   pub configuration : after_lines (performs_of program) (opening (computes_of program)) lines ≡ configuration_with e.object e.replies.items
   pub process : Stands program main_process e.process e.replies.items
   pub faultless : All IsFaultless e.replies.items
+  pub count : length e.replies.items ≡ length lines
   pub made : (e.replies.items ≡ []) ⊎ ((state : Data) × (e.object ≡ Some state))
 
 -- the process has ended after these lines

@@ -1,6 +1,6 @@
 //! A small program's execution on one member, line by line.
 
-ghost use Rattle.std.specs.Prelude.{◌≡◌, ◌<◌, ◌^◌, ◌∷◌, ◌++◌, [], List, length, IfOk, MatchOption, OnErr};
+ghost use Rattle.std.specs.Prelude.{◌≡◌, ◌<◌, ◌^◌, ◌+◌, ◌*◌, ◌∷◌, ◌++◌, [], List, length, IfOk, MatchOption, OnErr, OnSome};
 ghost use Rattle.value_core.specs.History.{replies_of};
 ghost use Rattle.value_core.specs.declared.action.Line.{Line};
 ghost use Rattle.orca_tree.specs.Scope.{IsScoped};
@@ -128,6 +128,9 @@ impl Execution {
     pub fn step(&mut self, alloc: Global, program: &SmallProgram) -> Result<Option<Line>, NoMemory>
         requires { length program.now.operations < 2 ^ 16 }
         ensures line { IfOk result (λ r. (lines : List Line) → IsScoped program.now → Follows program.now self.old lines → MatchOption r (HasEnded program.now lines × Follows program.now self.new lines) (λ line. Follows program.now self.new (lines ++ line ∷ []))) }
+
+        // A program makes at most a line for its object and two for each statement, so the lines come to an end.
+        ensures few { IfOk result (λ r. (lines : List Line) → IsScoped program.now → Follows program.now self.old lines → OnSome r (length lines < 2 * length program.now.calls + 1)) }
         ensures err { OnErr result ((lines : List Line) → Follows program.now self.old lines → Follows program.now self.new lines) }
     {
         let action = self.process.next(alloc, program)?;
@@ -147,6 +150,13 @@ impl Execution {
             guard: outcome.guard,
             reply: outcome.reply,
         }))
+    }
+
+    /// The replies that the process received, in order, and no more of the execution.
+    pub fn into_replies(self) -> Vec<Reply>
+        ensures { (program : SmallProgram) (lines : List Line) → Follows program self lines → result.items ≡ replies_of (performs_of program) (computes_of program) lines 0 }
+    {
+        self.replies
     }
 
     /// The replies that the process received, in order.

@@ -4,7 +4,7 @@ use Rattle.value_core.specs.declared.action.Line.{Line}
 use Rattle.value_core.specs.declared.action.Reply.{Reply}
 use Rattle.orca_meaning.specs.Executions.{Follows, outcome_of}
 use Rattle.orca_meaning.specs.declared.execution.Outcome.{Outcome}
-use Rattle.orca_meaning.proofs.ExecutionLemmas.{ends, follows_more, line_of, next_of, reply_of}
+use Rattle.orca_meaning.proofs.ExecutionLemmas.{ends, few, follows_more, line_of, next_of, reply_of}
 use Rattle.orca_meaning.proofs.execution.Execution.step.Goals as goal
 
 pub returns-in_default-clause-line : goal.returns-in_default-clause-line
@@ -27,3 +27,10 @@ returns-clause-line c = λ lines scoped so_far.
     let stands = reply_of program old.process c.reply.new.self old.replies.items c.in_ok-received.received o.reply c.reply.ensures c.in_ok-received.ensures so_far.process in
     let follows = follows_more program scoped old (record { process = c.reply.new.self; object = c.put_state.new.object; replies = c.push.new.self }) lines so_far c.in_ok-action.action next o is replies stands c.put_state.ensures in
     subst (λ (n : ℕ). Follows program (record { process = c.reply.new.self; object = c.put_state.new.object; replies = c.push.new.self }) (lines ++ line_of c.in_ok-action.action n o ∷ [])) count follows
+
+pub returns-clause-few : goal.returns-clause-few
+returns-clause-few c = λ lines scoped so_far.
+    let program = c.args.program.now in
+    let old = c.args.self.now in
+    let next = next_of program old.process old.replies.items c.in_ok-action.action c.in_ok-action.ensures so_far.process in
+    few program scoped old old lines so_far c.in_ok-action.action next c.in-Some.outcome (sym c.in-Some.is ∙ c.in_ok-outcome.ensures {u = tt})
