@@ -1,3 +1,4 @@
 pub mod Tables
 pub mod Lexemes
 pub mod Lexing
+pub mod Sections
