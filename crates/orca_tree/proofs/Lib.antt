@@ -2,3 +2,5 @@ pub mod Tables
 pub mod Lexemes
 pub mod Lexing
 pub mod Sections
+pub mod Grammar
+pub mod Programs
