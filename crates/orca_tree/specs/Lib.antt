@@ -1,3 +1,5 @@
 pub mod Tokens
 pub mod Small
 pub mod Scope
+pub mod Roles
+pub mod Reading

@@ -1,5 +1,8 @@
 //! Small programs: one object type, and one process that makes one object and calls its operations.
 
+ghost use Rattle.std.specs.Prelude.{◌≡◌, ◌↔◌, IsTrue};
+ghost use Rattle.orca_tree.specs.declared.small.HeadKind.{HeadKind};
+
 use orca_base::{Items, Text};
 
 /// What an operation takes and gives.
@@ -13,11 +16,50 @@ pub enum HeadKind {
     Takes { parameter: Text },
 }
 
+impl HeadKind {
+    /// Whether there is a result.
+    pub fn gives(&self) -> bool
+        ensures { IsTrue result ↔ (self.now ≡ HeadKind.Gives) }
+    {
+        matches!(self, HeadKind::Gives)
+    }
+
+    /// Whether there is a parameter of this name.
+    pub fn takes(&self, name: &str) -> bool
+        ensures { IsTrue result ↔ (self.now ≡ HeadKind.Takes name.now) }
+    {
+        match self {
+            HeadKind::Takes { parameter } => parameter.is_text(name),
+            _ => false,
+        }
+    }
+
+    /// Whether both are the same.
+    pub fn is(&self, other: &HeadKind) -> bool
+        ensures { IsTrue result ↔ (self.now ≡ other.now) }
+    {
+        match self {
+            HeadKind::Plain => matches!(other, HeadKind::Plain),
+            HeadKind::Gives => other.gives(),
+            HeadKind::Takes { parameter } => other.takes(parameter.as_str()),
+        }
+    }
+}
+
 /// The head of an operation.
 #[derive(Debug, Drop)]
 pub struct Head {
     pub name: Text,
     pub kind: HeadKind,
+}
+
+impl Head {
+    /// Whether both are the same.
+    pub fn is(&self, other: &Head) -> bool
+        ensures { IsTrue result ↔ (self.now ≡ other.now) }
+    {
+        self.name.is(&other.name) && self.kind.is(&other.kind)
+    }
 }
 
 /// What is assigned to a field: a number, or a field or parameter by its name.
