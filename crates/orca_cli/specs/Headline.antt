@@ -1,0 +1,32 @@
+-- The headline, for a small program: what a run keeps and prints.
+use Rattle.std.specs.Prelude.{◌≡◌, ℕ, List, [], ◌∷◌, Option, Some, IfSome}
+use Rattle.orca_io.specs.Files.{File, content_of}
+use Rattle.orca_tree.specs.declared.small.SmallProgram.{SmallProgram}
+use Rattle.orca_tree.specs.Scope.{Reads}
+use Rattle.value_core.specs.History.{Legal, output_of, replies_of}
+use Rattle.value_core.specs.declared.action.Line.{Line}
+use Rattle.orca_meaning.specs.Program.{performs_of, computes_of}
+use Rattle.orca_meaning.specs.Executions.{HasEnded}
+use Rattle.orca_cli.specs.declared.kept.Kept.{Kept}
+use Rattle.orca_cli.specs.declared.kept.ProcessEnd.{ProcessEnd}
+use Rattle.orca_cli.specs.declared.kept.ProcessStanding.TheVariants as standing
+use Rattle.orca_cli.specs.Words.{command_of}
+use Rattle.orca_cli.specs.Printed.{Grew, Ends}
+
+-- the program is that of the file that the words name
+abbrev pub IsNamed : List (List ℕ) → Option (List File) → SmallProgram → Type 0
+IsNamed words told p = (file : List ℕ) × (command_of words ≡ Some file) × IfSome told (λ files. (text : List ℕ) × (content_of files file ≡ Some text) × Reads text p)
+
+-- the kept process is the program's one: its replies are the history's, and where the run finished it has ended
+pub record IsMainEnd (p : SmallProgram) (book : List Line) (status : ℕ) (end : ProcessEnd) : Type 0 where
+  pub node : end.node ≡ 0
+  pub turns : end.turns ≡ 0
+  pub replies : end.replies.items ≡ replies_of (performs_of p) (computes_of p) book 0
+  pub ended : status ≡ 0 → HasEnded p book × (end.standing ≡ standing.Ended)
+
+-- the kept book is a history of the program, the replies of the process are the history's, and what the history writes
+-- was printed: all of it with status 0, and a front of it where a write failed or memory lacked
+pub record IsRun (p : SmallProgram) (k : Kept) (status : ℕ) (old new : Option (List ℕ)) : Type 0 where
+  pub legal : Legal (performs_of p) (computes_of p) k.book.items
+  pub processes : (end : ProcessEnd) × (k.processes.items ≡ end ∷ []) × IsMainEnd p k.book.items status end
+  pub printed : Grew old new (Ends 0 status (output_of k.book.items))

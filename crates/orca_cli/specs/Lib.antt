@@ -1,0 +1,6 @@
+pub mod Words
+pub mod Printed
+pub mod Refused
+pub mod Headline
+pub mod Loaded
+pub mod Lines

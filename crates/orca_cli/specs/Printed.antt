@@ -1,0 +1,23 @@
+-- What was printed.
+use Rattle.std.specs.Prelude.{◌≡◌, ◌⊎◌, ℕ, List, ◌++◌, Option, Some, None, Result, Ok, Err}
+use Rattle.orca_io.specs.declared.sink.SinkFault.{SinkFault}
+
+-- the told bytes grew by a text of this kind; nothing is said where nothing is told
+abbrev pub Grew : Option (List ℕ) → Option (List ℕ) → (List ℕ → Type 0) → Type 0
+Grew None new P = new ≡ None
+Grew (Some old) None P = ⊥
+Grew (Some old) (Some new) P = (text : List ℕ) × (new ≡ old ++ text) × P text
+
+-- a text is the front of another
+abbrev pub IsFront : List ℕ → List ℕ → Type 0
+IsFront text whole = (rest : List ℕ) × (whole ≡ text ++ rest)
+
+-- all of a text was written, or after a fault a front of it
+abbrev pub WroteOf : Result Unit SinkFault → List ℕ → List ℕ → Type 0
+WroteOf (Ok _) whole text = text ≡ whole
+WroteOf (Err fault) whole text = IsFront text whole
+
+-- all of a text was written and the status is the one that goes with it, or a write failed or memory lacked, and a front
+-- of it was
+abbrev pub Ends : ℕ → ℕ → List ℕ → List ℕ → Type 0
+Ends wanted status whole text = ((status ≡ wanted) × (text ≡ whole)) ⊎ (((status ≡ 10) ⊎ (status ≡ 12)) × IsFront text whole)

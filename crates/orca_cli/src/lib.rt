@@ -1,0 +1,15 @@
+//! The top call: what the program does for its words.
+//!
+//! Its clauses are the product's: what each status means, which line each prints, and that a kept run is a history of the
+//! program in the file (`IsRun` of specs/Headline.antt). It stands on the shelf and the sink, the reader of small programs
+//! and their meaning, and knows no real file.
+#![tactic(auto)]
+
+mod kept;
+mod load;
+mod run;
+mod top;
+mod words;
+
+pub use kept::{Ended, Kept, ProcessEnd, ProcessStanding};
+pub use top::{ABSENT, FINISHED, NO_MEMORY, NOT_YET, READ_FAULT, USAGE, WRITE_FAULT};
