@@ -18,7 +18,7 @@ use Rattle.orca_tree.specs.declared.token.Token.TheVariants.{Name, Number, Key, 
 
 -- ---- tests
 
-and_cases : (x y : Bool) → (x && y) ≡ true → (x ≡ true) × (y ≡ true)
+pub and_cases : (x y : Bool) → (x && y) ≡ true → (x ≡ true) × (y ≡ true)
 and_cases true y h = (refl, h)
 and_cases false y h = absurd cc
 

@@ -70,7 +70,7 @@ by_comment c cs true p q = omega arith
 by_comment c cs false p q = omega arith
 
 mutual
-  length_gap : (text : List ℕ) → length (after_gap text) ≤ length text
+  pub length_gap : (text : List ℕ) → length (after_gap text) ≤ length text
   length_gap [] = omega arith
   length_gap (c ∷ cs) = by_gap c cs (is_blank c) (c == 35) (length_gap cs) (length_comment cs)
 

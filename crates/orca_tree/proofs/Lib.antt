@@ -4,3 +4,6 @@ pub mod Lexing
 pub mod Sections
 pub mod Grammar
 pub mod Programs
+pub mod Tests
+pub mod Names
+pub mod Lengths

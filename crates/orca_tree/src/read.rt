@@ -1,6 +1,6 @@
 //! From a text to its small program.
 
-ghost use Rattle.std.specs.Prelude.{◌≡◌, IfOk, IfSome, IfNone};
+ghost use Rattle.std.specs.Prelude.{◌≡◌, ◌*◌, ◌≤◌, length, IfOk, IfSome, IfNone};
 ghost use Rattle.orca_base.specs.Refusal.{MatchRefusal};
 ghost use Rattle.orca_tree.specs.declared.small.SmallProgram.{SmallProgram};
 ghost use Rattle.orca_tree.specs.Scope.{Reads};
@@ -19,6 +19,9 @@ pub fn read_small(alloc: Global, text: &[u8]) -> Result<Option<SmallProgram>, No
     ensures found { IfOk result (λ r. IfSome r (λ p. Reads text.now p)) }
     ensures only { IfOk result (λ r. IfSome r (λ p. (q : SmallProgram) → Reads text.now q → q ≡ p)) }
     ensures none { IfOk result (λ r. IfNone r ((p : SmallProgram) → Reads text.now p → ⊥)) }
+
+    // Each operation has 35 bytes and more, so a text of a million bytes has fewer than 16 bits count.
+    ensures few { IfOk result (λ r. IfSome r (λ p. 35 * length p.operations ≤ length text.now)) }
 {
     match read(alloc, text) {
         Ok(program) => Ok(Some(program)),

@@ -80,6 +80,23 @@ fn table<'a>(
     Ok(Some(table))
 }
 
+// Whether a name has this role.
+fn has(table: &BTreeMap<&str, Role>, name: &str, role: Role) -> bool
+    ensures { IsTrue result ↔ (get_by (λ k. slice_cmp nat_cmp name.now k.now) table.now ≡ Some role) }
+{
+    match table.get(name) {
+        Some(found) => *found == role,
+        None => false,
+    }
+}
+
+// Whether a name has no role.
+fn lacks(table: &BTreeMap<&str, Role>, name: &str) -> bool
+    ensures { IsTrue result ↔ (get_by (λ k. slice_cmp nat_cmp name.now k.now) table.now ≡ None) }
+{
+    table.get(name).is_none()
+}
+
 // The names of a program, which clauses see as the program.
 #[derive(Drop)]
 struct Names<'a> {
@@ -111,31 +128,31 @@ impl<'a> Names<'a> {
     fn is_free(&self, name: &str) -> bool
         ensures { IsTrue result ↔ (¬ Contains (declared_names self.now) name.now) }
     {
-        self.table.get(name).is_none()
+        lacks(&self.table, name)
     }
 
     fn is_field(&self, name: &str) -> bool
         ensures { IsTrue result ↔ Contains self.now.fields name.now }
     {
-        matches!(self.table.get(name), Some(Role::Field))
+        has(&self.table, name, Role::Field)
     }
 
     fn is_plain(&self, name: &str) -> bool
         ensures { IsTrue result ↔ HasHead self.now.operations name.now (λ kind. kind ≡ HeadKind.Plain) }
     {
-        matches!(self.table.get(name), Some(Role::Plain))
+        has(&self.table, name, Role::Plain)
     }
 
     fn is_giver(&self, name: &str) -> bool
         ensures { IsTrue result ↔ IsGiver self.now.operations name.now }
     {
-        matches!(self.table.get(name), Some(Role::Gives))
+        has(&self.table, name, Role::Gives)
     }
 
     fn is_taker(&self, name: &str) -> bool
         ensures { IsTrue result ↔ HasHead self.now.operations name.now (λ kind. (parameter : List ℕ) × (kind ≡ HeadKind.Takes parameter)) }
     {
-        matches!(self.table.get(name), Some(Role::Takes))
+        has(&self.table, name, Role::Takes)
     }
 
     fn parameter_differs(&self, kind: &HeadKind) -> bool
@@ -165,9 +182,12 @@ impl<'a> Names<'a> {
     fn are_assignments(&self, kind: &HeadKind, assignments: &[Assignment]) -> bool
         ensures { IsTrue result ↔ All (IsAssignment self.now.fields kind.now) assignments.now }
     {
-        assignments
-            .iter()
-            .all(|assignment| self.is_assignment(kind, assignment))
+        'assignments: for assignment in assignments {
+            if !self.is_assignment(kind, assignment) {
+                return false;
+            }
+        }
+        true
     }
 
     fn is_body(&self, kind: &HeadKind, body: &OperationBody) -> bool
