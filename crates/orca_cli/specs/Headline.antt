@@ -1,6 +1,8 @@
 -- The headline, for a small program: what a run keeps and prints.
-use Rattle.std.specs.Prelude.{◌≡◌, ℕ, List, [], ◌∷◌, Option, Some, IfSome}
+use Rattle.std.specs.Prelude.{◌≡◌, ℕ, List, [], ◌∷◌, Option, Some, IfSome, Result, Ok, Err}
 use Rattle.orca_io.specs.Files.{File, content_of}
+use Rattle.orca_io.specs.declared.sink.SinkFault.{SinkFault}
+use Rattle.orca_io.specs.declared.sink.SinkFault.TheVariants as faults
 use Rattle.orca_tree.specs.declared.small.SmallProgram.{SmallProgram}
 use Rattle.orca_tree.specs.Scope.{Reads}
 use Rattle.value_core.specs.History.{Legal, output_of, replies_of}
@@ -9,7 +11,8 @@ use Rattle.orca_meaning.specs.Program.{performs_of, computes_of}
 use Rattle.orca_meaning.specs.Executions.{HasEnded}
 use Rattle.orca_cli.specs.declared.kept.Kept.{Kept}
 use Rattle.orca_cli.specs.declared.kept.ProcessEnd.{ProcessEnd}
-use Rattle.orca_cli.specs.declared.kept.ProcessStanding.TheVariants as standing
+use Rattle.orca_cli.specs.declared.kept.ProcessStanding.{ProcessStanding}
+use Rattle.orca_cli.specs.declared.kept.ProcessStanding.TheVariants as standings
 use Rattle.orca_cli.specs.Words.{command_of}
 use Rattle.orca_cli.specs.Printed.{Grew, Ends}
 
@@ -22,7 +25,7 @@ pub record IsMainEnd (p : SmallProgram) (book : List Line) (status : ℕ) (end :
   pub node : end.node ≡ 0
   pub turns : end.turns ≡ 0
   pub replies : end.replies.items ≡ replies_of (performs_of p) (computes_of p) book 0
-  pub ended : status ≡ 0 → HasEnded p book × (end.standing ≡ standing.Ended)
+  pub ended : status ≡ 0 → HasEnded p book × (end.standing ≡ standings.Ended)
 
 -- the kept book is a history of the program, the replies of the process are the history's, and what the history writes
 -- was printed: all of it with status 0, and a front of it where a write failed or memory lacked
@@ -30,3 +33,9 @@ pub record IsRun (p : SmallProgram) (k : Kept) (status : ℕ) (old new : Option 
   pub legal : Legal (performs_of p) (computes_of p) k.book.items
   pub processes : (end : ProcessEnd) × (k.processes.items ≡ end ∷ []) × IsMainEnd p k.book.items status end
   pub printed : Grew old new (Ends 0 status (output_of k.book.items))
+
+-- the status of a run, and where its process then stands
+abbrev pub IsRunEnd : Result Unit SinkFault → ℕ → ProcessStanding → Type 0
+IsRunEnd (Ok _) status standing = (status ≡ 0) × (standing ≡ standings.Ended)
+IsRunEnd (Err faults.Failed) status standing = (status ≡ 10) × (standing ≡ standings.Busy)
+IsRunEnd (Err faults.NoMemory) status standing = (status ≡ 12) × (standing ≡ standings.Busy)

@@ -4,6 +4,7 @@ use Rattle.orca_io.specs.Files.{File, content_of}
 use Rattle.orca_tree.specs.declared.small.SmallProgram.{SmallProgram}
 use Rattle.orca_tree.specs.Scope.{Reads}
 use Rattle.orca_cli.specs.Words.{command_of, usage_line, absent_line, unread_line, not_yet_line}
+use Rattle.orca_cli.specs.Printed.{Grew, Ends}
 
 -- a text that is that of a small program
 abbrev pub IsSmall : List ℕ → Type 0
@@ -20,3 +21,9 @@ pub data IsRefusal (words : List (List ℕ)) (told : Option (List File)) (rose :
   unread : (file : List ℕ) → command_of words ≡ Some file → rose → IsRefusal words told rose 8 (unread_line file)
   absent : (file : List ℕ) → command_of words ≡ Some file → IfSome told (λ files. content_of files file ≡ None) → IsRefusal words told rose 9 (absent_line file)
   not_yet : (file : List ℕ) → command_of words ≡ Some file → IfSome told (λ files. IsNotYet (content_of files file)) → IsRefusal words told rose 15 (not_yet_line file)
+
+-- the answer where nothing was run: a refusal whose line was printed, or a front of the line where the write failed or
+-- memory lacked; or nothing at all, for want of memory
+abbrev pub IsAnswer : List (List ℕ) → Option (List File) → Type 0 → Option (List ℕ) → Option (List ℕ) → ℕ → Type 0
+IsAnswer words told rose old new status =
+    ((wanted : ℕ) × (line : List ℕ) × IsRefusal words told rose wanted line × Grew old new (Ends wanted status line)) ⊎ ((status ≡ 12) × (new ≡ old))

@@ -18,4 +18,4 @@ abbrev pub unread_line : List ℕ → List ℕ
 unread_line file = codes "orca: cannot read " ++ file ++ 10 ∷ []
 
 abbrev pub not_yet_line : List ℕ → List ℕ
-not_yet_line file = codes "orca: " ++ file ++ codes ": not yet" ++ 10 ∷ []
+not_yet_line file = codes "orca: " ++ file ++ (codes ": not yet" ++ 10 ∷ [])

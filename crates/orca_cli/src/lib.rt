@@ -7,9 +7,11 @@
 
 mod kept;
 mod load;
+mod refusal;
+mod room;
 mod run;
 mod top;
 mod words;
 
 pub use kept::{Ended, Kept, ProcessEnd, ProcessStanding};
-pub use top::{ABSENT, FINISHED, NO_MEMORY, NOT_YET, READ_FAULT, USAGE, WRITE_FAULT};
+pub use top::{ABSENT, FINISHED, NO_MEMORY, NOT_YET, READ_FAULT, USAGE, WRITE_FAULT, orca_main};

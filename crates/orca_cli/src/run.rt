@@ -6,11 +6,12 @@ ghost use Rattle.orca_io.specs.Sinks.{Puts};
 ghost use Rattle.orca_tree.specs.Scope.{IsScoped};
 ghost use Rattle.value_core.specs.History.{output_by, output_of};
 ghost use Rattle.orca_meaning.specs.Executions.{Follows, HasEnded};
-ghost use Rattle.orca_cli.specs.Headline.{IsRun};
+ghost use Rattle.orca_cli.specs.Headline.{IsRun, IsRunEnd};
 ghost use Rattle.orca_cli.specs.Printed.{Grew, WroteOf};
 ghost use Rattle.orca_cli.specs.Lines.{line_with};
 
-use crate::kept::{Kept, ProcessEnd, ProcessStanding};
+use crate::kept::{Ended, Kept, ProcessEnd, ProcessStanding};
+use crate::room::add;
 use crate::top::{FINISHED, NO_MEMORY, WRITE_FAULT};
 use orca_base::NoMemory;
 use orca_io::{Sink, SinkFault};
@@ -51,4 +52,76 @@ fn put_some<K: Sink>(out: &mut K, text: &[u8]) -> Result<(), SinkFault>
         return Ok(());
     }
     out.put(text)
+}
+
+// Performs the program's actions one by one. Each line is in the book before its text is put, so that what was put is
+// never more than what the book writes.
+fn run<K: Sink>(
+    alloc: Global,
+    program: &SmallProgram,
+    out: &mut K,
+    execution: &mut Execution,
+    book: &mut Vec<Line>,
+) -> Result<(), SinkFault>
+    requires numbered { length program.now.operations < 2 ^ 16 }
+    requires scoped { IsScoped program.now }
+    requires begins { Follows program.now execution.old book.old.items }
+    requires empty { book.old.items ≡ [] }
+    ensures followed { Follows program.now execution.new book.new.items }
+    ensures finished { OnOk result (HasEnded program.now book.new.items) }
+    ensures wrote { Grew (K.told out.old) (K.told out.new) (WroteOf result (output_of book.new.items)) }
+    ensures later { K.faults out.old ≤ K.faults out.new }
+    ensures failed { IsErrOf result SinkFault.Failed → Rose (K.faults out.old) (K.faults out.new) }
+{
+    'lines: loop {
+        book.reserve(1)?;
+        let Some(line) = execution.step(alloc, program)? else {
+            return Ok(());
+        };
+        let text = output(alloc, &line.action);
+        add(book, line);
+        put_some(out, &text?)?;
+    }
+}
+
+// The status of a run, and where its process then stands.
+fn ended(run: Result<(), SinkFault>) -> (u8, ProcessStanding)
+    ensures { IsRunEnd run result.0 result.1 }
+{
+    match run {
+        Ok(()) => (FINISHED, ProcessStanding::Ended),
+        Err(SinkFault::Failed) => (WRITE_FAULT, ProcessStanding::Busy),
+        Err(SinkFault::NoMemory) => (NO_MEMORY, ProcessStanding::Busy),
+    }
+}
+
+/// Runs a program, and keeps its book and its process. Nothing is kept where there is no memory for the list of processes,
+/// before the run begins.
+pub fn run_kept<K: Sink>(alloc: Global, program: &SmallProgram, out: &mut K) -> Ended
+    requires numbered { length program.now.operations < 2 ^ 16 }
+    requires scoped { IsScoped program.now }
+    ensures kept { MatchOption result.kept ((result.status ≡ 12) × (K.told out.new ≡ K.told out.old)) (λ k. IsRun program.now k result.status (K.told out.old) (K.told out.new)) }
+    ensures failed { result.status ≡ WRITE_FAULT → Rose (K.faults out.old) (K.faults out.new) }
+{
+    let Ok(mut processes) = Vec::with_capacity(alloc, 1) else {
+        return Ended {
+            status: NO_MEMORY,
+            kept: None,
+        };
+    };
+    let mut execution = Execution::start(alloc);
+    let mut book = Vec::new(alloc);
+    let run = run(alloc, program, out, &mut execution, &mut book);
+    let (status, standing) = ended(run);
+    let main = ProcessEnd {
+        node: 0,
+        replies: execution.into_replies(),
+        turns: 0,
+        standing,
+    };
+    add(&mut processes, main);
+    Ended {
+        status,
+        kept: Some(Kept { book, processes }),
+    }
 }

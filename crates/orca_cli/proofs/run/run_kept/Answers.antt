@@ -1,0 +1,29 @@
+use Rattle.std.proofs.Common.{◌≡◌, List, [], ◌∷◌, ◌++◌, ap, ◌∙◌, sym, subst, refl}
+use Rattle.value_core.specs.declared.action.Line.{Line}
+use Rattle.orca_meaning.specs.Executions.{Follows}
+use Rattle.orca_cli.specs.declared.kept.ProcessEnd.{ProcessEnd}
+use Rattle.orca_cli.proofs.CliLemmas.{run_ends, run_finished}
+use Rattle.orca_cli.proofs.run.run_kept.Goals as goal
+
+pub run-run-requires-clause-begins : goal.run-run-requires-clause-begins
+run-run-requires-clause-begins g c =
+    subst (λ (lines : List Line). Follows c.args.program.now c.start-execution.result lines) (sym c.new-book.ensures.items) (c.start-execution.ensures c.args.program.now)
+
+pub returns-clause-kept : goal.returns-clause-kept
+returns-clause-kept g c =
+    let main : ProcessEnd = record { node = 0; replies = c.into_replies.result; turns = 0; standing = c.ended-status.result.1 } in
+    let one : c.add.new.list.items ≡ main ∷ [] = c.add.ensures ∙ ap (λ (l : List ProcessEnd). l ++ main ∷ []) c.in-Ok.ensures.items in
+    record {
+      legal = c.run-run.ensures.followed.legal;
+      processes = (
+        main,
+        one,
+        record {
+          node = refl;
+          turns = refl;
+          replies = c.into_replies.ensures c.args.program.now c.run-run.new.book.items c.run-run.ensures.followed;
+          ended = run_finished _ _ _ _ c.ended-status.ensures c.run-run.ensures.finished;
+        },
+      );
+      printed = run_ends _ _ _ _ _ _ c.ended-status.ensures c.run-run.ensures.wrote;
+    }

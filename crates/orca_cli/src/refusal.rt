@@ -1,0 +1,41 @@
+//! The lines that end a refusal.
+
+ghost use Rattle.std.specs.Prelude.{◌≡◌, ◌⊎◌, ◌≢◌, ◌≤◌, None, IfOk, OnErr, string_bytes};
+ghost use Rattle.orca_io.specs.Causes.{Rose};
+ghost use Rattle.orca_cli.specs.Printed.{Grew, Ends};
+
+use crate::kept::Ended;
+use crate::top::{NO_MEMORY, WRITE_FAULT};
+use orca_io::{Sink, SinkFault};
+use std::alloc::AllocError;
+
+/// Prints a line and gives its status, or that of the write that failed. Nothing is kept.
+pub fn refused<K: Sink>(out: &mut K, line: Result<String, AllocError>, status: u8) -> Ended
+    requires { status ≢ WRITE_FAULT }
+    ensures none { result.kept ≡ None }
+    ensures printed { IfOk line (λ l. Grew (K.told out.old) (K.told out.new) (Ends status result.status (string_bytes l))) }
+    ensures silent { OnErr line ((result.status ≡ 12) × (K.told out.new ≡ K.told out.old)) }
+    ensures failed { result.status ≡ WRITE_FAULT → Rose (K.faults out.old) (K.faults out.new) }
+{
+    Ended {
+        status: printed(out, line, status),
+        kept: None,
+    }
+}
+
+// Prints a line, and gives the status that then holds.
+fn printed<K: Sink>(out: &mut K, line: Result<String, AllocError>, status: u8) -> u8
+    requires { status ≢ WRITE_FAULT }
+    ensures printed { IfOk line (λ l. Grew (K.told out.old) (K.told out.new) (Ends status result (string_bytes l))) }
+    ensures silent { OnErr line ((result ≡ 12) × (K.told out.new ≡ K.told out.old)) }
+    ensures failed { result ≡ WRITE_FAULT → Rose (K.faults out.old) (K.faults out.new) }
+{
+    match line {
+        Err(_) => NO_MEMORY,
+        Ok(text) => match out.put(text.as_bytes()) {
+            Ok(()) => status,
+            Err(SinkFault::Failed) => WRITE_FAULT,
+            Err(SinkFault::NoMemory) => NO_MEMORY,
+        },
+    }
+}
