@@ -60,7 +60,7 @@ assignment_once x y r s e =
     let field : x.field ≡ y.field = cc in
     let left : (operand_tokens x.value ++ Sign Semicolon ∷ []) ++ r ≡ (operand_tokens y.value ++ Sign Semicolon ∷ []) ++ s = cc in
     let tail : operand_tokens x.value ++ (Sign Semicolon ∷ r) ≡ operand_tokens y.value ++ (Sign Semicolon ∷ s) =
-        sym (append_assoc (operand_tokens x.value) (Sign Semicolon ∷ []) r) ∙ left ∙ append_assoc (operand_tokens y.value) (Sign Semicolon ∷ []) s in
+    sym (append_assoc (operand_tokens x.value) (Sign Semicolon ∷ []) r) ∙ left ∙ append_assoc (operand_tokens y.value) (Sign Semicolon ∷ []) s in
     let same = operand_once x.value y.value _ _ tail in
     let rest : Sign Semicolon ∷ r ≡ Sign Semicolon ∷ s = same.1 in
     ((λ i. record { field = field i; value = same.0 i }), cc)
@@ -73,7 +73,7 @@ pub section_once : {X : Type 0} (spelled : X → List Token) (goes_on : List Tok
     (xs ys : List X) (r s : List Token) → section_tokens spelled xs ++ r ≡ section_tokens spelled ys ++ s → (xs ≡ ys) × (r ≡ s)
 section_once spelled goes_on part stop xs ys r s e =
     let same = list_once spelled goes_on part xs ys (end_tokens ++ r) (end_tokens ++ s) (stop r) (stop s)
-        (sym (append_assoc (flat_map spelled xs) end_tokens r) ∙ e ∙ append_assoc (flat_map spelled ys) end_tokens s) in
+    (sym (append_assoc (flat_map spelled xs) end_tokens r) ∙ e ∙ append_assoc (flat_map spelled ys) end_tokens s) in
     let tail : end_tokens ++ r ≡ end_tokens ++ s = same.1 in
     (same.0, cc)
 
@@ -90,7 +90,7 @@ body_once (Assigns ns) (Assigns bs) r s e =
 operation_once : (x y : Operation) (r s : List Token) → operation_tokens x ++ r ≡ operation_tokens y ++ s → (x ≡ y) × (r ≡ s)
 operation_once x y r s e =
     let seam : head_tokens x.head ++ (Key KeyBegin ∷ body_tokens x.body ++ r) ≡ head_tokens y.head ++ (Key KeyBegin ∷ body_tokens y.body ++ s) =
-        sym (append_assoc (head_tokens x.head) (Key KeyBegin ∷ body_tokens x.body) r) ∙ e ∙ append_assoc (head_tokens y.head) (Key KeyBegin ∷ body_tokens y.body) s in
+    sym (append_assoc (head_tokens x.head) (Key KeyBegin ∷ body_tokens x.body) r) ∙ e ∙ append_assoc (head_tokens y.head) (Key KeyBegin ∷ body_tokens y.body) s in
     let head = head_once x.head y.head _ _ seam in
     let back : Key KeyBegin ∷ (body_tokens x.body ++ r) ≡ Key KeyBegin ∷ (body_tokens y.body ++ s) = head.1 in
     let tail : body_tokens x.body ++ r ≡ body_tokens y.body ++ s = cc in
@@ -130,7 +130,7 @@ argument_once v (Result a) (Result b) r s e = let same : a ≡ b = cc in (ap Res
 closed_once : (v : List ℕ) (x y : Argument) (r s : List Token) → (argument_tokens v x ++ Sign Closes ∷ Sign Semicolon ∷ []) ++ r ≡ (argument_tokens v y ++ Sign Closes ∷ Sign Semicolon ∷ []) ++ s → (x ≡ y) × (r ≡ s)
 closed_once v x y r s e =
     let tail : argument_tokens v x ++ (Sign Closes ∷ Sign Semicolon ∷ r) ≡ argument_tokens v y ++ (Sign Closes ∷ Sign Semicolon ∷ s) =
-        sym (append_assoc (argument_tokens v x) (Sign Closes ∷ Sign Semicolon ∷ []) r) ∙ e ∙ append_assoc (argument_tokens v y) (Sign Closes ∷ Sign Semicolon ∷ []) s in
+    sym (append_assoc (argument_tokens v x) (Sign Closes ∷ Sign Semicolon ∷ []) r) ∙ e ∙ append_assoc (argument_tokens v y) (Sign Closes ∷ Sign Semicolon ∷ []) s in
     let same = argument_once v x y _ _ tail in
     let rest : Sign Closes ∷ Sign Semicolon ∷ r ≡ Sign Closes ∷ Sign Semicolon ∷ s = same.1 in
     (same.0, cc)

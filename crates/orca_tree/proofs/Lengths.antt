@@ -120,8 +120,12 @@ specification_long : (kind : List ℕ) (heads : List Head) → 13 * length heads
 specification_long kind heads = omega (arith, list_long head_tokens 13 head_long heads, least_sum-append (flat_map head_tokens heads) end_tokens)
 
 implementation_long : (kind : List ℕ) (fields : List (List ℕ)) (operations : List Operation) (opening : Opening) → 22 * length operations ≤ least_sum (implementation_tokens kind fields operations opening)
-implementation_long kind fields operations opening = omega (arith, list_long operation_tokens 22 operation_long operations,
-    least_sum-append (flat_map field_tokens fields) (flat_map operation_tokens operations ++ opening_tokens opening), least_sum-append (flat_map operation_tokens operations) (opening_tokens opening))
+implementation_long kind fields operations opening = omega (
+  arith,
+  list_long operation_tokens 22 operation_long operations,
+  least_sum-append (flat_map field_tokens fields) (flat_map operation_tokens operations ++ opening_tokens opening),
+  least_sum-append (flat_map operation_tokens operations) (opening_tokens opening),
+)
 
 -- thirteen bytes in the specification and 22 in the implementation
 program_long : (p : SmallProgram) → 13 * length p.heads + 22 * length p.operations ≤ least_sum (program_tokens p)

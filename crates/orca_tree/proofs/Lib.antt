@@ -4,6 +4,6 @@ pub mod Lexing
 pub mod Sections
 pub mod Grammar
 pub mod Programs
-pub mod Tests
+pub mod Equivalences
 pub mod Names
 pub mod Lengths

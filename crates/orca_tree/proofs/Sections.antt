@@ -18,7 +18,7 @@ module _ {X : Type 0} (spelled : X → List Token) (goes_on : List Token → Boo
   pub read_more : (tokens : List Token) (found : List X) (rest : List Token) (x : X) (others : List Token) → IsReadTo spelled tokens found rest → rest ≡ spelled x ++ others → IsReadTo spelled tokens (found ++ x ∷ []) others
   read_more tokens found rest x others so_far is = record {
     sound = so_far.sound ∙ ap (λ (l : List Token). flat_map spelled found ++ l) is ∙ sym (append_assoc (flat_map spelled found) (spelled x) others)
-        ∙ ap (λ (l : List Token). l ++ others) (flat_map_more spelled [] found x)
+        ∙ ap (λ (l : List Token). l ++ others) (flat_map_more spelled [] found x);
   }
 
   -- where a part begins, the test says so, also in a longer list
@@ -32,7 +32,7 @@ module _ {X : Type 0} (spelled : X → List Token) (goes_on : List Token → Boo
   list_once (x ∷ xs) [] r s f g e = absurd (true≢false (sym (begins_more x xs r) ∙ ap goes_on e ∙ g))
   list_once (x ∷ xs) (y ∷ ys) r s f g e =
       let seam : spelled x ++ (flat_map spelled xs ++ r) ≡ spelled y ++ (flat_map spelled ys ++ s) =
-          sym (append_assoc (spelled x) (flat_map spelled xs) r) ∙ e ∙ append_assoc (spelled y) (flat_map spelled ys) s in
+      sym (append_assoc (spelled x) (flat_map spelled xs) r) ∙ e ∙ append_assoc (spelled y) (flat_map spelled ys) s in
       let same = part.once x y _ _ seam in
       let rest = list_once xs ys r s f g same.1 in
       ((λ i. same.0 i ∷ rest.0 i), rest.1)
@@ -47,5 +47,5 @@ module _ {X : Type 0} (spelled : X → List Token) (goes_on : List Token → Boo
       by_parts (f ∷ fs) [] h = true≢false (sym (begins_more f fs rest) ∙ ap goes_on h ∙ stop)
       by_parts (f ∷ fs) (y ∷ ys) h =
           let seam : spelled f ++ (flat_map spelled fs ++ rest) ≡ spelled y ++ (flat_map spelled ys ++ r) =
-              sym (append_assoc (spelled f) (flat_map spelled fs) rest) ∙ h ∙ append_assoc (spelled y) (flat_map spelled ys) r in
+          sym (append_assoc (spelled f) (flat_map spelled fs) rest) ∙ h ∙ append_assoc (spelled y) (flat_map spelled ys) r in
           by_parts fs ys (part.once f y _ _ seam).1

@@ -24,7 +24,7 @@ Passes spelled tokens result =
 abbrev pub ParsesAll : {X : Type 0} → (X → List Token) → (List Token → Bool) → List Token → Result (List X × Bor (List Token)) (Refusal NotSmall) → Type 0
 ParsesAll spelled goes_on tokens result =
     MatchRefusal result (λ r. (tokens ≡ flat_map spelled r.0 ++ r.1.now) × (goes_on r.1.now ≡ false))
-      (λ _. (xs : List _) (rest : List Token) → tokens ≡ flat_map spelled xs ++ rest → goes_on rest ≡ false → ⊥)
+    (λ _. (xs : List _) (rest : List Token) → tokens ≡ flat_map spelled xs ++ rest → goes_on rest ≡ false → ⊥)
 
 abbrev pub is_operation : Keyword → Bool
 is_operation KeyOperation = true

@@ -172,7 +172,10 @@ fn head(alloc: Global, tokens: &[Token]) -> Result<(Head, &[Token]), Refusal<Not
 }
 
 // Heads, up to what begins none.
-fn heads<'a>(alloc: Global, tokens: &'a [Token]) -> Result<(Items<Head>, &'a [Token]), Refusal<NotSmall>>
+fn heads<'a>(
+    alloc: Global,
+    tokens: &'a [Token],
+) -> Result<(Items<Head>, &'a [Token]), Refusal<NotSmall>>
     ensures { ParsesAll head_tokens operation_next tokens.now result }
 {
     let mut found = Items::new(Vec::new(alloc));
@@ -185,7 +188,10 @@ fn heads<'a>(alloc: Global, tokens: &'a [Token]) -> Result<(Items<Head>, &'a [To
     Ok((found, rest))
 }
 
-fn specification(alloc: Global, tokens: &[Token]) -> Result<((Text, Items<Head>), &[Token]), Refusal<NotSmall>>
+fn specification(
+    alloc: Global,
+    tokens: &[Token],
+) -> Result<((Text, Items<Head>), &[Token]), Refusal<NotSmall>>
     ensures { Parses (λ s. specification_tokens s.0 s.1) tokens.now result }
 {
     let rest = key(tokens, Keyword::KeyObject)?;
@@ -232,7 +238,10 @@ fn assignment(alloc: Global, tokens: &[Token]) -> Result<(Assignment, &[Token]),
 }
 
 // Assignments, up to what begins none.
-fn assignments<'a>(alloc: Global, tokens: &'a [Token]) -> Result<(Items<Assignment>, &'a [Token]), Refusal<NotSmall>>
+fn assignments<'a>(
+    alloc: Global,
+    tokens: &'a [Token],
+) -> Result<(Items<Assignment>, &'a [Token]), Refusal<NotSmall>>
     ensures { ParsesAll assignment_tokens name_next tokens.now result }
 {
     let mut found = Items::new(Vec::new(alloc));
@@ -245,7 +254,10 @@ fn assignments<'a>(alloc: Global, tokens: &'a [Token]) -> Result<(Items<Assignme
     Ok((found, rest))
 }
 
-fn assignment_section(alloc: Global, tokens: &[Token]) -> Result<(Items<Assignment>, &[Token]), Refusal<NotSmall>>
+fn assignment_section(
+    alloc: Global,
+    tokens: &[Token],
+) -> Result<(Items<Assignment>, &[Token]), Refusal<NotSmall>>
     ensures { Parses (section_tokens assignment_tokens) tokens.now result }
 {
     let (assignments, rest) = assignments(alloc, tokens)?;
@@ -300,7 +312,10 @@ fn opening(alloc: Global, tokens: &[Token]) -> Result<(Opening, &[Token]), Refus
 }
 
 // Fields, up to what begins none.
-fn fields<'a>(alloc: Global, tokens: &'a [Token]) -> Result<(Items<Text>, &'a [Token]), Refusal<NotSmall>>
+fn fields<'a>(
+    alloc: Global,
+    tokens: &'a [Token],
+) -> Result<(Items<Text>, &'a [Token]), Refusal<NotSmall>>
     ensures { ParsesAll field_tokens name_next tokens.now result }
 {
     let mut found = Items::new(Vec::new(alloc));
@@ -314,7 +329,10 @@ fn fields<'a>(alloc: Global, tokens: &'a [Token]) -> Result<(Items<Text>, &'a [T
 }
 
 // Operations, up to what begins none.
-fn operations<'a>(alloc: Global, tokens: &'a [Token]) -> Result<(Items<Operation>, &'a [Token]), Refusal<NotSmall>>
+fn operations<'a>(
+    alloc: Global,
+    tokens: &'a [Token],
+) -> Result<(Items<Operation>, &'a [Token]), Refusal<NotSmall>>
     ensures { ParsesAll operation_tokens operation_next tokens.now result }
 {
     let mut found = Items::new(Vec::new(alloc));
@@ -348,7 +366,11 @@ fn implementation<'a>(
 // ---- calls
 
 // The operation of this variable that is called, up to the parenthesis.
-fn target<'a>(alloc: Global, tokens: &'a [Token], variable: &str) -> Result<(Text, &'a [Token]), Refusal<NotSmall>>
+fn target<'a>(
+    alloc: Global,
+    tokens: &'a [Token],
+    variable: &str,
+) -> Result<(Text, &'a [Token]), Refusal<NotSmall>>
     ensures { Parses (target_tokens variable.now) tokens.now result }
 {
     let rest = same_name(tokens, variable)?;
@@ -358,7 +380,11 @@ fn target<'a>(alloc: Global, tokens: &'a [Token], variable: &str) -> Result<(Tex
     Ok((operation, rest))
 }
 
-fn argument<'a>(alloc: Global, tokens: &'a [Token], variable: &str) -> Result<(Argument, &'a [Token]), Refusal<NotSmall>>
+fn argument<'a>(
+    alloc: Global,
+    tokens: &'a [Token],
+    variable: &str,
+) -> Result<(Argument, &'a [Token]), Refusal<NotSmall>>
     ensures { Parses (argument_tokens variable.now) tokens.now result }
 {
     match tokens {
@@ -371,7 +397,11 @@ fn argument<'a>(alloc: Global, tokens: &'a [Token], variable: &str) -> Result<(A
     }
 }
 
-fn invokes<'a>(alloc: Global, tokens: &'a [Token], variable: &str) -> Result<(Text, &'a [Token]), Refusal<NotSmall>>
+fn invokes<'a>(
+    alloc: Global,
+    tokens: &'a [Token],
+    variable: &str,
+) -> Result<(Text, &'a [Token]), Refusal<NotSmall>>
     ensures { Parses (λ o. call_tokens variable.now (Call.Invokes o)) tokens.now result }
 {
     let (operation, rest) = target(alloc, tokens, variable)?;
@@ -394,7 +424,11 @@ fn passes<'a>(
     Ok(((operation, argument), rest))
 }
 
-fn writes<'a>(alloc: Global, tokens: &'a [Token], variable: &str) -> Result<(Argument, &'a [Token]), Refusal<NotSmall>>
+fn writes<'a>(
+    alloc: Global,
+    tokens: &'a [Token],
+    variable: &str,
+) -> Result<(Argument, &'a [Token]), Refusal<NotSmall>>
     ensures { Parses (λ a. call_tokens variable.now (Call.Writes a)) tokens.now result }
 {
     let rest = key(tokens, Keyword::KeyWriteLine)?;
@@ -405,7 +439,11 @@ fn writes<'a>(alloc: Global, tokens: &'a [Token], variable: &str) -> Result<(Arg
     Ok((argument, rest))
 }
 
-fn call<'a>(alloc: Global, tokens: &'a [Token], variable: &str) -> Result<(Call, &'a [Token]), Refusal<NotSmall>>
+fn call<'a>(
+    alloc: Global,
+    tokens: &'a [Token],
+    variable: &str,
+) -> Result<(Call, &'a [Token]), Refusal<NotSmall>>
     ensures { Parses (call_tokens variable.now) tokens.now result }
 {
     match invokes(alloc, tokens, variable) {
@@ -416,7 +454,11 @@ fn call<'a>(alloc: Global, tokens: &'a [Token], variable: &str) -> Result<(Call,
 }
 
 // A call with an argument.
-fn other_call<'a>(alloc: Global, tokens: &'a [Token], variable: &str) -> Result<(Call, &'a [Token]), Refusal<NotSmall>>
+fn other_call<'a>(
+    alloc: Global,
+    tokens: &'a [Token],
+    variable: &str,
+) -> Result<(Call, &'a [Token]), Refusal<NotSmall>>
     requires { (o : List ℕ) (rest : List Token) → tokens.now ≡ call_tokens variable.now (Call.Invokes o) ++ rest → ⊥ }
     ensures { Parses (call_tokens variable.now) tokens.now result }
 {
@@ -437,7 +479,11 @@ fn other_call<'a>(alloc: Global, tokens: &'a [Token], variable: &str) -> Result<
 }
 
 // Calls, up to what begins none.
-fn calls<'a>(alloc: Global, tokens: &'a [Token], variable: &str) -> Result<(Items<Call>, &'a [Token]), Refusal<NotSmall>>
+fn calls<'a>(
+    alloc: Global,
+    tokens: &'a [Token],
+    variable: &str,
+) -> Result<(Items<Call>, &'a [Token]), Refusal<NotSmall>>
     ensures { ParsesAll (call_tokens variable.now) call_next tokens.now result }
 {
     let mut found = Items::new(Vec::new(alloc));
@@ -450,7 +496,11 @@ fn calls<'a>(alloc: Global, tokens: &'a [Token], variable: &str) -> Result<(Item
     Ok((found, rest))
 }
 
-fn call_section<'a>(alloc: Global, tokens: &'a [Token], variable: &str) -> Result<(Items<Call>, &'a [Token]), Refusal<NotSmall>>
+fn call_section<'a>(
+    alloc: Global,
+    tokens: &'a [Token],
+    variable: &str,
+) -> Result<(Items<Call>, &'a [Token]), Refusal<NotSmall>>
     ensures { Parses (section_tokens (call_tokens variable.now)) tokens.now result }
 {
     let (calls, rest) = calls(alloc, tokens, variable)?;
@@ -481,7 +531,10 @@ fn process<'a>(
 }
 
 /// The program that tokens spell, and what stands behind it.
-pub fn program(alloc: Global, tokens: &[Token]) -> Result<(SmallProgram, &[Token]), Refusal<NotSmall>>
+pub fn program(
+    alloc: Global,
+    tokens: &[Token],
+) -> Result<(SmallProgram, &[Token]), Refusal<NotSmall>>
     ensures { Parses program_tokens tokens.now result }
 {
     let ((kind, heads), rest) = specification(alloc, tokens)?;

@@ -273,11 +273,11 @@ pub fn is_scoped(alloc: Global, program: &SmallProgram) -> Result<bool, NoMemory
 {
     match Names::new(alloc, program)? {
         None => Ok(false),
-        Some(names) => Ok(same_heads(
-            program.heads.as_slice(),
-            program.operations.as_slice(),
-        ) && names.are_operations(program.operations.as_slice())
-            && names.is_opening(&program.opening)
-            && names.are_calls(program.calls.as_slice())),
+        Some(names) => Ok(
+            same_heads(program.heads.as_slice(), program.operations.as_slice())
+                && names.are_operations(program.operations.as_slice())
+                && names.is_opening(&program.opening)
+                && names.are_calls(program.calls.as_slice()),
+        ),
     }
 }

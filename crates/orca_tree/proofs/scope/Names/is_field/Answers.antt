@@ -1,4 +1,4 @@
-use Rattle.orca_tree.proofs.Tests.{both}
+use Rattle.orca_tree.proofs.Equivalences.{both}
 use Rattle.orca_tree.proofs.scope.Names.is_field.Goals as goal
 
 pub returns : goal.returns

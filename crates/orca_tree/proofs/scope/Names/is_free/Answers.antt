@@ -3,7 +3,7 @@ use Rattle.std.specs.Prelude.{IsTrue}
 use Rattle.std.specs.List.{Contains}
 use Rattle.orca_tree.specs.declared.small.SmallProgram.{SmallProgram}
 use Rattle.orca_tree.specs.Scope.{declared_names}
-use Rattle.orca_tree.proofs.Tests.{both}
+use Rattle.orca_tree.proofs.Equivalences.{both}
 use Rattle.orca_tree.proofs.scope.Names.is_free.Goals as goal
 
 pub returns : goal.returns

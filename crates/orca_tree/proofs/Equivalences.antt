@@ -1,4 +1,4 @@
--- Tests and what they tell.
+-- Facts that are the same.
 use Rattle.std.proofs.Common.{◌↔◌}
 
 -- what is the same as something that is the same as a third
