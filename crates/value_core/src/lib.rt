@@ -11,3 +11,6 @@ mod value;
 pub use action::{Action, Class, Kept, Line, Message, Reply};
 pub use orca_base::Text as TextValue;
 pub use value::{ObjectState, Parts, Value};
+
+#[cfg(test)]
+mod tests;
