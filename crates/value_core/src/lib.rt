@@ -1,7 +1,9 @@
 //! Values, actions, replies and the lines of a history.
 //!
 //! The floors above use that `≡` on values, messages and lines is equality of what they show (`specs/Datum.antt`), and the
-//! order of values. It stands on `orca_base`, and knows nothing of texts or types.
+//! order of values (`specs/Order.antt`), which is total and Equal for equal values alone. Which values are sound, and how
+//! large they are, is defined in `specs/Sound.antt` and `specs/Size.antt`. It stands on `orca_base`, and knows nothing of
+//! texts or types. No call recurses deeper than values nest.
 #![tactic(auto)]
 
 mod action;
@@ -13,3 +15,6 @@ pub use action::{Action, Class, Kept, Line, Message, Reply};
 pub use meaning::{Doing, Making, Tried};
 pub use orca_base::Text as TextValue;
 pub use value::{ObjectState, Parts, Value};
+
+#[cfg(test)]
+mod tests;
