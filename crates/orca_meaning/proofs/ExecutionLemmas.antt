@@ -7,7 +7,6 @@ use Rattle.std.proofs.lemmas.List.Elements.{All-nil, All-push}
 use Rattle.orca_base.specs.declared.ids.OpNo.{OpNo}
 use Rattle.orca_base.specs.declared.ids.KindNo.{KindNo}
 use Rattle.orca_base.specs.declared.ids.ObjectId.{ObjectId}
-use Rattle.orca_base.specs.declared.ids.ProcessNo.{ProcessNo}
 use Rattle.orca_tree.specs.Scope.{IsScoped}
 use Rattle.orca_tree.specs.declared.small.Operation.{Operation}
 use Rattle.orca_tree.specs.declared.small.OperationBody.{OperationBody}
@@ -33,7 +32,6 @@ use Rattle.orca_meaning.specs.Stages.{Stands}
 use Rattle.orca_meaning.specs.Executions.{Follows, HasEnded, IsFaultless, configuration_with, main_process, objects_with, outcome_of, object_outcome, state_or, tried_outcome}
 use Rattle.orca_meaning.specs.declared.execution.Execution.{Execution}
 use Rattle.orca_meaning.specs.declared.execution.Outcome.{Outcome}
-use Rattle.orca_meaning.specs.declared.process.SmallProcess.{SmallProcess}
 use Rattle.orca_meaning.proofs.KnownLemmas.{doing_known, doing_fine, doing_end, IsAtEnd, IsFine}
 use Rattle.std.proofs.lemmas.Bool.{cases_lt}
 
@@ -203,13 +201,3 @@ module _ (program : SmallProgram) (scoped : IsScoped program) (old new : Executi
     where
       HasDone : Action → Type 0
       HasDone a = doing_of program main_process (replies_of (performs_of program) (computes_of program) lines 0) ≡ doing.At a
-
--- what a process says of its own number it says of the first process
-pub next_of : (program : SmallProgram) (process : SmallProcess) (replies : List Reply) (act : Action) → ((rs : List Reply) → Stands program process.number process rs → doing_of program process.number rs ≡ doing.At act) → Stands program main_process process replies → doing_of program main_process replies ≡ doing.At act
-next_of program process replies act says stands =
-    ap (λ (n : ProcessNo). doing_of program n replies) (sym stands.0) ∙ says replies (subst (λ (n : ProcessNo). Stands program n process replies) (sym stands.0) stands)
-
-pub reply_of : (program : SmallProgram) (old new : SmallProcess) (replies : List Reply) (given reply : Reply) → ((rs : List Reply) → Stands program old.number old rs → Stands program old.number new (rs ++ given ∷ [])) → given ≡ reply → Stands program main_process old replies → Stands program main_process new (replies ++ reply ∷ [])
-reply_of program old new replies given reply says is stands =
-    let after : Stands program old.number new (replies ++ given ∷ []) = says replies (subst (λ (n : ProcessNo). Stands program n old replies) (sym stands.0) stands) in
-    subst (λ (n : ProcessNo). Stands program n new (replies ++ reply ∷ [])) stands.0 (subst (λ (r : Reply). Stands program old.number new (replies ++ r ∷ [])) is after)

@@ -1,7 +1,7 @@
 -- A stage after one more reply stands for one more.
 use Rattle.std.proofs.Common.{◌≡◌, ℕ, ◌+◌, suc, zero, List, [], ◌∷◌, ◌++◌, drop, Option, None, Some, refl, sym, ap, ◌∙◌, append_assoc, get_or}
 use Rattle.std.specs.Prelude.{slice_get}
-use Rattle.std.proofs.Common.{inl, inr}
+use Rattle.std.proofs.Common.{inl, inr, subst}
 use Rattle.std.proofs.lemmas.List.{drop_more, at_drop_all}
 use Rattle.std.proofs.lemmas.Option.{get_or_from_slice_get, none-some, slice_get_cases, slice_get_within}
 use Rattle.orca_base.specs.declared.ids.ProcessNo.{ProcessNo}
@@ -20,7 +20,8 @@ use Rattle.value_core.specs.declared.action.Action.{Action}
 use Rattle.value_core.specs.declared.meaning.Doing.{Doing}
 use Rattle.value_core.specs.declared.meaning.Doing.TheVariants.{At}
 use Rattle.orca_meaning.specs.Processes.{all_stating, doing_of, invocation, stating}
-use Rattle.orca_meaning.specs.Stages.{StandsFor, asked_in, first_doing, holding, last_doing, passing, plain_in, resumed, stage_after, stage_behind, stage_called, stage_passed}
+use Rattle.orca_meaning.specs.declared.process.SmallProcess.{SmallProcess}
+use Rattle.orca_meaning.specs.Stages.{Stands, StandsFor, asked_in, first_doing, holding, last_doing, passing, plain_in, resumed, stage_after, stage_behind, stage_called, stage_passed}
 use Rattle.orca_meaning.specs.declared.process.Stage.{Stage}
 use Rattle.orca_meaning.specs.declared.process.Stage.TheVariants.{Making, Calling, Holding, Over}
 
@@ -111,3 +112,13 @@ last_of_calls program number at (Some c) v replies e = rw (drop_at program.calls
 -- what a process does next after its replies, by its stage
 pub stands_next : (program : SmallProgram) (number : ProcessNo) (stage : Stage) (replies : List Reply) (act : Action) → resumed program number stage [] ≡ At act → StandsFor program number stage replies → doing_of program number replies ≡ At act
 stands_next program number stage replies act is stands = ap (doing_of program number) (sym (append-nil replies)) ∙ stands [] ∙ is
+
+-- what a process says of its own number it says of each number that is its
+pub next_of : (program : SmallProgram) (number : ProcessNo) (process : SmallProcess) (replies : List Reply) (act : Action) → ((rs : List Reply) → Stands program process.number process rs → doing_of program process.number rs ≡ At act) → Stands program number process replies → doing_of program number replies ≡ At act
+next_of program number process replies act says stands =
+    ap (λ (n : ProcessNo). doing_of program n replies) (sym stands.0) ∙ says replies (subst (λ (n : ProcessNo). Stands program n process replies) (sym stands.0) stands)
+
+pub reply_of : (program : SmallProgram) (number : ProcessNo) (old new : SmallProcess) (replies : List Reply) (given reply : Reply) → ((rs : List Reply) → Stands program old.number old rs → Stands program old.number new (rs ++ given ∷ [])) → given ≡ reply → Stands program number old replies → Stands program number new (replies ++ reply ∷ [])
+reply_of program number old new replies given reply says is stands =
+    let after : Stands program old.number new (replies ++ given ∷ []) = says replies (subst (λ (n : ProcessNo). Stands program n old replies) (sym stands.0) stands) in
+    subst (λ (n : ProcessNo). Stands program n new (replies ++ reply ∷ [])) stands.0 (subst (λ (r : Reply). Stands program old.number new (replies ++ r ∷ [])) is after)

@@ -1,0 +1,49 @@
+-- The program of examples/one.orca, and the lines of its history, written out by hand.
+use Rattle.std.specs.Prelude.{ℕ, pos, List, [], ◌∷◌, codes}
+use Rattle.orca_tree.specs.declared.small.HeadKind.TheVariants.{Gives, Takes}
+use Rattle.orca_tree.specs.declared.small.Operand.TheVariants as operand
+use Rattle.orca_tree.specs.declared.small.OperationBody.TheVariants.{Returns, Assigns}
+use Rattle.orca_tree.specs.declared.small.Opening.TheVariants.{Begins}
+use Rattle.orca_tree.specs.declared.small.Argument.TheVariants as argument
+use Rattle.orca_tree.specs.declared.small.Call.TheVariants as call
+use Rattle.orca_tree.specs.declared.small.SmallProgram.{SmallProgram}
+use Rattle.orca_base.specs.declared.ids.KindNo.{KindNo}
+use Rattle.value_core.specs.Datum.{Data}
+use Rattle.value_core.specs.Datum as datum
+use Rattle.value_core.specs.declared.value.Value.TheVariants as values
+use Rattle.value_core.specs.declared.action.Action.{Action}
+use Rattle.value_core.specs.declared.action.Action.TheVariants as action
+use Rattle.value_core.specs.declared.action.Reply.{Reply}
+use Rattle.value_core.specs.declared.action.Reply.TheVariants as answer
+use Rattle.value_core.specs.declared.action.Line.{Line}
+
+-- object Cell with the field x, `Value` that returns it, `Assign` that sets it, and x := 0 when it is made; the process
+-- assigns 6 and writes the value
+abbrev pub one_cell : SmallProgram
+one_cell = record {
+  kind = codes "Cell";
+  heads = record { name = codes "Value"; kind = Gives } ∷ record { name = codes "Assign"; kind = Takes (codes "v") } ∷ [];
+  fields = codes "x" ∷ [];
+  operations =
+    record { head = record { name = codes "Value"; kind = Gives }; body = Returns (codes "x") }
+    ∷ record { head = record { name = codes "Assign"; kind = Takes (codes "v") }; body = Assigns (record { field = codes "x"; value = operand.Named (codes "v") } ∷ []) } ∷ [];
+  opening = Begins (record { field = codes "x"; value = operand.Number (pos 0) } ∷ []);
+  variable = codes "X";
+  calls = call.Passes (codes "Assign") (argument.Number (pos 6)) ∷ call.Writes (argument.Result (codes "Value")) ∷ [];
+}
+
+abbrev pub integer_args : ℕ → Data
+integer_args n = datum.more (datum.int (pos n)) datum.none
+
+-- a line of process 0 by guard 0
+abbrev pub line : ℕ → Action → Reply → Line
+line call act reply = record { process = record { 0 = 0 }; call = record { 0 = call }; action = act; guard = 0; reply = reply }
+
+-- the four lines, where the third reply is this number
+abbrev pub book_with : ℕ → List Line
+book_with value =
+    line 0 (action.Make (record { 0 = 1 }) (record { process = 0; number = 1 })) answer.Done
+    ∷ line 1 (action.Call (record { 0 = 1 }) (record { 0 = 1 }) (record { process = 0; number = 1 }) (integer_args 6)) answer.Done
+    ∷ line 2 (action.Call (record { 0 = 1 }) (record { 0 = 0 }) (record { process = 0; number = 1 }) datum.none) (answer.Gave (values.Int (pos value)))
+    ∷ line 3 (action.Call (record { 0 = 0 }) (record { 0 = 0 }) (record { process = 0; number = 0 }) (datum.more (datum.text (codes "6")) datum.none)) answer.Done
+    ∷ []
