@@ -1,5 +1,5 @@
 -- A text has room for its tokens: each token has a least length in bytes.
-use Rattle.std.proofs.Common.{◌≡◌, ℕ, ◌+◌, ◌*◌, ◌<◌, ◌≤◌, Bool, true, false, List, [], ◌∷◌, ◌++◌, length, map, Option, Some, None, refl, sym, ap, ◌∙◌, subst, mul-suc, arith, length-append}
+use Rattle.std.proofs.Common.{◌≡◌, ℕ, ◌+◌, ◌*◌, ◌<◌, ◌≤◌, Bool, true, false, List, [], ◌∷◌, ◌++◌, length, Some, refl, sym, ap, ◌∙◌, subst, mul-suc, arith, length-append}
 use Rattle.std.specs.Prelude.{nat_le, ◌&&◌}
 use Rattle.std.specs.List.{flat_map}
 use Rattle.std.proofs.lemmas.Bool.Decides.{nat_tests}
@@ -22,13 +22,12 @@ use Rattle.orca_tree.specs.declared.small.Call.{Call}
 use Rattle.orca_tree.specs.declared.small.Call.TheVariants.{Invokes, Passes, Writes}
 use Rattle.orca_tree.specs.declared.token.Symbol.TheVariants.{Closes, Semicolon}
 use Rattle.orca_tree.specs.declared.small.SmallProgram.{SmallProgram}
-use Rattle.orca_tree.specs.Tokens.{entry_of, keywords, keyword_of, is_lexeme, after_gap, Means, Begins, Lexes}
+use Rattle.orca_tree.specs.Tokens.{entry_of, keywords, keyword_of, is_lexeme, Means, Lexes}
 use Rattle.std.proofs.lemmas.List.{length-map}
-use Rattle.orca_tree.specs.Small.{argument_tokens, assignment_tokens, call_tokens, head_tokens, kind_tokens, field_tokens, operation_tokens, opening_tokens, body_tokens, end_tokens, section_tokens, specification_tokens, implementation_tokens, process_tokens, program_tokens}
+use Rattle.orca_tree.specs.Small.{argument_tokens, assignment_tokens, call_tokens, head_tokens, kind_tokens, field_tokens, operation_tokens, opening_tokens, body_tokens, end_tokens, specification_tokens, implementation_tokens, process_tokens, program_tokens}
 use Rattle.orca_tree.specs.Scope.{Reads}
 use Rattle.orca_tree.proofs.Lexemes.{no_empty_lexeme, and_cases}
 use Rattle.orca_tree.proofs.Lexing.{length_gap}
-use Rattle.orca_tree.proofs.Programs.{spread}
 
 abbrev keyword_least : Keyword → ℕ
 keyword_least KeyOperation = 9

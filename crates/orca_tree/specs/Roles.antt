@@ -1,5 +1,5 @@
 -- What the names of a small program stand for, as its test looks them up.
-use Rattle.std.specs.Prelude.{◌≡◌, ◌≢◌, ◌↔◌, ℕ, List, [], ◌∷◌, ◌++◌, Option, Some, None, map, codes}
+use Rattle.std.specs.Prelude.{◌≡◌, ◌≢◌, ◌↔◌, ℕ, List, ◌∷◌, ◌++◌, Option, Some, None, map, codes}
 use Rattle.std.specs.List.{AllPairs, Contains}
 use Rattle.orca_tree.specs.declared.scope.Role.{Role}
 use Rattle.orca_tree.specs.declared.scope.Role.TheVariants.{Other, Field, Plain as PlainRole, Gives as GivesRole, Takes as TakesRole}

@@ -1,9 +1,8 @@
 -- Names in small programs (docs/LANGUAGE.md, Small programs): which are declared, and what each use may name.
-use Rattle.std.specs.Prelude.{◌≡◌, ◌≢◌, ℕ, List, [], ◌∷◌, ◌++◌, map, codes, ◌⊎◌}
+use Rattle.std.specs.Prelude.{◌≡◌, ◌≢◌, ℕ, List, ◌∷◌, ◌++◌, map, codes, ◌⊎◌}
 use Rattle.std.specs.List.{All, Any, AllPairs, Contains}
 use Rattle.orca_tree.specs.declared.small.HeadKind.{HeadKind}
 use Rattle.orca_tree.specs.declared.small.HeadKind.TheVariants.{Gives, Takes, Plain}
-use Rattle.orca_tree.specs.declared.small.Head.{Head}
 use Rattle.orca_tree.specs.declared.small.Operand.{Operand}
 use Rattle.orca_tree.specs.declared.small.Operand.TheVariants.{Number as NumberOperand, Named}
 use Rattle.orca_tree.specs.declared.small.Assignment.{Assignment}

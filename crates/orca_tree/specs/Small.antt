@@ -1,6 +1,6 @@
 -- Small programs: their grammar, as the tokens of each tree (docs/LANGUAGE.md, Small programs). Each production is a
 -- function from its tree to tokens; its fields stand in the order of the text, and what repeats ends with a semicolon.
-use Rattle.std.specs.Prelude.{◌≡◌, ℕ, List, [], ◌∷◌, ◌++◌, codes}
+use Rattle.std.specs.Prelude.{ℕ, List, [], ◌∷◌, ◌++◌, codes}
 use Rattle.std.specs.List.{flat_map}
 use Rattle.orca_tree.specs.declared.token.Token.{Token}
 use Rattle.orca_tree.specs.declared.token.Token.TheVariants.{Name, Number, Key, Sign}

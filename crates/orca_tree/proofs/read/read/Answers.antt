@@ -1,11 +1,10 @@
-use Rattle.std.proofs.Common.{sym, ◌∙◌, ap, [], subst}
+use Rattle.std.proofs.Common.{sym, ◌∙◌, [], subst}
 use Rattle.std.proofs.lemmas.Result.{err_from_is_err_and}
 use Rattle.std.proofs.lemmas.List.{append-nil}
 use Rattle.std.proofs.lemmas.Bool.{true≢false}
 use Rattle.orca_base.specs.Refusal.{because_weaker}
 use Rattle.orca_tree.specs.Small.{program_tokens}
 use Rattle.orca_tree.specs.Scope.{IsScoped}
-use Rattle.orca_tree.specs.declared.small.SmallProgram.{SmallProgram}
 use Rattle.orca_tree.proofs.Programs.{same_program, reads_it}
 use Rattle.orca_tree.proofs.Lexing.{empty_is, not_empty}
 use Rattle.orca_tree.proofs.read.read.Goals as goal
