@@ -6,7 +6,7 @@ use Rattle.std.proofs.lemmas.List.{map-append}
 use Rattle.std.specs.Option.{option_copied}
 use Rattle.std.proofs.lemmas.Bool.Decides.{nat_tests}
 use Rattle.std.proofs.lemmas.Option.{slice_get-get_or, slice_get_past}
-use Rattle.value_core.specs.Datum.{Datum, Data, list_of, data_of, list_of-data_of}
+use Rattle.value_core.specs.Datum.{Data, list_of, list_of-data_of}
 use Rattle.value_core.specs.View.{datum_of, data_in}
 use Rattle.value_core.specs.declared.value.Value.{Value}
 

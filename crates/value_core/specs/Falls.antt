@@ -1,7 +1,6 @@
-use Rattle.std.specs.Prelude.{ℕ, ◌+◌, ◌≤◌, List, [], ◌∷◌, map}
+use Rattle.std.specs.Prelude.{◌≤◌, List, [], ◌∷◌}
 use Rattle.std.proofs.Common.{arith}
 use denote.Param.Weighed.{most}
-use Rattle.value_core.specs.Datum.{data_of}
 use Rattle.value_core.specs.Sizes.{count_of_all, count_of}
 use Rattle.value_core.specs.View.{datum_of, data_in}
 use Rattle.value_core.specs.declared.value.Value.{Value}

@@ -1,4 +1,4 @@
-use Rattle.std.specs.Prelude.{◌≡◌, ℕ, List, [], ◌∷◌, map, refl}
+use Rattle.std.specs.Prelude.{◌≡◌, List, map, refl}
 use Rattle.value_core.specs.Datum.{Datum, Data, data_of}
 use Rattle.value_core.specs.Datum as datum
 use Rattle.value_core.specs.declared.value.Value.{Value}

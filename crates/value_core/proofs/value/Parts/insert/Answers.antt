@@ -1,4 +1,4 @@
-use Rattle.std.proofs.Common.{◌≤◌, length, map, ap, ◌∙◌, sym, arith}
+use Rattle.std.proofs.Common.{length, map, ap, ◌∙◌, sym, arith}
 use Rattle.std.specs.Prelude.{insert}
 use Rattle.value_core.specs.Datum.{list_of-data_of}
 use Rattle.value_core.specs.View.{datum_of}

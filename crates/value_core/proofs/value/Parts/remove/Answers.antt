@@ -1,4 +1,4 @@
-use Rattle.std.proofs.Common.{◌<◌, Some, length, map, ap, ◌∙◌, sym, refl, arith}
+use Rattle.std.proofs.Common.{◌<◌, length, map, ap, ◌∙◌, sym, refl, arith}
 use Rattle.std.specs.Prelude.{slice_get, remove, option_map}
 use Rattle.std.proofs.lemmas.Option.{slice_get_read}
 use Rattle.value_core.specs.Datum.{list_of-data_of}
