@@ -1,0 +1,14 @@
+pub mod Sets
+pub mod Messages
+pub mod Member
+pub mod Work
+pub mod Sequencer
+pub mod Receiver
+pub mod Reset
+pub mod Steps
+pub mod World
+pub mod OnWire
+pub mod Runs
+pub mod Windows
+pub mod Wrong
+pub mod Agree
