@@ -25,8 +25,8 @@ one_cell = record {
   heads = record { name = codes "Value"; kind = Gives } ∷ record { name = codes "Assign"; kind = Takes (codes "v") } ∷ [];
   fields = codes "x" ∷ [];
   operations =
-    record { head = record { name = codes "Value"; kind = Gives }; body = Returns (codes "x") }
-    ∷ record { head = record { name = codes "Assign"; kind = Takes (codes "v") }; body = Assigns (record { field = codes "x"; value = operand.Named (codes "v") } ∷ []) } ∷ [];
+      record { head = record { name = codes "Value"; kind = Gives }; body = Returns (codes "x") }
+      ∷ record { head = record { name = codes "Assign"; kind = Takes (codes "v") }; body = Assigns (record { field = codes "x"; value = operand.Named (codes "v") } ∷ []) } ∷ [];
   opening = Begins (record { field = codes "x"; value = operand.Number (pos 0) } ∷ []);
   variable = codes "X";
   calls = call.Passes (codes "Assign") (argument.Number (pos 6)) ∷ call.Writes (argument.Result (codes "Value")) ∷ [];

@@ -13,5 +13,4 @@ pub fn one_cell_law()
     ensures ended { HasEnded one_cell (book_with 6) }
     ensures output { output_of (book_with 6) ≡ 54 ∷ 10 ∷ [] }
     ensures other { Legal (performs_of one_cell) (computes_of one_cell) (book_with 7) → ⊥ }
-{
-}
+{}

@@ -21,7 +21,8 @@ process OrcaMain();
 begin X$Assign(6); WriteLine(X$Value()); end;
 ";
 
-const USAGE: &str = "usage: orca check FILE... | run [OPTIONS] FILE... | code FILE... | choice [--nodes N] FILE... | replay HISTORY FILE... | make [OPTIONS] NUMBER\n";
+const USAGE: &str =
+    "usage: orca check FILE... | run [OPTIONS] FILE... | code FILE... | choice [--nodes N] FILE... | replay HISTORY FILE... | make [OPTIONS] NUMBER\n";
 
 // The words of a command line.
 fn words(alloc: Global, line: &[&str]) -> Result<Vec<String>, AllocError> {
@@ -33,13 +34,12 @@ fn words(alloc: Global, line: &[&str]) -> Result<Vec<String>, AllocError> {
 }
 
 // One file.
-fn files(
-    alloc: Global,
-    name: &str,
-    text: &[u8],
-) -> Result<Vec<(String, Vec<u8>)>, AllocError> {
+fn files(alloc: Global, name: &str, text: &[u8]) -> Result<Vec<(String, Vec<u8>)>, AllocError> {
     let mut files = Vec::new(alloc);
-    files.push((String::from_str(alloc, name)?, Vec::from_slice(alloc, text)?))?;
+    files.push((
+        String::from_str(alloc, name)?,
+        Vec::from_slice(alloc, text)?,
+    ))?;
     Ok(files)
 }
 
@@ -48,7 +48,9 @@ fn outcome(alloc: Global, line: &[&str], name: &str, text: &[u8]) -> Result<(u8,
     let mut shelf = MemoryShelf::new(files(alloc, name, text)?, Vec::new(alloc));
     let mut out = MemorySink::new(alloc, Vec::new(alloc));
     let ended = orca_main(alloc, &words(alloc, line)?, &mut shelf, &mut out);
-    let printed = String::from_utf8(Vec::from_slice(alloc, out.bytes())?).ok().ok_or("no text")?;
+    let printed = String::from_utf8(Vec::from_slice(alloc, out.bytes())?)
+        .ok()
+        .ok_or("no text")?;
     Ok((ended.status, printed))
 }
 
@@ -98,25 +100,41 @@ fn four_lines(alloc: Global) -> Result<Vec<Line>, AllocError> {
     };
     let mut lines = Vec::new(alloc);
     lines.push(line(0, make, Reply::Done))?;
-    lines.push(line(1, call(cell(), 1, 1, one(alloc, Value::Int(6))?), Reply::Done))?;
+    lines.push(line(
+        1,
+        call(cell(), 1, 1, one(alloc, Value::Int(6))?),
+        Reply::Done,
+    ))?;
     let gave = Reply::Gave {
         value: Value::Int(6),
     };
     lines.push(line(2, call(cell(), 1, 0, Parts::new(alloc)), gave))?;
-    lines.push(line(3, call(output, 0, 0, one(alloc, Value::Text(six))?), Reply::Done))?;
+    lines.push(line(
+        3,
+        call(output, 0, 0, one(alloc, Value::Text(six))?),
+        Reply::Done,
+    ))?;
     Ok(lines)
 }
 
 // Whether a kept run has these lines, and their replies.
 fn has_lines(kept: &Kept, lines: &[Line]) -> bool {
     let same = kept.book.len() == lines.len()
-        && kept.book.iter().zip(lines).all(|(line, other)| line.is(other));
+        && kept
+            .book
+            .iter()
+            .zip(lines)
+            .all(|(line, other)| line.is(other));
     match kept.processes.as_slice() {
         [main] => {
             same && main.node == 0
                 && main.turns == 0
                 && main.replies.len() == lines.len()
-                && main.replies.iter().zip(lines).all(|(reply, line)| reply.is(&line.reply))
+                && main
+                    .replies
+                    .iter()
+                    .zip(lines)
+                    .all(|(reply, line)| reply.is(&line.reply))
         }
         _ => false,
     }
@@ -141,12 +159,7 @@ fn run_over<F: Shelf, K: Sink>(
     shelf: &mut F,
     out: &mut K,
 ) -> Result<Ended, AllocError> {
-    Ok(orca_main(
-        alloc,
-        &words(alloc, &["run", "one.orca"])?,
-        shelf,
-        out,
-    ))
+    Ok(orca_main(alloc, &words(alloc, &["run", "one.orca"])?, shelf, out))
 }
 
 #[test]
@@ -222,7 +235,7 @@ fn refusals(rt: HostRuntime) -> Result<(), Fail> {
 fn texts_that_cannot_be_run_yet(rt: HostRuntime) -> Result<(), Fail> {
     let alloc = rt.alloc();
     let mut long = Vec::from_slice(alloc, ONE.as_bytes())?;
-    while long.len() < 1_000_000 {
+    for _ in ONE.len()..1_000_000 {
         long.push(b' ')?;
     }
     let (status, printed) = outcome(alloc, &["run", "l.orca"], "l.orca", &long)?;
