@@ -1,5 +1,5 @@
 -- The decimal text of 6.
-use Rattle.std.proofs.Common.{◌≡◌, ℕ, List, [], ◌∷◌, lit<}
+use Rattle.std.proofs.Common.{◌≡◌, [], ◌∷◌, lit<}
 use Rattle.std.specs.Fmt.{decimal}
 use Rattle.std.proofs.lemmas.Fmt.{decimal-digits_of}
 

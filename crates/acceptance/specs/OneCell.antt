@@ -7,7 +7,6 @@ use Rattle.orca_tree.specs.declared.small.Opening.TheVariants.{Begins}
 use Rattle.orca_tree.specs.declared.small.Argument.TheVariants as argument
 use Rattle.orca_tree.specs.declared.small.Call.TheVariants as call
 use Rattle.orca_tree.specs.declared.small.SmallProgram.{SmallProgram}
-use Rattle.orca_base.specs.declared.ids.KindNo.{KindNo}
 use Rattle.value_core.specs.Datum.{Data}
 use Rattle.value_core.specs.Datum as datum
 use Rattle.value_core.specs.declared.value.Value.TheVariants as values

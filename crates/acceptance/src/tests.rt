@@ -2,7 +2,7 @@
 
 use orca_base::{CallNo, KindNo, ObjectId, OpNo, ProcessNo};
 use orca_cli::{Ended, Kept, ProcessStanding, orca_main};
-use orca_io::{FileShelf, MemoryShelf, MemorySink, Shelf, Sink, SureShelf, SureSink};
+use orca_io::{MemoryShelf, MemorySink, Shelf, Sink, SureShelf, SureSink};
 use std::alloc::{AllocError, Global};
 use std::test::Fail;
 use value_core::{Action, Line, Parts, Reply, TextValue, Value};
@@ -250,23 +250,6 @@ fn texts_that_cannot_be_run_yet(rt: HostRuntime) -> Result<(), Fail> {
         let (status, printed) = outcome(alloc, &["run", "l.orca"], "l.orca", &text)?;
         assert_eq!(rt; status, 15);
         assert_eq!(rt; printed.as_str(), "orca: l.orca: not yet\n");
-    }
-    Ok(())
-}
-
-#[test]
-fn examples_print_what_stands_beside_them(rt: HostRuntime) -> Result<(), Fail> {
-    let alloc = rt.alloc();
-    for name in ["one", "swap", "register", "countdown"] {
-        let text = format!(in alloc; "{name}.orca")?;
-        let wanted = format!(in alloc; "{name}.out")?;
-        let mut shelf = FileShelf::new(&rt);
-        let mut out = SureSink::new(alloc);
-        let line = words(alloc, &["run", text.as_str()])?;
-        let ended = orca_main(alloc, &line, &mut shelf, &mut out);
-        assert_eq!(rt; ended.status, 0, "{name}");
-        let wanted = shelf.read_all(alloc, wanted.as_str(), 1_000)?;
-        assert_eq!(rt; out.bytes(), wanted.as_slice(), "{name}");
     }
     Ok(())
 }

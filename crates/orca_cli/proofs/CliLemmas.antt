@@ -1,5 +1,5 @@
 -- What was printed, one put on.
-use Rattle.std.proofs.Common.{◌≡◌, ℕ, ◌+◌, ◌-◌, ◌*◌, ◌<◌, ◌≤◌, Bool, true, false, List, [], ◌∷◌, ◌++◌, length, take, drop, Option, Some, None, refl, sym, ap, ◌∙◌, subst, inl, inr, arith, append_assoc, length-append, take-append-drop}
+use Rattle.std.proofs.Common.{◌≡◌, ℕ, ◌+◌, ◌-◌, ◌<◌, true, List, [], ◌∷◌, ◌++◌, length, take, drop, Option, Some, None, refl, sym, ap, ◌∙◌, subst, inl, inr, arith, append_assoc, length-append, take-append-drop}
 use Rattle.std.specs.Prelude.{◌==◌, Result, Ok, Err, IfNone, IfOk, OnErr, OnOk}
 use Rattle.std.proofs.lemmas.Bool.Decides.{nat_tests}
 use Rattle.std.proofs.lemmas.List.{append-nil}
@@ -14,7 +14,7 @@ use Rattle.orca_cli.specs.declared.kept.ProcessStanding.{ProcessStanding}
 use Rattle.orca_cli.specs.declared.kept.ProcessStanding.TheVariants as standings
 use Rattle.orca_cli.specs.Headline.{IsRunEnd}
 use Rattle.orca_cli.specs.Refused.{IsAnswer, IsRefusal}
-use Rattle.orca_cli.specs.Printed.{Grew, IsFront, WroteOf, Ends}
+use Rattle.orca_cli.specs.Printed.{Grew, WroteOf, Ends}
 
 -- the told bytes grew by this text
 abbrev pub GrewBy : Option (List ℕ) → Option (List ℕ) → List ℕ → Type 0

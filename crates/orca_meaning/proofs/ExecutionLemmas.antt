@@ -1,6 +1,6 @@
 -- An execution, one line on.
-use Rattle.std.proofs.Common.{length-append, ◌+◌, ◌*◌, ◌≡◌, ℕ, ◌<◌, ◌≤◌, Bool, true, false, List, [], ◌∷◌, ◌++◌, length, Option, Some, None, refl, sym, ap, ◌∙◌, subst, inl, inr, ◌⊎◌, arith}
-use Rattle.std.specs.Prelude.{slice_get, IfSome}
+use Rattle.std.proofs.Common.{length-append, ◌+◌, ◌*◌, ◌≡◌, ℕ, ◌<◌, List, [], ◌∷◌, ◌++◌, length, Option, Some, None, refl, sym, ap, ◌∙◌, subst, inl, inr, ◌⊎◌, arith}
+use Rattle.std.specs.Prelude.{slice_get}
 use Rattle.std.specs.List.{All}
 use Rattle.std.proofs.lemmas.Option.{slice_get_cases, none-some}
 use Rattle.std.proofs.lemmas.List.Elements.{All-nil, All-push}
@@ -14,7 +14,7 @@ use Rattle.orca_tree.specs.declared.small.OperationBody.TheVariants.{Returns, As
 use Rattle.orca_tree.specs.declared.small.SmallProgram.{SmallProgram}
 use Rattle.value_core.specs.Datum.{Datum, Data, list_of}
 use Rattle.value_core.specs.Datum as datum
-use Rattle.value_core.specs.History.{Answers, Configuration, IsStep, Legal, Objects, Performed, after_line, after_lines, after_try, forked, objects_after, opening, output_kind, output_object, Process, replies_in, replies_of}
+use Rattle.value_core.specs.History.{Answers, Configuration, IsStep, Performed, after_line, after_try, forked, objects_after, opening, output_kind, output_object, Process, replies_in, replies_of}
 use Rattle.value_core.specs.declared.action.Action.{Action}
 use Rattle.value_core.specs.declared.action.Action.TheVariants as action
 use Rattle.value_core.specs.declared.action.Line.{Line}
@@ -27,9 +27,9 @@ use Rattle.value_core.proofs.HistoryLemmas.{after_lines-push, LegalFrom-push}
 use Rattle.orca_meaning.specs.Operations.{Name, body_tried, operation_tried, parameters_of, tries_of}
 use Rattle.orca_meaning.specs.Processes.{doing_of, first_object, small_kind}
 use Rattle.orca_meaning.specs.Program.{performs_of, computes_of}
-use Rattle.orca_meaning.specs.Known.{IsKnown, IsKnownDoing, IsInvocation, IsWriting}
+use Rattle.orca_meaning.specs.Known.{IsKnown, IsKnownDoing}
 use Rattle.orca_meaning.specs.Stages.{Stands}
-use Rattle.orca_meaning.specs.Executions.{Follows, HasEnded, IsFaultless, configuration_with, main_process, objects_with, outcome_of, object_outcome, state_or, tried_outcome}
+use Rattle.orca_meaning.specs.Executions.{Follows, HasEnded, IsFaultless, configuration_with, main_process, objects_with, outcome_of, state_or, tried_outcome}
 use Rattle.orca_meaning.specs.declared.execution.Execution.{Execution}
 use Rattle.orca_meaning.specs.declared.execution.Outcome.{Outcome}
 use Rattle.orca_meaning.proofs.KnownLemmas.{doing_known, doing_fine, doing_end, IsAtEnd, IsFine}

@@ -1,7 +1,7 @@
 -- A process of a scoped program names objects and operations that there are, and without a fault among its replies it has none.
-use Rattle.std.proofs.Common.{◌≡◌, ℕ, ◌<◌, ◌≤◌, ◌+◌, ◌*◌, Bool, true, false, cond, List, [], ◌∷◌, length, Option, Some, None, refl, sym, ap, ◌∙◌, inl, inr, arith, get_or}
+use Rattle.std.proofs.Common.{◌≡◌, ℕ, ◌<◌, ◌≤◌, ◌+◌, ◌*◌, Bool, true, false, cond, List, [], ◌∷◌, length, Some, None, refl, inl, inr, arith}
 use Rattle.std.specs.Prelude.{nat_lt, unwrap_or, pos}
-use Rattle.std.specs.List.{All, Any, position, position_or_len}
+use Rattle.std.specs.List.{All, position, position_or_len}
 use Rattle.std.specs.Str.{bytes_eq}
 use Rattle.std.proofs.lemmas.Bool.Decides.{nat_tests}
 use Rattle.std.proofs.lemmas.List.Elements.{All-head, All-tail}
@@ -24,7 +24,7 @@ use Rattle.value_core.specs.declared.action.Reply.TheVariants as answer
 use Rattle.value_core.specs.declared.meaning.Doing.{Doing}
 use Rattle.value_core.specs.declared.meaning.Doing.TheVariants as doing
 use Rattle.orca_meaning.specs.Executions.{IsFaultless}
-use Rattle.orca_meaning.specs.Processes.{acting, all_stating, arguing, asking, doing_of, invocation, number_in, operation_place, stating, text_of, writing}
+use Rattle.orca_meaning.specs.Processes.{acting, all_stating, arguing, asking, doing_of, invocation, number_in, stating, text_of, writing}
 use Rattle.orca_meaning.specs.Known.{IsKnown, IsKnownDoing}
 
 -- a first place that is found is inside the list

@@ -11,7 +11,6 @@ use Rattle.value_core.specs.History.{Configuration, Legal, Objects, after_lines,
 use Rattle.value_core.specs.declared.action.Action.{Action}
 use Rattle.value_core.specs.declared.action.Action.TheVariants as action
 use Rattle.value_core.specs.declared.action.Line.{Line}
-use Rattle.value_core.specs.declared.action.Kept.{Kept}
 use Rattle.value_core.specs.declared.action.Reply.{Reply}
 use Rattle.value_core.specs.declared.action.Reply.TheVariants as answer
 use Rattle.value_core.specs.declared.meaning.Making.{Making}

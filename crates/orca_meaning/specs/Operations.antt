@@ -1,5 +1,5 @@
 -- What the operations and the making of a small program's object mean (docs/LANGUAGE.md, Objects and operations).
-use Rattle.std.specs.Prelude.{◌==◌, ℕ, ℤ, pos, List, [], ◌∷◌, ◌++◌, Option, None, Some, length, map, position, slice_get, slice_set, if◌then◌else◌}
+use Rattle.std.specs.Prelude.{◌==◌, ℕ, pos, List, [], ◌∷◌, Option, None, Some, map, position, slice_get, slice_set, if◌then◌else◌}
 use Rattle.std.specs.Str.{bytes_eq}
 use Rattle.orca_base.specs.declared.ids.KindNo.{KindNo}
 use Rattle.orca_base.specs.declared.ids.OpNo.{OpNo}

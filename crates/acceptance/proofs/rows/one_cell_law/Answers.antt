@@ -1,5 +1,4 @@
 use Rattle.std.proofs.Common.{ℕ, List, refl, ap}
-use Rattle.value_core.specs.Datum as datum
 use Rattle.value_core.specs.declared.meaning.Doing.TheVariants.{At}
 use Rattle.orca_meaning.specs.Processes.{writing}
 use Rattle.acceptance.proofs.Decimals.{six}

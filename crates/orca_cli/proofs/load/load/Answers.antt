@@ -1,5 +1,4 @@
-use Rattle.std.proofs.Common.{◌≤◌, length, ◌∙◌, ap, subst, List, ℕ, arith}
-use Rattle.orca_tree.specs.Scope.{Reads}
+use Rattle.std.proofs.Common.{arith}
 use Rattle.orca_tree.proofs.Lengths.{few_operations}
 use Rattle.orca_cli.proofs.load.load.Goals as goal
 

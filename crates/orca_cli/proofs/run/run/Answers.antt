@@ -2,7 +2,7 @@ use Rattle.std.proofs.Common.{◌≡◌, ◌++◌, ◌∷◌, [], List, ap, sym,
 use Rattle.std.proofs.lemmas.Result.{err_from_is_err_and}
 use Rattle.value_core.specs.declared.action.Line.{Line}
 use Rattle.orca_meaning.specs.Executions.{Follows}
-use Rattle.orca_cli.proofs.CliLemmas.{grew_line, fewer}
+use Rattle.orca_cli.proofs.CliLemmas.{grew_line}
 use Rattle.orca_cli.proofs.run.run.Goals as goal
 
 pub returns-in_err-put_some-clause-wrote : goal.returns-in_err-put_some-clause-wrote

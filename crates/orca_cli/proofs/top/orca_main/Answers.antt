@@ -1,6 +1,4 @@
-use Rattle.std.proofs.Common.{◌≡◌, ℕ, List, Option, map, string_bytes, rules, refl}
-use Rattle.std.specs.Prelude.{IfOk, IfSome}
-use Rattle.orca_io.specs.Files.{File, content_of}
+use Rattle.std.proofs.Common.{rules, refl}
 use Rattle.orca_cli.specs.Words.{usage_line, absent_line, unread_line, not_yet_line}
 use Rattle.orca_cli.specs.Refused as because
 use Rattle.orca_cli.proofs.CliLemmas.{answer_of, if_none}

@@ -1,7 +1,6 @@
 use Rattle.std.proofs.Common.{◌≡◌, List, sym, ap, ◌∙◌}
-use Rattle.value_core.specs.Datum.{Datum, Data, data_of, list_of, data_of-list_of}
+use Rattle.value_core.specs.Datum.{Datum, data_of, list_of, data_of-list_of}
 use Rattle.value_core.specs.View.{value_of}
-use Rattle.value_core.specs.declared.value.Value.{Value}
 use Rattle.value_core.specs.declared.action.Reply.TheVariants as answer
 use Rattle.value_core.specs.declared.meaning.Tried.TheVariants as tried
 use Rattle.orca_meaning.specs.Operations.{place_in, value_at, value_or, opening_value}

@@ -1,9 +1,6 @@
-use Rattle.std.proofs.Common.{◌≡◌, length, arith, ◌++◌, ◌∷◌, [], ℕ, List, Option, None, Some, sym, ap, ◌∙◌, subst, refl}
-use Rattle.orca_tree.specs.Scope.{IsScoped}
-use Rattle.value_core.specs.declared.action.Line.{Line}
+use Rattle.std.proofs.Common.{◌≡◌, length, arith, ◌++◌, ◌∷◌, [], ℕ, None, Some, sym, ap, ◌∙◌, subst}
 use Rattle.value_core.specs.declared.action.Reply.{Reply}
 use Rattle.orca_meaning.specs.Executions.{Follows, main_process, outcome_of}
-use Rattle.orca_meaning.specs.declared.execution.Outcome.{Outcome}
 use Rattle.orca_meaning.proofs.ExecutionLemmas.{ends, few, follows_more, line_of}
 use Rattle.orca_meaning.proofs.StageLemmas.{next_of, reply_of}
 use Rattle.orca_meaning.proofs.execution.Execution.step.Goals as goal
