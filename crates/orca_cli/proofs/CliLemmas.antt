@@ -14,7 +14,7 @@ use Rattle.orca_cli.specs.declared.kept.ProcessStanding.{ProcessStanding}
 use Rattle.orca_cli.specs.declared.kept.ProcessStanding.TheVariants as standings
 use Rattle.orca_cli.specs.Headline.{IsRunEnd}
 use Rattle.orca_cli.specs.Refused.{IsAnswer, IsRefusal}
-use Rattle.orca_cli.specs.Printed.{Grew, WroteOf, Ends}
+use Rattle.orca_cli.specs.Printed.{Grew, WroteOf, Ends, EndsAs}
 
 -- the told bytes grew by this text
 abbrev pub GrewBy : Option (List ℕ) → Option (List ℕ) → List ℕ → Type 0
@@ -82,6 +82,11 @@ run_ends (Ok u) status standing (Some old) (Some new) text h grew = (grew.0, gre
 run_ends (Err faults.Failed) status standing (Some old) (Some new) text h grew = (grew.0, grew.1, inr (inl h.0, grew.2))
 run_ends (Err faults.NoMemory) status standing (Some old) (Some new) text h grew = (grew.0, grew.1, inr (inr h.0, grew.2))
 
+pub run_status : (result : Result Unit SinkFault) (status : ℕ) (standing : ProcessStanding) → IsRunEnd result status standing → EndsAs 0 status
+run_status (Ok u) status standing h = inl h.0
+run_status (Err faults.Failed) status standing h = inr (inl h.0)
+run_status (Err faults.NoMemory) status standing h = inr (inr h.0)
+
 -- and status 0 with a run that finished
 pub run_finished : (result : Result Unit SinkFault) (status : ℕ) (standing : ProcessStanding) (P : Type 0) → IsRunEnd result status standing → OnOk result P → status ≡ 0 → P × (standing ≡ standings.Ended)
 run_finished (Ok u) status standing P h done zero = (done, h.1)
@@ -90,9 +95,9 @@ run_finished (Err faults.NoMemory) status standing P h done zero = absurd (omega
 
 -- a refusal's line was printed, or there was no memory for it
 pub answer_of : {L E : Type 0} (bytes : L → List ℕ) (line : Result L E) (words : List (List ℕ)) (told : Option (List File)) (rose : Type 0) (old new : Option (List ℕ)) (wanted status : ℕ) (text : List ℕ) →
-    IfOk line (λ l. bytes l ≡ text) → IfOk line (λ l. Grew old new (Ends wanted status (bytes l))) → OnErr line ((status ≡ 12) × (new ≡ old)) → IsRefusal words told rose wanted text → IsAnswer words told rose old new status
-answer_of bytes (Ok l) words told rose old new wanted status text is grew silent refusal = inl (wanted, text, refusal, subst (λ (t : List ℕ). Grew old new (Ends wanted status t)) is grew)
-answer_of bytes (Err e) words told rose old new wanted status text is grew silent refusal = inr silent
+    IfOk line (λ l. bytes l ≡ text) → IfOk line (λ l. Grew old new (Ends wanted status (bytes l))) → OnErr line ((status ≡ 12) × (new ≡ old)) → EndsAs wanted status → IsRefusal words told rose wanted text → IsAnswer words told rose old new status
+answer_of bytes (Ok l) words told rose old new wanted status text is grew silent ends refusal = inl (wanted, text, refusal, ends, subst (λ (t : List ℕ). Grew old new (Ends wanted status t)) is grew)
+answer_of bytes (Err e) words told rose old new wanted status text is grew silent ends refusal = inr silent
 
 pub if_none : {T : Type 0} (o : Option T) (P : Type 0) → P → IfNone o P
 if_none None P p = p

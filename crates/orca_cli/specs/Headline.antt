@@ -14,7 +14,7 @@ use Rattle.orca_cli.specs.declared.kept.ProcessEnd.{ProcessEnd}
 use Rattle.orca_cli.specs.declared.kept.ProcessStanding.{ProcessStanding}
 use Rattle.orca_cli.specs.declared.kept.ProcessStanding.TheVariants as standings
 use Rattle.orca_cli.specs.Words.{command_of}
-use Rattle.orca_cli.specs.Printed.{Grew, Ends}
+use Rattle.orca_cli.specs.Printed.{Grew, Ends, EndsAs}
 
 -- the program is that of the file that the words name
 abbrev pub IsNamed : List (List ℕ) → Option (List File) → SmallProgram → Type 0
@@ -32,6 +32,7 @@ pub record IsMainEnd (p : SmallProgram) (book : List Line) (status : ℕ) (end :
 pub record IsRun (p : SmallProgram) (k : Kept) (status : ℕ) (old new : Option (List ℕ)) : Type 0 where
   pub legal : Legal (performs_of p) (computes_of p) k.book.items
   pub processes : (end : ProcessEnd) × (k.processes.items ≡ end ∷ []) × IsMainEnd p k.book.items status end
+  pub ends : EndsAs 0 status
   pub printed : Grew old new (Ends 0 status (output_of k.book.items))
 
 -- the status of a run, and where its process then stands

@@ -17,7 +17,10 @@ abbrev pub WroteOf : Result Unit SinkFault → List ℕ → List ℕ → Type 0
 WroteOf (Ok _) whole text = text ≡ whole
 WroteOf (Err fault) whole text = IsFront text whole
 
--- all of a text was written and the status is the one that goes with it, or a write failed or memory lacked, and a front
--- of it was
+-- the status is the one that is wanted, or a write failed (10), or memory lacked (12)
+abbrev pub EndsAs : ℕ → ℕ → Type 0
+EndsAs wanted status = (status ≡ wanted) ⊎ ((status ≡ 10) ⊎ (status ≡ 12))
+
+-- all of a text was written, and the status is the one that is wanted; or a front of it was, and the status says why
 abbrev pub Ends : ℕ → ℕ → List ℕ → List ℕ → Type 0
 Ends wanted status whole text = ((status ≡ wanted) × (text ≡ whole)) ⊎ (((status ≡ 10) ⊎ (status ≡ 12)) × IsFront text whole)

@@ -4,7 +4,7 @@ use Rattle.orca_io.specs.Files.{File, content_of}
 use Rattle.orca_tree.specs.declared.small.SmallProgram.{SmallProgram}
 use Rattle.orca_tree.specs.Scope.{Reads}
 use Rattle.orca_cli.specs.Words.{command_of, usage_line, absent_line, unread_line, not_yet_line}
-use Rattle.orca_cli.specs.Printed.{Grew, Ends}
+use Rattle.orca_cli.specs.Printed.{Grew, Ends, EndsAs}
 
 -- a text that is that of a small program
 abbrev pub IsSmall : List ℕ → Type 0
@@ -26,4 +26,4 @@ pub data IsRefusal (words : List (List ℕ)) (told : Option (List File)) (rose :
 -- memory lacked; or nothing at all, for want of memory
 abbrev pub IsAnswer : List (List ℕ) → Option (List File) → Type 0 → Option (List ℕ) → Option (List ℕ) → ℕ → Type 0
 IsAnswer words told rose old new status =
-    ((wanted : ℕ) × (line : List ℕ) × IsRefusal words told rose wanted line × Grew old new (Ends wanted status line)) ⊎ ((status ≡ 12) × (new ≡ old))
+    ((wanted : ℕ) × (line : List ℕ) × IsRefusal words told rose wanted line × EndsAs wanted status × Grew old new (Ends wanted status line)) ⊎ ((status ≡ 12) × (new ≡ old))

@@ -2,7 +2,7 @@
 
 ghost use Rattle.std.specs.Prelude.{◌≡◌, ◌⊎◌, ◌≢◌, ◌≤◌, None, IfOk, OnErr, string_bytes};
 ghost use Rattle.orca_io.specs.Causes.{Rose};
-ghost use Rattle.orca_cli.specs.Printed.{Grew, Ends};
+ghost use Rattle.orca_cli.specs.Printed.{Grew, Ends, EndsAs};
 
 use crate::kept::Ended;
 use crate::top::{NO_MEMORY, WRITE_FAULT};
@@ -13,6 +13,7 @@ use std::alloc::AllocError;
 pub fn refused<K: Sink>(out: &mut K, line: Result<String, AllocError>, status: u8) -> Ended
     requires { status ≢ WRITE_FAULT }
     ensures none { result.kept ≡ None }
+    ensures status { EndsAs status result.status }
     ensures printed { IfOk line (λ l. Grew (K.told out.old) (K.told out.new) (Ends status result.status (string_bytes l))) }
     ensures silent { OnErr line ((result.status ≡ 12) × (K.told out.new ≡ K.told out.old)) }
     ensures failed { result.status ≡ WRITE_FAULT → Rose (K.faults out.old) (K.faults out.new) }
@@ -26,6 +27,7 @@ pub fn refused<K: Sink>(out: &mut K, line: Result<String, AllocError>, status: u
 // Prints a line, and gives the status that then holds.
 fn printed<K: Sink>(out: &mut K, line: Result<String, AllocError>, status: u8) -> u8
     requires { status ≢ WRITE_FAULT }
+    ensures status { EndsAs status result }
     ensures printed { IfOk line (λ l. Grew (K.told out.old) (K.told out.new) (Ends status result (string_bytes l))) }
     ensures silent { OnErr line ((result ≡ 12) × (K.told out.new ≡ K.told out.old)) }
     ensures failed { result ≡ WRITE_FAULT → Rose (K.faults out.old) (K.faults out.new) }

@@ -2,7 +2,7 @@ use Rattle.std.proofs.Common.{◌≡◌, List, [], ◌∷◌, ◌++◌, ap, ◌�
 use Rattle.value_core.specs.declared.action.Line.{Line}
 use Rattle.orca_meaning.specs.Executions.{Follows}
 use Rattle.orca_cli.specs.declared.kept.ProcessEnd.{ProcessEnd}
-use Rattle.orca_cli.proofs.CliLemmas.{run_ends, run_finished}
+use Rattle.orca_cli.proofs.CliLemmas.{run_ends, run_finished, run_status}
 use Rattle.orca_cli.proofs.run.run_kept.Goals as goal
 
 pub run-run-requires-clause-begins : goal.run-run-requires-clause-begins
@@ -25,5 +25,6 @@ returns-clause-kept g c =
           ended = run_finished _ _ _ _ c.ended-status.ensures c.run-run.ensures.finished;
         },
       );
+      ends = run_status _ _ _ c.ended-status.ensures;
       printed = run_ends _ _ _ _ _ _ c.ended-status.ensures c.run-run.ensures.wrote;
     }
