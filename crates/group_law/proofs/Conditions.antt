@@ -56,6 +56,7 @@ gathers_if g m s e =
 
 pub conditions : {M : Type 0} {g : Group M} {w : GroupWorld M} → 2 * g.resilience < g.nodes → Inv g w → Conditions g w
 conditions {M} {g} {w} small h = record {
+  sender = h.senders;
   ack = λ m from n a here sent. let t = h.sound.tells (ack (w.members m).installed from n a) sent in let l : length (w.members m).log ≡ length (list_of w.past (w.members m).installed) = ap length ((h.fits m).bounds.whole here) in let f = t.fits in omega arith;
   join = λ k from j sent. let b = h.counts (join k from j) sent in record { applied = b.applied; accepted = b.fits; base = b.base; window = b.window };
   news = λ k from a b named log sent. let c = h.counts (record { inc = k; from = from; kind = News a b named log }) sent in record { accepted = c.fits; base = c.base; window = c.window; members = λ x t. below_members g.nodes named x t };

@@ -83,7 +83,7 @@ at_other_fine y (Join j) other tells counts due rows h = h
 at_other_fine y (News a b members log) other tells counts due rows h = h
 
 asks_whole : {M : Type 0} {g : Group M} {w : GroupWorld M} {m : ℕ} {p : Past M} {s : Member M} (from k : ℕ) → Few g.nodes g.resilience s → Ready g w m s p → Fine g w m p (ask_whole m from k (idle s))
-asks_whole from k few h = fine_sends _ (ready_plain _ (record { plain = tt; due = tt; tells = tt; counts = tt }) h) (fine_idle few h)
+asks_whole from k few h = fine_sends _ (ready_plain _ refl (record { plain = tt; due = tt; tells = tt; counts = tt }) h) (fine_idle few h)
 
 of_later_fine : {M : Type 0} {g : Group M} {w : GroupWorld M} {m : ℕ} {p : Past M} {s : Member M} (from k : ℕ) (t : Kind M) → Few g.nodes g.resilience s → Ready g w m s p → Fine g w m p (of_later m from k t (idle s))
 of_later_fine from k (Request b x) few h = fine_idle few h
@@ -182,6 +182,7 @@ ready_submitted {M} {g} {w} {m} x can h = let a = ready m h in record {
   queues = λ y e. queue_elsewhere m x e can.home (a.queues y e);
   rows = rows_submitted m x can.lower a.rows;
   fews = λ y e. h.few y;
+  senders = a.senders;
 }
 
 pub fine_submitted : {M : Type 0} {g : Group M} {w : GroupWorld M} {m : ℕ} (x : M) → MaySubmit g w m x → Inv g w → Fine g w m (submitted_past g m x w.past) (submit g m x (w.members m))
@@ -215,7 +216,7 @@ fine_invites_again zero few h = fine_idle few h
 fine_invites_again {M} {g} {w} {m} {p} {s} (suc n) few h =
     let i = fine_invites_again n few h in
     let u = invite_again n m (idle s) in
-    cond_both ((n == m) || gave u.state.answers n) u (tell m u.state.promised Invite n u) (Fine g w m p) (λ e. i) (λ e. fine_sends _ (ready_plain _ (invite_sayable u.state.promised m) i.ready) i)
+    cond_both ((n == m) || gave u.state.answers n) u (tell m u.state.promised Invite n u) (Fine g w m p) (λ e. i) (λ e. fine_sends _ (ready_plain _ refl (invite_sayable u.state.promised m) i.ready) i)
 
 fine_again : {M : Type 0} {g : Group M} {w : GroupWorld M} {m : ℕ} {p : Past M} (t : Member M) → t.installed ≡ (w.members m).installed → t.promised ≡ (w.members m).promised → Few g.nodes g.resilience t → Ready g w m t p → Fine g w m p (send_again_all g m (idle t))
 fine_again {M} {g} {w} {m} {p} t was had few h =
@@ -283,17 +284,20 @@ fine_noted {M} {g} {w} {m} n above le h = go (is_active s) refl
 
 -- ---- every event
 
+member_if : {M : Type 0} (g : Group M) (w : GroupWorld M) (m : ℕ) → acts_on g w m ≡ true → m < g.nodes
+member_if g w m e = ltb-true m g.nodes (and_parts (nat_lt m g.nodes) (w.lives m) e).0
+
 arrived : {M : Type 0} {g : Group M} {w : GroupWorld M} (o : Option (Letter M)) → 2 * g.resilience < g.nodes → ((l : Letter M) → o ≡ Some l → Sent w.past.letters l.packet) → Inv g w → Inv g (arrive g w o)
 arrived None small sent h = h
-arrived {M} {g} {w} (Some l) small sent h = cond_both (acts_on g w l.to && not (l.to == l.packet.from)) _ _ (Inv g) (λ e. fine_inv (fine_delivered l.packet small (sent l refl) h)) (λ e. h)
+arrived {M} {g} {w} (Some l) small sent h = cond_both (acts_on g w l.to && not (l.to == l.packet.from)) _ _ (Inv g) (λ e. fine_inv (member_if g w l.to (and_parts (acts_on g w l.to) (not (l.to == l.packet.from)) e).0) (fine_delivered l.packet small (sent l refl) h)) (λ e. h)
 
 pub happened : {M : Type 0} {g : Group M} {w : GroupWorld M} (e : Event M) → 2 * g.resilience < g.nodes → Inv g w → Inv g (gnext g w e)
-happened {M} {g} {w} (Event.Submit m x) small h = cond_both (acts_on g w m && may_submit g w m x) _ _ (Inv g) (λ e. fine_inv (fine_submitted x (may (and_parts (acts_on g w m) (may_submit g w m x) e).1) h)) (λ e. h)
+happened {M} {g} {w} (Event.Submit m x) small h = cond_both (acts_on g w m && may_submit g w m x) _ _ (Inv g) (λ e. fine_inv (member_if g w m (and_parts (acts_on g w m) (may_submit g w m x) e).0) (fine_submitted x (may (and_parts (acts_on g w m) (may_submit g w m x) e).1) h)) (λ e. h)
 happened {M} {g} {w} (Event.Deliver which) small h = arrived (letter_number w.past.letters which) small (λ l e. sent_number w.past.letters which l e) h
-happened {M} {g} {w} (Event.Tick m) small h = cond_both (acts_on g w m) _ _ (Inv g) (λ e. fine_inv (fine_ticked small (ltb-true m g.nodes (and_parts (nat_lt m g.nodes) (w.lives m) e).0) h)) (λ e. h)
-happened {M} {g} {w} (Event.Coordinate m) small h = cond_both (acts_on g w m) _ _ (Inv g) (λ e. fine_inv (fine_coordinates (w.members m) small (ltb-true m g.nodes (and_parts (nat_lt m g.nodes) (w.lives m) e).0) (h.few m) (ready m h))) (λ e. h)
+happened {M} {g} {w} (Event.Tick m) small h = cond_both (acts_on g w m) _ _ (Inv g) (λ e. fine_inv (member_if g w m e) (fine_ticked small (ltb-true m g.nodes (and_parts (nat_lt m g.nodes) (w.lives m) e).0) h)) (λ e. h)
+happened {M} {g} {w} (Event.Coordinate m) small h = cond_both (acts_on g w m) _ _ (Inv g) (λ e. fine_inv (member_if g w m e) (fine_coordinates (w.members m) small (ltb-true m g.nodes (and_parts (nat_lt m g.nodes) (w.lives m) e).0) (h.few m) (ready m h))) (λ e. h)
 happened {M} {g} {w} (Event.Note m n) small h =
     cond_both (acts_on g w m && (nat_le (w.members m).applied n && nat_le n (w.members m).accepted)) _ _ (Inv g) (λ e.
     let b = and_parts (nat_le (w.members m).applied n) (nat_le n (w.members m).accepted) (and_parts (acts_on g w m) (nat_le (w.members m).applied n && nat_le n (w.members m).accepted) e).1 in
-    fine_inv (fine_noted n (leb-true (w.members m).applied n b.0) (leb-true n (w.members m).accepted b.1) h)) (λ e. h)
-happened {M} {g} {w} (Event.Crash m) small h = record { fits = h.fits; holds = h.holds; sound = h.sound; counts = h.counts; queues = h.queues; rows = h.rows; few = h.few }
+    fine_inv (member_if g w m (and_parts (acts_on g w m) (nat_le (w.members m).applied n && nat_le n (w.members m).accepted) e).0) (fine_noted n (leb-true (w.members m).applied n b.0) (leb-true n (w.members m).accepted b.1) h)) (λ e. h)
+happened {M} {g} {w} (Event.Crash m) small h = record { fits = h.fits; holds = h.holds; sound = h.sound; counts = h.counts; queues = h.queues; rows = h.rows; few = h.few; senders = h.senders }

@@ -36,6 +36,7 @@ opened {M} g small = record {
   queues = λ x. record { home = λ q t. absurd t; known = λ q t. absurd t; one = λ q o t u. absurd t; past = λ i q e t. absurd t; body = λ i q e. absurd (none e); waits = λ v t. absurd t };
   rows = record { rising = λ k up. tt; named = λ i q t. absurd t; asked = λ q t. absurd t; unique = λ i x y t. absurd t; listed = λ k x up t. absurd t; homeless = λ i q e t. absurd t };
   few = λ x e. few_none M g.nodes g.resilience small;
+  senders = λ q t. absurd t;
 }
   where
     none : {q : M} → None ≡ Some q → ⊥

@@ -28,6 +28,7 @@ pub record Inv {M : Type 0} (g : Group M) (w : GroupWorld M) : Type 0 where
   pub queues : (x : ℕ) → QueueOf g w.past x (w.members x)
   pub rows : Rows g w.past
   pub few : (x : ℕ) → Few g.nodes g.resilience (w.members x)
+  pub senders : (q : Packet M) → Sent w.past.letters q → q.from < g.nodes
 
 -- with the state s of member m and the past p the world would be so
 pub record Ready {M : Type 0} (g : Group M) (w : GroupWorld M) (m : ℕ) (s : Member M) (p : Past M) : Type 0 where
@@ -41,6 +42,7 @@ pub record Ready {M : Type 0} (g : Group M) (w : GroupWorld M) (m : ℕ) (s : Me
   pub queues : (x : ℕ) → (x ≡ m → ⊥) → QueueOf g p x (w.members x)
   pub rows : Rows g p
   pub fews : (x : ℕ) → (x ≡ m → ⊥) → Few g.nodes g.resilience (w.members x)
+  pub senders : (q : Packet M) → Sent p.letters q → (q.from < g.nodes) ⊎ (q.from ≡ m)
 
 pub ready : {M : Type 0} {g : Group M} {w : GroupWorld M} (m : ℕ) → Inv g w → Ready g w m (w.members m) w.past
 ready m h = record {
@@ -54,10 +56,11 @@ ready m h = record {
   queues = λ x e. h.queues x;
   rows = h.rows;
   fews = λ x e. h.few x;
+  senders = λ q t. inl (h.senders q t);
 }
 
-pub done : {M : Type 0} {g : Group M} {w : GroupWorld M} {m : ℕ} {s : Member M} {p : Past M} → Few g.nodes g.resilience s → Ready g w m s p → Inv g (changed w m s p)
-done {M} {g} {w} {m} {s} {p} few h = record {
+pub done : {M : Type 0} {g : Group M} {w : GroupWorld M} {m : ℕ} {s : Member M} {p : Past M} → m < g.nodes → Few g.nodes g.resilience s → Ready g w m s p → Inv g (changed w m s p)
+done {M} {g} {w} {m} {s} {p} low few h = record {
   fits = λ x. at_both w.members m s x (λ v. Fits g.nodes p x (standing_of v)) (λ e. rw e h.fits) (h.others x);
   holds = λ x. at_both w.members m s x (λ v. Holds g.nodes g.resilience p (figures_of v)) (λ e. h.holds) (h.hold x);
   sound = h.sound;
@@ -65,10 +68,11 @@ done {M} {g} {w} {m} {s} {p} few h = record {
   queues = λ x. at_both w.members m s x (λ v. QueueOf g p x v) (λ e. rw e h.queue) (h.queues x);
   rows = h.rows;
   few = λ x. at_both w.members m s x (λ v. Few g.nodes g.resilience v) (λ e. few) (h.fews x);
+  senders = λ q t. ⊎_elim (λ l. l) (λ e. rw e low) (h.senders q t);
 }
 
 pub ready_member : {M : Type 0} {g : Group M} {w : GroupWorld M} {m : ℕ} {s t : Member M} {p : Past M} → Fits g.nodes p m (standing_of t) → Holds g.nodes g.resilience p (figures_of t) → QueueOf g p m t → Ready g w m s p → Ready g w m t p
-ready_member fits holds queue h = record { fits = fits; holds = holds; others = h.others; hold = h.hold; sound = h.sound; counts = h.counts; queue = queue; queues = h.queues; rows = h.rows; fews = h.fews }
+ready_member fits holds queue h = record { fits = fits; holds = holds; others = h.others; hold = h.hold; sound = h.sound; counts = h.counts; queue = queue; queues = h.queues; rows = h.rows; fews = h.fews; senders = h.senders }
 
 -- ---- a packet is sent
 
@@ -94,8 +98,8 @@ sayable_grows {M} {g} {p} {q} {k} {y} {t} w e h = record {
   counts = counts_grows g.nodes g.resilience k y t w h.tells h.counts;
 }
 
-pub ready_plain : {M : Type 0} {g : Group M} {w : GroupWorld M} {m : ℕ} {s : Member M} {p : Past M} (l : Letter M) → Sayable g p l.packet.inc l.packet.from l.packet.kind → Ready g w m s p → Ready g w m s (sends l p)
-ready_plain {M} {g} {w} {m} {s} {p} l say h = record {
+pub ready_plain : {M : Type 0} {g : Group M} {w : GroupWorld M} {m : ℕ} {s : Member M} {p : Past M} (l : Letter M) → l.packet.from ≡ m → Sayable g p l.packet.inc l.packet.from l.packet.kind → Ready g w m s p → Ready g w m s (sends l p)
+ready_plain {M} {g} {w} {m} {s} {p} l mine say h = record {
   fits = fits_plain l say.plain h.fits;
   holds = holds_grows (grows_sends l p) h.fits.stands.up h.holds;
   others = λ x e. fits_plain l say.plain (h.others x e);
@@ -106,6 +110,7 @@ ready_plain {M} {g} {w} {m} {s} {p} l say h = record {
   queues = λ x e. queue_sends (w.members x) l (h.queues x e);
   rows = rows_sends g.nodes g.resilience l h.sound.tells say.tells say.due h.rows;
   fews = h.fews;
+  senders = λ q. ⊎_elim (λ e. inr (ap (λ (v : Packet M). v.from) e ∙ mine)) (λ t. h.senders q t);
 }
 
 -- an Ack of its whole log, by a member that promised no more than it installed
@@ -121,6 +126,7 @@ ready_ack {M} {g} {w} {m} {s} {p} to b active acker h = record {
   queues = λ x e. queue_sends (w.members x) l (h.queues x e);
   rows = rows_sends g.nodes g.resilience l h.sound.tells named tt h.rows;
   fews = h.fews;
+  senders = λ q. ⊎_elim (λ e. inr (ap (λ (v : Packet M). v.from) e)) (λ t. h.senders q t);
 }
   where
     l : Letter M
@@ -142,6 +148,7 @@ ready_join {M} {g} {w} {m} {s} {p} to above h = record {
   queues = λ x e. queue_sends (w.members x) l (h.queues x e);
   rows = rows_sends g.nodes g.resilience l h.sound.tells says tt h.rows;
   fews = h.fews;
+  senders = λ q. ⊎_elim (λ e. inr (ap (λ (v : Packet M). v.from) e)) (λ t. h.senders q t);
 }
   where
     l : Letter M
@@ -179,6 +186,7 @@ ready_ordered {M} {g} {w} {m} {s} {p} x t is queue here active holds above known
   queues = λ x e. queue_insts (w.members x) _ (h.queues x e);
   rows = rows_longer g.nodes g.resilience s.installed x h.sound.tells (rw (← h.fits.bounds.whole here) above) known h.rows;
   fews = h.fews;
+  senders = h.senders;
 }
 
 -- ---- an incarnation is installed
@@ -199,4 +207,5 @@ ready_installed {M} {g} {w} {m} {s} {p} b above new many kept holds same rises k
   queues = λ x e. queue_insts (w.members x) _ (h.queues x e);
   rows = rows_new g.nodes g.resilience s.promised b.log s.answers new.1 h.sound.tells rises known h.rows;
   fews = h.fews;
+  senders = h.senders;
 }

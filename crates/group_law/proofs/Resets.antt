@@ -70,8 +70,8 @@ fine_idle {M} {g} {w} {m} {p} few h = record { ready = h; few = few; grew = grow
 pub fine_sends : {M : Type 0} {g : Group M} {w : GroupWorld M} {m : ℕ} {p : Past M} {u : Work M} (l : Letter M) → Ready g w m u.state (sends l (after u.acts p)) → Fine g w m p u → Fine g w m p (does (Act.Sends l) u)
 fine_sends l r h = record { ready = r; few = h.few; grew = grows_trans h.grew (grows_sends _ _); extends = h.extends }
 
-pub fine_inv : {M : Type 0} {g : Group M} {w : GroupWorld M} {m : ℕ} {p : Past M} {u : Work M} → Fine g w m p u → Inv g (put w m p u)
-fine_inv h = done h.few h.ready
+pub fine_inv : {M : Type 0} {g : Group M} {w : GroupWorld M} {m : ℕ} {p : Past M} {u : Work M} → m < g.nodes → Fine g w m p u → Inv g (put w m p u)
+fine_inv low h = done low h.few h.ready
 
 -- where m is the sequencer of k, and k was up, it stood in k and had promised no other
 pub active_fine : {M : Type 0} {g : Group M} {w : GroupWorld M} {m : ℕ} {p : Past M} {k : ℕ} {own : List M} {u : Work M} → (IsUp p k → m ≡ k % g.nodes → ((w.members m).installed ≡ k) × ((w.members m).promised ≡ k)) → Active g w m p k own u → Fine g w m p u
@@ -150,7 +150,7 @@ pub record Going {M : Type 0} (g : Group M) (w : GroupWorld M) (m : ℕ) (p : Pa
   pub insts : (after u.acts p).insts ≡ p.insts
 
 pub going_tell : {M : Type 0} {g : Group M} {w : GroupWorld M} {m : ℕ} {p : Past M} {s : Member M} {u : Work M} (i to : ℕ) (t : Kind M) → Sayable g (after u.acts p) i m t → Going g w m p s u → Going g w m p s (tell m i t to u)
-going_tell i to t say h = record { state = h.state; ready = ready_plain _ say h.ready; submitted = h.submitted; grew = grows_trans h.grew (grows_sends _ _); insts = h.insts }
+going_tell i to t say h = record { state = h.state; ready = ready_plain _ refl say h.ready; submitted = h.submitted; grew = grows_trans h.grew (grows_sends _ _); insts = h.insts }
 
 -- an Invite may always be sent
 pub invite_sayable : {M : Type 0} {g : Group M} {p : Past M} (k y : ℕ) → Sayable g p k y Invite

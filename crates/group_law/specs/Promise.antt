@@ -3,7 +3,7 @@ use Rattle.std.specs.Prelude.{ℕ, Bool, true, false, List, Some, ◌≡◌, ◌
 use Rattle.orca_base.specs.declared.limits.TheConstants.{WINDOW}
 use Rattle.group_rules.specs.Sets.{Same, In, count}
 use Rattle.group_rules.specs.Messages.{Group, is_repeat}
-use Rattle.group_rules.specs.Member.{Report, Member, is_gathering}
+use Rattle.group_rules.specs.Member.{Report, Packet, Member, is_gathering}
 use Rattle.group_rules.specs.Member.Kind.{Ack, Join, News}
 use Rattle.group_rules.specs.Reset.{gave, best, keeps}
 use Rattle.group_rules.specs.World.{GroupWorld, Event, Sent, IsUp, start_of, list_of, may_submit, run, opening}
@@ -52,6 +52,8 @@ pub record Reaching {M : Type 0} (s : Member M) (log : List M) : Type 0 where
   pub reported : (x : ℕ) (report : Report M) → s.answers x ≡ Some report → report.accepted ≤ length log
 
 pub record Conditions {M : Type 0} (g : Group M) (w : GroupWorld M) : Type 0 where
+  -- who sent a packet is a member; that it is another than the receiver, an arrival says itself
+  pub sender : (q : Packet M) → Sent w.past.letters q → q.from < g.nodes
   -- an Ack of the installed incarnation names at most the sequencer's length
   pub ack : (m from n applied : ℕ) → m ≡ (w.members m).installed % g.nodes → Sent w.past.letters (record { inc = (w.members m).installed; from = from; kind = Ack n applied }) → n ≤ length (w.members m).log
   pub join : (k from : ℕ) (report : Report M) → Sent w.past.letters (record { inc = k; from = from; kind = Join report }) → JoinFits report

@@ -12,3 +12,4 @@ pub mod Runs
 pub mod Windows
 pub mod Wrong
 pub mod Agree
+pub mod StandsFor
