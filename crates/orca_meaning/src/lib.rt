@@ -7,10 +7,15 @@
 #![tactic(auto)]
 
 mod execution;
+mod machine;
 mod next;
 mod operations;
+mod performing;
 mod process;
+mod processing;
 
 pub use execution::Execution;
+pub use machine::TreeMachine;
 pub use next::next_action;
 pub use operations::{make, perform};
+pub use process::SmallProcess;

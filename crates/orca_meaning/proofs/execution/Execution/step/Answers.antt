@@ -2,7 +2,7 @@ use Rattle.std.proofs.Common.{◌≡◌, length, arith, ◌++◌, ◌∷◌, [],
 use Rattle.value_core.specs.declared.action.Reply.{Reply}
 use Rattle.orca_meaning.specs.Executions.{Follows, main_process, outcome_of}
 use Rattle.orca_meaning.proofs.ExecutionLemmas.{ends, few, follows_more, line_of}
-use Rattle.orca_meaning.proofs.StageLemmas.{next_of, reply_of}
+use Rattle.orca_meaning.specs.StageLaws.{next_of, reply_of}
 use Rattle.orca_meaning.proofs.execution.Execution.step.Goals as goal
 
 pub returns-in_default-clause-line : goal.returns-in_default-clause-line
