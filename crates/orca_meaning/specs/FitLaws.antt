@@ -1,6 +1,6 @@
 -- Operations keep what fits.
-use Rattle.std.proofs.Common.{◌≡◌, ℕ, ◌<◌, Bool, true, false, List, [], ◌∷◌, length, map, Option, Some, None, refl, sym, ap, ◌∙◌, subst, arith}
-use Rattle.std.specs.Prelude.{ℤ, pos, ◌==◌, slice_get, IfSome, MatchBool, if◌then◌else◌}
+use Rattle.std.proofs.Common.{◌≡◌, ℕ, Bool, true, false, List, [], ◌∷◌, Option, Some, None, refl, sym, ◌∙◌, subst}
+use Rattle.std.specs.Prelude.{pos, ◌==◌, slice_get, IfSome, MatchBool, if◌then◌else◌}
 use Rattle.std.specs.List.{All}
 use Rattle.std.proofs.lemmas.List.{length-map, length-set}
 use Rattle.std.proofs.lemmas.List.Elements.{All-cons, All-map, All-nil, All-set}
@@ -18,9 +18,8 @@ use Rattle.orca_tree.specs.declared.small.OperationBody.TheVariants.{Returns, As
 use Rattle.orca_tree.specs.declared.small.SmallProgram.{SmallProgram}
 use Rattle.value_core.specs.Datum.{Datum, Data, data_of, list_of, list_of-data_of}
 use Rattle.value_core.specs.Datum as datum
-use Rattle.value_core.specs.View.{datum_of, datum_of-value_of, value_of}
+use Rattle.value_core.specs.View.{datum_of-value_of}
 use Rattle.value_core.specs.Fits.{IfMade, KeepsState, RepliesWell}
-use Rattle.value_core.specs.declared.action.Reply.{Reply}
 use Rattle.value_core.specs.declared.action.Reply.TheVariants as answer
 use Rattle.value_core.specs.declared.meaning.Making.TheVariants as making
 use Rattle.value_core.specs.declared.meaning.Tried.TheVariants as tried

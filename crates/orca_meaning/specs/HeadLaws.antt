@@ -1,7 +1,7 @@
 -- In a scoped program the operation of a name is the one with its head, and a head and its body fit each other.
-use Rattle.std.proofs.Common.{◌≡◌, ℕ, ◌<◌, ◌≤◌, ◌+◌, Bool, true, false, cond, List, [], ◌∷◌, ◌++◌, length, map, Option, Some, None, refl, sym, ap, ◌∙◌, subst, suc, arith}
+use Rattle.std.proofs.Common.{◌≡◌, ℕ, ◌<◌, ◌+◌, Bool, true, false, cond, List, ◌++◌, length, map, Option, Some, None, refl, sym, ap, ◌∙◌, subst, suc, arith}
 use Rattle.std.specs.Prelude.{◌≢◌, nat_lt, unwrap_or, slice_get, slice_index_or}
-use Rattle.std.specs.List.{All, AllPairs, position, position_or_len}
+use Rattle.std.specs.List.{position_or_len}
 use Rattle.std.specs.Str.{bytes_eq}
 use Rattle.std.proofs.lemmas.Bool.Decides.{nat_tests}
 use Rattle.std.proofs.Math.Bool.{Bool-set}
@@ -10,7 +10,7 @@ use Rattle.std.proofs.lemmas.List.{get_or-append-add, get_or-map, length-map, le
 use Rattle.std.proofs.lemmas.List.Sums.{position_or_len_is}
 use Rattle.std.proofs.lemmas.Option.{get_or_from_slice_get, slice_get-get_or, slice_get_within}
 use Rattle.std.proofs.lemmas.Slice.Eq.{bytes_eq-Decides}
-use Rattle.orca_tree.specs.Scope.{HasHead, IsArgument, IsBody, IsCall, IsScoped, declared_names}
+use Rattle.orca_tree.specs.Scope.{HasHead, IsArgument, IsBody, IsCall, IsScoped}
 use Rattle.orca_tree.specs.declared.small.HeadKind.{HeadKind}
 use Rattle.orca_tree.specs.declared.small.HeadKind.TheVariants.{Plain, Gives, Takes}
 use Rattle.orca_tree.specs.declared.small.Argument.{Argument}

@@ -1,10 +1,8 @@
 -- The law of processes, for a small program: by the stages through which its replies lead it.
-use Rattle.std.proofs.Common.{◌≡◌, ℕ, ◌<◌, ◌+◌, Bool, true, false, List, [], ◌∷◌, ◌++◌, length, drop, Option, Some, None, refl, sym, ap, ◌∙◌, subst, inl, inr, ◌⊎◌, append_assoc, arith}
+use Rattle.std.proofs.Common.{◌≡◌, ℕ, ◌+◌, Bool, true, List, [], ◌∷◌, ◌++◌, drop, Option, Some, None, refl, sym, ap, ◌∙◌, subst, inl, inr, ◌⊎◌, append_assoc, arith}
 use Rattle.std.specs.Prelude.{pos, slice_get}
-use Rattle.std.specs.List.{Contains}
 use Rattle.std.proofs.lemmas.List.{append-nil}
 use Rattle.orca_base.specs.declared.ids.KindNo.{KindNo}
-use Rattle.orca_base.specs.declared.ids.OpNo.{OpNo}
 use Rattle.orca_base.specs.declared.ids.TextNo.{TextNo}
 use Rattle.orca_base.specs.declared.ids.ProcessNo.{ProcessNo}
 use Rattle.orca_base.specs.declared.ids.ObjectId.{ObjectId}
@@ -20,8 +18,7 @@ use Rattle.value_core.specs.Datum as datum
 use Rattle.value_core.specs.View.{datum_of}
 use Rattle.value_core.specs.Fits.{Kinds}
 use Rattle.value_core.specs.History.{output_kind, output_object}
-use Rattle.value_core.specs.Lawful.{FitsAction, IsKnownObject, IsLawful, IsLawfulDoing, RepliesFit, RepliesFitFrom, own_objects}
-use Rattle.value_core.specs.declared.action.Action.{Action}
+use Rattle.value_core.specs.Lawful.{FitsAction, IsKnownObject, IsLawful, IsLawfulDoing, RepliesFit, RepliesFitFrom}
 use Rattle.value_core.specs.declared.action.Action.TheVariants as action
 use Rattle.value_core.specs.declared.action.Reply.{Reply}
 use Rattle.value_core.specs.declared.action.Reply.TheVariants as answer
@@ -30,8 +27,8 @@ use Rattle.value_core.specs.declared.meaning.Doing.TheVariants as doing
 use Rattle.orca_meaning.specs.Processes.{all_stating, doing_of, first_object, invocation, number_in, small_kind, text_of, writing}
 use Rattle.orca_meaning.specs.Program.{computes_of}
 use Rattle.orca_meaning.specs.Fitting.{FitsArgs, FitsHead, FitsOperation, FitsReply, FitsResultOf, FitsText, IsInteger, has_result}
-use Rattle.orca_meaning.specs.HeadLaws.{ArgumentFits, CallFits, CallsFit, head_passes, is_plain, passes, takes}
-use Rattle.orca_meaning.specs.Stages.{StandsFor, first_doing, holding, last_doing, passing, resumed, stage_after, stage_behind, stage_called, stage_held, stage_passed}
+use Rattle.orca_meaning.specs.HeadLaws.{CallFits, CallsFit, head_passes, is_plain, passes, takes}
+use Rattle.orca_meaning.specs.Stages.{StandsFor, first_doing, last_doing, resumed, stage_after, stage_behind, stage_called, stage_held, stage_passed}
 use Rattle.orca_meaning.specs.StageLaws.{first_of_calls, last_of_calls, stands_after}
 use Rattle.orca_meaning.specs.declared.process.Stage.{Stage}
 use Rattle.orca_meaning.specs.declared.process.Stage.TheVariants.{Making, Calling, Holding, Over}
