@@ -1,9 +1,8 @@
 //! The run of a small program on one member.
 
-ghost use Rattle.std.specs.Prelude.{◌≡◌, ◌⊎◌, ◌≤◌, ◌<◌, ◌^◌, ◌∷◌, [], List, length, IfOk, IfSome, MatchOption, OnOk, OnErr, IsErrOf};
+ghost use Rattle.std.specs.Prelude.{◌≡◌, ◌⊎◌, ◌≤◌, ◌<◌, ◌∷◌, [], List, length, IfOk, IfSome, MatchOption, OnOk, OnErr, IsErrOf};
 ghost use Rattle.orca_io.specs.Causes.{Rose};
 ghost use Rattle.orca_io.specs.Sinks.{Puts};
-ghost use Rattle.orca_tree.specs.Scope.{IsScoped};
 ghost use Rattle.value_core.specs.History.{output_by, output_of};
 ghost use Rattle.orca_meaning.specs.Executions.{Follows, HasEnded};
 ghost use Rattle.orca_cli.specs.Headline.{IsRun, IsRunEnd};
@@ -15,8 +14,7 @@ use crate::room::add;
 use crate::top::{FINISHED, NO_MEMORY, WRITE_FAULT};
 use orca_base::NoMemory;
 use orca_io::{Sink, SinkFault};
-use orca_meaning::Execution;
-use orca_tree::SmallProgram;
+use orca_meaning::{Execution, TreeMachine};
 use std::alloc::Global;
 use value_core::{Action, Line, Parts, Value};
 
@@ -58,24 +56,22 @@ fn put_some<K: Sink>(out: &mut K, text: &[u8]) -> Result<(), SinkFault>
 // never more than what the book writes.
 fn run<K: Sink>(
     alloc: Global,
-    program: &SmallProgram,
+    machine: &TreeMachine,
     out: &mut K,
     execution: &mut Execution,
     book: &mut Vec<Line>,
 ) -> Result<(), SinkFault>
-    requires numbered { length program.now.operations < 2 ^ 16 }
-    requires scoped { IsScoped program.now }
-    requires begins { Follows program.now execution.old book.old.items }
+    requires begins { Follows machine.now.program execution.old book.old.items }
     requires empty { book.old.items ≡ [] }
-    ensures followed { Follows program.now execution.new book.new.items }
-    ensures finished { OnOk result (HasEnded program.now book.new.items) }
+    ensures followed { Follows machine.now.program execution.new book.new.items }
+    ensures finished { OnOk result (HasEnded machine.now.program book.new.items) }
     ensures wrote { Grew (K.told out.old) (K.told out.new) (WroteOf result (output_of book.new.items)) }
     ensures later { K.faults out.old ≤ K.faults out.new }
     ensures failed { IsErrOf result SinkFault.Failed → Rose (K.faults out.old) (K.faults out.new) }
 {
     'lines: loop {
         book.reserve(1)?;
-        let Some(line) = execution.step(alloc, program)? else {
+        let Some(line) = execution.step(alloc, machine)? else {
             return Ok(());
         };
         let text = output(alloc, &line.action);
@@ -95,12 +91,10 @@ fn ended(run: Result<(), SinkFault>) -> (u8, ProcessStanding)
     }
 }
 
-/// Runs a program, and keeps its book and its process. Nothing is kept where there is no memory for the list of processes,
-/// before the run begins.
-pub fn run_kept<K: Sink>(alloc: Global, program: &SmallProgram, out: &mut K) -> Ended
-    requires numbered { length program.now.operations < 2 ^ 16 }
-    requires scoped { IsScoped program.now }
-    ensures kept { MatchOption result.kept ((result.status ≡ 12) × (K.told out.new ≡ K.told out.old)) (λ k. IsRun program.now k result.status (K.told out.old) (K.told out.new)) }
+/// Runs a program, and keeps its book and its process. Nothing is kept where there is no memory for the list of processes
+/// or for the first of them, before the run begins.
+pub fn run_kept<K: Sink>(alloc: Global, machine: &TreeMachine, out: &mut K) -> Ended
+    ensures kept { MatchOption result.kept ((result.status ≡ 12) × (K.told out.new ≡ K.told out.old)) (λ k. IsRun machine.now.program k result.status (K.told out.old) (K.told out.new)) }
     ensures failed { result.status ≡ WRITE_FAULT → Rose (K.faults out.old) (K.faults out.new) }
 {
     let Ok(mut processes) = Vec::with_capacity(alloc, 1) else {
@@ -109,9 +103,14 @@ pub fn run_kept<K: Sink>(alloc: Global, program: &SmallProgram, out: &mut K) -> 
             kept: None,
         };
     };
-    let mut execution = Execution::start(alloc);
+    let Ok(mut execution) = Execution::start(alloc, machine) else {
+        return Ended {
+            status: NO_MEMORY,
+            kept: None,
+        };
+    };
     let mut book = Vec::new(alloc);
-    let run = run(alloc, program, out, &mut execution, &mut book);
+    let run = run(alloc, machine, out, &mut execution, &mut book);
     let (status, standing) = ended(run);
     let main = ProcessEnd {
         node: 0,

@@ -12,6 +12,7 @@ use crate::refusal::refused;
 use crate::run::run_kept;
 use crate::words::command;
 use orca_io::{Shelf, Sink};
+use orca_meaning::TreeMachine;
 use std::alloc::Global;
 
 /// The program ran to its end.
@@ -63,7 +64,7 @@ pub fn orca_main<F: Shelf, K: Sink>(
         return refused(out, line, USAGE);
     };
     match load(alloc, shelf, file) {
-        Ok(program) => run_kept(alloc, &program, out),
+        Ok(program) => run_kept(alloc, &TreeMachine::new(program), out),
         Err(LoadFault::Absent) => {
             let line = format!(in alloc; "orca: no file {file}\n");
             refused(out, line, ABSENT)

@@ -1,78 +1,95 @@
--- A process of a scoped program names objects and operations that there are, and without a fault among its replies it has none.
-use Rattle.std.proofs.Common.{◌≡◌, ℕ, ◌<◌, ◌≤◌, ◌+◌, ◌*◌, Bool, true, false, cond, List, [], ◌∷◌, length, Some, None, refl, inl, inr, arith}
-use Rattle.std.specs.Prelude.{nat_lt, unwrap_or, pos}
-use Rattle.std.specs.List.{All, position, position_or_len}
-use Rattle.std.specs.Str.{bytes_eq}
-use Rattle.std.proofs.lemmas.Bool.Decides.{nat_tests}
+-- After replies that fit, a process names objects and operations that there are; without a fault among them it has none; and
+-- it comes to its end.
+use Rattle.std.proofs.Common.{◌≡◌, ℕ, ◌<◌, ◌≤◌, ◌+◌, ◌*◌, List, [], ◌∷◌, ◌++◌, length, Option, Some, None, refl, sym, subst, inl, inr, append_assoc, arith}
+use Rattle.std.specs.Prelude.{pos, slice_get}
+use Rattle.std.specs.List.{All}
+use Rattle.std.proofs.lemmas.List.{append-nil}
 use Rattle.std.proofs.lemmas.List.Elements.{All-head, All-tail}
+use Rattle.std.proofs.lemmas.Option.{slice_get_within}
+use Rattle.orca_base.specs.declared.ids.KindNo.{KindNo}
+use Rattle.orca_base.specs.declared.ids.OpNo.{OpNo}
+use Rattle.orca_base.specs.declared.ids.TextNo.{TextNo}
 use Rattle.orca_base.specs.declared.ids.ProcessNo.{ProcessNo}
-use Rattle.orca_tree.specs.Scope.{HasHead, IsArgument, IsCall, IsScoped}
-use Rattle.orca_tree.specs.declared.small.HeadKind.{HeadKind}
 use Rattle.orca_tree.specs.declared.small.Argument.{Argument}
 use Rattle.orca_tree.specs.declared.small.Argument.TheVariants as argument
 use Rattle.orca_tree.specs.declared.small.Call.{Call}
 use Rattle.orca_tree.specs.declared.small.Call.TheVariants as call
 use Rattle.orca_tree.specs.declared.small.Operation.{Operation}
 use Rattle.orca_tree.specs.declared.small.SmallProgram.{SmallProgram}
-use Rattle.value_core.specs.Datum.{Datum, Data}
+use Rattle.value_core.specs.Datum.{Datum, Data, list_of}
 use Rattle.value_core.specs.Datum as datum
 use Rattle.value_core.specs.View.{datum_of}
+use Rattle.value_core.specs.Lawful.{FitsAction, RepliesFit, RepliesFitFrom, next_of}
+use Rattle.value_core.specs.Meaning.{Computes}
 use Rattle.value_core.specs.declared.action.Action.{Action}
 use Rattle.value_core.specs.declared.action.Action.TheVariants as action
 use Rattle.value_core.specs.declared.action.Reply.{Reply}
 use Rattle.value_core.specs.declared.action.Reply.TheVariants as answer
 use Rattle.value_core.specs.declared.meaning.Doing.{Doing}
 use Rattle.value_core.specs.declared.meaning.Doing.TheVariants as doing
-use Rattle.orca_meaning.specs.Executions.{IsFaultless}
-use Rattle.orca_meaning.specs.Processes.{acting, all_stating, arguing, asking, doing_of, invocation, number_in, stating, text_of, writing}
-use Rattle.orca_meaning.specs.Known.{IsKnown, IsKnownDoing}
-
--- a first place that is found is inside the list
-place_inside : {X : Type 0} → (p : X → Bool) (xs : List X) → 0 < length xs → unwrap_or (position p xs) 0 < length xs
-place_inside p xs some = by_test (nat_lt (position_or_len p xs) (length xs)) refl
-  where
-    by_test : (b : Bool) → nat_lt (position_or_len p xs) (length xs) ≡ b → unwrap_or (cond b (Some (position_or_len p xs)) None) 0 < length xs
-    by_test true is = grind (arith, nat_tests)
-    by_test false is = some
-
-op_inside : (operations : List Operation) (name : List ℕ) (P : HeadKind → Type 0) → HasHead operations name P → number_in operations name < length operations
-op_inside operations name P has = place_inside (λ o. bytes_eq o.head.name name) operations (omega (arith, has.2))
+use Rattle.orca_meaning.specs.Executions.{HasFitting, IsFaultless}
+use Rattle.orca_meaning.specs.Fitting.{FitsArgs, FitsOperation, FitsReply}
+use Rattle.orca_meaning.specs.HeadLaws.{CallsFit}
+use Rattle.orca_meaning.specs.LawfulLaws.{IsFitDoing, fit_doing}
+use Rattle.orca_meaning.specs.Processes.{acting, all_stating, arguing, asking, doing_of, invocation, stating, text_of, writing}
+use Rattle.orca_meaning.specs.Program.{computes_of}
+use Rattle.orca_meaning.specs.Known.{IsKnownDoing}
 
 module _ (program : SmallProgram) (number : ProcessNo) where
-  known_invocation : (name : List ℕ) (P : HeadKind → Type 0) (args : Data) → HasHead program.operations name P → IsKnown program number (invocation program number name args)
-  known_invocation name P args has = inr (record { kind_is = refl; op_is = op_inside program.operations name P has; object_is = refl })
+  -- an operation whose arguments fit is one of the program's
+  inside : (op : OpNo) (args : List Datum) (o : Option Operation) → slice_get program.operations op.0 ≡ o → FitsOperation o args → op.0 < length program.operations
+  inside op args None is fits = absurd fits
+  inside op args (Some o) is fits = slice_get_within program.operations op.0 o is
 
-  acting_known : (act : Action) (replies : List Reply) (next : List Reply → Doing) → IsKnown program number act → ((rs : List Reply) → IsKnownDoing program number (next rs)) → IsKnownDoing program number (acting act replies next)
-  acting_known act [] next known others = known
-  acting_known act (answer.Done ∷ rs) next known others = others rs
-  acting_known act (answer.Gave value ∷ rs) next known others = others rs
-  acting_known act (answer.Broke fault ∷ rs) next known others = tt
+  as_known : (d : Doing) → IsFitDoing program number d → IsKnownDoing program number d
+  as_known doing.Busy fit = absurd fit
+  as_known (doing.At (action.Make kind id)) fit = absurd fit
+  as_known (doing.At (action.Call kind op id args)) fit = elim fit.0 [
+    | inl output ↦ inl (record { kind_is = output.0; object_is = output.1 })
+    | inr own ↦
+        let given = subst (λ (k : KindNo). FitsArgs program k op args) own.0 fit.1 in
+        inr (record { kind_is = own.0; op_is = inside op (list_of args) (slice_get program.operations op.0) refl given; object_is = own.1 })
+  ]
+  as_known (doing.At (action.Fork process args place_on)) fit = absurd fit
+  as_known (doing.At action.Ended) fit = tt
+  as_known (doing.At (action.Faulted fault)) fit = tt
 
-  asking_known : (act : Action) (replies : List Reply) (next : Datum → List Reply → Doing) → IsKnown program number act → ((v : Datum) (rs : List Reply) → IsKnownDoing program number (next v rs)) → IsKnownDoing program number (asking act replies next)
-  asking_known act [] next known others = known
-  asking_known act (answer.Done ∷ rs) next known others = others (datum.int (pos 0)) rs
-  asking_known act (answer.Gave value ∷ rs) next known others = others (datum_of value) rs
-  asking_known act (answer.Broke fault ∷ rs) next known others = tt
+  -- the arguments of a call, where the process is at one, fit
+  abbrev pub HasFittingDoing : Doing → Type 0
+  HasFittingDoing doing.Busy = Unit {0}
+  HasFittingDoing (doing.At act) = HasFitting program act
 
-  arguing_known : (a : Argument) (replies : List Reply) (next : Datum → List Reply → Doing) → IsArgument program.operations a → ((v : Datum) (rs : List Reply) → IsKnownDoing program number (next v rs)) → IsKnownDoing program number (arguing program number a replies next)
-  arguing_known (argument.Number n) replies next fits others = others (datum.int n) replies
-  arguing_known (argument.Result operation) replies next fits others = asking_known (invocation program number operation datum.none) replies next (known_invocation operation _ datum.none fits) others
+  as_fitting : (d : Doing) → IsFitDoing program number d → HasFittingDoing d
+  as_fitting doing.Busy fit = absurd fit
+  as_fitting (doing.At (action.Make kind id)) fit = absurd fit
+  as_fitting (doing.At (action.Call kind op id args)) fit = fit.1
+  as_fitting (doing.At (action.Fork process args place_on)) fit = absurd fit
+  as_fitting (doing.At action.Ended) fit = tt
+  as_fitting (doing.At (action.Faulted fault)) fit = tt
 
-  stating_known : (c : Call) (replies : List Reply) (next : List Reply → Doing) → IsCall program.operations c → ((rs : List Reply) → IsKnownDoing program number (next rs)) → IsKnownDoing program number (stating program number c replies next)
-  stating_known (call.Invokes operation) replies next fits others = acting_known (invocation program number operation datum.none) replies next (known_invocation operation _ datum.none fits) others
-  stating_known (call.Passes operation value) replies next fits others =
-      arguing_known value replies _ fits.1 (λ v rs. acting_known (invocation program number operation (datum.more v datum.none)) rs next (known_invocation operation _ (datum.more v datum.none) fits.0) others)
-  stating_known (call.Writes value) replies next fits others =
-      arguing_known value replies _ fits (λ v rs. acting_known (writing (text_of v)) rs next (inl (record { kind_is = refl; object_is = refl })) others)
+  -- after replies that fit, the next action names what there is, with arguments that fit
+  pub doing_known : CallsFit program → (text : TextNo) (args : Data) (replies : List Reply) → RepliesFit (computes_of program) (FitsReply program) text number args replies → IsKnownDoing program number (doing_of program number replies)
+  doing_known calls text args [] got = (refl, refl)
+  doing_known calls text args (answer.Done ∷ rest) got = as_known (doing_of program number (answer.Done ∷ rest)) (fit_doing program number text args calls rest got)
+  doing_known calls text args (answer.Gave value ∷ rest) got = absurd got.0
+  doing_known calls text args (answer.Broke fault ∷ rest) got = tt
 
-  all_known : (calls : List Call) (replies : List Reply) → All (IsCall program.operations) calls → IsKnownDoing program number (all_stating program number calls replies)
-  all_known [] replies fits = tt
-  all_known (c ∷ calls) replies fits =
-      stating_known c replies _ (All-head (IsCall program.operations) c calls fits) (λ rs. all_known calls rs (All-tail (IsCall program.operations) c calls fits))
+  pub doing_fitting : CallsFit program → (text : TextNo) (args : Data) (replies : List Reply) → RepliesFit (computes_of program) (FitsReply program) text number args replies → HasFittingDoing (doing_of program number replies)
+  doing_fitting calls text args [] got = tt
+  doing_fitting calls text args (answer.Done ∷ rest) got = as_fitting (doing_of program number (answer.Done ∷ rest)) (fit_doing program number text args calls rest got)
+  doing_fitting calls text args (answer.Gave value ∷ rest) got = absurd got.0
+  doing_fitting calls text args (answer.Broke fault ∷ rest) got = tt
 
-  -- whatever the replies, the next action names what there is
-  pub doing_known : IsScoped program → (replies : List Reply) → IsKnownDoing program number (doing_of program number replies)
-  doing_known scoped replies = acting_known _ replies _ (refl, refl) (λ rs. all_known program.calls rs scoped.calls)
+-- one more reply that fits
+pub replies_push : (q : Computes) (fits_reply : KindNo → OpNo → Reply → Type 0) (text : TextNo) (number : ProcessNo) (args : Data) (before replies : List Reply) (reply : Reply) → RepliesFitFrom q fits_reply text number args before replies →
+    FitsAction fits_reply (next_of q text number args (before ++ replies)) reply → RepliesFitFrom q fits_reply text number args before (replies ++ reply ∷ [])
+replies_push q fits_reply text number args before [] reply got one =
+    (subst (λ (rs : List Reply). FitsAction fits_reply (next_of q text number args rs) reply) (append-nil before) one, tt)
+replies_push q fits_reply text number args before (r ∷ replies) reply got one = (
+  got.0,
+  replies_push q fits_reply text number args (before ++ r ∷ []) replies reply got.1
+      (subst (λ (rs : List Reply). FitsAction fits_reply (next_of q text number args rs) reply) (sym (append_assoc before (r ∷ []) replies)) one),
+)
 
 -- the process has not ended by a fault
 abbrev pub IsFine : Doing → Type 0

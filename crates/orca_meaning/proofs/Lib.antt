@@ -1,3 +1,2 @@
-pub mod StageLemmas
 pub mod KnownLemmas
 pub mod ExecutionLemmas

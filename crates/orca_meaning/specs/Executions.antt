@@ -1,5 +1,5 @@
 -- An execution of a small program on one member stands for a configuration.
-use Rattle.std.specs.Prelude.{◌≡◌, ◌⊎◌, ◌==◌, List, [], ◌∷◌, Option, None, Some, length, if◌then◌else◌}
+use Rattle.std.specs.Prelude.{◌≡◌, ◌⊎◌, ◌==◌, List, [], ◌∷◌, Option, None, Some, IfSome, length, if◌then◌else◌}
 use Rattle.std.specs.List.{All}
 use Rattle.orca_base.specs.declared.ids.KindNo.{KindNo}
 use Rattle.orca_base.specs.declared.ids.OpNo.{OpNo}
@@ -8,6 +8,7 @@ use Rattle.orca_tree.specs.declared.small.SmallProgram.{SmallProgram}
 use Rattle.value_core.specs.Datum.{Data}
 use Rattle.value_core.specs.Datum as datum
 use Rattle.value_core.specs.History.{Configuration, Legal, Objects, after_lines, opening, output_kind, output_object, replies_of}
+use Rattle.value_core.specs.Lawful.{RepliesFit}
 use Rattle.value_core.specs.declared.action.Action.{Action}
 use Rattle.value_core.specs.declared.action.Action.TheVariants as action
 use Rattle.value_core.specs.declared.action.Line.{Line}
@@ -21,6 +22,7 @@ use Rattle.value_core.specs.declared.meaning.Doing.TheVariants as doing
 use Rattle.orca_meaning.specs.Operations.{making_of, tries_of}
 use Rattle.orca_meaning.specs.Processes.{doing_of, first_object, small_kind}
 use Rattle.orca_meaning.specs.Program.{performs_of, computes_of}
+use Rattle.orca_meaning.specs.Fitting.{FitsArgs, FitsReply, FitsState}
 use Rattle.orca_meaning.specs.Stages.{Stands}
 use Rattle.orca_meaning.specs.declared.execution.Execution.{Execution}
 use Rattle.orca_meaning.specs.declared.execution.Outcome.{Outcome}
@@ -76,6 +78,14 @@ outcome_of program object (action.Fork process args place_on) = None
 outcome_of program object action.Ended = None
 outcome_of program object (action.Faulted fault) = None
 
+-- the arguments of a call fit its operation
+abbrev pub HasFitting : SmallProgram → Action → Type 0
+HasFitting program (action.Call kind op id args) = FitsArgs program kind op args
+HasFitting program (action.Make kind id) = Unit {0}
+HasFitting program (action.Fork process args place_on) = Unit {0}
+HasFitting program action.Ended = Unit {0}
+HasFitting program (action.Faulted fault) = Unit {0}
+
 -- an execution followed these lines: they are a history of the program, and it stands for the configuration behind them
 pub record Follows (program : SmallProgram) (e : Execution) (lines : List Line) : Type 0 where
   pub legal : Legal (performs_of program) (computes_of program) lines
@@ -84,6 +94,8 @@ pub record Follows (program : SmallProgram) (e : Execution) (lines : List Line) 
   pub faultless : All IsFaultless e.replies.items
   pub count : length e.replies.items ≡ length lines
   pub made : (e.replies.items ≡ []) ⊎ ((state : Data) × (e.object ≡ Some state))
+  pub state : IfSome e.object (FitsState program small_kind)
+  pub replies : RepliesFit (computes_of program) (FitsReply program) (record { 0 = 0 }) main_process datum.none e.replies.items
 
 -- the process has ended after these lines
 abbrev pub HasEnded : SmallProgram → List Line → Type 0

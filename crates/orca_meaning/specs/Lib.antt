@@ -3,4 +3,10 @@ pub mod Processes
 pub mod Program
 pub mod Stages
 pub mod Known
+pub mod StageLaws
+pub mod Fitting
+pub mod HeadLaws
+pub mod ClassLaws
+pub mod FitLaws
+pub mod LawfulLaws
 pub mod Executions

@@ -90,7 +90,8 @@ opening_assignments (Begins assignments) = assignments
 abbrev pub opening_values : List Name → List Datum
 opening_values fields = map (λ _. opening_value) fields
 
--- the making of the object: its fields open, and the opening part runs
+-- the making of an object: its fields open, and the opening part runs. The output object has no fields
 abbrev pub making_of : SmallProgram → KindNo → Making
 making_of program kind =
-    making.Made (data_of (after_assignments program.fields [] [] (opening_assignments program.opening) (opening_values program.fields)))
+    making.Made (if kind.0 == 0 then datum.none
+    else data_of (after_assignments program.fields [] [] (opening_assignments program.opening) (opening_values program.fields)))

@@ -1,19 +1,21 @@
 //! A small program's execution on one member, line by line.
 
-ghost use Rattle.std.specs.Prelude.{◌≡◌, ◌<◌, ◌^◌, ◌+◌, ◌*◌, ◌∷◌, ◌++◌, [], List, length, IfOk, MatchOption, OnErr, OnSome};
+ghost use Rattle.std.specs.Prelude.{◌≡◌, ◌<◌, ◌+◌, ◌*◌, ◌∷◌, ◌++◌, [], List, length, IfOk, IfSome, MatchOption, OnErr, OnSome};
 ghost use Rattle.value_core.specs.History.{replies_of};
 ghost use Rattle.value_core.specs.declared.action.Line.{Line};
-ghost use Rattle.orca_tree.specs.Scope.{IsScoped};
 ghost use Rattle.orca_tree.specs.declared.small.SmallProgram.{SmallProgram};
-ghost use Rattle.orca_meaning.specs.Executions.{Follows, HasEnded, making_outcome, object_outcome, outcome_of, state_or, tried_outcome};
+ghost use Rattle.orca_meaning.specs.Executions.{Follows, HasEnded, HasFitting, making_outcome, object_outcome, outcome_of, state_or, tried_outcome};
+ghost use Rattle.orca_meaning.specs.Fitting.{FitsArgs, FitsState};
+ghost use Rattle.orca_meaning.specs.Processes.{small_kind};
 ghost use Rattle.orca_meaning.specs.Program.{computes_of, performs_of};
 
-use crate::operations::{make, perform};
-use crate::process::SmallProcess;
+use crate::machine::TreeMachine;
+use crate::process::{SmallProcess, no_values};
 use orca_base::{CallNo, KindNo, NoMemory, OpNo, ProcessNo};
-use orca_tree::SmallProgram;
 use std::alloc::Global;
-use value_core::{Action, Line, Making, ObjectState, Parts, Reply, Tried};
+use value_core::{
+    Action, Halt, Line, Making, ObjectState, Parts, Performer, Processor, Reply, Tried,
+};
 
 /// What an action did: its guard and reply, and the object's new state where it has one.
 #[derive(Drop)]
@@ -65,38 +67,42 @@ fn tried_outcome(tried: Tried) -> Option<Outcome>
 // What a call of the process's object does.
 fn object_outcome(
     alloc: Global,
-    program: &SmallProgram,
+    machine: &TreeMachine,
     kind: KindNo,
     op: OpNo,
     args: &Parts,
     object: &Option<ObjectState>,
 ) -> Result<Option<Outcome>, NoMemory>
-    ensures { IfOk result (λ outcome. outcome ≡ object_outcome program.now kind op args.now object.now) }
+    requires state { IfSome object.now (FitsState machine.now.program kind) }
+    requires fits { FitsArgs machine.now.program kind op args.now }
+    ensures { IfOk result (λ outcome. outcome ≡ object_outcome machine.now.program kind op args.now object.now) }
 {
     match object {
         None => Ok(None),
-        Some(state) => Ok(tried_outcome(perform(alloc, program, kind, op, state, args)?)),
+        Some(state) => Ok(tried_outcome(machine.try_op(alloc, kind, op, state, args)?)),
     }
 }
 
 // What an action does on the process's object, or none where it can't be performed.
 fn outcome_of(
     alloc: Global,
-    program: &SmallProgram,
+    machine: &TreeMachine,
     object: &Option<ObjectState>,
     action: &Action,
 ) -> Result<Option<Outcome>, NoMemory>
-    ensures { IfOk result (λ outcome. outcome ≡ outcome_of program.now object.now action.now) }
+    requires state { IfSome object.now (FitsState machine.now.program small_kind) }
+    requires fits { HasFitting machine.now.program action.now }
+    ensures { IfOk result (λ outcome. outcome ≡ outcome_of machine.now.program object.now action.now) }
 {
     match action {
-        Action::Make { kind, .. } => Ok(making_outcome(make(alloc, program, *kind)?)),
+        Action::Make { kind, .. } => Ok(making_outcome(machine.make(alloc, *kind)?)),
         Action::Call { kind, .. } if kind.0 == 0 => Ok(Some(Outcome {
             guard: 0,
             reply: Reply::Done,
             state: None,
         })),
         Action::Call { kind, op, args, .. } => {
-            object_outcome(alloc, program, *kind, *op, args, object)
+            object_outcome(alloc, machine, *kind, *op, args, object)
         }
         Action::Fork { .. } | Action::Ended | Action::Faulted { .. } => Ok(None),
     }
@@ -113,35 +119,40 @@ pub struct Execution {
 
 impl Execution {
     /// An execution before its first line.
-    pub fn start(alloc: Global) -> Execution
-        ensures { (program : SmallProgram) → Follows program result [] }
+    pub fn start(alloc: Global, machine: &TreeMachine) -> Result<Execution, NoMemory>
+        ensures { IfOk result (λ execution. Follows machine.now.program execution []) }
     {
-        Execution {
-            process: SmallProcess::start(ProcessNo(0)),
+        let process = machine.start(alloc, machine.main_text(), ProcessNo(0), &no_values(alloc))?;
+        Ok(Execution {
+            process,
             object: None,
             replies: Vec::new(alloc),
-        }
+        })
     }
 
     /// The program's next line, or none where its process has ended. After want of memory the execution still stands for
     /// the lines that it followed.
-    pub fn step(&mut self, alloc: Global, program: &SmallProgram) -> Result<Option<Line>, NoMemory>
-        requires { length program.now.operations < 2 ^ 16 }
-        ensures line { IfOk result (λ r. (lines : List Line) → IsScoped program.now → Follows program.now self.old lines → MatchOption r (HasEnded program.now lines × Follows program.now self.new lines) (λ line. Follows program.now self.new (lines ++ line ∷ []))) }
+    pub fn step(&mut self, alloc: Global, machine: &TreeMachine) -> Result<Option<Line>, NoMemory>
+        requires { (lines : List Line) × Follows machine.now.program self.old lines }
+        ensures line { IfOk result (λ r. (lines : List Line) → Follows machine.now.program self.old lines → MatchOption r (HasEnded machine.now.program lines × Follows machine.now.program self.new lines) (λ line. Follows machine.now.program self.new (lines ++ line ∷ []))) }
 
         // A program makes at most a line for its object and two for each statement, so the lines come to an end.
-        ensures few { IfOk result (λ r. (lines : List Line) → IsScoped program.now → Follows program.now self.old lines → OnSome r (length lines < 2 * length program.now.calls + 1)) }
-        ensures err { OnErr result ((lines : List Line) → Follows program.now self.old lines → Follows program.now self.new lines) }
+        ensures few { IfOk result (λ r. (lines : List Line) → Follows machine.now.program self.old lines → OnSome r (length lines < 2 * length machine.now.program.calls + 1)) }
+        ensures err { OnErr result ((lines : List Line) → Follows machine.now.program self.old lines → Follows machine.now.program self.new lines) }
     {
-        let action = self.process.next(alloc, program)?;
-        let Some(outcome) = outcome_of(alloc, program, &self.object, &action)? else {
+        let process = machine.copy(alloc, &self.process)?;
+        let (process, halt) = machine.go(alloc, process, 1)?;
+        let Halt::At { action } = halt else {
+            return Ok(None);
+        };
+        let Some(outcome) = outcome_of(alloc, machine, &self.object, &action)? else {
             return Ok(None);
         };
         let received = outcome.reply.copy(alloc)?;
         let kept = outcome.reply.copy(alloc)?;
         let call = CallNo(self.replies.len() as u64);
         self.replies.push(kept)?;
-        self.process.reply(program, received);
+        self.process = machine.reply(process, received);
         put_state(&mut self.object, outcome.state);
         Ok(Some(Line {
             process: ProcessNo(0),

@@ -6,6 +6,7 @@ ghost use Rattle.value_core.specs.Datum.{list_of, data_of};
 ghost use Rattle.value_core.specs.View.{datum_of, value_of};
 ghost use Rattle.orca_meaning.specs.Operations.{after_assignments, making_of, place_in, value_at, opening_assignments, opening_value, opening_values, operand_value, operation_tried, parameters_of, tries_of, value_or, with_value};
 
+use crate::process::no_values;
 use orca_base::{KindNo, NoMemory, OpNo, Text};
 use orca_tree::{Assignment, HeadKind, Opening, Operand, Operation, OperationBody, SmallProgram};
 use std::alloc::Global;
@@ -181,6 +182,11 @@ fn state_after(
 pub fn make(alloc: Global, program: &SmallProgram, kind: KindNo) -> Result<Making, NoMemory>
     ensures { IfOk result (λ making. making ≡ making_of program.now kind) }
 {
+    if kind.0 == 0 {
+        return Ok(Making::Made {
+            state: no_values(alloc),
+        });
+    }
     let fields = program.fields.as_slice();
     let state = opened(alloc, fields)?;
     let assignments = match &program.opening {

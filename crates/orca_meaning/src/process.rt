@@ -1,6 +1,6 @@
 //! A process of a small program, one reply after the other.
 
-ghost use Rattle.std.specs.Prelude.{◌≡◌, ◌<◌, ◌^◌, ◌∷◌, [], ◌++◌, List, length, map, IfOk, IfSome, None, Some, slice_get};
+ghost use Rattle.std.specs.Prelude.{◌≡◌, ◌↔◌, ◌<◌, ◌^◌, ◌∷◌, [], ◌++◌, List, length, map, IfOk, IfSome, IsTrue, None, Some, slice_get};
 ghost use Rattle.std.specs.Option.{option_copied};
 ghost use Rattle.value_core.specs.Datum as datum;
 ghost use Rattle.value_core.specs.Datum.{Data};
@@ -53,6 +53,52 @@ impl SmallProcess {
     {
         let stage = mem::replace(&mut self.stage, Stage::Making);
         self.stage = after(program, stage, reply);
+    }
+
+    /// Whether both are the same.
+    pub fn is(&self, other: &SmallProcess) -> bool
+        ensures { IsTrue result ↔ (self.now ≡ other.now) }
+    {
+        self.number == other.number && self.stage.is(&other.stage)
+    }
+
+    /// An equal process.
+    pub fn copy(&self, alloc: Global) -> Result<SmallProcess, NoMemory>
+        ensures { IfOk result (λ process. process ≡ self.now) }
+    {
+        Ok(SmallProcess {
+            number: self.number,
+            stage: self.stage.copy(alloc)?,
+        })
+    }
+}
+
+impl Stage {
+    /// Whether both are the same.
+    fn is(&self, other: &Stage) -> bool
+        ensures { IsTrue result ↔ (self.now ≡ other.now) }
+    {
+        match (self, other) {
+            (Stage::Making, Stage::Making) => true,
+            (Stage::Calling(at), Stage::Calling(other_at)) => at == other_at,
+            (Stage::Holding(at, value), Stage::Holding(other_at, other_value)) => {
+                at == other_at && value.is(other_value)
+            }
+            (Stage::Over(fault), Stage::Over(other_fault)) => fault == other_fault,
+            _ => false,
+        }
+    }
+
+    /// An equal stage.
+    fn copy(&self, alloc: Global) -> Result<Stage, NoMemory>
+        ensures { IfOk result (λ stage. stage ≡ self.now) }
+    {
+        match self {
+            Stage::Making => Ok(Stage::Making),
+            Stage::Calling(at) => Ok(Stage::Calling(*at)),
+            Stage::Holding(at, value) => Ok(Stage::Holding(*at, value.copy(alloc)?)),
+            Stage::Over(fault) => Ok(Stage::Over(*fault)),
+        }
     }
 }
 
@@ -212,8 +258,8 @@ fn text_of(alloc: Global, value: &Value) -> Result<Text, NoMemory>
     }
 }
 
-// A list of no values.
-fn no_values(alloc: Global) -> Parts
+/// A list of no values.
+pub fn no_values(alloc: Global) -> Parts
     ensures { result ≡ datum.none }
 {
     Parts::new(alloc)

@@ -9,3 +9,6 @@ pub mod Order
 pub mod Sound
 pub mod Size
 pub mod OrderLaws
+pub mod Fits
+pub mod Goes
+pub mod Lawful

@@ -9,11 +9,15 @@
 mod action;
 mod meaning;
 mod order;
+mod performer;
+mod processor;
 mod value;
 
 pub use action::{Action, Class, Kept, Line, Message, Reply};
 pub use meaning::{Doing, Making, Tried};
 pub use orca_base::Text as TextValue;
+pub use performer::Performer;
+pub use processor::{Halt, Processor};
 pub use value::{ObjectState, Parts, Value};
 
 #[cfg(test)]

@@ -14,9 +14,9 @@ returns-in_err-put_some-clause-wrote g c =
 pub lines-preserved : goal.lines-preserved
 lines-preserved g c =
     let more : c.add.new.list.items ≡ c.lines.book.items ++ c.in-Some.line ∷ [] = c.add.ensures ∙ ap (λ (l : List Line). l ++ c.in-Some.line ∷ []) c.in_ok-reserve.ensures.items in
-    let says = c.in_ok-line.ensures.line c.lines.book.items c.requires.scoped c.lines.invariant.followed in
+    let says = c.in_ok-line.ensures.line c.lines.book.items c.lines.invariant.followed in
     record {
-      followed = subst (λ (lines : List Line). Follows c.args.program.now c.step.new.self lines) (sym more) (rw c.in-Some.is at says);
+      followed = subst (λ (lines : List Line). Follows c.args.machine.now.program c.step.new.self lines) (sym more) (rw c.in-Some.is at says);
       told = grew_line _ _ _ _ _ _ _ _ c.lines.invariant.told more (c.deref.ensures.value ∙ c.in_ok-text.ensures) c.in_ok-put_some.ensures.puts;
       later = omega arith;
     }

@@ -6,10 +6,10 @@ use Rattle.orca_cli.proofs.run.run.Given as goal
 
 abbrev pub invariant-lines : goal.invariant-lines
 invariant-lines g l = record {
-  followed : Follows l.program l.execution l.book.items;
+  followed : Follows l.machine.program l.execution l.book.items;
   told : GrewBy (g.K.Sink.told l.initial.out) (g.K.Sink.told l.out) (output_of l.book.items);
   later : g.K.Sink.faults l.initial.out ≤ g.K.Sink.faults l.out;
 }
 
 abbrev pub decreases-lines : goal.decreases-lines
-decreases-lines g l = 2 * length l.program.calls + 2 - length l.book.items
+decreases-lines g l = 2 * length l.machine.program.calls + 2 - length l.book.items

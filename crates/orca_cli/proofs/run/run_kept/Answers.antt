@@ -7,7 +7,7 @@ use Rattle.orca_cli.proofs.run.run_kept.Goals as goal
 
 pub run-run-requires-clause-begins : goal.run-run-requires-clause-begins
 run-run-requires-clause-begins g c =
-    subst (λ (lines : List Line). Follows c.args.program.now c.start-execution.result lines) (sym c.new-book.ensures.items) (c.start-execution.ensures c.args.program.now)
+    subst (λ (lines : List Line). Follows c.args.machine.now.program c.in-Ok-start.execution lines) (sym c.new-book.ensures.items) c.in-Ok-start.ensures
 
 pub returns-clause-kept : goal.returns-clause-kept
 returns-clause-kept g c =
@@ -21,7 +21,7 @@ returns-clause-kept g c =
         record {
           node = refl;
           turns = refl;
-          replies = c.into_replies.ensures c.args.program.now c.run-run.new.book.items c.run-run.ensures.followed;
+          replies = c.into_replies.ensures c.args.machine.now.program c.run-run.new.book.items c.run-run.ensures.followed;
           ended = run_finished _ _ _ _ c.ended-status.ensures c.run-run.ensures.finished;
         },
       );

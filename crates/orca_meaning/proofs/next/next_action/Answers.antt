@@ -1,5 +1,5 @@
 use Rattle.std.proofs.Common.{sym}
-use Rattle.orca_meaning.proofs.StageLemmas.{next_of}
+use Rattle.orca_meaning.specs.StageLaws.{next_of}
 use Rattle.orca_meaning.proofs.next.next_action.Goals as goal
 
 pub returns : goal.returns

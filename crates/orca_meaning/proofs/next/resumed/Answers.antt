@@ -2,7 +2,7 @@ use Rattle.std.proofs.Common.{◌≡◌, ◌+◌, ◌++◌, ◌∷◌, [], List,
 use Rattle.std.proofs.lemmas.List.{take_more}
 use Rattle.value_core.specs.declared.action.Reply.{Reply}
 use Rattle.orca_meaning.specs.Stages.{Stands}
-use Rattle.orca_meaning.proofs.StageLemmas.{reply_of}
+use Rattle.orca_meaning.specs.StageLaws.{reply_of}
 use Rattle.orca_meaning.proofs.next.resumed.Goals as goal
 
 pub replies-preserved : goal.replies-preserved

@@ -9,7 +9,7 @@ use Rattle.value_core.specs.declared.meaning.Doing.TheVariants.{At}
 use Rattle.orca_meaning.specs.Processes.{all_stating}
 use Rattle.orca_meaning.specs.Stages.{first_doing, last_doing, resumed}
 use Rattle.orca_meaning.specs.declared.process.Stage.{Stage}
-use Rattle.orca_meaning.proofs.StageLemmas.{first_of_calls, last_of_calls}
+use Rattle.orca_meaning.specs.StageLaws.{first_of_calls, last_of_calls}
 use Rattle.orca_meaning.proofs.process.next_action.Goals as goal
 
 pub returns-in-Calling : goal.returns-in-Calling

@@ -8,7 +8,7 @@ use Rattle.value_core.specs.declared.meaning.Doing.{Doing}
 use Rattle.value_core.specs.declared.meaning.Doing.TheVariants.{At}
 use Rattle.orca_meaning.specs.Processes.{stating}
 use Rattle.orca_meaning.specs.Stages.{passing}
-use Rattle.orca_meaning.proofs.StageLemmas.{asks_none}
+use Rattle.orca_meaning.specs.StageLaws.{asks_none}
 use Rattle.orca_meaning.proofs.process.stating.Goals as goal
 
 pub returns-in-None : goal.returns-in-None

@@ -1,34 +1,68 @@
-use Rattle.std.proofs.Common.{◌≡◌, length, arith, ◌++◌, ◌∷◌, [], ℕ, None, Some, sym, ap, ◌∙◌, subst}
+use Rattle.std.proofs.Common.{◌≡◌, length, arith, ◌++◌, ◌∷◌, [], ℕ, Some, None, sym, ap, ◌∙◌, subst, refl}
+use Rattle.std.proofs.Math.Logic.{∥∥₁_elim}
+use Rattle.value_core.specs.Datum as datum
+use Rattle.value_core.specs.Goes.{HaltedAtReplied}
 use Rattle.value_core.specs.declared.action.Reply.{Reply}
 use Rattle.orca_meaning.specs.Executions.{Follows, main_process, outcome_of}
-use Rattle.orca_meaning.proofs.ExecutionLemmas.{ends, few, follows_more, line_of}
-use Rattle.orca_meaning.proofs.StageLemmas.{next_of, reply_of}
+use Rattle.orca_meaning.specs.Stages.{Stands}
+use Rattle.orca_meaning.specs.HeadLaws.{BodiesFit-prop, CallsFit-prop, bodies_fit, calls_fit}
+use Rattle.orca_meaning.proofs.ExecutionLemmas.{ends, few, fitting, follows_more, is_replied, line_of, never_paused, went}
 use Rattle.orca_meaning.proofs.execution.Execution.step.Goals as goal
 
 pub returns-in_default-clause-line : goal.returns-in_default-clause-line
-returns-in_default-clause-line c = λ lines scoped so_far.
-    let program = c.args.program.now in
+returns-in_default-clause-line c = λ lines so_far.
+    let machine = c.args.machine.now in
+    let calls = ∥∥₁_elim machine.scoped (CallsFit-prop machine.program) (calls_fit machine.program) in
+    absurd (never_paused machine.program calls c.args.self.now lines c.in_ok-process.process c.in_ok-process-2.process c.in_ok-process-2.halt c.in_ok-process.ensures c.in_default.is c.in_ok-process-2.ensures so_far)
+
+pub outcome_of-requires-clause-fits : goal.outcome_of-requires-clause-fits
+outcome_of-requires-clause-fits c =
+    let machine = c.args.machine.now in
     let old = c.args.self.now in
-    let next = next_of program main_process old.process old.replies.items c.in_ok-action.action c.in_ok-action.ensures so_far.process in
-    let none : None ≡ outcome_of program old.object c.in_ok-action.action = sym c.in_default.is ∙ c.in_ok-outcome.ensures {u = tt} in
-    (ends program scoped old old lines so_far c.in_ok-action.action next none, so_far)
+    let calls = ∥∥₁_elim machine.scoped (CallsFit-prop machine.program) (calls_fit machine.program) in
+    let bodies = ∥∥₁_elim machine.scoped (BodiesFit-prop machine.program) (bodies_fit machine.program) in
+    let gone = went machine.program old.process c.in_ok-process.process c.in_ok-process-2.process old.replies.items c.in_ok-process-2.halt c.in-At.action c.in_ok-process.ensures c.in-At.is c.in_ok-process-2.ensures c.requires.1.process in
+    fitting machine.program calls bodies old old c.requires.0 c.requires.1 c.in-At.action gone.0
+
+pub returns-in_default-2-clause-line : goal.returns-in_default-2-clause-line
+returns-in_default-2-clause-line c = λ lines so_far.
+    let machine = c.args.machine.now in
+    let old = c.args.self.now in
+    let calls = ∥∥₁_elim machine.scoped (CallsFit-prop machine.program) (calls_fit machine.program) in
+    let bodies = ∥∥₁_elim machine.scoped (BodiesFit-prop machine.program) (bodies_fit machine.program) in
+    let gone = went machine.program old.process c.in_ok-process.process c.in_ok-process-2.process old.replies.items c.in_ok-process-2.halt c.in-At.action c.in_ok-process.ensures c.in-At.is c.in_ok-process-2.ensures so_far.process in
+    let none : None ≡ outcome_of machine.program old.object c.in-At.action = sym c.in_default-2.is ∙ c.in_ok-outcome.ensures {u = tt} in
+    (ends machine.program calls bodies old old lines so_far c.in-At.action gone.0 none, so_far)
+
+pub reply-requires : goal.reply-requires
+reply-requires c =
+    let machine = c.args.machine.now in
+    let old = c.args.self.now in
+    let gone = went machine.program old.process c.in_ok-process.process c.in_ok-process-2.process old.replies.items c.in_ok-process-2.halt c.in-At.action c.in_ok-process.ensures c.in-At.is c.in_ok-process-2.ensures c.requires.1.process in
+    let is : Some c.in-Some.outcome ≡ outcome_of machine.program old.object c.in-At.action = sym c.in-Some.is ∙ c.in_ok-outcome.ensures {u = tt} in
+    (record { 0 = 0 }, main_process, datum.none, old.replies.items, 0, (gone.1, refl), subst HaltedAtReplied (sym gone.0) (is_replied machine.program old.object c.in-At.action c.in-Some.outcome is))
 
 pub returns-clause-line : goal.returns-clause-line
-returns-clause-line c = λ lines scoped so_far.
-    let program = c.args.program.now in
+returns-clause-line c = λ lines so_far.
+    let machine = c.args.machine.now in
     let old = c.args.self.now in
-    let next = next_of program main_process old.process old.replies.items c.in_ok-action.action c.in_ok-action.ensures so_far.process in
+    let calls = ∥∥₁_elim machine.scoped (CallsFit-prop machine.program) (calls_fit machine.program) in
+    let bodies = ∥∥₁_elim machine.scoped (BodiesFit-prop machine.program) (bodies_fit machine.program) in
+    let gone = went machine.program old.process c.in_ok-process.process c.in_ok-process-2.process old.replies.items c.in_ok-process-2.halt c.in-At.action c.in_ok-process.ensures c.in-At.is c.in_ok-process-2.ensures so_far.process in
     let o = c.in-Some.outcome in
-    let is : Some o ≡ outcome_of program old.object c.in_ok-action.action = sym c.in-Some.is ∙ c.in_ok-outcome.ensures {u = tt} in
+    let is : Some o ≡ outcome_of machine.program old.object c.in-At.action = sym c.in-Some.is ∙ c.in_ok-outcome.ensures {u = tt} in
     let count : length old.replies.items ≡ c.len.result = omega (arith, c.len.ensures, old.replies.ok.0) in
     let replies = c.in_ok-push.ensures.items ∙ ap (λ (r : Reply). old.replies.items ++ r ∷ []) c.in_ok-kept.ensures in
-    let stands = reply_of program main_process old.process c.reply.new.self old.replies.items c.in_ok-received.received o.reply c.reply.ensures c.in_ok-received.ensures so_far.process in
-    let follows = follows_more program scoped old (record { process = c.reply.new.self; object = c.put_state.new.object; replies = c.push.new.self }) lines so_far c.in_ok-action.action next o is replies stands c.put_state.ensures in
-    subst (λ (n : ℕ). Follows program (record { process = c.reply.new.self; object = c.put_state.new.object; replies = c.push.new.self }) (lines ++ line_of c.in_ok-action.action n o ∷ [])) count follows
+    let got = c.reply.ensures (record { 0 = 0 }) main_process datum.none old.replies.items 0 (gone.1, refl) in
+    let stands = subst (λ (r : Reply). Stands machine.program main_process c.reply.result (old.replies.items ++ r ∷ [])) c.in_ok-received.ensures got.0 in
+    let follows = follows_more machine.program calls bodies old (record { process = c.reply.result; object = c.put_state.new.object; replies = c.push.new.self }) lines so_far c.in-At.action gone.0 o is replies stands c.put_state.ensures in
+    subst (λ (n : ℕ). Follows machine.program (record { process = c.reply.result; object = c.put_state.new.object; replies = c.push.new.self }) (lines ++ line_of c.in-At.action n o ∷ [])) count follows
 
 pub returns-clause-few : goal.returns-clause-few
-returns-clause-few c = λ lines scoped so_far.
-    let program = c.args.program.now in
+returns-clause-few c = λ lines so_far.
+    let machine = c.args.machine.now in
     let old = c.args.self.now in
-    let next = next_of program main_process old.process old.replies.items c.in_ok-action.action c.in_ok-action.ensures so_far.process in
-    few program scoped old old lines so_far c.in_ok-action.action next c.in-Some.outcome (sym c.in-Some.is ∙ c.in_ok-outcome.ensures {u = tt})
+    let calls = ∥∥₁_elim machine.scoped (CallsFit-prop machine.program) (calls_fit machine.program) in
+    let bodies = ∥∥₁_elim machine.scoped (BodiesFit-prop machine.program) (bodies_fit machine.program) in
+    let gone = went machine.program old.process c.in_ok-process.process c.in_ok-process-2.process old.replies.items c.in_ok-process-2.halt c.in-At.action c.in_ok-process.ensures c.in-At.is c.in_ok-process-2.ensures so_far.process in
+    few machine.program calls bodies old old lines so_far c.in-At.action gone.0 c.in-Some.outcome (sym c.in-Some.is ∙ c.in_ok-outcome.ensures {u = tt})

@@ -5,7 +5,7 @@ use Rattle.value_core.specs.declared.action.Reply.{Reply}
 use Rattle.value_core.specs.declared.meaning.Doing.TheVariants.{At}
 use Rattle.orca_meaning.specs.Processes.{doing_of}
 use Rattle.orca_meaning.specs.Stages.{Stands, resumed}
-use Rattle.orca_meaning.proofs.StageLemmas.{stands_next}
+use Rattle.orca_meaning.specs.StageLaws.{stands_next}
 use Rattle.orca_meaning.proofs.process.SmallProcess.next.Goals as goal
 
 pub returns : goal.returns

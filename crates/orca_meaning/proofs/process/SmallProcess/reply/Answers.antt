@@ -1,7 +1,7 @@
 use Rattle.std.proofs.Common.{refl, ap, ◌∙◌}
 use Rattle.orca_meaning.specs.Stages.{stage_after}
 use Rattle.orca_meaning.specs.declared.process.Stage.{Stage}
-use Rattle.orca_meaning.proofs.StageLemmas.{stands_after}
+use Rattle.orca_meaning.specs.StageLaws.{stands_after}
 use Rattle.orca_meaning.proofs.process.SmallProcess.reply.Goals as goal
 
 pub returns : goal.returns

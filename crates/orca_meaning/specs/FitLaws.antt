@@ -1,0 +1,117 @@
+-- Operations keep what fits.
+use Rattle.std.proofs.Common.{◌≡◌, ℕ, Bool, true, false, List, [], ◌∷◌, Option, Some, None, refl, sym, ◌∙◌, subst}
+use Rattle.std.specs.Prelude.{pos, ◌==◌, slice_get, IfSome, MatchBool, if◌then◌else◌}
+use Rattle.std.specs.List.{All}
+use Rattle.std.proofs.lemmas.List.{length-map, length-set}
+use Rattle.std.proofs.lemmas.List.Elements.{All-cons, All-map, All-nil, All-set}
+use Rattle.std.proofs.lemmas.Option.{get_or_from_slice_get, slice_get_within}
+use Rattle.orca_base.specs.declared.ids.KindNo.{KindNo}
+use Rattle.orca_base.specs.declared.ids.OpNo.{OpNo}
+use Rattle.orca_tree.specs.declared.small.HeadKind.{HeadKind}
+use Rattle.orca_tree.specs.declared.small.HeadKind.TheVariants.{Plain, Gives, Takes}
+use Rattle.orca_tree.specs.declared.small.Operand.{Operand}
+use Rattle.orca_tree.specs.declared.small.Operand.TheVariants.{Number, Named}
+use Rattle.orca_tree.specs.declared.small.Assignment.{Assignment}
+use Rattle.orca_tree.specs.declared.small.Operation.{Operation}
+use Rattle.orca_tree.specs.declared.small.OperationBody.{OperationBody}
+use Rattle.orca_tree.specs.declared.small.OperationBody.TheVariants.{Returns, Assigns}
+use Rattle.orca_tree.specs.declared.small.SmallProgram.{SmallProgram}
+use Rattle.value_core.specs.Datum.{Datum, Data, data_of, list_of, list_of-data_of}
+use Rattle.value_core.specs.Datum as datum
+use Rattle.value_core.specs.View.{datum_of-value_of}
+use Rattle.value_core.specs.Fits.{IfMade, KeepsState, RepliesWell}
+use Rattle.value_core.specs.declared.action.Reply.TheVariants as answer
+use Rattle.value_core.specs.declared.meaning.Making.TheVariants as making
+use Rattle.value_core.specs.declared.meaning.Tried.TheVariants as tried
+use Rattle.orca_meaning.specs.Operations.{Name, after_assignments, body_tried, making_of, opening_assignments, opening_value, opening_values, operand_value, operation_tried, parameters_of, place_in, tries_of, value_at, value_or, with_value}
+use Rattle.orca_meaning.specs.Fitting.{AreFields, FitsArgs, FitsHead, FitsOperation, FitsReply, FitsResult, FitsResultOf, FitsState, FitsWriting, IsInteger, has_result}
+use Rattle.orca_meaning.specs.HeadLaws.{BodiesFit, returns}
+
+value_or_integer : (o : Option Datum) (d : Datum) → IfSome o IsInteger → IsInteger d → IsInteger (value_or o d)
+value_or_integer None d one other = other
+value_or_integer (Some v) d one other = one
+
+value_at_integer : (values : List Datum) (place : Option ℕ) → All IsInteger values → IfSome (value_at values place) IsInteger
+value_at_integer values None all = tt
+value_at_integer values (Some place) all = by_case (slice_get values place) refl
+  where
+    by_case : (o : Option Datum) → slice_get values place ≡ o → IfSome o IsInteger
+    by_case None e = tt
+    by_case (Some v) e = subst IsInteger (get_or_from_slice_get values place v v e) (all place v (slice_get_within values place v e))
+
+operand_integer : (fields parameters : List Name) (state args : List Datum) (v : Operand) → All IsInteger state → All IsInteger args → IsInteger (operand_value fields state parameters args v)
+operand_integer fields parameters state args (Number n) all given = (n, refl)
+operand_integer fields parameters state args (Named name) all given =
+    value_or_integer (value_at state (place_in fields name)) _ (value_at_integer state (place_in fields name) all)
+    (value_or_integer (value_at args (place_in parameters name)) opening_value (value_at_integer args (place_in parameters name) given) (pos 0, refl))
+
+set_fits : (fields : List Name) (state : List Datum) (place : Option ℕ) (v : Datum) → IsInteger v → AreFields fields state → AreFields fields (with_value state place v)
+set_fits fields state None v integer fits = fits
+set_fits fields state (Some place) v integer fits = (length-set state place v ∙ fits.0, All-set IsInteger state place v integer fits.1)
+
+assigned_fits : (fields parameters : List Name) (args : List Datum) (assignments : List Assignment) (state : List Datum) → All IsInteger args → AreFields fields state → AreFields fields (after_assignments fields parameters args assignments state)
+assigned_fits fields parameters args [] state given fits = fits
+assigned_fits fields parameters args (a ∷ assignments) state given fits =
+    assigned_fits fields parameters args assignments _ given
+    (set_fits fields state (place_in fields a.field) _ (operand_integer fields parameters state args a.value fits.1 given) fits)
+
+given_integers : (kind : HeadKind) (args : List Datum) → FitsHead kind args → All IsInteger args
+given_integers Plain args fits = subst (All IsInteger) (sym fits) (All-nil IsInteger)
+given_integers Gives args fits = subst (All IsInteger) (sym fits) (All-nil IsInteger)
+given_integers (Takes parameter) args fits = subst (All IsInteger) (sym fits.1) (All-cons IsInteger (datum.int fits.0) [] (fits.0, refl) (All-nil IsInteger))
+
+opening_fits : (fields : List Name) → AreFields fields (opening_values fields)
+opening_fits fields = (length-map fields (λ _. opening_value), All-map IsInteger (λ _. opening_value) fields (λ k d less. (pos 0, refl)))
+
+as_data : (fields : List Name) (values : List Datum) → AreFields fields values → AreFields fields (list_of (data_of values))
+as_data fields values fits = subst (AreFields fields) (sym (list_of-data_of values)) fits
+
+pub made_fit : (program : SmallProgram) (kind : KindNo) → IfMade (making_of program kind) (FitsState program kind)
+made_fit program kind = by_kind (kind.0 == 0)
+  where
+    values : List Datum
+    values = after_assignments program.fields [] [] (opening_assignments program.opening) (opening_values program.fields)
+
+    by_kind : (b : Bool) → IfMade (making.Made (if b then datum.none else data_of values)) (λ state. MatchBool b (state ≡ datum.none) (AreFields program.fields (list_of state)))
+    by_kind true = refl
+    by_kind false = as_data program.fields values (assigned_fits program.fields [] [] (opening_assignments program.opening) (opening_values program.fields) (All-nil IsInteger) (opening_fits program.fields))
+
+module _ (program : SmallProgram) (args state : Data) where
+  body_keeps : (kind : HeadKind) (body : OperationBody) → FitsHead kind (list_of args) → AreFields program.fields (list_of state) → KeepsState (body_tried program.fields (parameters_of kind) (list_of args) (list_of state) body) (λ after. AreFields program.fields (list_of after))
+  body_keeps kind (Returns field) given fits = as_data program.fields (list_of state) fits
+  body_keeps kind (Assigns assignments) given fits =
+      as_data program.fields _ (assigned_fits program.fields (parameters_of kind) (list_of args) assignments (list_of state) (given_integers kind (list_of args) given) fits)
+
+  operation_keeps : (o : Option Operation) → FitsOperation o (list_of args) → AreFields program.fields (list_of state) → KeepsState (operation_tried program.fields (list_of args) (list_of state) o) (λ after. AreFields program.fields (list_of after))
+  operation_keeps None given fits = tt
+  operation_keeps (Some o) given fits = body_keeps o.head.kind o.body given fits
+
+  pub tries_keep : (kind : KindNo) (op : OpNo) → FitsState program kind state → FitsArgs program kind op args → KeepsState (tries_of program kind op state args) (FitsState program kind)
+  tries_keep kind op fits given = by_kind (kind.0 == 0) fits given
+    where
+      by_kind : (b : Bool) → MatchBool b (state ≡ datum.none) (AreFields program.fields (list_of state)) → MatchBool b ((op.0 ≡ 0) × FitsWriting (list_of args)) (FitsOperation (slice_get program.operations op.0) (list_of args)) →
+          KeepsState (if b then tried.Did 0 state answer.Done else operation_tried program.fields (list_of args) (list_of state) (slice_get program.operations op.0)) (λ after. MatchBool b (after ≡ datum.none) (AreFields program.fields (list_of after)))
+      by_kind true none writes = none
+      by_kind false fields takes = operation_keeps (slice_get program.operations op.0) takes fields
+
+  body_replies : (kind : HeadKind) (body : OperationBody) → has_result kind ≡ returns body → AreFields program.fields (list_of state) → RepliesWell (body_tried program.fields (parameters_of kind) (list_of args) (list_of state) body) (FitsResult kind)
+  body_replies kind (Returns field) is fits =
+      let v = value_or (value_at (list_of state) (place_in program.fields field)) opening_value in
+      (is, subst IsInteger (sym (datum_of-value_of v)) (value_or_integer (value_at (list_of state) (place_in program.fields field)) opening_value (value_at_integer (list_of state) (place_in program.fields field) fits.1) (pos 0, refl)))
+  body_replies kind (Assigns assignments) is fits = is
+
+  operation_replies : (o : Option Operation) → ((x : Operation) → o ≡ Some x → has_result x.head.kind ≡ returns x.body) → AreFields program.fields (list_of state) → RepliesWell (operation_tried program.fields (list_of args) (list_of state) o) (FitsResultOf o)
+  operation_replies None bodies fits = tt
+  operation_replies (Some o) bodies fits = by_body o.body (body_replies o.head.kind o.body (bodies o refl) fits)
+    where
+      by_body : (body : OperationBody) → RepliesWell (body_tried program.fields (parameters_of o.head.kind) (list_of args) (list_of state) body) (FitsResult o.head.kind) → RepliesWell (body_tried program.fields (parameters_of o.head.kind) (list_of args) (list_of state) body) (FitsResultOf (Some o))
+      by_body (Returns field) h = h
+      by_body (Assigns assignments) h = h
+
+  pub tries_reply : (kind : KindNo) (op : OpNo) → BodiesFit program → FitsState program kind state → RepliesWell (tries_of program kind op state args) (FitsReply program kind op)
+  tries_reply kind op bodies fits = by_kind (kind.0 == 0) fits
+    where
+      by_kind : (b : Bool) → MatchBool b (state ≡ datum.none) (AreFields program.fields (list_of state)) →
+          RepliesWell (if b then tried.Did 0 state answer.Done else operation_tried program.fields (list_of args) (list_of state) (slice_get program.operations op.0)) (λ reply. MatchBool b (FitsResult Plain reply) (FitsResultOf (slice_get program.operations op.0) reply))
+      by_kind true none = refl
+      by_kind false fields = operation_replies (slice_get program.operations op.0) (λ x is. bodies op.0 x is) fields
