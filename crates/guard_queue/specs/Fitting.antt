@@ -1,0 +1,36 @@
+-- What fits on a member's copies: each object its type, and each suspended call its object's operation.
+use Rattle.std.specs.Prelude.{◌≡◌, ℕ, List, map, Option, Some, slice_get}
+use Rattle.orca_base.specs.declared.ids.KindNo.{KindNo}
+use Rattle.orca_base.specs.declared.ids.OpNo.{OpNo}
+use Rattle.orca_base.specs.declared.ids.ObjectId.{ObjectId}
+use Rattle.value_core.specs.Datum.{Data}
+use Rattle.value_core.specs.declared.action.Kept.{Kept}
+use Rattle.value_core.specs.Fits.{Kinds}
+use Rattle.value_core.specs.History.{Objects, object_at}
+use Rattle.guard_queue.specs.declared.queue.Suspended.{Suspended}
+
+-- the objects with their types
+abbrev pub kinds_of : Objects → Kinds
+kinds_of objects = map (λ e. (e.0, e.1.kind)) objects
+
+-- the call's object exists and is of its type, and the arguments fit the operation
+pub record CallFits (fits_args : Kinds → KindNo → OpNo → Data → Type 0) (kinds : Kinds) (objects : Objects) (call : Suspended) : Type 0 where
+  pub kept : Kept
+  pub exists : object_at objects call.object ≡ Some kept
+  pub kind : kept.kind ≡ call.kind
+  pub args : fits_args kinds call.kind call.op call.args
+
+-- each object's state fits its type, and each call its object
+pub record Fitting (fits_state : Kinds → KindNo → Data → Type 0) (fits_args : Kinds → KindNo → OpNo → Data → Type 0) (kinds : Kinds) (objects : Objects) (queue : List Suspended) : Type 0 where
+  pub states : (object : ObjectId) (kept : Kept) → object_at objects object ≡ Some kept → fits_state kinds kept.kind kept.state
+  pub calls : (at : ℕ) (call : Suspended) → slice_get queue at ≡ Some call → CallFits fits_args kinds objects call
+
+-- that, over the types of the objects that exist
+abbrev pub AllFit : (Kinds → KindNo → Data → Type 0) → (Kinds → KindNo → OpNo → Data → Type 0) → Objects → List Suspended → Type 0
+AllFit fits_state fits_args objects queue = Fitting fits_state fits_args (kinds_of objects) objects queue
+
+-- the call can be tried: its object's state and its arguments fit, where the object exists
+pub record CanTry (fits_state : Kinds → KindNo → Data → Type 0) (fits_args : Kinds → KindNo → OpNo → Data → Type 0) (objects : Objects) (call : Suspended) : Type 0 where
+  pub kinds : Kinds
+  pub state : (kept : Kept) → object_at objects call.object ≡ Some kept → fits_state kinds call.kind kept.state
+  pub args : fits_args kinds call.kind call.op call.args
