@@ -142,7 +142,7 @@ module _ (fits_state : Kinds → KindNo → Data → Type 0) (fits_args : Kinds 
 
 -- a call that fits can be tried
 pub can_try : (fits_state : Kinds → KindNo → Data → Type 0) (fits_args : Kinds → KindNo → OpNo → Data → Type 0) (objects : Objects) (queue : List Suspended) (call : Suspended)
-    → AllFit fits_state fits_args objects queue → CallFits fits_args (kinds_of objects) objects call → CanTry fits_state fits_args objects call
+    → AllFit fits_state fits_args objects queue → CallFits fits_args (kinds_of objects) objects call → CanTry fits_state fits_args objects call.kind call.op call.object call.args
 can_try fits_state fits_args objects queue call fit one =
     record {
       kinds = kinds_of objects;

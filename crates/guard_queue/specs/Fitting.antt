@@ -13,12 +13,16 @@ use Rattle.guard_queue.specs.declared.queue.Suspended.{Suspended}
 abbrev pub kinds_of : Objects → Kinds
 kinds_of objects = map (λ e. (e.0, e.1.kind)) objects
 
--- the call's object exists and is of its type, and the arguments fit the operation
-pub record CallFits (fits_args : Kinds → KindNo → OpNo → Data → Type 0) (kinds : Kinds) (objects : Objects) (call : Suspended) : Type 0 where
+-- the object exists and is of this type, and the arguments fit the operation
+pub record OperationFits (fits_args : Kinds → KindNo → OpNo → Data → Type 0) (kinds : Kinds) (objects : Objects) (of_kind : KindNo) (op : OpNo) (object : ObjectId) (given : Data) : Type 0 where
   pub kept : Kept
-  pub exists : object_at objects call.object ≡ Some kept
-  pub kind : kept.kind ≡ call.kind
-  pub args : fits_args kinds call.kind call.op call.args
+  pub exists : object_at objects object ≡ Some kept
+  pub kind : kept.kind ≡ of_kind
+  pub args : fits_args kinds of_kind op given
+
+-- that, of a suspended call
+abbrev pub CallFits : (Kinds → KindNo → OpNo → Data → Type 0) → Kinds → Objects → Suspended → Type 0
+CallFits fits_args kinds objects call = OperationFits fits_args kinds objects call.kind call.op call.object call.args
 
 -- each object's state fits its type, and each call its object
 pub record Fitting (fits_state : Kinds → KindNo → Data → Type 0) (fits_args : Kinds → KindNo → OpNo → Data → Type 0) (kinds : Kinds) (objects : Objects) (queue : List Suspended) : Type 0 where
@@ -29,8 +33,8 @@ pub record Fitting (fits_state : Kinds → KindNo → Data → Type 0) (fits_arg
 abbrev pub AllFit : (Kinds → KindNo → Data → Type 0) → (Kinds → KindNo → OpNo → Data → Type 0) → Objects → List Suspended → Type 0
 AllFit fits_state fits_args objects queue = Fitting fits_state fits_args (kinds_of objects) objects queue
 
--- the call can be tried: its object's state and its arguments fit, where the object exists
-pub record CanTry (fits_state : Kinds → KindNo → Data → Type 0) (fits_args : Kinds → KindNo → OpNo → Data → Type 0) (objects : Objects) (call : Suspended) : Type 0 where
+-- the operation can be tried: its object's state and its arguments fit, where the object exists
+pub record CanTry (fits_state : Kinds → KindNo → Data → Type 0) (fits_args : Kinds → KindNo → OpNo → Data → Type 0) (objects : Objects) (kind : KindNo) (op : OpNo) (object : ObjectId) (given : Data) : Type 0 where
   pub kinds : Kinds
-  pub state : (kept : Kept) → object_at objects call.object ≡ Some kept → fits_state kinds call.kind kept.state
-  pub args : fits_args kinds call.kind call.op call.args
+  pub state : (kept : Kept) → object_at objects object ≡ Some kept → fits_state kinds kind kept.state
+  pub args : fits_args kinds kind op given

@@ -2,6 +2,10 @@
 -- until each is blocked (Bal, Kaashoek, Tanenbaum 1992, section 3; docs/LANGUAGE.md, Guards).
 use Rattle.std.specs.Prelude.{◌≡◌, ℕ, Bool, true, false, not, List, [], ◌∷◌, ◌++◌, length, map, Option, None, Some, slice_get, remove, zero, suc}
 use Rattle.std.specs.List.{All, position_from}
+use Rattle.orca_base.specs.declared.ids.KindNo.{KindNo}
+use Rattle.orca_base.specs.declared.ids.OpNo.{OpNo}
+use Rattle.orca_base.specs.declared.ids.ObjectId.{ObjectId}
+use Rattle.value_core.specs.Datum.{Data}
 use Rattle.value_core.specs.declared.action.Kept.{Kept}
 use Rattle.value_core.specs.declared.action.Line.{Line}
 use Rattle.value_core.specs.declared.action.Reply.{Reply}
@@ -14,13 +18,20 @@ use Rattle.value_core.specs.History.{Objects, object_at, after_try}
 use Rattle.guard_queue.specs.declared.queue.Suspended.{Suspended}
 use Rattle.guard_queue.specs.declared.settling.Answered.{Answered}
 
-abbrev pub tried_at : Performs → Suspended → Option Kept → Tried
-tried_at p call None = tried.Blocked
-tried_at p call (Some kept) = p.tries call.kind call.op kept.state call.args
+abbrev pub tried_by : Performs → KindNo → OpNo → Data → Option Kept → Tried
+tried_by p kind op args None = tried.Blocked
+tried_by p kind op args (Some kept) = p.tries kind op kept.state args
 
--- what a try of the call gives on these objects
+-- what a try of an operation gives on these objects
+abbrev pub tried_on : Performs → Objects → KindNo → OpNo → ObjectId → Data → Tried
+tried_on p objects kind op object args = tried_by p kind op args (object_at objects object)
+
+abbrev pub tried_at : Performs → Suspended → Option Kept → Tried
+tried_at p call kept = tried_by p call.kind call.op call.args kept
+
+-- what a try of a suspended call gives on these objects
 abbrev pub tried_in : Performs → Objects → Suspended → Tried
-tried_in p objects call = tried_at p call (object_at objects call.object)
+tried_in p objects call = tried_on p objects call.kind call.op call.object call.args
 
 -- each of the calls is blocked
 abbrev pub AllBlocked : Performs → Objects → List Suspended → Type 0

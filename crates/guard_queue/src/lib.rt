@@ -11,4 +11,4 @@ mod settling;
 
 pub use objects::Objects;
 pub use queue::{Queue, Suspended};
-pub use settling::{Answered, perform, settle, try_call};
+pub use settling::{Answered, perform, settle, try_call, try_on};

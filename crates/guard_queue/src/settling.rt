@@ -3,13 +3,13 @@
 ghost use Rattle.std.specs.Prelude.{◌≡◌, ◌<◌, ◌+◌, length, IfOk, OnErr, OnOk, IfSome, option_map, slice_get, Some};
 ghost use Rattle.guard_queue.specs.declared.queue.Suspended.{Suspended};
 ghost use Rattle.guard_queue.specs.Fitting.{AllFit, CanTry};
-ghost use Rattle.guard_queue.specs.Settles.{AllBlocked, answered, lines_of, next_ready, objects_with, settled, taken, tried_in};
+ghost use Rattle.guard_queue.specs.Settles.{AllBlocked, answered, lines_of, next_ready, objects_with, settled, taken, tried_in, tried_on};
 
 use crate::objects::Objects;
 use crate::queue::{Queue, Suspended};
-use orca_base::NoMemory;
+use orca_base::{KindNo, NoMemory, ObjectId, OpNo};
 use std::alloc::Global;
-use value_core::{Action, Kept, Line, Performer, Reply, Tried};
+use value_core::{Action, Kept, Line, Parts, Performer, Reply, Tried};
 
 /// An operation that was performed, as its line of the history.
 #[derive(Debug, Drop, PartialEq, Eq)]
@@ -17,20 +17,44 @@ pub struct Answered {
     pub line: Line,
 }
 
-/// What a try of the call gives on these objects. A call whose object doesn't exist is blocked.
+/// What a try of the operation gives on these objects. Where the object doesn't exist it is blocked.
+pub fn try_on<P: Performer>(
+    alloc: Global,
+    performer: &P,
+    objects: &Objects,
+    kind: KindNo,
+    op: OpNo,
+    object: ObjectId,
+    args: &Parts,
+) -> Result<Tried, NoMemory>
+    requires { CanTry (P.fits_state performer.now) (P.fits_args performer.now) objects.now kind op object args.now }
+    ensures { IfOk result (λ t. t ≡ tried_on (P.performs performer.now) objects.now kind op object args.now) }
+{
+    match objects.get(object) {
+        None => Ok(Tried::Blocked),
+        Some(kept) => performer.try_op(alloc, kind, op, &kept.state, args),
+    }
+}
+
+/// What a try of the call gives on these objects.
 pub fn try_call<P: Performer>(
     alloc: Global,
     performer: &P,
     objects: &Objects,
     call: &Suspended,
 ) -> Result<Tried, NoMemory>
-    requires { CanTry (P.fits_state performer.now) (P.fits_args performer.now) objects.now call.now }
+    requires { CanTry (P.fits_state performer.now) (P.fits_args performer.now) objects.now call.now.kind call.now.op call.now.object call.now.args }
     ensures { IfOk result (λ t. t ≡ tried_in (P.performs performer.now) objects.now call.now) }
 {
-    match objects.get(call.object) {
-        None => Ok(Tried::Blocked),
-        Some(kept) => performer.try_op(alloc, call.kind, call.op, &kept.state, &call.args),
-    }
+    try_on(
+        alloc,
+        performer,
+        objects,
+        call.kind,
+        call.op,
+        call.object,
+        &call.args,
+    )
 }
 
 /// The place of the oldest call that isn't blocked, with what its try gives.
