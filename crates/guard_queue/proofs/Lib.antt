@@ -4,3 +4,4 @@ pub mod Ready
 pub mod KindsStay
 pub mod Steps
 pub mod Rounds
+pub mod Same

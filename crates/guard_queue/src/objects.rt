@@ -81,6 +81,13 @@ impl Objects {
         Ok(())
     }
 
+    /// Whether both have the same objects.
+    pub fn is(&self, other: &Objects) -> bool
+        ensures { IsTrue result ↔ (self.now ≡ other.now) }
+    {
+        same_entries(&self.shared, &other.shared)
+    }
+
     /// Equal objects, which are shared with these.
     pub fn copy(&self) -> Result<Objects, NoMemory>
         ensures { IfOk result (λ o. o ≡ self.now) }
@@ -98,4 +105,11 @@ fn entries_copy(
     ensures { IfOk result (λ m. shown_objects m.entries ≡ shown_objects map.now.entries) }
 {
     Ok(map.clone()?)
+}
+
+/// Whether both maps have the same objects.
+fn same_entries(one: &BTreeMap<ObjectId, Arc<Kept>>, other: &BTreeMap<ObjectId, Arc<Kept>>) -> bool
+    ensures { IsTrue result ↔ (shown_objects one.now.entries ≡ shown_objects other.now.entries) }
+{
+    one == other
 }

@@ -69,4 +69,11 @@ impl View {
     {
         try_on(alloc, performer, &self.objects, kind, op, object, args)
     }
+
+    /// Whether both views are equal.
+    pub fn same(&self, other: &View) -> bool
+        ensures { IsTrue result ↔ (self.now ≡ other.now) }
+    {
+        self.place == other.place && self.objects.is(&other.objects)
+    }
 }
