@@ -1,14 +1,12 @@
 -- The types of objects, where one is put in.
-use Rattle.std.proofs.Common.{◌≡◌, ◌<◌, ℕ, Bool, true, false, cond, List, [], ◌∷◌, length, Option, Some, None, ap, ◌∙◌, sym, refl, subst, zero, suc, arith}
-use Rattle.std.specs.declared.cmp.Ordering.{Ordering}
+use Rattle.std.proofs.Common.{◌≡◌, ◌<◌, ℕ, cond, List, [], ◌∷◌, Some, sym, refl, subst, zero, suc, arith}
 use Rattle.std.specs.declared.cmp.Ordering.TheVariants.{Less, Equal, Greater}
 use Rattle.std.specs.Ordering.{is_eq, match_ordering}
 use Rattle.std.specs.List.{Contains}
-use Rattle.std.specs.BTreeMap.{is_at}
 use Rattle.orca_base.specs.declared.ids.KindNo.{KindNo}
 use Rattle.orca_base.specs.declared.ids.ObjectId.{ObjectId}
 use Rattle.value_core.specs.declared.action.Kept.{Kept}
-use Rattle.value_core.specs.Fits.{Kinds, ExtendsKinds}
+use Rattle.value_core.specs.Fits.{ExtendsKinds}
 use Rattle.value_core.specs.History.{Objects, object_cmp, object_at, with_object}
 use Rattle.guard_queue.specs.Fitting.{kinds_of}
 

@@ -1,6 +1,6 @@
 -- One step of settling: what fits still fits, and one call leaves the queue.
-use Rattle.std.proofs.Common.{◌≡◌, ℕ, ◌+◌, Bool, true, false, cond, List, [], ◌∷◌, length, Option, Some, None, ap, ◌∙◌, sym, refl, subst, zero, suc, arith, remove, is_some}
-use Rattle.std.specs.Prelude.{slice_get, IfSome, option_map}
+use Rattle.std.proofs.Common.{◌≡◌, ℕ, ◌+◌, Bool, true, false, cond, List, [], ◌∷◌, Option, Some, None, ap, ◌∙◌, sym, refl, subst, zero, suc, arith, remove}
+use Rattle.std.specs.Prelude.{slice_get}
 use Rattle.std.specs.BTreeMap.{is_at}
 use Rattle.orca_base.specs.declared.ids.KindNo.{KindNo}
 use Rattle.orca_base.specs.declared.ids.OpNo.{OpNo}

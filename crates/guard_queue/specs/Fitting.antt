@@ -1,5 +1,5 @@
 -- What fits on a member's copies: each object its type, and each suspended call its object's operation.
-use Rattle.std.specs.Prelude.{◌≡◌, ℕ, List, map, Option, Some, slice_get}
+use Rattle.std.specs.Prelude.{◌≡◌, ℕ, List, map, Some, slice_get}
 use Rattle.orca_base.specs.declared.ids.KindNo.{KindNo}
 use Rattle.orca_base.specs.declared.ids.OpNo.{OpNo}
 use Rattle.orca_base.specs.declared.ids.ObjectId.{ObjectId}

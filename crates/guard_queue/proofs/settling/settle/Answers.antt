@@ -1,4 +1,4 @@
-use Rattle.std.proofs.Common.{◌≡◌, ◌+◌, length, Bool, subst, sym, ◌∙◌, ap, is_some}
+use Rattle.std.proofs.Common.{length, sym, ◌∙◌, ap}
 use Rattle.guard_queue.specs.Settles.{Settling, lines_of, next_ready, settled_from}
 use Rattle.guard_queue.proofs.Steps.{all_fit_stepped, settle_step}
 use Rattle.guard_queue.proofs.Rounds.{found_call, within, none_of, round, no_round, all_blocked}

@@ -1,4 +1,4 @@
-use Rattle.std.proofs.Common.{ap, ◌∙◌, sym, map}
+use Rattle.std.proofs.Common.{ap, ◌∙◌}
 use Rattle.std.specs.Arc.{arc_value}
 use Rattle.std.specs.BTreeMap.{insert_entry}
 use Rattle.value_core.specs.History.{with_object, object_cmp}
