@@ -1,6 +1,5 @@
 -- What a message does of itself, and that all fits again.
-use Rattle.std.proofs.Common.{◌≡◌, ℕ, ◌+◌, ◌<◌, Bool, true, false, cond, List, [], ◌∷◌, ◌++◌, length, Option, Some, None, ap, ◌∙◌, sym, refl, subst, zero, suc, arith}
-use Rattle.std.specs.Prelude.{slice_get}
+use Rattle.std.proofs.Common.{◌≡◌, Bool, true, false, cond, List, [], ◌∷◌, Some, None, ap, ◌∙◌, sym, refl, subst}
 use Rattle.std.specs.BTreeMap.{is_at}
 use Rattle.orca_base.specs.declared.ids.KindNo.{KindNo}
 use Rattle.orca_base.specs.declared.ids.OpNo.{OpNo}
@@ -13,15 +12,14 @@ use Rattle.value_core.specs.declared.meaning.Making.{Making}
 use Rattle.value_core.specs.declared.meaning.Making.TheVariants as making
 use Rattle.value_core.specs.declared.meaning.Tried.{Tried}
 use Rattle.value_core.specs.declared.meaning.Tried.TheVariants as tried
-use Rattle.value_core.specs.Fits.{Kinds, ExtendsKinds, KeepsState, IfMade}
-use Rattle.value_core.specs.Meaning.{Performs}
-use Rattle.value_core.specs.History.{Objects, object_cmp, object_at, with_object, after_making, output_object, output_kind}
+use Rattle.value_core.specs.Fits.{Kinds, ExtendsKinds, IfMade}
+use Rattle.value_core.specs.History.{Objects, object_cmp, object_at, with_object, output_object, output_kind}
 use Rattle.guard_queue.specs.declared.queue.Suspended.{Suspended}
-use Rattle.guard_queue.specs.Fitting.{AllFit, CallFits, Fitting, OperationFits, kinds_of}
-use Rattle.guard_queue.specs.Settles.{Settling, answered, objects_with, tried_in}
+use Rattle.guard_queue.specs.Fitting.{AllFit, CallFits, kinds_of}
+use Rattle.guard_queue.specs.Settles.{Settling, answered, objects_with}
 use Rattle.guard_queue.proofs.KindsStay.{kinds_extend}
 use Rattle.guard_queue.proofs.Lookups.{object_at-with_object, same_place}
-use Rattle.guard_queue.proofs.Steps.{all_fit_with, over_more, states_with}
+use Rattle.guard_queue.proofs.Steps.{over_more, states_with}
 use Rattle.object_manager.specs.After.{Copied, called, opening_copies}
 
 no_values : (w : Data) → list_of w ≡ [] → w ≡ datum.none

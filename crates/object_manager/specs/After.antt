@@ -1,11 +1,10 @@
 -- What ordered messages do to one member's copies (Bal, Kaashoek, Tanenbaum 1992, section 3; docs/LANGUAGE.md, Histories).
-use Rattle.std.specs.Prelude.{◌≡◌, ℕ, ◌+◌, List, [], ◌∷◌, ◌++◌, length}
+use Rattle.std.specs.Prelude.{ℕ, ◌+◌, List, [], ◌∷◌, ◌++◌, length}
 use Rattle.orca_base.specs.declared.ids.KindNo.{KindNo}
 use Rattle.orca_base.specs.declared.ids.OpNo.{OpNo}
 use Rattle.orca_base.specs.declared.ids.ObjectId.{ObjectId}
 use Rattle.value_core.specs.Datum.{Data}
 use Rattle.value_core.specs.Datum as datum
-use Rattle.value_core.specs.declared.action.Kept.{Kept}
 use Rattle.value_core.specs.declared.action.Line.{Line}
 use Rattle.value_core.specs.declared.action.Message.{Message}
 use Rattle.value_core.specs.declared.action.Action.{Action}

@@ -1,5 +1,5 @@
 -- The limits of a run that an entry can meet.
-use Rattle.std.specs.Prelude.{◌≡◌, ℕ, ◌-◌, ◌<◌, ◌≤◌, Option, Some, None, length, if◌then◌else◌, nat_lt}
+use Rattle.std.specs.Prelude.{◌≡◌, ℕ, ◌-◌, ◌≤◌, length}
 use Rattle.orca_base.specs.declared.what.What.{What}
 use Rattle.orca_base.specs.declared.what.What.TheVariants as what
 use Rattle.value_core.specs.declared.action.Action.{Action}

@@ -1,4 +1,4 @@
-use Rattle.std.proofs.Common.{◌≡◌, ◌∙◌, sym, ap}
+use Rattle.std.proofs.Common.{◌∙◌, ap}
 use Rattle.guard_queue.specs.Settles.{lines_of, objects_with, tried_in}
 use Rattle.guard_queue.proofs.Steps.{all_fit_with}
 use Rattle.object_manager.specs.After.{Copied, called}

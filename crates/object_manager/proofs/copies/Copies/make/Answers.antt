@@ -1,4 +1,4 @@
-use Rattle.std.proofs.Common.{◌≡◌, ◌∙◌, sym, ap}
+use Rattle.std.proofs.Common.{◌∙◌, sym, ap}
 use Rattle.value_core.specs.History.{with_object}
 use Rattle.value_core.specs.declared.action.Kept.{Kept}
 use Rattle.object_manager.specs.After.{Copied}
