@@ -1,0 +1,4 @@
+pub mod Shown
+pub mod Waits
+pub mod Settles
+pub mod Fitting

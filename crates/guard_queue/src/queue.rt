@@ -1,0 +1,124 @@
+//! Suspended calls.
+
+ghost use Rattle.std.specs.Prelude.{◌≡◌, ◌<◌, ◌↔◌, ◌∷◌, ◌++◌, [], length, IfOk, OnOk, OnErr, IsTrue, remove, slice_get, Some};
+ghost use Rattle.guard_queue.specs.Waits.{IsWaiting};
+
+use orca_base::{CallNo, KindNo, NoMemory, ObjectId, OpNo, ProcessNo};
+use std::alloc::Global;
+use std::marker::Model;
+use value_core::Parts;
+
+/// A call each of whose guards was false when it was tried.
+#[derive(Debug, Drop, PartialEq, Eq)]
+pub struct Suspended {
+    pub process: ProcessNo,
+    pub call: CallNo,
+    pub kind: KindNo,
+    pub op: OpNo,
+    pub object: ObjectId,
+    pub args: Parts,
+}
+
+impl Suspended {
+    /// An equal call.
+    pub fn copy(&self, alloc: Global) -> Result<Suspended, NoMemory>
+        ensures { IfOk result (λ s. s ≡ self.now) }
+    {
+        Ok(Suspended {
+            process: self.process,
+            call: self.call,
+            kind: self.kind,
+            op: self.op,
+            object: self.object,
+            args: self.args.copy(alloc)?,
+        })
+    }
+}
+
+/// The suspended calls in order of their entries, the oldest first.
+#[derive(Debug, Drop)]
+pub struct Queue {
+    calls: Vec<Suspended>,
+}
+
+impl Model for Queue {
+    ghost use Rattle.std.specs.Prelude.{List};
+    ghost use Rattle.guard_queue.specs.declared.queue.Suspended.{Suspended};
+
+    ghost Value = { List Suspended };
+
+    ghost use Rattle.std.specs.Coded.{codes};
+    ghost use Rattle.value_core.specs.Code.{data_code};
+
+    ghost coded = { Prim.hlevel (codes, data_code) };
+
+    ghost view = { λ q. q.calls.items };
+}
+
+impl Queue {
+    /// No calls.
+    pub fn new(alloc: Global) -> Queue
+        ensures { result ≡ [] }
+    {
+        Queue {
+            calls: Vec::new(alloc),
+        }
+    }
+
+    /// The calls, the oldest first.
+    pub fn as_slice(&self) -> &[Suspended]
+        ensures { result.now ≡ self.now }
+    {
+        self.calls.as_slice()
+    }
+
+    /// How many calls there are.
+    pub fn len(&self) -> usize
+        ensures { result ≡ length self.now }
+    {
+        self.calls.len()
+    }
+
+    /// Whether there are no calls.
+    pub fn is_empty(&self) -> bool
+        ensures { IsTrue result ↔ (self.now ≡ []) }
+    {
+        self.calls.is_empty()
+    }
+
+    /// Whether a call of this process is among them.
+    pub fn has(&self, process: ProcessNo) -> bool
+        ensures { IsTrue result ↔ IsWaiting self.now process }
+    {
+        self.calls.iter().any(|call| call.process == process)
+    }
+
+    /// Adds a call as the newest.
+    pub fn push(&mut self, call: Suspended) -> Result<(), NoMemory>
+        ensures ok { OnOk result (self.new ≡ self.old ++ call ∷ []) }
+        ensures err { OnErr result (self.new ≡ self.old) }
+    {
+        self.calls.push(call)?;
+        Ok(())
+    }
+
+    /// Takes out the call at this place, the oldest's being 0.
+    pub fn take_out(&mut self, at: usize) -> Suspended
+        requires { at < length self.old }
+        ensures taken { slice_get self.old at ≡ Some result }
+        ensures rest { self.new ≡ remove self.old at }
+    {
+        self.calls.remove(at)
+    }
+
+    /// Equal calls.
+    pub fn copy(&self, alloc: Global) -> Result<Queue, NoMemory>
+        ensures { IfOk result (λ q. q ≡ self.now) }
+    {
+        let mut calls = Vec::new(alloc);
+        for call in &self.calls {
+            calls.push(call.copy(alloc)?)?;
+        }
+        Ok(Queue { calls })
+    }
+}

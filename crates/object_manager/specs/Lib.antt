@@ -1,0 +1,4 @@
+pub mod After
+pub mod Limits
+pub mod Applies
+pub mod Viewed
