@@ -60,14 +60,14 @@ conditions {M} {g} {w} small h = record {
   ack = λ m from n a here sent. let t = h.sound.tells (ack (w.members m).installed from n a) sent in let l : length (w.members m).log ≡ length (list_of w.past (w.members m).installed) = ap length ((h.fits m).bounds.whole here) in let f = t.fits in omega arith;
   join = λ k from j sent. let b = h.counts (join k from j) sent in record { applied = b.applied; accepted = b.fits; base = b.base; window = b.window };
   news = λ k from a b named log sent. let c = h.counts (record { inc = k; from = from; kind = News a b named log }) sent in record { accepted = c.fits; base = c.base; window = c.window; members = λ x t. below_members g.nodes named x t };
-  told = λ m k from a b named log sent above. (takes k a b named log small above (h.sound.tells (record { inc = k; from = from; kind = News a b named log }) sent) (ready m h)).own;
+  told = λ m k from a b named log sent above. let i = takes k a b named log small above (h.sound.tells (record { inc = k; from = from; kind = News a b named log }) sent) (ready m h) in record { accepted = i.own; applied = i.kept };
   answers = λ m k from j e is sent. let o = gathers_if g m (w.members m) e in let f = h.few m o.alive in let c = kept_count g.nodes from (w.members m).answers j in omega arith;
   kept = λ m k from j b e is sent many best base. kept m k from j b (gathers_if g m (w.members m) e) is sent many best base;
   submitted = λ m x e. above_last g (g.process x) (g.call x) (w.members m).log (λ y t q. lower m x (may e) y t q);
 }
   where
     kept : (m k from : ℕ) (j b : Report M) → Gathers g m (w.members m) → k ≡ (w.members m).promised → Sent w.past.letters (join k from j) → count g.nodes (gave (keeps from j (w.members m)).answers) ≡ g.nodes - g.resilience → best g.nodes (keeps from j (w.members m)).answers ≡ Some b → b.base ≤ (w.members m).applied → Reaching (keeps from j (w.members m)) b.log
-    kept m k from j b o is sent many best base = let i = installs b small o.above o.here many best base (keeps_ready m k from j o.above is sent h) in record { own = i.own; reported = i.all }
+    kept m k from j b o is sent many best base = let i = installs b small o.above o.here many best base (keeps_ready m k from j o.above is sent h) in record { own = record { accepted = i.own; applied = i.same }; reported = i.all }
 
     lower : (m : ℕ) (x : M) → MaySubmit g w m x → (y : M) → In y (w.members m).log → g.process y ≡ g.process x → g.call y < g.call x
     lower m x can y t q =

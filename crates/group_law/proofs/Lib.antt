@@ -1,22 +1,22 @@
-mod Lists
-mod Counts
-mod Best
-mod Core
-mod Quorum
-mod Grows
-mod Changes
-mod Incarnations
-mod Covering
-mod Logs
-mod Turns
-mod Ready
-mod Active
-mod Leading
-mod Following
-mod Resets
-mod Events
-mod Opening
-mod Law
-mod Steps
-mod Later
-mod Conditions
+pub mod Lists
+pub mod Counts
+pub mod Best
+pub mod Core
+pub mod Quorum
+pub mod Grows
+pub mod Changes
+pub mod Incarnations
+pub mod Covering
+pub mod Logs
+pub mod Turns
+pub mod Ready
+pub mod Active
+pub mod Leading
+pub mod Following
+pub mod Resets
+pub mod Events
+pub mod Opening
+pub mod Law
+pub mod Steps
+pub mod Later
+pub mod Conditions

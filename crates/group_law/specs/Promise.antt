@@ -46,9 +46,14 @@ pub record NewsFits {M : Type 0} (N a b : ℕ) (named : ℕ → Bool) (log : Lis
   pub window : length log ≤ b + WINDOW
   pub members : (x : ℕ) → In x (members_below N named) → x < N
 
--- a log that would be installed reaches the member's own accepted number, and each among the answers
+-- a log that would be installed reaches the member's own accepted number, and begins with what it applied
+pub record Continues {M : Type 0} (s : Member M) (log : List M) : Type 0 where
+  pub accepted : s.accepted ≤ length log
+  pub applied : Same s.applied s.log log
+
+-- and reaches each accepted number among the answers
 pub record Reaching {M : Type 0} (s : Member M) (log : List M) : Type 0 where
-  pub own : s.accepted ≤ length log
+  pub own : Continues s log
   pub reported : (x : ℕ) (report : Report M) → s.answers x ≡ Some report → report.accepted ≤ length log
 
 pub record Conditions {M : Type 0} (g : Group M) (w : GroupWorld M) : Type 0 where
@@ -58,9 +63,9 @@ pub record Conditions {M : Type 0} (g : Group M) (w : GroupWorld M) : Type 0 whe
   pub ack : (m from n applied : ℕ) → m ≡ (w.members m).installed % g.nodes → Sent w.past.letters (record { inc = (w.members m).installed; from = from; kind = Ack n applied }) → n ≤ length (w.members m).log
   pub join : (k from : ℕ) (report : Report M) → Sent w.past.letters (record { inc = k; from = from; kind = Join report }) → JoinFits report
   pub news : (k from a b : ℕ) (named : ℕ → Bool) (log : List M) → Sent w.past.letters (record { inc = k; from = from; kind = News a b named log }) → NewsFits g.nodes a b named log
-  -- a Result of a later incarnation reaches the member's own accepted number
-  pub told : (m k from a b : ℕ) (named : ℕ → Bool) (log : List M) → Sent w.past.letters (record { inc = k; from = from; kind = News a b named log }) → (w.members m).installed < k → (w.members m).accepted ≤ length log
-  -- with one answer more a coordinator has at most N - r; with so many, the log that it keeps reaches all accepted numbers
+  -- a Result of a later incarnation continues what the member has
+  pub told : (m k from a b : ℕ) (named : ℕ → Bool) (log : List M) → Sent w.past.letters (record { inc = k; from = from; kind = News a b named log }) → (w.members m).installed < k → Continues (w.members m) log
+  -- with one answer more a coordinator has at most N - r; with so many, the log that it keeps continues what it has, and reaches all accepted numbers
   pub answers : (m k from : ℕ) (report : Report M) → is_gathering g m (w.members m) ≡ true → k ≡ (w.members m).promised → Sent w.past.letters (record { inc = k; from = from; kind = Join report }) → count g.nodes (gave (keeps from report (w.members m)).answers) ≤ g.nodes - g.resilience
   pub kept : (m k from : ℕ) (report best_one : Report M) → is_gathering g m (w.members m) ≡ true → k ≡ (w.members m).promised → Sent w.past.letters (record { inc = k; from = from; kind = Join report }) → count g.nodes (gave (keeps from report (w.members m)).answers) ≡ g.nodes - g.resilience → best g.nodes (keeps from report (w.members m)).answers ≡ Some best_one → best_one.base ≤ (w.members m).applied → Reaching (keeps from report (w.members m)) best_one.log
   -- a message that may be submitted has a greater call than the member's log has of its process

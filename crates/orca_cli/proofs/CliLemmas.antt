@@ -1,5 +1,5 @@
 -- What was printed, one put on.
-use Rattle.std.proofs.Common.{◌≡◌, ℕ, ◌+◌, ◌-◌, ◌<◌, true, List, [], ◌∷◌, ◌++◌, length, take, drop, Option, Some, None, refl, sym, ap, ◌∙◌, subst, inl, inr, arith, append_assoc, length-append, take-append-drop}
+use Rattle.std.proofs.Common.{◌⊎◌, ◌≡◌, ℕ, ◌+◌, ◌-◌, ◌<◌, true, List, [], ◌∷◌, ◌++◌, length, take, drop, Option, Some, None, refl, sym, ap, ◌∙◌, subst, inl, inr, arith, append_assoc, length-append, take-append-drop}
 use Rattle.std.specs.Prelude.{◌==◌, Result, Ok, Err, IfNone, IfOk, OnErr, OnOk}
 use Rattle.std.proofs.lemmas.Bool.Decides.{nat_tests}
 use Rattle.std.proofs.lemmas.List.{append-nil}
@@ -92,6 +92,13 @@ pub run_finished : (result : Result Unit SinkFault) (status : ℕ) (standing : P
 run_finished (Ok u) status standing P h done zero = (done, h.1)
 run_finished (Err faults.Failed) status standing P h done zero = absurd (omega (arith, h.0, zero))
 run_finished (Err faults.NoMemory) status standing P h done zero = absurd (omega (arith, h.0, zero))
+
+-- and the status of a write that failed, or of want of memory, with a run that stopped
+pub run_stopped : (result : Result Unit SinkFault) (status : ℕ) (standing : ProcessStanding) → IsRunEnd result status standing → (status ≡ 10) ⊎ (status ≡ 12) → standing ≡ standings.Busy
+run_stopped (Ok u) status standing h (inl ten) = absurd (omega (arith, h.0, ten))
+run_stopped (Ok u) status standing h (inr twelve) = absurd (omega (arith, h.0, twelve))
+run_stopped (Err faults.Failed) status standing h why = h.1
+run_stopped (Err faults.NoMemory) status standing h why = h.1
 
 -- a refusal's line was printed, or there was no memory for it
 pub answer_of : {L E : Type 0} (bytes : L → List ℕ) (line : Result L E) (words : List (List ℕ)) (told : Option (List File)) (rose : Type 0) (old new : Option (List ℕ)) (wanted status : ℕ) (text : List ℕ) →

@@ -1,5 +1,5 @@
 -- The headline, for a small program: what a run keeps and prints.
-use Rattle.std.specs.Prelude.{◌≡◌, ℕ, List, [], ◌∷◌, Option, Some, IfSome, Result, Ok, Err}
+use Rattle.std.specs.Prelude.{◌≡◌, ◌⊎◌, ℕ, List, [], ◌∷◌, Option, Some, IfSome, Result, Ok, Err}
 use Rattle.orca_io.specs.Files.{File, content_of}
 use Rattle.orca_io.specs.declared.sink.SinkFault.{SinkFault}
 use Rattle.orca_io.specs.declared.sink.SinkFault.TheVariants as faults
@@ -20,12 +20,14 @@ use Rattle.orca_cli.specs.Printed.{Grew, Ends, EndsAs}
 abbrev pub IsNamed : List (List ℕ) → Option (List File) → SmallProgram → Type 0
 IsNamed words told p = (file : List ℕ) × (command_of words ≡ Some file) × IfSome told (λ files. (text : List ℕ) × (content_of files file ≡ Some text) × Reads text p)
 
--- the kept process is the program's one: its replies are the history's, and where the run finished it has ended
+-- the kept process is the program's one: its replies are the history's; where the run finished it has ended, and where a
+-- write failed or memory lacked it is computing
 pub record IsMainEnd (p : SmallProgram) (book : List Line) (status : ℕ) (end : ProcessEnd) : Type 0 where
   pub node : end.node ≡ 0
   pub turns : end.turns ≡ 0
   pub replies : end.replies.items ≡ replies_of (performs_of p) (computes_of p) book 0
   pub ended : status ≡ 0 → HasEnded p book × (end.standing ≡ standings.Ended)
+  pub stopped : (status ≡ 10) ⊎ (status ≡ 12) → end.standing ≡ standings.Busy
 
 -- the kept book is a history of the program, the replies of the process are the history's, and what the history writes
 -- was printed: all of it with status 0, and a front of it where a write failed or memory lacked

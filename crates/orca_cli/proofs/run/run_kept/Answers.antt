@@ -2,7 +2,7 @@ use Rattle.std.proofs.Common.{◌≡◌, List, [], ◌∷◌, ◌++◌, ap, ◌�
 use Rattle.value_core.specs.declared.action.Line.{Line}
 use Rattle.orca_meaning.specs.Executions.{Follows}
 use Rattle.orca_cli.specs.declared.kept.ProcessEnd.{ProcessEnd}
-use Rattle.orca_cli.proofs.CliLemmas.{run_ends, run_finished, run_status}
+use Rattle.orca_cli.proofs.CliLemmas.{run_ends, run_finished, run_status, run_stopped}
 use Rattle.orca_cli.proofs.run.run_kept.Goals as goal
 
 pub run-run-requires-clause-begins : goal.run-run-requires-clause-begins
@@ -23,6 +23,7 @@ returns-clause-kept g c =
           turns = refl;
           replies = c.into_replies.ensures c.args.machine.now.program c.run-run.new.book.items c.run-run.ensures.followed;
           ended = run_finished _ _ _ _ c.ended-status.ensures c.run-run.ensures.finished;
+          stopped = run_stopped _ _ _ c.ended-status.ensures;
         },
       );
       ends = run_status _ _ _ c.ended-status.ensures;
