@@ -1,7 +1,11 @@
 pub mod Lookups
 pub mod Shared
+pub mod PutBack
+pub mod Writing
 pub mod Ready
 pub mod KindsStay
 pub mod Steps
 pub mod Rounds
+pub mod Behind
+pub mod KindsAt
 pub mod Same

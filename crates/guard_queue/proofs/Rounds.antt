@@ -1,22 +1,26 @@
 -- The rounds of settling: the call that was found is the one that is taken, and where none is found all are blocked.
-use Rattle.std.proofs.Common.{◌≡◌, ℕ, ◌+◌, ◌<◌, Bool, true, false, not, cond, List, [], ◌∷◌, length, Option, Some, None, ap, ◌∙◌, sym, refl, subst, zero, suc, arith, is_some}
-use Rattle.std.specs.Prelude.{slice_get, IfSome, option_map}
+use Rattle.std.proofs.Common.{◌≡◌, ℕ, ◌+◌, ◌<◌, Bool, true, false, not, cond, List, [], ◌∷◌, ◌++◌, length, Option, Some, None, ap, ◌∙◌, sym, refl, subst, zero, suc, arith, is_some}
+use Rattle.std.specs.Prelude.{slice_get, option_map}
 use Rattle.std.specs.List.{position_from}
+use Rattle.std.specs.List.{insert, remove}
+use Rattle.std.specs.Arc.{arc_value}
+use Rattle.std.specs.declared.alloc.Global.{Global}
+use Rattle.std.specs.declared.sync.Arc.{Arc}
+use Rattle.value_core.specs.declared.action.Kept.{Kept}
+use Rattle.value_core.specs.declared.action.Line.{Line}
 use Rattle.value_core.specs.declared.meaning.Tried.{Tried}
 use Rattle.value_core.specs.declared.meaning.Tried.TheVariants as tried
 use Rattle.value_core.specs.Meaning.{Performs}
 use Rattle.value_core.specs.History.{Objects}
 use Rattle.guard_queue.specs.declared.queue.Suspended.{Suspended}
-use Rattle.guard_queue.specs.Settles.{AllBlocked, Settling, is_blocked, is_ready, next_ready, settle_up_to, stepped, taken, tried_in}
+use Rattle.guard_queue.specs.Settles.{AllBlocked, IsFound, Settling, answered, is_blocked, is_ready, next_ready, objects_with, settle_up_to, stepped, taken, tried_in, with_state}
+use Rattle.guard_queue.specs.Shown.{SharedObjects, entries_with, shown_objects}
 use Rattle.guard_queue.proofs.Steps.{taken_step, settle_at_end}
+use Rattle.guard_queue.proofs.Writing.{shown_with}
 
--- what was found: the call at a place, with what its try gives
-abbrev pub Found : Performs → Objects → List Suspended → Option (ℕ × Tried) → Type 0
-Found p objects queue o = IfSome o (λ x. (call : Suspended) × (slice_get queue x.0 ≡ Some call) × (x.1 ≡ tried_in p objects call))
-
-pub found_call : (p : Performs) (objects : Objects) (queue : List Suspended) (o : Option (ℕ × Tried)) (at : ℕ) (t : Tried) → o ≡ Some (at, t) → Found p objects queue o
+pub found_call : (p : Performs) (objects : Objects) (queue : List Suspended) (o : Option (ℕ × Tried)) (at : ℕ) (t : Tried) → o ≡ Some (at, t) → IsFound p objects queue o
     → (call : Suspended) × (slice_get queue at ≡ Some call) × (t ≡ tried_in p objects call)
-found_call p objects queue o at t is found = let P : Option (ℕ × Tried) → Type 0 = λ r. Found p objects queue r in subst P is found
+found_call p objects queue o at t is found = let P : Option (ℕ × Tried) → Type 0 = λ r. IsFound p objects queue r in subst P is found
 
 pub within : {X : Type 0} (xs : List X) (i : ℕ) (x : X) → slice_get xs i ≡ Some x → i < length xs
 within [] i x h = cc
@@ -28,11 +32,36 @@ none_of None h = refl
 none_of (Some x) h = cc
 
 -- a round is a step
-pub round : (p : Performs) (s t : Settling) (o : Option (ℕ × Tried)) (at : ℕ) (u : Tried) → o ≡ Some (at, u) → next_ready p s.objects s.queue ≡ option_map (λ x. x.0) o → Found p s.objects s.queue o
+pub round : (p : Performs) (s t : Settling) (o : Option (ℕ × Tried)) (at : ℕ) (u : Tried) → o ≡ Some (at, u) → next_ready p s.objects s.queue ≡ option_map (λ x. x.0) o → IsFound p s.objects s.queue o
     → t ≡ taken s at u (slice_get s.queue at) → t ≡ stepped p s (next_ready p s.objects s.queue)
 round p s t o at u is place found did =
     let call = found_call p s.objects s.queue o at u is found in
     did ∙ taken_step p s at u call.0 (place ∙ ap (option_map (λ x. x.0)) is) call.1 call.2
+
+-- what a round does in place is a step
+pub round_is : (p : Performs) (es written : SharedObjects) (calls rest : List Suspended) (lines more : List Line) (ready : Option (ℕ × Tried)) (at : ℕ) (t : Tried) (copy call : Suspended) (line : Line) (state : Option Kept) (fresh : Option (Arc Kept Global))
+    → ready ≡ Some (at, t) → next_ready p (shown_objects es) calls ≡ option_map (λ x. x.0) ready → IsFound p (shown_objects es) calls ready
+    → slice_get calls at ≡ Some call → copy ≡ call → line ≡ answered copy t → with_state (shown_objects es) copy.object state ≡ objects_with (shown_objects es) copy t
+    → option_map arc_value fresh ≡ state → written ≡ entries_with es call.object fresh → rest ≡ remove calls at → more ≡ lines ++ line ∷ []
+    → record { objects = shown_objects written; queue = rest; lines = more } ≡ stepped p (record { objects = shown_objects es; queue = calls; lines = lines }) (next_ready p (shown_objects es) calls)
+round_is p es written calls rest lines more ready at t copy call line state fresh is place found here copied said leaves made put without added =
+    let s : Settling = record { objects = shown_objects es; queue = calls; lines = lines } in
+    let f : (o : Objects) (q : List Suspended) (ls : List Line) → Settling = λ o q ls. record { objects = o; queue = q; lines = ls } in
+    let object = ap (λ (c : Suspended). c.object) copied in
+    let objects : shown_objects written ≡ objects_with (shown_objects es) call t =
+    (ap shown_objects put ∙ shown_with es call.object fresh ∙ ap (with_state (shown_objects es) call.object) made ∙ sym (ap (λ o. with_state (shown_objects es) o state) object) ∙ leaves
+    ∙ ap (λ c. objects_with (shown_objects es) c t) copied) in
+    let all : more ≡ lines ++ answered call t ∷ [] = added ∙ ap (λ l. lines ++ l ∷ []) (said ∙ ap (λ c. answered c t) copied) in
+    let did : f (shown_objects written) rest more ≡ taken s at t (slice_get calls at) =
+    (ap (λ o. f o rest more) objects ∙ ap (λ q. f (objects_with (shown_objects es) call t) q more) without ∙ ap (λ ls. f (objects_with (shown_objects es) call t) (remove calls at) ls) all
+    ∙ sym (ap (taken s at t) here)) in
+    round p s (f (shown_objects written) rest more) ready at t is place found did
+
+-- the call that is put back at its place
+pub insert-remove : {X : Type 0} (xs : List X) (i : ℕ) (x : X) → slice_get xs i ≡ Some x → insert (remove xs i) i x ≡ xs
+insert-remove [] i x h = cc
+insert-remove (y ∷ ys) zero x h = let same : y ≡ x = cc in ap (λ z. z ∷ ys) (sym same)
+insert-remove (y ∷ ys) (suc i) x h = ap (λ zs. y ∷ zs) (insert-remove ys i x h)
 
 -- the last round finds none
 pub no_round : (p : Performs) (s r : Settling) (o : Option (ℕ × Tried)) → o ≡ None → next_ready p s.objects s.queue ≡ option_map (λ x. x.0) o → settle_up_to p (length s.queue) s ≡ r → s ≡ r

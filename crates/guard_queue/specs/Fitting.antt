@@ -1,5 +1,5 @@
 -- What fits on a member's copies: each object its type, and each suspended call its object's operation.
-use Rattle.std.specs.Prelude.{◌≡◌, ℕ, List, map, Some, slice_get}
+use Rattle.std.specs.Prelude.{◌≡◌, ℕ, List, map, Option, Some, option_map, slice_get}
 use Rattle.orca_base.specs.declared.ids.KindNo.{KindNo}
 use Rattle.orca_base.specs.declared.ids.OpNo.{OpNo}
 use Rattle.orca_base.specs.declared.ids.ObjectId.{ObjectId}
@@ -12,6 +12,13 @@ use Rattle.guard_queue.specs.declared.queue.Suspended.{Suspended}
 -- the objects with their types
 abbrev pub kinds_of : Objects → Kinds
 kinds_of objects = map (λ e. (e.0, e.1.kind)) objects
+
+abbrev pub kind_in : Option Kept → Option KindNo
+kind_in o = option_map (λ (k : Kept). k.kind) o
+
+-- the type of the object with this id, if there is one
+abbrev pub kind_at : Objects → ObjectId → Option KindNo
+kind_at objects object = kind_in (object_at objects object)
 
 -- the object exists and is of this type, and the arguments fit the operation
 pub record OperationFits (fits_args : Kinds → KindNo → OpNo → Data → Type 0) (kinds : Kinds) (objects : Objects) (of_kind : KindNo) (op : OpNo) (object : ObjectId) (given : Data) : Type 0 where

@@ -2,3 +2,4 @@ pub mod Shown
 pub mod Waits
 pub mod Settles
 pub mod Fitting
+pub mod Changes

@@ -1,6 +1,6 @@
 -- How suspended calls settle: repeatedly the oldest one whose try isn't blocked is performed or faults and leaves the queue,
 -- until each is blocked (Bal, Kaashoek, Tanenbaum 1992, section 3; docs/LANGUAGE.md, Guards).
-use Rattle.std.specs.Prelude.{◌≡◌, ℕ, Bool, true, false, not, List, [], ◌∷◌, ◌++◌, length, map, Option, None, Some, slice_get, remove, zero, suc}
+use Rattle.std.specs.Prelude.{◌≡◌, ℕ, Bool, true, false, not, List, [], ◌∷◌, ◌++◌, length, map, Option, None, Some, slice_get, remove, zero, suc, IfSome}
 use Rattle.std.specs.List.{All, position_from}
 use Rattle.orca_base.specs.declared.ids.KindNo.{KindNo}
 use Rattle.orca_base.specs.declared.ids.OpNo.{OpNo}
@@ -14,7 +14,7 @@ use Rattle.value_core.specs.declared.action.Reply.TheVariants as answer
 use Rattle.value_core.specs.declared.meaning.Tried.{Tried}
 use Rattle.value_core.specs.declared.meaning.Tried.TheVariants as tried
 use Rattle.value_core.specs.Meaning.{Performs}
-use Rattle.value_core.specs.History.{Objects, object_at, after_try}
+use Rattle.value_core.specs.History.{Objects, object_at, with_object, after_try}
 use Rattle.guard_queue.specs.declared.queue.Suspended.{Suspended}
 use Rattle.guard_queue.specs.declared.settling.Answered.{Answered}
 
@@ -50,6 +50,10 @@ is_ready p objects call = not (is_blocked (tried_in p objects call))
 abbrev pub next_ready : Performs → Objects → List Suspended → Option ℕ
 next_ready p objects queue = position_from (is_ready p objects) 0 queue
 
+-- what was found: where a call is ready, the call at its place, with what its try gives
+abbrev pub IsFound : Performs → Objects → List Suspended → Option (ℕ × Tried) → Type 0
+IsFound p objects queue found = IfSome found (λ x. (call : Suspended) × (slice_get queue x.0 ≡ Some call) × (x.1 ≡ tried_in p objects call))
+
 -- the objects, the queue, and the lines of the calls that were performed so far
 pub record Settling : Type 0 where
   pub objects : Objects
@@ -83,6 +87,11 @@ objects_if objects call t (Some kept) = after_try objects call.object kept t
 -- the objects after a call, by what its try gave
 abbrev pub objects_with : Objects → Suspended → Tried → Objects
 objects_with objects call t = objects_if objects call t (object_at objects call.object)
+
+-- the objects with this state put in, where there is one
+abbrev pub with_state : Objects → ObjectId → Option Kept → Objects
+with_state objects object None = objects
+with_state objects object (Some kept) = with_object objects object kept
 
 -- the call at this place, whose try gave t, is performed or faults, and leaves the queue
 abbrev pub taken : Settling → ℕ → Tried → Option Suspended → Settling

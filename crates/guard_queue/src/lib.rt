@@ -5,10 +5,12 @@
 //! `value_core`, and knows nothing of entries, members or the text of a program.
 #![tactic(auto)]
 
+mod change;
 mod objects;
 mod queue;
 mod settling;
 
+pub use change::Change;
 pub use objects::Objects;
 pub use queue::{Queue, Suspended};
-pub use settling::{Answered, perform, settle, try_call, try_on};
+pub use settling::{Answered, perform, settle, settle_after, try_call, try_on};

@@ -2,8 +2,10 @@
 
 ghost use Rattle.std.specs.Prelude.{◌≡◌, ◌↔◌, [], length, IfOk, IsTrue, IsSome, OnOk, OnErr};
 ghost use Rattle.std.specs.Option.{option_copied};
-ghost use Rattle.value_core.specs.History.{object_at, with_object};
-ghost use Rattle.guard_queue.specs.Shown.{shown_objects};
+ghost use Rattle.std.specs.Arc.{arc_value};
+ghost use Rattle.std.specs.BTreeMap.{get};
+ghost use Rattle.value_core.specs.History.{object_at, object_cmp, with_object};
+ghost use Rattle.guard_queue.specs.Shown.{entries_with, entries_back, shown_objects};
 
 use orca_base::{NoMemory, ObjectId};
 use std::alloc::Global;
@@ -14,11 +16,11 @@ use value_core::Kept;
 
 /// Objects by their ids, which clauses see as their entries in order.
 ///
-/// Each object is shared among the copies and snapshots that have it in this state, and so is the whole map. A write copies
-/// the map's entries, but no object, where another copy or snapshot has the map too.
+/// Each object is shared among the copies and snapshots that have it in this state, and so is the whole map. A write is in
+/// place; it copies the map's entries first, but no object, where another copy or snapshot has the map too.
 #[derive(Drop)]
 pub struct Objects {
-    shared: Arc<BTreeMap<ObjectId, Arc<Kept>>>,
+    pub(crate) shared: Arc<BTreeMap<ObjectId, Arc<Kept>>>,
 }
 
 impl Model for Objects {
@@ -52,10 +54,7 @@ impl Objects {
     pub fn get(&self, object: ObjectId) -> Option<&Kept>
         ensures { option_copied result ≡ object_at self.now object }
     {
-        match self.shared.get(&object) {
-            Some(kept) => Some(kept),
-            None => None,
-        }
+        find(&self.shared, object)
     }
 
     /// How many objects there are.
@@ -71,13 +70,28 @@ impl Objects {
         ensures err { OnErr result (self.new ≡ self.old) }
     {
         let fresh = Arc::new(alloc, kept)?;
-        if let Some(own) = Arc::get_mut(&mut self.shared) {
-            own.insert(object, fresh)?;
-            return Ok(());
+        self.make_own(alloc)?;
+        let Some(map) = Arc::get_mut(&mut self.shared) else {
+            return Err(NoMemory);
+        };
+        put_in(map, object, fresh)?;
+        Ok(())
+    }
+
+    /// The map.
+    pub(crate) fn entries(&self) -> &BTreeMap<ObjectId, Arc<Kept>>
+        ensures { shown_objects result.now.entries ≡ self.now }
+    {
+        &self.shared
+    }
+
+    /// Sees to it that no other copy or snapshot has the map, so that it can be written in place.
+    pub(crate) fn make_own(&mut self, alloc: Global) -> Result<(), NoMemory>
+        ensures { self.new ≡ self.old }
+    {
+        if Arc::strong_count(&self.shared) > 1 {
+            self.shared = Arc::new(alloc, entries_copy(&self.shared)?)?;
         }
-        let mut own = entries_copy(&self.shared)?;
-        own.insert(object, fresh)?;
-        self.shared = Arc::new(alloc, own)?;
         Ok(())
     }
 
@@ -95,6 +109,69 @@ impl Objects {
         Ok(Objects {
             shared: Arc::try_clone(&self.shared)?,
         })
+    }
+}
+
+/// The object with this id, if there is one.
+pub(crate) fn find(map: &BTreeMap<ObjectId, Arc<Kept>>, object: ObjectId) -> Option<&Kept>
+    ensures { option_copied result ≡ object_at (shown_objects map.now.entries) object }
+{
+    match map.get(&object) {
+        Some(kept) => Some(kept),
+        None => None,
+    }
+}
+
+/// Puts an object in, and gives what stood at its id, which `put_back` puts back.
+pub(crate) fn put_in(
+    map: &mut BTreeMap<ObjectId, Arc<Kept>>,
+    object: ObjectId,
+    kept: Arc<Kept>,
+) -> Result<Option<Arc<Kept>>, NoMemory>
+    ensures put { OnOk result (shown_objects map.new.entries ≡ with_object (shown_objects map.old.entries) object (arc_value kept)) }
+    ensures back { IfOk result (λ was. entries_back map.new.entries object was ≡ map.old.entries) }
+    ensures there { OnOk result (IsSome (get object_cmp map.new object)) }
+    ensures err { OnErr result (map.new.entries ≡ map.old.entries) }
+{
+    Ok(map.insert(object, kept)?)
+}
+
+/// Puts a state in, where there is one, in place of the one that is there, which it gives. It takes no memory.
+pub(crate) fn exchange(
+    map: &mut BTreeMap<ObjectId, Arc<Kept>>,
+    object: ObjectId,
+    kept: Option<Arc<Kept>>,
+) -> Option<Arc<Kept>>
+    requires { IsSome kept → IsSome (get object_cmp map.old object) }
+    ensures entries { map.new.entries ≡ entries_with map.old.entries object kept }
+    ensures back { entries_with map.new.entries object result ≡ map.old.entries }
+    ensures there { IsSome result → IsSome (get object_cmp map.new object) }
+{
+    match kept {
+        None => None,
+        Some(kept) => match map.insert(object, kept) {
+            Ok(was) => was,
+            Err(_) => None,
+        },
+    }
+}
+
+/// Puts back what stood at this id before an object was put in there. It takes no memory.
+pub(crate) fn put_back(
+    map: &mut BTreeMap<ObjectId, Arc<Kept>>,
+    object: ObjectId,
+    was: Option<Arc<Kept>>,
+)
+    requires { IsSome (get object_cmp map.old object) }
+    ensures { map.new.entries ≡ entries_back map.old.entries object was }
+{
+    match was {
+        None => {
+            map.remove(&object);
+        }
+        Some(kept) => {
+            exchange(map, object, Some(kept));
+        }
     }
 }
 

@@ -38,7 +38,7 @@ impl Suspended {
 /// The suspended calls in order of their entries, the oldest first.
 #[derive(Debug, Drop)]
 pub struct Queue {
-    calls: Vec<Suspended>,
+    pub(crate) calls: Vec<Suspended>,
 }
 
 impl Model for Queue {

@@ -2,3 +2,4 @@ pub mod After
 pub mod Limits
 pub mod Applies
 pub mod Viewed
+pub mod Acts

@@ -1,13 +1,16 @@
 //! One member's copies.
 
-ghost use Rattle.std.specs.Prelude.{◌≡◌, ◌<◌, ◌≤◌, ◌^◌, ◌-◌, ◌+◌, ◌↔◌, ◌∷◌, [], ℕ, IfOk, IfErr, OnOk, OnErr, IsTrue, None, length};
-ghost use Rattle.value_core.specs.History.{after_making, forked, object_at};
-ghost use Rattle.guard_queue.specs.Fitting.{CallFits, OperationFits, kinds_of};
-ghost use Rattle.guard_queue.specs.Settles.{AllBlocked, lines_of, tried_on, tried_in};
+ghost use Rattle.std.specs.Prelude.{◌≡◌, ◌<◌, ◌≤◌, ◌^◌, ◌-◌, ◌+◌, ◌↔◌, ◌∷◌, [], ℕ, List, IfOk, IfErr, OnOk, OnErr, IsTrue, None, Some, length};
+ghost use Rattle.value_core.specs.History.{Objects as Held, after_making, forked, object_at, output_kind, output_object};
+ghost use Rattle.guard_queue.specs.Changes.{objects_changed, queue_changed};
+ghost use Rattle.guard_queue.specs.Fitting.{CallFits, OperationFits, kind_at, kinds_of};
+ghost use Rattle.guard_queue.specs.declared.queue.Suspended.{Suspended};
+ghost use Rattle.guard_queue.specs.Settles.{AllBlocked, lines_of, tried_on, tried_in, with_state};
 ghost use Rattle.guard_queue.specs.Waits.{IsWaiting};
 ghost use Rattle.object_manager.specs.After.{acted, after, called, lines_after, making_reply, opening_copies};
 ghost use Rattle.object_manager.specs.Viewed.{StatesFit};
-ghost use Rattle.object_manager.specs.Applies.{Applies, CopiesFit};
+ghost use Rattle.object_manager.specs.Applies.{Applies, ChangeFits, CopiesFit};
+ghost use Rattle.object_manager.specs.Acts.{acts};
 ghost use Rattle.object_manager.specs.Limits.{IfLimit, IsTooMany, MakesTooMany, most_objects, most_processes};
 ghost use Rattle.orca_base.specs.declared.what.What.{What};
 ghost use Rattle.orca_base.specs.declared.what.What.TheVariants.{Objects as TooManyObjects, Processes as TooManyProcesses};
@@ -15,7 +18,9 @@ ghost use Rattle.value_core.specs.declared.action.Reply.TheVariants.{Done};
 ghost use Rattle.object_manager.specs.declared.copies.ApplyError.TheVariants.{NoMemory as Without};
 
 use crate::view::View;
-use guard_queue::{Answered, Objects, Queue, Suspended, perform, settle, try_call, try_on};
+use guard_queue::{
+    Answered, Change, Objects, Queue, Suspended, perform, settle_after, try_call, try_on,
+};
 use orca_base::{KindNo, NoMemory, OBJECTS, ObjectId, OpNo, PROCESSES, ProcessNo, What};
 use std::alloc::Global;
 use std::marker::Model;
@@ -58,6 +63,21 @@ impl Model for Copies {
     ghost coded = { Prim.hlevel (codes, data_code) };
 
     ghost view = { λ c. record { objects = c.objects; queue = c.queue; processes = c.processes; applied = c.applied } };
+
+    ghost use Rattle.std.specs.Prelude.{◌≡◌, ◌≤◌, Some};
+    ghost use Rattle.value_core.specs.History.{output_kind, output_object};
+    ghost use Rattle.guard_queue.specs.Fitting.{kind_at};
+
+    // The output object is always among the objects, by its type, and there are no more processes than a run may have.
+    ghost invariant = { λ c. (kind_at c.objects output_object ≡ Some output_kind) × (c.processes ≤ 256) };
+}
+
+/// What a message does of itself, before it is done.
+#[derive(Drop)]
+struct Acted {
+    change: Change,
+    lines: Vec<Answered>,
+    forks: u16,
 }
 
 impl Copies {
@@ -95,16 +115,18 @@ impl Copies {
         })
     }
 
-    /// The objects.
+    /// The objects. The output object is always among them.
     pub fn objects(&self) -> &Objects
-        ensures { result.now ≡ self.now.objects }
+        ensures objects { result.now ≡ self.now.objects }
+        ensures output { kind_at result.now output_object ≡ Some output_kind }
     {
         &self.objects
     }
 
     /// The number of processes, process 0 counted.
     pub fn processes(&self) -> u16
-        ensures { result ≡ self.now.processes }
+        ensures processes { result ≡ self.now.processes }
+        ensures few { result ≤ most_processes }
     {
         self.processes
     }
@@ -169,36 +191,44 @@ impl Copies {
         ensures err { OnErr result (self.new ≡ self.old) }
         ensures fits { CopiesFit (P.fits_state performer.now) (P.fits_args performer.now) self.new }
     {
-        let mut next = self.copy(alloc)?;
-        let mut lines = next.act(alloc, performer, message)?;
-        let mut settled = settle(alloc, performer, &mut next.objects, &mut next.queue)?;
-        if lines.append(&mut settled).is_err() {
-            return Err(ApplyError::NoMemory);
-        }
-        next.applied += 1;
-        *self = next;
+        let acted = self.act(alloc, performer, message)?;
+        let lines = settle_after(
+            alloc,
+            performer,
+            &mut self.objects,
+            &mut self.queue,
+            acted.change,
+            acted.lines,
+        )?;
+        self.processes += acted.forks;
+        self.applied += 1;
         Ok(lines)
     }
 
-    /// What the message itself does, before the queue settles.
+    /// What the message itself does, before the queue settles. Nothing is changed yet.
     fn act<P: Performer>(
-        &mut self,
+        &self,
         alloc: Global,
         performer: &P,
         message: &Message,
-    ) -> Result<Vec<Answered>, ApplyError>
-        requires fits { CopiesFit (P.fits_state performer.now) (P.fits_args performer.now) self.old }
-        requires applies { Applies (P.fits_args performer.now) self.old message.now.action }
-        ensures acted { IfOk result (λ all. record { objects = self.new.objects; queue = self.new.queue; lines = lines_of all.items } ≡ acted (P.performs performer.now) self.old message.now) }
-        ensures processes { OnOk result (self.new.processes ≡ self.old.processes + length (forked message.now.action)) }
-        ensures applied { OnOk result (self.new.applied ≡ self.old.applied) }
-        ensures within { OnOk result ((what : What) (number : ℕ) → IsTooMany (P.performs performer.now) self.old message.now.action what number → ⊥) }
-        ensures limit { IfErr result (λ e. IfLimit e (IsTooMany (P.performs performer.now) self.old message.now.action)) }
-        ensures fits { OnOk result (CopiesFit (P.fits_state performer.now) (P.fits_args performer.now) self.new) }
+    ) -> Result<Acted, ApplyError>
+        requires fits { CopiesFit (P.fits_state performer.now) (P.fits_args performer.now) self.now }
+        requires applies { Applies (P.fits_args performer.now) self.now message.now.action }
+        ensures acted { IfOk result (λ a. acts self.now a.change (lines_of a.lines.items) ≡ acted (P.performs performer.now) self.now message.now) }
+        ensures forks { IfOk result (λ a. a.forks ≡ length (forked message.now.action)) }
+        ensures within { OnOk result ((what : What) (number : ℕ) → IsTooMany (P.performs performer.now) self.now message.now.action what number → ⊥) }
+        ensures limit { IfErr result (λ e. IfLimit e (IsTooMany (P.performs performer.now) self.now message.now.action)) }
+        ensures fits { IfOk result (λ a. ChangeFits (P.fits_state performer.now) (P.fits_args performer.now) self.now a.change) }
     {
-        let reply = match &message.action {
-            Action::Make { kind, object } => self.make(alloc, performer, *kind, *object)?,
-            Action::Fork { .. } => self.fork()?,
+        let (reply, change, forks) = match &message.action {
+            Action::Make { kind, object } => {
+                let (reply, change) = self.make(alloc, performer, *kind, *object)?;
+                (reply, change, 0)
+            }
+            Action::Fork { .. } => {
+                self.can_fork()?;
+                (Reply::Done, Change::Nothing, 1)
+            }
             Action::Call {
                 kind,
                 op,
@@ -215,7 +245,13 @@ impl Copies {
                 };
                 return Ok(self.call(alloc, performer, call)?);
             }
-            Action::Ended | Action::Faulted { .. } => return Ok(Vec::new(alloc)),
+            Action::Ended | Action::Faulted { .. } => {
+                return Ok(Acted {
+                    change: Change::Nothing,
+                    lines: Vec::new(alloc),
+                    forks: 0,
+                });
+            }
         };
         let line = Line {
             process: message.process,
@@ -224,28 +260,32 @@ impl Copies {
             guard: 0,
             reply,
         };
-        Ok(one_line(alloc, line)?)
+        Ok(Acted {
+            change,
+            lines: one_line(alloc, line)?,
+            forks,
+        })
     }
 
-    /// The object is added, where its making doesn't fault.
+    /// What a make answers, and the object that it puts in, where its making doesn't fault.
     fn make<P: Performer>(
-        &mut self,
+        &self,
         alloc: Global,
         performer: &P,
         kind: KindNo,
         object: ObjectId,
-    ) -> Result<Reply, ApplyError>
-        requires fits { CopiesFit (P.fits_state performer.now) (P.fits_args performer.now) self.old }
-        requires absent { object_at self.old.objects object ≡ None }
-        ensures fits { OnOk result (CopiesFit (P.fits_state performer.now) (P.fits_args performer.now) self.new) }
-        ensures reply { IfOk result (λ reply. reply ≡ making_reply ((P.performs performer.now).made kind)) }
-        ensures objects { OnOk result (self.new.objects ≡ after_making self.old.objects kind object ((P.performs performer.now).made kind)) }
-        ensures rest { OnOk result ((self.new.queue ≡ self.old.queue) × (self.new.processes ≡ self.old.processes) × (self.new.applied ≡ self.old.applied)) }
-        ensures within { OnOk result (MakesTooMany self.old.objects ((P.performs performer.now).made kind) → ⊥) }
-        ensures limit { IfErr result (λ e. IfLimit e (λ what number. MakesTooMany self.old.objects ((P.performs performer.now).made kind) × (what ≡ TooManyObjects) × (number ≡ most_objects))) }
+    ) -> Result<(Reply, Change), ApplyError>
+        requires fits { CopiesFit (P.fits_state performer.now) (P.fits_args performer.now) self.now }
+        requires absent { object_at self.now.objects object ≡ None }
+        ensures reply { IfOk result (λ r. r.0 ≡ making_reply ((P.performs performer.now).made kind)) }
+        ensures objects { IfOk result (λ r. objects_changed self.now.objects r.1 ≡ after_making self.now.objects kind object ((P.performs performer.now).made kind)) }
+        ensures queue { IfOk result (λ r. queue_changed self.now.queue r.1 ≡ self.now.queue) }
+        ensures within { OnOk result (MakesTooMany self.now.objects ((P.performs performer.now).made kind) → ⊥) }
+        ensures limit { IfErr result (λ e. IfLimit e (λ what number. MakesTooMany self.now.objects ((P.performs performer.now).made kind) × (what ≡ TooManyObjects) × (number ≡ most_objects))) }
+        ensures fits { IfOk result (λ r. ChangeFits (P.fits_state performer.now) (P.fits_args performer.now) self.now r.1) }
     {
         match performer.make(alloc, kind)? {
-            Making::Broke { fault } => Ok(Reply::Broke { fault }),
+            Making::Broke { fault } => Ok((Reply::Broke { fault }, Change::Nothing)),
             Making::Made { .. } if self.objects.len() > OBJECTS as usize => {
                 Err(ApplyError::Limit {
                     what: What::Objects,
@@ -253,18 +293,16 @@ impl Copies {
                 })
             }
             Making::Made { state } => {
-                self.objects.put(alloc, object, Kept { kind, state })?;
-                Ok(Reply::Done)
+                let kept = Kept { kind, state };
+                Ok((Reply::Done, Change::Puts { object, kept }))
             }
         }
     }
 
-    /// One more process is there.
-    fn fork(&mut self) -> Result<Reply, ApplyError>
-        ensures reply { IfOk result (λ reply. reply ≡ Done) }
-        ensures processes { OnOk result (self.new ≡ record { objects = self.old.objects; queue = self.old.queue; processes = self.old.processes + 1; applied = self.old.applied }) }
-        ensures within { OnOk result (self.old.processes < most_processes) }
-        ensures limit { IfErr result (λ e. IfLimit e (λ what number. (most_processes ≤ self.old.processes) × (what ≡ TooManyProcesses) × (number ≡ most_processes))) }
+    /// Whether one more process may be there.
+    fn can_fork(&self) -> Result<(), ApplyError>
+        ensures within { OnOk result (self.now.processes < most_processes) }
+        ensures limit { IfErr result (λ e. IfLimit e (λ what number. (most_processes ≤ self.now.processes) × (what ≡ TooManyProcesses) × (number ≡ most_processes))) }
     {
         if u32::from(self.processes) >= PROCESSES {
             return Err(ApplyError::Limit {
@@ -272,33 +310,49 @@ impl Copies {
                 number: u64::from(PROCESSES),
             });
         }
-        self.processes += 1;
-        Ok(Reply::Done)
+        Ok(())
     }
 
     /// The call is tried: blocked it joins the queue, else it is performed or faults.
     fn call<P: Performer>(
-        &mut self,
+        &self,
         alloc: Global,
         performer: &P,
         call: Suspended,
-    ) -> Result<Vec<Answered>, NoMemory>
-        requires fits { CopiesFit (P.fits_state performer.now) (P.fits_args performer.now) self.old }
-        requires operation { CallFits (P.fits_args performer.now) (kinds_of self.old.objects) self.old.objects call }
-        ensures acted { IfOk result (λ all. record { objects = self.new.objects; queue = self.new.queue; lines = lines_of all.items } ≡ called self.old call (tried_in (P.performs performer.now) self.old.objects call)) }
-        ensures rest { OnOk result ((self.new.processes ≡ self.old.processes) × (self.new.applied ≡ self.old.applied)) }
-        ensures fits { OnOk result (CopiesFit (P.fits_state performer.now) (P.fits_args performer.now) self.new) }
+    ) -> Result<Acted, NoMemory>
+        requires fits { CopiesFit (P.fits_state performer.now) (P.fits_args performer.now) self.now }
+        requires operation { CallFits (P.fits_args performer.now) (kinds_of self.now.objects) self.now.objects call }
+        ensures acted { IfOk result (λ a. acts self.now a.change (lines_of a.lines.items) ≡ called self.now call (tried_in (P.performs performer.now) self.now.objects call)) }
+        ensures forks { IfOk result (λ a. a.forks ≡ 0) }
+        ensures fits { IfOk result (λ a. ChangeFits (P.fits_state performer.now) (P.fits_args performer.now) self.now a.change) }
     {
         match try_call(alloc, performer, &self.objects, &call)? {
-            Tried::Blocked => {
-                self.queue.push(call)?;
-                Ok(Vec::new(alloc))
-            }
+            Tried::Blocked => Ok(Acted {
+                change: Change::Joins { call },
+                lines: Vec::new(alloc),
+                forks: 0,
+            }),
             tried => {
-                let line = perform(alloc, &mut self.objects, call, tried)?;
-                Ok(one_line(alloc, line)?)
+                let object = call.object;
+                let (line, state) = perform(&self.objects, call, tried);
+                Ok(Acted {
+                    change: put(object, state),
+                    lines: one_line(alloc, line)?,
+                    forks: 0,
+                })
             }
         }
+    }
+}
+
+/// The change that puts a state in, where there is one.
+fn put(object: ObjectId, state: Option<Kept>) -> Change
+    ensures objects { (objects : Held) → objects_changed objects result ≡ with_state objects object state }
+    ensures queue { (queue : List Suspended) → queue_changed queue result ≡ queue }
+{
+    match state {
+        None => Change::Nothing,
+        Some(kept) => Change::Puts { object, kept },
     }
 }
 

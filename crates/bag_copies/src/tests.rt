@@ -1,0 +1,330 @@
+//! Worked entries on copies of pools and flags, and each public call of the copies and of the queue called once.
+
+ghost use Rattle.std.specs.Prelude.{IfOk};
+ghost use Rattle.bag_copies.specs.Fits.{FitsAll};
+
+use crate::{
+    Refused, call, entry, fork, fork_many, make, make_flags, object, opened, read, read_view,
+};
+use bag_performer::Bags;
+use guard_queue::Answered;
+use object_manager::{ApplyError, Copies, View};
+use orca_base::{FaultKind, KindNo, NoMemory, OpNo, ProcessNo, What};
+use std::alloc::Global;
+use std::test::Fail;
+use value_core::{Message, Parts, Reply, Tried, Value};
+
+mod calls;
+
+const PUT: (KindNo, OpNo) = (Bags::POOL, Bags::PUT);
+
+const TAKE: (KindNo, OpNo) = (Bags::POOL, Bags::TAKE);
+
+const AWAIT: (KindNo, OpNo) = (Bags::FLAG, Bags::AWAIT);
+
+const SET: (KindNo, OpNo) = (Bags::FLAG, Bags::SET);
+
+const SPOIL: (KindNo, OpNo) = (Bags::FLAG, Bags::SPOIL);
+
+const STEP: (KindNo, OpNo) = (Bags::FLAG, Bags::STEP);
+
+/// What a line or a read answers.
+#[derive(Clone, Copy, Debug, PartialEq, Eq)]
+enum Answer {
+    Done,
+    Gave(i64),
+    Broke(FaultKind),
+    Blocked,
+    Other,
+}
+
+/// A line, by its process, call and guard.
+#[derive(Clone, Copy, Debug, PartialEq, Eq)]
+struct Told {
+    process: u16,
+    call: u64,
+    guard: u16,
+    answer: Answer,
+}
+
+fn reply_of(reply: &Reply) -> Answer {
+    match reply {
+        Reply::Done => Answer::Done,
+        Reply::Gave {
+            value: Value::Int(number),
+        } => Answer::Gave(*number),
+        Reply::Gave { .. } => Answer::Other,
+        Reply::Broke { fault } => Answer::Broke(*fault),
+    }
+}
+
+fn outcome(tried: &Tried) -> Answer {
+    match tried {
+        Tried::Blocked => Answer::Blocked,
+        Tried::Did { reply, .. } => reply_of(reply),
+        Tried::Broke { fault, .. } => Answer::Broke(*fault),
+    }
+}
+
+fn told_of(alloc: Global, lines: &[Answered]) -> Result<Vec<Told>, NoMemory> {
+    let mut all = Vec::new(alloc);
+    for one in lines {
+        all.push(Told {
+            process: one.line.process.0,
+            call: one.line.call.0,
+            guard: one.line.guard,
+            answer: reply_of(&one.line.reply),
+        })?;
+    }
+    Ok(all)
+}
+
+// Copies before the first entry.
+fn start(alloc: Global) -> Result<Copies, Refused>
+    ensures { IfOk result FitsAll }
+{
+    Ok(opened(alloc)?)
+}
+
+// One more entry is applied; its lines.
+fn enter(alloc: Global, copies: &mut Copies, message: &Message) -> Result<Vec<Told>, Refused>
+    requires { FitsAll copies.old }
+    ensures { FitsAll copies.new }
+{
+    let lines = entry(alloc, copies, message)?;
+    Ok(told_of(alloc, &lines)?)
+}
+
+// An entry of a row.
+#[derive(Clone, Copy)]
+enum Step {
+    /// Process 0 makes its first object, in this line of its own.
+    Make(u64, KindNo),
+    /// Process 0 forks, in this line of its own.
+    Fork(u64),
+    /// A process, in this line of its own, calls an operation of that object, with this argument.
+    Call(u16, u64, (KindNo, OpNo), Option<i64>),
+}
+
+fn message(alloc: Global, step: Step) -> Result<Message, NoMemory> {
+    match step {
+        Step::Make(line, kind) => Ok(make(0, line, kind, object(1))),
+        Step::Fork(line) => fork(alloc, 0, line, object(1), 10),
+        Step::Call(process, line, operation, argument) => {
+            call(alloc, process, line, operation, object(1), argument)
+        }
+    }
+}
+
+// The copies after a row of entries, and the lines of the last one.
+fn run(alloc: Global, row: &[Step]) -> Result<(Copies, Vec<Told>), Refused>
+    ensures { IfOk result (λ r. FitsAll r.0) }
+{
+    let mut copies = start(alloc)?;
+    let mut last = Vec::new(alloc);
+    for step in row {
+        last = enter(alloc, &mut copies, &message(alloc, *step)?)?;
+    }
+    Ok((copies, last))
+}
+
+fn line(process: u16, call: u64, guard: u16, answer: Answer) -> Told {
+    Told {
+        process,
+        call,
+        guard,
+        answer,
+    }
+}
+
+// This number as the arguments, or none.
+fn args(alloc: Global, number: Option<i64>) -> Result<Parts, Refused> {
+    let mut args = Parts::new(alloc);
+    if let Some(number) = number {
+        args.push(Value::Int(number))?;
+    }
+    Ok(args)
+}
+
+// What a read of object 1 of process 0 gives.
+fn reads(
+    alloc: Global,
+    copies: &Copies,
+    (kind, op): (KindNo, OpNo),
+    number: Option<i64>,
+) -> Result<Answer, Refused> {
+    let tried = read(alloc, copies, kind, op, object(1), &args(alloc, number)?)?;
+    Ok(outcome(&tried))
+}
+
+// What an await of this number gives on a snapshot.
+fn awaits(alloc: Global, view: &View, number: i64) -> Result<Answer, Refused> {
+    let (kind, op) = AWAIT;
+    let tried = read_view(
+        alloc,
+        view,
+        kind,
+        op,
+        object(1),
+        &args(alloc, Some(number))?,
+    )?;
+    Ok(outcome(&tried))
+}
+
+const ONE_TAKE: [Step; 4] = [
+    Step::Make(0, Bags::POOL),
+    Step::Fork(1),
+    Step::Call(0, 2, TAKE, None),
+    Step::Call(1, 0, PUT, Some(11)),
+];
+
+const TWO_TAKES: [Step; 6] = [
+    Step::Make(0, Bags::POOL),
+    Step::Fork(1),
+    Step::Fork(2),
+    Step::Call(0, 3, TAKE, None),
+    Step::Call(1, 0, TAKE, None),
+    Step::Call(2, 0, PUT, Some(7)),
+];
+
+const SPOILED: [Step; 3] = [
+    Step::Make(0, Bags::FLAG),
+    Step::Call(0, 1, SET, Some(5)),
+    Step::Call(0, 2, SPOIL, Some(8)),
+];
+
+const STEPS: [Step; 4] = [
+    Step::Make(0, Bags::FLAG),
+    Step::Call(0, 1, STEP, None),
+    Step::Call(0, 2, STEP, None),
+    Step::Call(0, 3, STEP, None),
+];
+
+#[test]
+fn queue_answers_in_order(rt: HostRuntime) -> Result<(), Fail> {
+    let (_, third) = run(rt.alloc(), &ONE_TAKE[..3])?;
+    assert!(rt; third.is_empty());
+    let (_, fourth) = run(rt.alloc(), &ONE_TAKE)?;
+    let put = line(1, 0, 0, Answer::Done);
+    let take = line(0, 2, 1, Answer::Gave(11));
+    assert!(rt; fourth.as_slice() == [put, take].as_slice());
+    Ok(())
+}
+
+#[test]
+fn queue_answers_the_oldest(rt: HostRuntime) -> Result<(), Fail> {
+    let (copies, sixth) = run(rt.alloc(), &TWO_TAKES)?;
+    let put = line(2, 0, 0, Answer::Done);
+    let take = line(0, 3, 1, Answer::Gave(7));
+    assert!(rt; sixth.as_slice() == [put, take].as_slice());
+    assert!(rt; !copies.is_suspended(ProcessNo(0)));
+    assert!(rt; copies.is_suspended(ProcessNo(1)));
+    assert_eq!(rt; reads(rt.alloc(), &copies, TAKE, None)?, Answer::Blocked);
+    Ok(())
+}
+
+#[test]
+fn blocked_await(rt: HostRuntime) -> Result<(), Fail> {
+    let (copies, _) = run(rt.alloc(), &SPOILED[..1])?;
+    assert_eq!(rt;
+        reads(rt.alloc(), &copies, AWAIT, Some(9))?,
+        Answer::Blocked
+    );
+    assert_eq!(rt; reads(rt.alloc(), &copies, AWAIT, Some(0))?, Answer::Done);
+    Ok(())
+}
+
+#[test]
+fn fault_behind_an_assignment_leaves_the_object(rt: HostRuntime) -> Result<(), Fail> {
+    let (copies, lines) = run(rt.alloc(), &SPOILED)?;
+    let broke = line(0, 2, 0, Answer::Broke(FaultKind::DivideByZero));
+    assert!(rt; lines.as_slice() == [broke].as_slice());
+    assert_eq!(rt; reads(rt.alloc(), &copies, AWAIT, Some(5))?, Answer::Done);
+    Ok(())
+}
+
+#[test]
+fn making_that_faults_makes_no_object(rt: HostRuntime) -> Result<(), Fail> {
+    let (copies, lines) = run(rt.alloc(), &[Step::Make(0, Bags::BROKEN)])?;
+    let broke = line(0, 0, 0, Answer::Broke(FaultKind::DivideByZero));
+    assert!(rt; lines.as_slice() == [broke].as_slice());
+    assert_eq!(rt; copies.objects().len(), 1);
+    Ok(())
+}
+
+#[test]
+fn guards_are_tried_in_text_order(rt: HostRuntime) -> Result<(), Fail> {
+    let (_, first) = run(rt.alloc(), &STEPS[..2])?;
+    assert!(rt; first.as_slice() == [line(0, 1, 1, Answer::Done)].as_slice());
+    let (_, second) = run(rt.alloc(), &STEPS[..3])?;
+    assert!(rt; second.as_slice() == [line(0, 2, 2, Answer::Done)].as_slice());
+    let (_, third) = run(rt.alloc(), &STEPS)?;
+    assert!(rt; third.is_empty());
+    Ok(())
+}
+
+#[test]
+fn objects_up_to_their_limit(rt: HostRuntime) -> Result<(), Fail> {
+    let mut copies = start(rt.alloc())?;
+    make_flags(rt.alloc(), &mut copies, 4_096)?;
+    let over = enter(
+        rt.alloc(),
+        &mut copies,
+        &make(0, 4_096, Bags::FLAG, object(4_097)),
+    );
+    let limit = ApplyError::Limit {
+        what: What::Objects,
+        number: 4_096,
+    };
+    assert!(rt; over.err() == Some(Refused::Copies { why: limit }));
+    assert_eq!(rt; copies.objects().len(), 4_097);
+    assert_eq!(rt; copies.applied(), 4_096);
+    Ok(())
+}
+
+#[test]
+fn processes_up_to_their_limit(rt: HostRuntime) -> Result<(), Fail> {
+    let mut copies = start(rt.alloc())?;
+    fork_many(rt.alloc(), &mut copies, 255)?;
+    let over = enter(
+        rt.alloc(),
+        &mut copies,
+        &message(rt.alloc(), Step::Fork(255))?,
+    );
+    let limit = ApplyError::Limit {
+        what: What::Processes,
+        number: 256,
+    };
+    assert!(rt; over.err() == Some(Refused::Copies { why: limit }));
+    assert_eq!(rt; copies.processes(), 256);
+    assert_eq!(rt; copies.applied(), 255);
+    Ok(())
+}
+
+#[test]
+fn view_stays_as_it_is(rt: HostRuntime) -> Result<(), Fail> {
+    let (mut copies, _) = run(rt.alloc(), &SPOILED[..1])?;
+    let before = copies.view()?;
+    enter(rt.alloc(), &mut copies, &message(rt.alloc(), SPOILED[1])?)?;
+    let after = copies.view()?;
+    assert_eq!(rt; before.place(), 1);
+    assert_eq!(rt; awaits(rt.alloc(), &before, 0)?, Answer::Done);
+    assert_eq!(rt; awaits(rt.alloc(), &after, 5)?, Answer::Done);
+    assert!(rt; !before.same(&after));
+    assert_eq!(rt; before.objects().len(), 2);
+    Ok(())
+}
+
+#[test]
+fn copies_are_equal_and_apart(rt: HostRuntime) -> Result<(), Fail> {
+    let (mut copies, _) = run(rt.alloc(), &SPOILED[..1])?;
+    let twin = copies.copy(rt.alloc())?;
+    assert!(rt; twin.view()?.same(&copies.view()?));
+    enter(rt.alloc(), &mut copies, &message(rt.alloc(), SPOILED[1])?)?;
+    assert_eq!(rt; reads(rt.alloc(), &twin, AWAIT, Some(0))?, Answer::Done);
+    assert_eq!(rt;
+        reads(rt.alloc(), &copies, AWAIT, Some(0))?,
+        Answer::Blocked
+    );
+    Ok(())
+}

@@ -1,0 +1,11 @@
+pub mod Decided
+pub mod Tests
+pub mod Derivations
+pub mod Takes
+pub mod Again
+pub mod Steps
+pub mod Fails
+pub mod Fronts
+pub mod Whole
+pub mod Placed
+pub mod Once

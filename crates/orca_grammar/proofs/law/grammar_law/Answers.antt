@@ -1,0 +1,5 @@
+use Rattle.orca_grammar.proofs.Once.{once}
+use Rattle.orca_grammar.proofs.law.grammar_law.Goals as goal
+
+pub returns : goal.returns
+returns c = once

@@ -1,0 +1,14 @@
+pub mod Lists
+pub mod Places
+pub mod Rows
+pub mod Longest
+pub mod Numbers
+pub mod Fronts
+pub mod LiteralLemmas
+pub mod Extents
+pub mod Following
+pub mod Once
+pub mod Bytes
+pub mod Sound
+pub mod TextsBack
+pub mod ReadsBack

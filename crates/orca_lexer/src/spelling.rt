@@ -1,0 +1,86 @@
+//! How tokens are written.
+
+ghost use Rattle.std.specs.Prelude.{◌≡◌, ◌++◌, ◌∷◌, [], OnOk, OnErr};
+ghost use Rattle.std.specs.Fmt.{signed_decimal};
+ghost use Rattle.std.specs.List.{flat_map};
+ghost use Rattle.orca_lexer.specs.Spelling.{keyword_text, symbol_text, character_text, spelling_of};
+
+use crate::token::{KEYWORDS, Keyword, SYMBOLS, Symbol, TokenKind};
+use orca_base::NoMemory;
+
+fn keyword_text(word: Keyword) -> &'static [u8]
+    ensures { result.now ≡ keyword_text word }
+{
+    KEYWORDS[word as usize].0
+}
+
+fn symbol_text(symbol: Symbol) -> &'static [u8]
+    ensures { result.now ≡ symbol_text symbol }
+{
+    SYMBOLS[symbol as usize].0
+}
+
+fn put(out: &mut Vec<u8>, bytes: &[u8]) -> Result<(), NoMemory>
+    ensures { OnOk result (out.new.items ≡ out.old.items ++ bytes.now) }
+{
+    out.extend_from_slice(bytes)?;
+    Ok(())
+}
+
+// A character between these quotes.
+fn put_character(out: &mut Vec<u8>, quote: u8, code: u8) -> Result<(), NoMemory>
+    ensures { OnOk result (out.new.items ≡ out.old.items ++ character_text quote code) }
+{
+    match code {
+        b'\n' => put(out, b"\\n"),
+        b'\t' => put(out, b"\\t"),
+        _ if code == b'\\' || code == quote => put(out, &[b'\\', code]),
+        _ => put(out, &[code]),
+    }
+}
+
+fn put_characters(out: &mut Vec<u8>, quote: u8, codes: &[u8]) -> Result<(), NoMemory>
+    ensures { OnOk result (out.new.items ≡ out.old.items ++ flat_map (character_text quote) codes.now) }
+{
+    'characters: for code in codes {
+        put_character(out, quote, *code)?;
+    }
+    Ok(())
+}
+
+fn put_char(out: &mut Vec<u8>, code: u8) -> Result<(), NoMemory>
+    ensures { OnOk result (out.new.items ≡ out.old.items ++ 39 ∷ (character_text 39 code ++ 39 ∷ [])) }
+{
+    put(out, b"'")?;
+    put_character(out, b'\'', code)?;
+    put(out, b"'")
+}
+
+fn put_string(out: &mut Vec<u8>, codes: &[u8]) -> Result<(), NoMemory>
+    ensures { OnOk result (out.new.items ≡ out.old.items ++ 34 ∷ (flat_map (character_text 34) codes.now ++ 34 ∷ [])) }
+{
+    put(out, b"\"")?;
+    put_characters(out, b'"', codes)?;
+    put(out, b"\"")
+}
+
+fn put_number(out: &mut Vec<u8>, value: i64) -> Result<(), NoMemory>
+    ensures { OnOk result (out.new.items ≡ out.old.items ++ signed_decimal value) }
+{
+    let text = value.to_string(*out.allocator())?;
+    put(out, text.as_bytes())
+}
+
+/// Puts the text of a token at the end. After want of memory a front of it may stand there.
+pub fn write_token(out: &mut Vec<u8>, kind: &TokenKind) -> Result<(), NoMemory>
+    ensures { OnOk result (out.new.items ≡ out.old.items ++ spelling_of kind.now) }
+{
+    match kind {
+        TokenKind::Name { name } => put(out, name.as_bytes()),
+        TokenKind::Number { value } => put_number(out, *value),
+        TokenKind::Char { code } => put_char(out, *code),
+        TokenKind::Text { text } => put_string(out, text.as_bytes()),
+        TokenKind::Key { word } => put(out, keyword_text(*word)),
+        TokenKind::Sign { symbol } => put(out, symbol_text(*symbol)),
+    }
+}
