@@ -1,12 +1,12 @@
 -- The program of examples/one.orca, and the lines of its history, written out by hand.
 use Rattle.std.specs.Prelude.{ℕ, pos, List, [], ◌∷◌, codes}
-use Rattle.orca_tree.specs.declared.small.HeadKind.TheVariants.{Gives, Takes}
-use Rattle.orca_tree.specs.declared.small.Operand.TheVariants as operand
-use Rattle.orca_tree.specs.declared.small.OperationBody.TheVariants.{Returns, Assigns}
-use Rattle.orca_tree.specs.declared.small.Opening.TheVariants.{Begins}
-use Rattle.orca_tree.specs.declared.small.Argument.TheVariants as argument
-use Rattle.orca_tree.specs.declared.small.Call.TheVariants as call
-use Rattle.orca_tree.specs.declared.small.SmallProgram.{SmallProgram}
+use Rattle.small_program.specs.declared.tree.HeadKind.TheVariants.{Gives, Takes}
+use Rattle.small_program.specs.declared.tree.Operand.TheVariants as operand
+use Rattle.small_program.specs.declared.tree.OperationBody.TheVariants.{Returns, Assigns}
+use Rattle.small_program.specs.declared.tree.Opening.TheVariants.{Begins}
+use Rattle.small_program.specs.declared.tree.Argument.TheVariants as argument
+use Rattle.small_program.specs.declared.tree.Call.TheVariants as call
+use Rattle.small_program.specs.declared.tree.SmallProgram.{SmallProgram}
 use Rattle.value_core.specs.Datum.{Data}
 use Rattle.value_core.specs.Datum as datum
 use Rattle.value_core.specs.declared.value.Value.TheVariants as values

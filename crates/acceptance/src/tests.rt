@@ -232,7 +232,7 @@ fn refusals(rt: HostRuntime) -> Result<(), Fail> {
 }
 
 #[test]
-fn texts_that_cannot_be_run_yet(rt: HostRuntime) -> Result<(), Fail> {
+fn texts_at_their_limit(rt: HostRuntime) -> Result<(), Fail> {
     let alloc = rt.alloc();
     let mut long = Vec::from_slice(alloc, ONE.as_bytes())?;
     for _ in ONE.len()..1_000_000 {
@@ -243,13 +243,141 @@ fn texts_that_cannot_be_run_yet(rt: HostRuntime) -> Result<(), Fail> {
     assert_eq!(rt; printed.as_str(), "6\n");
     long.push(b' ')?;
     let (status, printed) = outcome(alloc, &["run", "l.orca"], "l.orca", &long)?;
-    assert_eq!(rt; status, 15);
-    assert_eq!(rt; printed.as_str(), "orca: l.orca: not yet\n");
-    for byte in [b'(', b'a', b'0', b'\n', b'#', 0xc3, 0] {
+    assert_eq!(rt; status, 11);
+    assert_eq!(rt; printed.as_str(), "orca: limit of source bytes: 1000000\n");
+    Ok(())
+}
+
+// Texts of a million equal bytes: each is refused at its first token, or is a unit without declarations.
+#[test]
+fn texts_of_one_byte(rt: HostRuntime) -> Result<(), Fail> {
+    let alloc = rt.alloc();
+    let lines: [(u8, u8, &str); 6] = [
+        (b'(', 1, "orca: l.orca:1:1: unexpected '('\n"),
+        (b'0', 1, "orca: l.orca:1:1: unexpected '"),
+        (b'@', 1, "orca: l.orca:1:1: stray character\n"),
+        (b'\n', 15, "orca: l.orca: not yet\n"),
+        (b'#', 15, "orca: l.orca: not yet\n"),
+        (0xc3, 1, "orca: l.orca:1:2: not UTF-8\n"),
+    ];
+    for (byte, status, front) in lines {
         let text = vec![in alloc; byte; 1_000_000]?;
-        let (status, printed) = outcome(alloc, &["run", "l.orca"], "l.orca", &text)?;
-        assert_eq!(rt; status, 15);
-        assert_eq!(rt; printed.as_str(), "orca: l.orca: not yet\n");
+        let (got, printed) = outcome(alloc, &["run", "l.orca"], "l.orca", &text)?;
+        assert_eq!(rt; got, status);
+        assert!(rt; printed.starts_with(front));
     }
+    Ok(())
+}
+
+#[test]
+fn refusals_with_places(rt: HostRuntime) -> Result<(), Fail> {
+    let alloc = rt.alloc();
+    let texts: [(&str, &str); 10] = [
+        (
+            "process OrcaMain();\n  x: integer;\nbegin x := 1.5; end;\n",
+            "orca: r.orca:3:13: unexpected '.'\n",
+        ),
+        (
+            "process OrcaMain();\nbegin if true then end;\n",
+            "orca: r.orca:2:20: unexpected 'end'\n",
+        ),
+        (
+            "process OrcaMain();\nbegin if true then",
+            "orca: r.orca:2:19: unexpected end of text\n",
+        ),
+        (
+            "process OrcaMain(); begin WriteLine(\"a); end;\n",
+            "orca: r.orca:1:37: open string\n",
+        ),
+        (
+            "process OrcaMain();\nbegin x := 9223372036854775808; end;\n",
+            "orca: r.orca:2:12: number too large\n",
+        ),
+        (
+            "process OrcaMain();\nbegin x ! 1; end;\n",
+            "orca: r.orca:2:9: stray character\n",
+        ),
+        (
+            "import A;\nmodule B;\n",
+            "orca: r.orca:2:1: unexpected 'module'\n",
+        ),
+        (
+            "process OrcaMain(); begin x := ; end;\n",
+            "orca: r.orca:1:32: unexpected ';'\n",
+        ),
+        (
+            "type T = array [1 .. 2] integer;\n",
+            "orca: r.orca:1:25: unexpected 'integer'\n",
+        ),
+        (
+            "function f(a: out integer; b); begin end;\n",
+            "orca: r.orca:1:29: unexpected ')'\n",
+        ),
+    ];
+    for (text, line) in texts {
+        let (status, printed) = outcome(alloc, &["run", "r.orca"], "r.orca", text.as_bytes())?;
+        assert_eq!(rt; status, 1);
+        assert_eq!(rt; printed.as_str(), line);
+    }
+    Ok(())
+}
+
+// A process that assigns a number in so many pairs of parentheses: with n pairs it nests 2 n + 3 levels deep.
+fn nested(alloc: Global, pairs: usize) -> Result<String, AllocError> {
+    let opening = "(".repeat(alloc, pairs)?;
+    let closing = ")".repeat(alloc, pairs)?;
+    format!(in alloc; "process OrcaMain();\n  x: integer;\nbegin x := {opening}1{closing}; end;\n")
+}
+
+#[test]
+fn nesting_ends_at_64_levels(rt: HostRuntime) -> Result<(), Fail> {
+    let alloc = rt.alloc();
+    for (pairs, status, line) in [
+        (30, 15, "orca: n.orca: not yet\n"),
+        (31, 11, "orca: limit of nesting: 64\n"),
+        (64, 11, "orca: limit of nesting: 64\n"),
+    ] {
+        let text = nested(alloc, pairs)?;
+        let (got, printed) = outcome(alloc, &["run", "n.orca"], "n.orca", text.as_bytes())?;
+        assert_eq!(rt; got, status);
+        assert_eq!(rt; printed.as_str(), line);
+    }
+    Ok(())
+}
+
+// One text that uses every alternative of the grammar, and is no small program.
+const WHOLE: &str = "module M; import A; import B;
+const low = 1; const high = -5; const same = low;
+type R = record a: integer; b: boolean; end;
+type E = enum (red, green);
+type T = array [low .. 9] of set of bag of char;
+type S = string;
+object specification Pool;
+  operation Put(v: integer; w: T);
+  operation Take(): integer;
+end;
+object implementation Pool;
+  items, others: bag of integer;
+  operation Put(v: integer; w: T); begin insert(v, items); end;
+  operation Take(): integer; x: integer;
+  begin guard size(items) > 0 do return from(items); od; guard true or false do return 1; od; end;
+begin items := items; end;
+function f(a: out integer; b: shared Pool; c: T): boolean; x, y: integer;
+begin
+  if a = 1 then return; elsif a /= 2 and not (a <= 3) then a := -a; else delete(a, c[1].d); fi;
+  while a < 1 do a := a + 2 - 3 * 4 / 5 % 6; od;
+  for i in 1 .. ord('x') do repeat f(a, b, c); until a in c; od;
+  return \"text\" & \"more\" = s;
+end;
+process P(); begin fork P() on 1; fork P(); X$Put(1, c); WriteLine(X$Take(), 'c', g(), a >= b, a > b); return; end;
+process OrcaMain(); begin end;
+";
+
+#[test]
+fn every_alternative_is_read(rt: HostRuntime) -> Result<(), Fail> {
+    let alloc = rt.alloc();
+    let (status, printed) = outcome(alloc, &["run", "w.orca"], "w.orca", WHOLE.as_bytes())?;
+    assert_eq!(rt; status, 15);
+    assert_eq!(rt; printed.as_str(), "orca: w.orca: not yet\n");
     Ok(())
 }

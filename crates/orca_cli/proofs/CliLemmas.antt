@@ -14,6 +14,7 @@ use Rattle.orca_cli.specs.declared.kept.ProcessStanding.{ProcessStanding}
 use Rattle.orca_cli.specs.declared.kept.ProcessStanding.TheVariants as standings
 use Rattle.orca_cli.specs.Headline.{IsRunEnd}
 use Rattle.orca_cli.specs.Refused.{IsAnswer, IsRefusal}
+use Rattle.orca_cli.specs.Refused as because
 use Rattle.orca_cli.specs.Printed.{Grew, WroteOf, Ends, EndsAs}
 
 -- the told bytes grew by this text
@@ -109,3 +110,18 @@ answer_of bytes (Err e) words told rose old new wanted status text is grew silen
 pub if_none : {T : Type 0} (o : Option T) (P : Type 0) → P → IfNone o P
 if_none None P p = p
 if_none (Some x) P p = tt
+
+-- a refusal that is no read fault is one whatever the shelf's faults did
+refusal_anyway : (words : List (List ℕ)) (told : Option (List File)) (rose : Type 0) (status : ℕ) (line : List ℕ) → IsRefusal words told ⊥ status line → IsRefusal words told rose status line
+refusal_anyway words told rose status line (because.usage a) = because.usage a
+refusal_anyway words told rose status line (because.unread file a fault) = absurd fault
+refusal_anyway words told rose status line (because.absent file a b) = because.absent file a b
+refusal_anyway words told rose status line (because.too_long file a b) = because.too_long file a b
+refusal_anyway words told rose status line (because.refused file at said a b) = because.refused file at said a b
+refusal_anyway words told rose status line (because.too_nested file a b) = because.too_nested file a b
+refusal_anyway words told rose status line (because.not_yet file a b) = because.not_yet file a b
+
+-- an answer that is no read fault is one whatever the shelf's faults did
+pub answer_anyway : (words : List (List ℕ)) (told : Option (List File)) (rose : Type 0) (old new : Option (List ℕ)) (status : ℕ) → IsAnswer words told ⊥ old new status → IsAnswer words told rose old new status
+answer_anyway words told rose old new status (inl a) = inl (a.0, a.1, refusal_anyway words told rose a.0 a.1 a.2, a.3, a.4)
+answer_anyway words told rose old new status (inr lacking) = inr lacking

@@ -3,8 +3,8 @@ use Rattle.std.specs.Prelude.{◌≡◌, ◌⊎◌, ℕ, List, [], ◌∷◌, Op
 use Rattle.orca_io.specs.Files.{File, content_of}
 use Rattle.orca_io.specs.declared.sink.SinkFault.{SinkFault}
 use Rattle.orca_io.specs.declared.sink.SinkFault.TheVariants as faults
-use Rattle.orca_tree.specs.declared.small.SmallProgram.{SmallProgram}
-use Rattle.orca_tree.specs.Scope.{Reads}
+use Rattle.small_program.specs.declared.tree.SmallProgram.{SmallProgram}
+use Rattle.orca_cli.specs.Front.{IsProgram}
 use Rattle.value_core.specs.History.{Legal, output_of, replies_of}
 use Rattle.value_core.specs.declared.action.Line.{Line}
 use Rattle.orca_meaning.specs.Program.{performs_of, computes_of}
@@ -18,7 +18,7 @@ use Rattle.orca_cli.specs.Printed.{Grew, Ends, EndsAs}
 
 -- the program is that of the file that the words name
 abbrev pub IsNamed : List (List ℕ) → Option (List File) → SmallProgram → Type 0
-IsNamed words told p = (file : List ℕ) × (command_of words ≡ Some file) × IfSome told (λ files. (text : List ℕ) × (content_of files file ≡ Some text) × Reads text p)
+IsNamed words told p = (file : List ℕ) × (command_of words ≡ Some file) × IfSome told (λ files. (text : List ℕ) × (content_of files file ≡ Some text) × IsProgram text p)
 
 -- the kept process is the program's one: its replies are the history's; where the run finished it has ended, and where a
 -- write failed or memory lacked it is computing

@@ -1,5 +1,6 @@
 pub mod Words
 pub mod Printed
+pub mod Front
 pub mod Refused
 pub mod Headline
 pub mod Loaded

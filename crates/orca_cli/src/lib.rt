@@ -5,7 +5,9 @@
 //! and their meaning, and knows no real file.
 #![tactic(auto)]
 
+mod front;
 mod kept;
+mod lines;
 mod load;
 mod refusal;
 mod room;
@@ -14,4 +16,6 @@ mod top;
 mod words;
 
 pub use kept::{Ended, Kept, ProcessEnd, ProcessStanding};
-pub use top::{ABSENT, FINISHED, NO_MEMORY, NOT_YET, READ_FAULT, USAGE, WRITE_FAULT, orca_main};
+pub use top::{
+    ABSENT, FINISHED, LIMIT, NO_MEMORY, NOT_YET, READ_FAULT, REFUSED, USAGE, WRITE_FAULT, orca_main,
+};

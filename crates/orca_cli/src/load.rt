@@ -3,23 +3,26 @@
 ghost use Rattle.std.specs.Prelude.{◌≡◌, ◌≤◌, ◌<◌, ◌^◌, length, IfOk, IfSome, IsErrOf};
 ghost use Rattle.orca_io.specs.Causes.{Rose};
 ghost use Rattle.orca_io.specs.Files.{content_of};
-ghost use Rattle.orca_tree.specs.Scope.{IsScoped};
+ghost use Rattle.small_program.specs.Scope.{IsScoped};
 ghost use Rattle.orca_cli.specs.Loaded.{Loads};
 
+use crate::front::{FrontFault, program_of};
 use orca_base::SOURCE_BYTES;
 use orca_io::{Shelf, ShelfFault};
-use orca_tree::{SmallProgram, read_small};
+use small_program::SmallProgram;
 use std::alloc::Global;
 
 /// Why a file gave no program.
-#[derive(Clone, Copy, Debug, PartialEq, Eq)]
+#[derive(Drop)]
 pub enum LoadFault {
     /// There is no such file.
     Absent,
-    /// Its text can't be run yet.
-    NotYet,
+    /// It is longer than a text may be.
+    TooLong,
     /// It can't be read.
     Failed,
+    /// Its text gave no program.
+    Text { fault: FrontFault },
     /// There was no memory.
     NoMemory,
 }
@@ -35,13 +38,12 @@ pub fn load<F: Shelf>(alloc: Global, shelf: &mut F, file: &str) -> Result<SmallP
 {
     match shelf.read_all(alloc, file, SOURCE_BYTES) {
         Err(ShelfFault::Absent) => Err(LoadFault::Absent),
-        Err(ShelfFault::TooLong) => Err(LoadFault::NotYet),
+        Err(ShelfFault::TooLong) => Err(LoadFault::TooLong),
         Err(ShelfFault::Failed) => Err(LoadFault::Failed),
         Err(ShelfFault::NoMemory) => Err(LoadFault::NoMemory),
-        Ok(text) => match read_small(alloc, &text) {
-            Ok(Some(program)) => Ok(program),
-            Ok(None) => Err(LoadFault::NotYet),
-            Err(_) => Err(LoadFault::NoMemory),
+        Ok(text) => match program_of(alloc, &text) {
+            Ok(program) => Ok(program),
+            Err(fault) => Err(LoadFault::Text { fault }),
         },
     }
 }

@@ -1,20 +1,20 @@
 //! The lines that end a refusal.
 
-ghost use Rattle.std.specs.Prelude.{◌≡◌, ◌⊎◌, ◌≢◌, ◌≤◌, None, IfOk, OnErr, string_bytes};
+ghost use Rattle.std.specs.Prelude.{◌≡◌, ◌⊎◌, ◌≢◌, ◌≤◌, None, IfOk, OnErr};
 ghost use Rattle.orca_io.specs.Causes.{Rose};
 ghost use Rattle.orca_cli.specs.Printed.{Grew, Ends, EndsAs};
 
 use crate::kept::Ended;
 use crate::top::{NO_MEMORY, WRITE_FAULT};
+use orca_base::NoMemory;
 use orca_io::{Sink, SinkFault};
-use std::alloc::AllocError;
 
 /// Prints a line and gives its status, or that of the write that failed. Nothing is kept.
-pub fn refused<K: Sink>(out: &mut K, line: Result<String, AllocError>, status: u8) -> Ended
+pub fn refused<K: Sink>(out: &mut K, line: Result<Vec<u8>, NoMemory>, status: u8) -> Ended
     requires { status ≢ WRITE_FAULT }
     ensures none { result.kept ≡ None }
     ensures status { EndsAs status result.status }
-    ensures printed { IfOk line (λ l. Grew (K.told out.old) (K.told out.new) (Ends status result.status (string_bytes l))) }
+    ensures printed { IfOk line (λ l. Grew (K.told out.old) (K.told out.new) (Ends status result.status l.items)) }
     ensures silent { OnErr line ((result.status ≡ 12) × (K.told out.new ≡ K.told out.old)) }
     ensures failed { result.status ≡ WRITE_FAULT → Rose (K.faults out.old) (K.faults out.new) }
 {
@@ -25,16 +25,16 @@ pub fn refused<K: Sink>(out: &mut K, line: Result<String, AllocError>, status: u
 }
 
 // Prints a line, and gives the status that then holds.
-fn printed<K: Sink>(out: &mut K, line: Result<String, AllocError>, status: u8) -> u8
+fn printed<K: Sink>(out: &mut K, line: Result<Vec<u8>, NoMemory>, status: u8) -> u8
     requires { status ≢ WRITE_FAULT }
     ensures status { EndsAs status result }
-    ensures printed { IfOk line (λ l. Grew (K.told out.old) (K.told out.new) (Ends status result (string_bytes l))) }
+    ensures printed { IfOk line (λ l. Grew (K.told out.old) (K.told out.new) (Ends status result l.items)) }
     ensures silent { OnErr line ((result ≡ 12) × (K.told out.new ≡ K.told out.old)) }
     ensures failed { result ≡ WRITE_FAULT → Rose (K.faults out.old) (K.faults out.new) }
 {
     match line {
         Err(_) => NO_MEMORY,
-        Ok(text) => match out.put(text.as_bytes()) {
+        Ok(text) => match out.put(&text) {
             Ok(()) => status,
             Err(SinkFault::Failed) => WRITE_FAULT,
             Err(SinkFault::NoMemory) => NO_MEMORY,

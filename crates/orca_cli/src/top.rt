@@ -1,12 +1,20 @@
 //! The top call.
 
-ghost use Rattle.std.specs.Prelude.{◌≡◌, ◌⊎◌, ℕ, List, map, IfSome, IfNone, string_bytes};
+ghost use Rattle.std.specs.Prelude.{◌≡◌, ◌⊎◌, ℕ, List, Option, Some, None, Result, Err, map, IfSome, IfNone, string_bytes};
 ghost use Rattle.orca_io.specs.Causes.{Rose};
-ghost use Rattle.orca_tree.specs.declared.small.SmallProgram.{SmallProgram};
+ghost use Rattle.small_program.specs.declared.tree.SmallProgram.{SmallProgram};
 ghost use Rattle.orca_cli.specs.Headline.{IsNamed, IsRun};
-ghost use Rattle.orca_cli.specs.Refused.{IsAnswer};
+ghost use Rattle.orca_io.specs.Files.{File};
+ghost use Rattle.orca_cli.specs.Words.{command_of};
+ghost use Rattle.orca_cli.specs.Front.{Reads};
+ghost use Rattle.orca_cli.specs.Refused.{Holds, IsAnswer};
 
+use crate::front::FrontFault;
 use crate::kept::Ended;
+use crate::lines::{
+    absent_line, not_yet_line, refused_line, too_long_line, too_nested_line, unread_line,
+    usage_line,
+};
 use crate::load::{LoadFault, load};
 use crate::refusal::refused;
 use crate::run::run_kept;
@@ -17,6 +25,9 @@ use std::alloc::Global;
 
 /// The program ran to its end.
 pub const FINISHED: u8 = 0;
+
+/// The text has no tokens, or is no unit.
+pub const REFUSED: u8 = 1;
 
 /// The words are no command.
 pub const USAGE: u8 = 2;
@@ -30,6 +41,9 @@ pub const ABSENT: u8 = 9;
 /// A write failed.
 pub const WRITE_FAULT: u8 = 10;
 
+/// The text is longer, or nests deeper, than a text may.
+pub const LIMIT: u8 = 11;
+
 /// There was no memory.
 pub const NO_MEMORY: u8 = 12;
 
@@ -39,8 +53,9 @@ pub const NOT_YET: u8 = 15;
 /// Does what the words ask for: `run FILE` runs the small program in the file on one member.
 ///
 /// `words` leaves out the program's name. The status is 0 where the run finished, 2 where the words are no command, 8 and 9
-/// where the file can't be read or isn't there, 15 where its text can't be run yet, 10 where a write failed and 12 where
-/// memory lacked. Each refusal prints its line; a run prints what its history writes.
+/// where the file can't be read or isn't there, 11 where it is longer than 1,000,000 bytes or nests beyond 64 levels, 1 where its text
+/// has no tokens or is no unit, 15 where it can't be run yet, 10 where a write failed and 12 where memory lacked. Each refusal
+/// prints its line; a run prints what its history writes.
 pub fn orca_main<F: Shelf, K: Sink>(
     alloc: Global,
     words: &[String],
@@ -58,28 +73,42 @@ pub fn orca_main<F: Shelf, K: Sink>(
     ensures same { F.told shelf.new ≡ F.told shelf.old }
 {
     let Some(file) = command(words) else {
-        let line = format!(in alloc;
-            "usage: orca check FILE... | run [OPTIONS] FILE... | code FILE... | choice [--nodes N] FILE... | replay HISTORY FILE... | make [OPTIONS] NUMBER\n"
-        );
-        return refused(out, line, USAGE);
+        return refused(out, usage_line(alloc), USAGE);
     };
     match load(alloc, shelf, file) {
         Ok(program) => run_kept(alloc, &TreeMachine::new(program), out),
-        Err(LoadFault::Absent) => {
-            let line = format!(in alloc; "orca: no file {file}\n");
-            refused(out, line, ABSENT)
+        Err(LoadFault::Absent) => refused(out, absent_line(alloc, file), ABSENT),
+        Err(LoadFault::Failed) => refused(out, unread_line(alloc, file), READ_FAULT),
+        Err(LoadFault::TooLong) => refused(out, too_long_line(alloc), LIMIT),
+        Err(LoadFault::Text { fault }) => refused_text(alloc, file, out, fault),
+        Err(LoadFault::NoMemory) => nothing(),
+    }
+}
+
+// The end for want of memory before anything was run.
+fn nothing() -> Ended
+    ensures kept { result.kept ≡ None }
+    ensures status { result.status ≡ NO_MEMORY }
+{
+    Ended {
+        status: NO_MEMORY,
+        kept: None,
+    }
+}
+
+// Prints why a text gave no program.
+fn refused_text<K: Sink>(alloc: Global, file: &str, out: &mut K, fault: FrontFault) -> Ended
+    ensures none { result.kept ≡ None }
+    ensures said { (words : List (List ℕ)) (told : Option (List File)) → command_of words ≡ Some file.now → Holds told file.now (λ text. Reads text (Err fault))
+        → IsAnswer words told ⊥ (K.told out.old) (K.told out.new) result.status }
+    ensures failed { result.status ≡ WRITE_FAULT → Rose (K.faults out.old) (K.faults out.new) }
+{
+    match fault {
+        FrontFault::Refused { at, text } => {
+            refused(out, refused_line(alloc, file, at, &text), REFUSED)
         }
-        Err(LoadFault::NotYet) => {
-            let line = format!(in alloc; "orca: {file}: not yet\n");
-            refused(out, line, NOT_YET)
-        }
-        Err(LoadFault::Failed) => {
-            let line = format!(in alloc; "orca: cannot read {file}\n");
-            refused(out, line, READ_FAULT)
-        }
-        Err(LoadFault::NoMemory) => Ended {
-            status: NO_MEMORY,
-            kept: None,
-        },
+        FrontFault::TooNested => refused(out, too_nested_line(alloc), LIMIT),
+        FrontFault::NotYet => refused(out, not_yet_line(alloc, file), NOT_YET),
+        FrontFault::NoMemory => nothing(),
     }
 }

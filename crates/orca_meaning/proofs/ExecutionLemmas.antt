@@ -9,10 +9,10 @@ use Rattle.orca_base.specs.declared.ids.KindNo.{KindNo}
 use Rattle.orca_base.specs.declared.ids.ObjectId.{ObjectId}
 use Rattle.orca_base.specs.declared.ids.ProcessNo.{ProcessNo}
 use Rattle.orca_base.specs.declared.ids.TextNo.{TextNo}
-use Rattle.orca_tree.specs.declared.small.Operation.{Operation}
-use Rattle.orca_tree.specs.declared.small.OperationBody.{OperationBody}
-use Rattle.orca_tree.specs.declared.small.OperationBody.TheVariants.{Returns, Assigns}
-use Rattle.orca_tree.specs.declared.small.SmallProgram.{SmallProgram}
+use Rattle.small_program.specs.declared.tree.Operation.{Operation}
+use Rattle.small_program.specs.declared.tree.OperationBody.{OperationBody}
+use Rattle.small_program.specs.declared.tree.OperationBody.TheVariants.{Returns, Assigns}
+use Rattle.small_program.specs.declared.tree.SmallProgram.{SmallProgram}
 use Rattle.value_core.specs.Datum.{Datum, Data, list_of}
 use Rattle.value_core.specs.Datum as datum
 use Rattle.value_core.specs.History.{Answers, Configuration, IsStep, Performed, after_line, after_try, forked, objects_after, opening, output_kind, output_object, Process, replies_in, replies_of}

@@ -4,7 +4,7 @@ use Rattle.std.specs.List.{All}
 use Rattle.orca_base.specs.declared.ids.KindNo.{KindNo}
 use Rattle.orca_base.specs.declared.ids.OpNo.{OpNo}
 use Rattle.orca_base.specs.declared.ids.ProcessNo.{ProcessNo}
-use Rattle.orca_tree.specs.declared.small.SmallProgram.{SmallProgram}
+use Rattle.small_program.specs.declared.tree.SmallProgram.{SmallProgram}
 use Rattle.value_core.specs.Datum.{Data}
 use Rattle.value_core.specs.Datum as datum
 use Rattle.value_core.specs.History.{Configuration, Legal, Objects, after_lines, opening, output_kind, output_object, replies_of}

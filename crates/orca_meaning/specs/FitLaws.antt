@@ -7,15 +7,15 @@ use Rattle.std.proofs.lemmas.List.Elements.{All-cons, All-map, All-nil, All-set}
 use Rattle.std.proofs.lemmas.Option.{get_or_from_slice_get, slice_get_within}
 use Rattle.orca_base.specs.declared.ids.KindNo.{KindNo}
 use Rattle.orca_base.specs.declared.ids.OpNo.{OpNo}
-use Rattle.orca_tree.specs.declared.small.HeadKind.{HeadKind}
-use Rattle.orca_tree.specs.declared.small.HeadKind.TheVariants.{Plain, Gives, Takes}
-use Rattle.orca_tree.specs.declared.small.Operand.{Operand}
-use Rattle.orca_tree.specs.declared.small.Operand.TheVariants.{Number, Named}
-use Rattle.orca_tree.specs.declared.small.Assignment.{Assignment}
-use Rattle.orca_tree.specs.declared.small.Operation.{Operation}
-use Rattle.orca_tree.specs.declared.small.OperationBody.{OperationBody}
-use Rattle.orca_tree.specs.declared.small.OperationBody.TheVariants.{Returns, Assigns}
-use Rattle.orca_tree.specs.declared.small.SmallProgram.{SmallProgram}
+use Rattle.small_program.specs.declared.tree.HeadKind.{HeadKind}
+use Rattle.small_program.specs.declared.tree.HeadKind.TheVariants.{Plain, Gives, Takes}
+use Rattle.small_program.specs.declared.tree.Operand.{Operand}
+use Rattle.small_program.specs.declared.tree.Operand.TheVariants.{Number, Named}
+use Rattle.small_program.specs.declared.tree.Assignment.{Assignment}
+use Rattle.small_program.specs.declared.tree.Operation.{Operation}
+use Rattle.small_program.specs.declared.tree.OperationBody.{OperationBody}
+use Rattle.small_program.specs.declared.tree.OperationBody.TheVariants.{Returns, Assigns}
+use Rattle.small_program.specs.declared.tree.SmallProgram.{SmallProgram}
 use Rattle.value_core.specs.Datum.{Datum, Data, data_of, list_of, list_of-data_of}
 use Rattle.value_core.specs.Datum as datum
 use Rattle.value_core.specs.View.{datum_of-value_of}

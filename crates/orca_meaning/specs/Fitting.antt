@@ -5,10 +5,10 @@ use Rattle.std.specs.List.{All}
 use Rattle.orca_base.specs.declared.ids.KindNo.{KindNo}
 use Rattle.orca_base.specs.declared.ids.OpNo.{OpNo}
 use Rattle.orca_base.specs.declared.ids.TextNo.{TextNo}
-use Rattle.orca_tree.specs.declared.small.HeadKind.{HeadKind}
-use Rattle.orca_tree.specs.declared.small.HeadKind.TheVariants.{Plain, Gives, Takes}
-use Rattle.orca_tree.specs.declared.small.Operation.{Operation}
-use Rattle.orca_tree.specs.declared.small.SmallProgram.{SmallProgram}
+use Rattle.small_program.specs.declared.tree.HeadKind.{HeadKind}
+use Rattle.small_program.specs.declared.tree.HeadKind.TheVariants.{Plain, Gives, Takes}
+use Rattle.small_program.specs.declared.tree.Operation.{Operation}
+use Rattle.small_program.specs.declared.tree.SmallProgram.{SmallProgram}
 use Rattle.value_core.specs.Datum.{Datum, Data, list_of}
 use Rattle.value_core.specs.Datum as datum
 use Rattle.value_core.specs.View.{datum_of}

@@ -10,17 +10,17 @@ use Rattle.std.proofs.lemmas.List.{get_or-append-add, get_or-map, length-map, le
 use Rattle.std.proofs.lemmas.List.Sums.{position_or_len_is}
 use Rattle.std.proofs.lemmas.Option.{get_or_from_slice_get, slice_get-get_or, slice_get_within}
 use Rattle.std.proofs.lemmas.Slice.Eq.{bytes_eq-Decides}
-use Rattle.orca_tree.specs.Scope.{HasHead, IsArgument, IsBody, IsCall, IsScoped}
-use Rattle.orca_tree.specs.declared.small.HeadKind.{HeadKind}
-use Rattle.orca_tree.specs.declared.small.HeadKind.TheVariants.{Plain, Gives, Takes}
-use Rattle.orca_tree.specs.declared.small.Argument.{Argument}
-use Rattle.orca_tree.specs.declared.small.Argument.TheVariants as argument
-use Rattle.orca_tree.specs.declared.small.Call.{Call}
-use Rattle.orca_tree.specs.declared.small.Call.TheVariants as call
-use Rattle.orca_tree.specs.declared.small.Operation.{Operation}
-use Rattle.orca_tree.specs.declared.small.OperationBody.{OperationBody}
-use Rattle.orca_tree.specs.declared.small.OperationBody.TheVariants.{Returns, Assigns}
-use Rattle.orca_tree.specs.declared.small.SmallProgram.{SmallProgram}
+use Rattle.small_program.specs.Scope.{HasHead, IsArgument, IsBody, IsCall, IsScoped}
+use Rattle.small_program.specs.declared.tree.HeadKind.{HeadKind}
+use Rattle.small_program.specs.declared.tree.HeadKind.TheVariants.{Plain, Gives, Takes}
+use Rattle.small_program.specs.declared.tree.Argument.{Argument}
+use Rattle.small_program.specs.declared.tree.Argument.TheVariants as argument
+use Rattle.small_program.specs.declared.tree.Call.{Call}
+use Rattle.small_program.specs.declared.tree.Call.TheVariants as call
+use Rattle.small_program.specs.declared.tree.Operation.{Operation}
+use Rattle.small_program.specs.declared.tree.OperationBody.{OperationBody}
+use Rattle.small_program.specs.declared.tree.OperationBody.TheVariants.{Returns, Assigns}
+use Rattle.small_program.specs.declared.tree.SmallProgram.{SmallProgram}
 use Rattle.orca_meaning.specs.Processes.{number_in}
 use Rattle.orca_meaning.specs.Fitting.{has_result}
 

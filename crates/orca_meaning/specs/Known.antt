@@ -4,7 +4,7 @@ use Rattle.orca_base.specs.declared.ids.KindNo.{KindNo}
 use Rattle.orca_base.specs.declared.ids.OpNo.{OpNo}
 use Rattle.orca_base.specs.declared.ids.ProcessNo.{ProcessNo}
 use Rattle.orca_base.specs.declared.ids.ObjectId.{ObjectId}
-use Rattle.orca_tree.specs.declared.small.SmallProgram.{SmallProgram}
+use Rattle.small_program.specs.declared.tree.SmallProgram.{SmallProgram}
 use Rattle.value_core.specs.History.{output_kind, output_object}
 use Rattle.value_core.specs.declared.action.Action.{Action}
 use Rattle.value_core.specs.declared.action.Action.TheVariants as action

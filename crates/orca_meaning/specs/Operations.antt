@@ -3,17 +3,17 @@ use Rattle.std.specs.Prelude.{◌==◌, ℕ, pos, List, [], ◌∷◌, Option, N
 use Rattle.std.specs.Str.{bytes_eq}
 use Rattle.orca_base.specs.declared.ids.KindNo.{KindNo}
 use Rattle.orca_base.specs.declared.ids.OpNo.{OpNo}
-use Rattle.orca_tree.specs.declared.small.HeadKind.{HeadKind}
-use Rattle.orca_tree.specs.declared.small.HeadKind.TheVariants.{Plain, Gives, Takes}
-use Rattle.orca_tree.specs.declared.small.Operand.{Operand}
-use Rattle.orca_tree.specs.declared.small.Operand.TheVariants.{Number, Named}
-use Rattle.orca_tree.specs.declared.small.Assignment.{Assignment}
-use Rattle.orca_tree.specs.declared.small.OperationBody.{OperationBody}
-use Rattle.orca_tree.specs.declared.small.OperationBody.TheVariants.{Returns, Assigns}
-use Rattle.orca_tree.specs.declared.small.Operation.{Operation}
-use Rattle.orca_tree.specs.declared.small.Opening.{Opening}
-use Rattle.orca_tree.specs.declared.small.Opening.TheVariants.{Absent, Begins}
-use Rattle.orca_tree.specs.declared.small.SmallProgram.{SmallProgram}
+use Rattle.small_program.specs.declared.tree.HeadKind.{HeadKind}
+use Rattle.small_program.specs.declared.tree.HeadKind.TheVariants.{Plain, Gives, Takes}
+use Rattle.small_program.specs.declared.tree.Operand.{Operand}
+use Rattle.small_program.specs.declared.tree.Operand.TheVariants.{Number, Named}
+use Rattle.small_program.specs.declared.tree.Assignment.{Assignment}
+use Rattle.small_program.specs.declared.tree.OperationBody.{OperationBody}
+use Rattle.small_program.specs.declared.tree.OperationBody.TheVariants.{Returns, Assigns}
+use Rattle.small_program.specs.declared.tree.Operation.{Operation}
+use Rattle.small_program.specs.declared.tree.Opening.{Opening}
+use Rattle.small_program.specs.declared.tree.Opening.TheVariants.{Absent, Begins}
+use Rattle.small_program.specs.declared.tree.SmallProgram.{SmallProgram}
 use Rattle.value_core.specs.Datum.{Datum, Data, list_of, data_of}
 use Rattle.value_core.specs.Datum as datum
 use Rattle.value_core.specs.View.{value_of}

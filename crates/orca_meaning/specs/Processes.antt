@@ -7,12 +7,12 @@ use Rattle.std.specs.Fmt.{signed_decimal}
 use Rattle.orca_base.specs.declared.ids.KindNo.{KindNo}
 use Rattle.orca_base.specs.declared.ids.ProcessNo.{ProcessNo}
 use Rattle.orca_base.specs.declared.ids.ObjectId.{ObjectId}
-use Rattle.orca_tree.specs.declared.small.Argument.{Argument}
-use Rattle.orca_tree.specs.declared.small.Argument.TheVariants as argument
-use Rattle.orca_tree.specs.declared.small.Call.{Call}
-use Rattle.orca_tree.specs.declared.small.Call.TheVariants as call
-use Rattle.orca_tree.specs.declared.small.Operation.{Operation}
-use Rattle.orca_tree.specs.declared.small.SmallProgram.{SmallProgram}
+use Rattle.small_program.specs.declared.tree.Argument.{Argument}
+use Rattle.small_program.specs.declared.tree.Argument.TheVariants as argument
+use Rattle.small_program.specs.declared.tree.Call.{Call}
+use Rattle.small_program.specs.declared.tree.Call.TheVariants as call
+use Rattle.small_program.specs.declared.tree.Operation.{Operation}
+use Rattle.small_program.specs.declared.tree.SmallProgram.{SmallProgram}
 use Rattle.value_core.specs.Datum.{Datum, Data}
 use Rattle.value_core.specs.Datum as datum
 use Rattle.value_core.specs.View.{datum_of}

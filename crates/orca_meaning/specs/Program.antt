@@ -1,7 +1,7 @@
 -- The meanings of a small program.
 use Rattle.value_core.specs.declared.action.Class.TheVariants.{Writes}
 use Rattle.value_core.specs.Meaning.{Performs, Computes}
-use Rattle.orca_tree.specs.declared.small.SmallProgram.{SmallProgram}
+use Rattle.small_program.specs.declared.tree.SmallProgram.{SmallProgram}
 use Rattle.orca_meaning.specs.Operations.{tries_of, making_of}
 use Rattle.orca_meaning.specs.Processes.{doing_of}
 

@@ -5,10 +5,10 @@ use Rattle.std.proofs.Common.{inl, inr, subst}
 use Rattle.std.proofs.lemmas.List.{drop_more, at_drop_all}
 use Rattle.std.proofs.lemmas.Option.{get_or_from_slice_get, none-some, slice_get_cases, slice_get_within}
 use Rattle.orca_base.specs.declared.ids.ProcessNo.{ProcessNo}
-use Rattle.orca_tree.specs.declared.small.Argument.TheVariants as argument
-use Rattle.orca_tree.specs.declared.small.Call.{Call}
-use Rattle.orca_tree.specs.declared.small.Call.TheVariants as call
-use Rattle.orca_tree.specs.declared.small.SmallProgram.{SmallProgram}
+use Rattle.small_program.specs.declared.tree.Argument.TheVariants as argument
+use Rattle.small_program.specs.declared.tree.Call.{Call}
+use Rattle.small_program.specs.declared.tree.Call.TheVariants as call
+use Rattle.small_program.specs.declared.tree.SmallProgram.{SmallProgram}
 use Rattle.value_core.specs.declared.action.Reply.{Reply}
 use Rattle.value_core.specs.declared.action.Reply.TheVariants as answer
 use Rattle.value_core.specs.declared.value.Value.{Value}

@@ -2,11 +2,11 @@
 use Rattle.std.specs.Prelude.{◌≡◌, ℕ, ◌+◌, pos, List, [], ◌∷◌, ◌++◌, drop, slice_get, Option, None, Some}
 use Rattle.std.specs.Option.{option_map_or}
 use Rattle.orca_base.specs.declared.ids.ProcessNo.{ProcessNo}
-use Rattle.orca_tree.specs.declared.small.Argument.{Argument}
-use Rattle.orca_tree.specs.declared.small.Argument.TheVariants as argument
-use Rattle.orca_tree.specs.declared.small.Call.{Call}
-use Rattle.orca_tree.specs.declared.small.Call.TheVariants as call
-use Rattle.orca_tree.specs.declared.small.SmallProgram.{SmallProgram}
+use Rattle.small_program.specs.declared.tree.Argument.{Argument}
+use Rattle.small_program.specs.declared.tree.Argument.TheVariants as argument
+use Rattle.small_program.specs.declared.tree.Call.{Call}
+use Rattle.small_program.specs.declared.tree.Call.TheVariants as call
+use Rattle.small_program.specs.declared.tree.SmallProgram.{SmallProgram}
 use Rattle.value_core.specs.Datum.{Datum}
 use Rattle.value_core.specs.Datum as datum
 use Rattle.value_core.specs.View.{datum_of}

@@ -3,7 +3,7 @@
 ghost use Rattle.std.specs.Prelude.{◌≡◌, ◌<◌, ◌+◌, ◌*◌, ◌∷◌, ◌++◌, [], List, length, IfOk, IfSome, MatchOption, OnErr, OnSome};
 ghost use Rattle.value_core.specs.History.{replies_of};
 ghost use Rattle.value_core.specs.declared.action.Line.{Line};
-ghost use Rattle.orca_tree.specs.declared.small.SmallProgram.{SmallProgram};
+ghost use Rattle.small_program.specs.declared.tree.SmallProgram.{SmallProgram};
 ghost use Rattle.orca_meaning.specs.Executions.{Follows, HasEnded, HasFitting, making_outcome, object_outcome, outcome_of, state_or, tried_outcome};
 ghost use Rattle.orca_meaning.specs.Fitting.{FitsArgs, FitsState};
 ghost use Rattle.orca_meaning.specs.Processes.{small_kind};

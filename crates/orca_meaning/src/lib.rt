@@ -4,7 +4,7 @@
 //! `TreeMachine`, made of a scoped program, meets `Performer` and `Processor` of `value_core` with these meanings
 //! (specs/Program.antt); specs/Fitting.antt says what fits. An `Execution` asks it for a program's lines one by one: the
 //! floor above uses that they are a history of the program (`Follows` of specs/Executions.antt). `next_action`, `make` and
-//! `perform` are the same meanings as free functions. The crate stands on the trees of `orca_tree` and the histories of
+//! `perform` are the same meanings as free functions. The crate stands on the trees of `small_program` and the histories of
 //! `value_core`. It prints nothing, keeps no replies in a process's state, and knows neither guards nor turns: a small
 //! program has none.
 #![tactic(auto)]

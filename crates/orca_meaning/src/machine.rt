@@ -1,9 +1,9 @@
 //! A small program, made ready to run.
 
 ghost use Rattle.std.specs.Prelude.{◌≡◌, ◌<◌, ◌^◌, length};
-ghost use Rattle.orca_tree.specs.Scope.{IsScoped};
+ghost use Rattle.small_program.specs.Scope.{IsScoped};
 
-use orca_tree::SmallProgram;
+use small_program::SmallProgram;
 
 /// What performs and computes a small program, by its tree. It keeps the program, and takes no memory.
 ///

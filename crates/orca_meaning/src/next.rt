@@ -6,7 +6,7 @@ ghost use Rattle.orca_meaning.specs.Stages.{Stands};
 
 use crate::process::SmallProcess;
 use orca_base::{NoMemory, ProcessNo, TextNo};
-use orca_tree::SmallProgram;
+use small_program::SmallProgram;
 use std::alloc::Global;
 use value_core::{Doing, Parts, Reply};
 

@@ -8,12 +8,12 @@ ghost use Rattle.value_core.specs.View.{datum_of};
 ghost use Rattle.value_core.specs.declared.action.Reply.{Reply};
 ghost use Rattle.value_core.specs.declared.meaning.Doing.{Doing};
 ghost use Rattle.value_core.specs.declared.meaning.Doing.TheVariants.{At};
-ghost use Rattle.orca_tree.specs.declared.small.SmallProgram.{SmallProgram};
+ghost use Rattle.small_program.specs.declared.tree.SmallProgram.{SmallProgram};
 ghost use Rattle.orca_meaning.specs.Processes.{doing_of, first_object, invocation, number_in, operation_place, stating, text_of, writing};
 ghost use Rattle.orca_meaning.specs.Stages.{Stands, asked_in, first_doing, last_doing, passing, plain_in, plain_value, resumed, stage_after, stage_behind, stage_held, stage_called, stage_passed};
 
 use orca_base::{FaultKind, KindNo, NoMemory, ObjectId, OpNo, ProcessNo, Text};
-use orca_tree::{Argument, Call, Operation, SmallProgram};
+use small_program::{Argument, Call, Operation, SmallProgram};
 use std::alloc::Global;
 use std::mem;
 use value_core::{Action, Parts, Reply, Value};

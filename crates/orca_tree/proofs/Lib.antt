@@ -1,9 +1,6 @@
-pub mod Tables
-pub mod Lexemes
-pub mod Lexing
-pub mod Sections
-pub mod Grammar
-pub mod Programs
-pub mod Equivalences
-pub mod Names
-pub mod Lengths
+pub mod Joined
+pub mod Led
+pub mod PrintedSound
+pub mod Rows
+pub mod Spelled
+pub mod SpelledRows

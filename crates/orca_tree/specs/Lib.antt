@@ -1,5 +1,4 @@
-pub mod Tokens
-pub mod Small
-pub mod Scope
-pub mod Roles
-pub mod Reading
+pub mod Fronts
+pub mod Marks
+pub mod Places
+pub mod Printing

@@ -1,26 +1,29 @@
-//! Source texts: their tokens, and the tree of a small program.
+//! The tree of a source text, its tokens, and its text.
 //!
-//! The floor above uses `read_small`: `Some` exactly where the text reads as a small program (`Reads` of
-//! specs/Scope.antt), which is one program at most. specs/Tokens.antt says what the tokens of a text are,
-//! specs/Small.antt is the grammar and specs/Scope.antt the rules of names.
+//! A tree has one variant for each alternative of the grammar, and keeps parentheses. Links of operators lie flat, so a tree is
+//! no deeper than its text nests. Each phrase that begins with a token of its own keeps that token's place, and tells it by
+//! `place`.
 //!
-//! It stands on `orca_base` and std. It runs nothing, and has neither chars nor strings nor places of errors: a quote
-//! outside a comment begins no token.
+//! The floor above uses `unit` of specs/Marks.antt, the derivation of a tree by the grammar (specs/Rules.antt of orca_grammar):
+//! its tokens in order, in brackets where a phrase nests and where a chain has links. `words` gives a tree's tokens: they are
+//! those of its marks. `print_tree` gives its text: the spelling of each token, with one space between two, and a line feed. For
+//! a meaning, or a checker, over lists in place of rows there are the equations of proofs/Rows.antt.
+//!
+//! It rests on the tokens and their spelling (orca_lexer), and on marks (specs/Forms.antt of orca_grammar). It doesn't say which
+//! trees are those of a text: `words` and `print_tree` take any.
 #![tactic(auto)]
 
-mod lexer;
-mod read;
-mod reader;
-mod scope;
-mod small;
+mod place;
+mod printing;
+mod spelling;
 #[cfg(test)]
 mod tests;
-mod token;
+mod tree;
 
-pub use lexer::{NoTokens, tokens};
-pub use read::read_small;
-pub use small::{
-    Argument, Assignment, Call, Head, HeadKind, Opening, Operand, Operation, OperationBody,
-    SmallProgram,
+pub use printing::print_tree;
+pub use spelling::words;
+pub use tree::{
+    Arm, Block, Bound, Declaration, Definition, Designator, Expression, Guard, Head, Link, Mode,
+    Name, Operation, OperationBody, Operator, Parameter, Range, Selector, Statement, TypePhrase,
+    TypedName, Unit, Variables,
 };
-pub use token::{Keyword, Symbol, Token};

@@ -1,161 +1,147 @@
-//! Texts and their trees, worked out by hand.
-
-use crate::{read_small, tokens};
-use std::alloc::{AllocError, Global};
+use crate::print_tree;
+use crate::tree::{
+    Arm, Block, Bound, Declaration, Definition, Expression, Link, Name, Operator, Statement,
+    TypePhrase, Unit,
+};
+use orca_base::{NoMemory, Place, Text};
+use std::alloc::Global;
 use std::test::Fail;
 
-const ONE: &str = "object specification Cell;
-  operation Value(): integer;
-  operation Assign(v: integer);
-end;
-object implementation Cell;
-  x: integer;
-  operation Value(): integer; begin return x; end;
-  operation Assign(v: integer); begin x := v; end;
-begin x := 0; end;
-process OrcaMain();
-  X: Cell;
-begin X$Assign(6); WriteLine(X$Value()); end;
-";
+const AT: Place = Place { line: 1, column: 1 };
 
-const TREE: &str = "SmallProgram { kind: Text { string: \"Cell\" }, heads: Items { all: [\
-Head { name: Text { string: \"Value\" }, kind: Gives }, \
-Head { name: Text { string: \"Assign\" }, kind: Takes { parameter: Text { string: \"v\" } } }] }, \
-fields: Items { all: [Text { string: \"x\" }] }, operations: Items { all: [\
-Operation { head: Head { name: Text { string: \"Value\" }, kind: Gives }, \
-body: Returns { field: Text { string: \"x\" } } }, \
-Operation { head: Head { name: Text { string: \"Assign\" }, kind: Takes { parameter: Text { string: \"v\" } } }, \
-body: Assigns { assignments: Items { all: [\
-Assignment { field: Text { string: \"x\" }, value: Named { name: Text { string: \"v\" } } }] } } }] }, \
-opening: Begins { assignments: Items { all: [\
-Assignment { field: Text { string: \"x\" }, value: Number { value: 0 } }] } }, \
-variable: Text { string: \"X\" }, calls: Items { all: [\
-Passes { operation: Text { string: \"Assign\" }, argument: Number { value: 6 } }, \
-Writes { argument: Result { operation: Text { string: \"Value\" } } }] } }";
+fn name(alloc: Global, text: &str) -> Result<Name, NoMemory> {
+    Ok(Name {
+        at: AT,
+        text: Text::from_str(alloc, text)?,
+    })
+}
 
-#[test]
-fn one_cell_is_read(rt: HostRuntime) -> Result<(), Fail> {
-    let program = read_small(rt.alloc(), ONE.as_bytes())?;
-    let shown = format!(in rt.alloc(); "{program:?}")?;
-    let wanted = format!(in rt.alloc(); "Some({TREE})")?;
-    assert_eq!(rt; shown.as_str(), wanted.as_str());
-    Ok(())
+fn number(value: i64) -> Expression {
+    Expression::Number { at: AT, value }
+}
+
+fn main_unit(alloc: Global, statements: Vec<Statement>) -> Result<Unit, NoMemory> {
+    let main = Declaration::Process {
+        at: AT,
+        name: name(alloc, "OrcaMain")?,
+        parameters: Vec::new(alloc),
+        body: Block {
+            variables: Vec::new(alloc),
+            statements,
+        },
+    };
+    Ok(Unit {
+        module: None,
+        imports: Vec::new(alloc),
+        declarations: vec![in alloc; main]?,
+    })
 }
 
 #[test]
-fn tokens_are_the_longest(rt: HostRuntime) -> Result<(), Fail> {
-    let found = tokens(rt.alloc(), b"a:=1..2<=end#x").ok();
-    let shown = format!(in rt.alloc(); "{found:?}")?;
+fn an_empty_process_prints_its_words(rt: HostRuntime) -> Result<(), Fail> {
+    let unit = main_unit(rt.alloc(), Vec::new(rt.alloc()))?;
     assert_eq!(rt;
-        shown.as_str(),
-        "Some([Name { name: Text { string: \"a\" } }, Sign { symbol: Becomes }, Number { value: 1 }, \
-Sign { symbol: Range }, Number { value: 2 }, Sign { symbol: AtMost }, Key { word: KeyEnd }])"
+        print_tree(rt.alloc(), &unit)?.as_str(),
+        "process OrcaMain ( ) ; begin end ;\n"
     );
     Ok(())
 }
 
-// Whether `one_cell` is a small program after each `old` became `new`.
-fn is_small_with(alloc: Global, old: &str, new: &str) -> Result<bool, AllocError> {
-    let text = ONE.replace(alloc, old, new)?;
-    match read_small(alloc, text.as_bytes()) {
-        Ok(program) => Ok(program.is_some()),
-        Err(_) => Err(AllocError),
-    }
+// type Row = array [ - 3 .. 9 ] of char ;
+fn row_type(alloc: Global) -> Result<Declaration, NoMemory> {
+    let array = TypePhrase::Array {
+        at: AT,
+        low: Bound::Negative { at: AT, value: 3 },
+        high: Bound::Number { at: AT, value: 9 },
+        element: Box::new(alloc, TypePhrase::Char { at: AT })?,
+    };
+    Ok(Declaration::Type {
+        at: AT,
+        name: name(alloc, "Row")?,
+        definition: Definition::Alias { of: array },
+    })
+}
+
+// WriteLine ( '\'' , "a\"\n" ) ;
+fn written(alloc: Global) -> Result<Vec<Statement>, NoMemory> {
+    let text = Expression::Text {
+        at: AT,
+        text: Text::from_str(alloc, "a\"\n")?,
+    };
+    let quote = Expression::Char {
+        at: AT,
+        code: b'\'',
+    };
+    let written = Statement::WriteLine {
+        at: AT,
+        arguments: vec![in alloc; quote, text]?,
+    };
+    Ok(vec![in alloc; written]?)
+}
+
+// if not true then return ; else .. fi ;
+fn choice(alloc: Global) -> Result<Vec<Statement>, NoMemory> {
+    let truth = Expression::Truth {
+        at: AT,
+        value: true,
+    };
+    let first = Arm::When {
+        test: Expression::Not {
+            at: AT,
+            operand: Box::new(alloc, truth)?,
+        },
+        body: vec![in alloc;
+            Statement::Return {
+                at: AT,
+                value: None
+            },
+        ]?,
+    };
+    let last = Arm::Otherwise {
+        body: written(alloc)?,
+    };
+    let choice = Statement::If {
+        at: AT,
+        arms: vec![in alloc; first, last]?,
+    };
+    Ok(vec![in alloc; choice]?)
 }
 
 #[test]
-fn small_texts(rt: HostRuntime) -> Result<(), Fail> {
-    for (old, new) in [
-        ("x := 0", "x:=0"),
-        ("begin x := 0; end;", "end;"),
-        ("(6)", "(X$Value())"),
-        ("(6)", "(9223372036854775807)"),
-        ("WriteLine(X$Value());", ""),
-        ("(v: integer)", "(w:integer # the new value: é\n)"),
-        ("x", "sets"),
-        ("X$Value()); end;\n", "X$Value()); end; # no line feed"),
-        ("x: integer;", "x: integer; y: integer;"),
-    ] {
-        let small = if old == "(v: integer)" {
-            let text = ONE.replace(rt.alloc(), old, new)?;
-            let text = text.replace(rt.alloc(), ":= v", ":= w")?;
-            read_small(rt.alloc(), text.as_bytes())?.is_some()
-        } else {
-            is_small_with(rt.alloc(), old, new)?
-        };
-        assert!(rt; small, "{new}");
-    }
+fn a_larger_unit_prints_its_words(rt: HostRuntime) -> Result<(), Fail> {
+    let mut unit = main_unit(rt.alloc(), choice(rt.alloc())?)?;
+    unit.declarations.push(row_type(rt.alloc())?)?;
+    let text = "process OrcaMain ( ) ; begin if not true then return ; \
+        else WriteLine ( '\\'' , \"a\\\"\\n\" ) ; fi ; end ; type Row = array [ - 3 .. 9 ] of char ;\n";
+    assert_eq!(rt; print_tree(rt.alloc(), &unit)?.as_str(), text);
     Ok(())
 }
 
-#[test]
-fn texts_that_are_not_small(rt: HostRuntime) -> Result<(), Fail> {
-    for (old, new) in [
-        // Tokens.
-        ("(6)", "(9223372036854775808)"),
-        ("(6)", "(1..2)"),
-        ("x := 0", "x : = 0"),
-        ("x", "set"),
-        ("X: Cell", "X: 'Cell"),
-        // Grammar.
-        ("X$Value()); end;", "X$Value()); end; end"),
-        ("X$Value()); end;", "X$Value());"),
-        ("implementation Cell", "implementation Sell"),
-        ("X: Cell", "X: Sell"),
-        ("OrcaMain", "Main"),
-        ("X$Value());", "X$Value())"),
-        // Each name is declared once.
-        ("X", "Cell"),
-        ("x", "Value"),
-        ("x", "OrcaMain"),
-        ("x", "X"),
-        ("Assign", "Value"),
-        ("x: integer;", "x: integer; x: integer;"),
-        ("v", "x"),
-        // The heads of both parts are the same list.
-        (
-            "operation Assign(v: integer); begin x := v;",
-            "operation Assign(w: integer); begin x := w;",
-        ),
-        ("operation Value(): integer;\n", ""),
-        // Bodies and what they use.
-        ("begin return x;", "begin x := 1;"),
-        ("begin x := v;", "begin return x;"),
-        ("return x", "return y"),
-        ("x := v", "x := w"),
-        ("x := 0", "x := v"),
-        ("x := v", "y := v"),
-        ("x := v", "v := v"),
-        // Calls.
-        ("X$Assign(6)", "X$Value()"),
-        ("X$Assign(6)", "X$Assign()"),
-        ("X$Assign(6)", "X$Get()"),
-        ("X$Assign(6)", "X$Value(6)"),
-        ("WriteLine(X$Value())", "WriteLine(X$Assign())"),
-    ] {
-        assert!(rt; !is_small_with(rt.alloc(), old, new)?, "{new}");
+// WriteLine ( 1 + 1 + .. + 1 ) ; with so many links
+fn long_sum(alloc: Global, count: u32) -> Result<Vec<Statement>, NoMemory> {
+    let mut links = Vec::new(alloc);
+    for _ in 0..count {
+        links.push(Link {
+            operator: Operator::Add,
+            right: number(1),
+        })?;
     }
-    assert!(rt; read_small(rt.alloc(), b"")?.is_none());
-    let mut bad = ONE.as_bytes().to_vec(rt.alloc())?;
-    bad.extend_from_slice(b"# \xff")?;
-    assert!(rt;
-        read_small(rt.alloc(), bad.as_slice())?.is_none(),
-        "a bad byte in a comment"
-    );
-    Ok(())
+    let sum = Expression::Chain {
+        first: Box::new(alloc, number(1))?,
+        links,
+    };
+    let written = Statement::WriteLine {
+        at: AT,
+        arguments: vec![in alloc; sum]?,
+    };
+    Ok(vec![in alloc; written]?)
 }
 
 #[test]
-fn large_texts(rt: HostRuntime) -> Result<(), Fail> {
-    for byte in [b'(', b'a', b'9', b'\n', b'#', b':'] {
-        let text = vec![in rt.alloc(); byte; 1_000_000]?;
-        assert!(rt; read_small(rt.alloc(), text.as_slice())?.is_none());
-    }
-    let mut calls = String::new(rt.alloc());
-    for _ in 0..20_000 {
-        calls.push_str("WriteLine(X$Value()); X$Assign(6);")?;
-    }
-    let text = ONE.replace(rt.alloc(), "X$Assign(6);", calls.as_str())?;
-    assert!(rt; read_small(rt.alloc(), text.as_bytes())?.is_some());
+fn a_sum_of_100000_terms_prints(rt: HostRuntime) -> Result<(), Fail> {
+    let unit = main_unit(rt.alloc(), long_sum(rt.alloc(), 99_999)?)?;
+    let text = print_tree(rt.alloc(), &unit)?;
+    let around = "process OrcaMain ( ) ; begin WriteLine ( 1 ) ; end ;\n".len();
+    assert_eq!(rt; text.len(), around + 4 * 99_999);
     Ok(())
 }

@@ -1,0 +1,9 @@
+use Rattle.std.proofs.Common.{◌∙◌}
+use Rattle.orca_lexer.specs.Rules.{message_of}
+use Rattle.orca_cli.specs.Front as front
+use Rattle.orca_cli.proofs.FrontLemmas.{said_reads, message_is}
+use Rattle.orca_cli.proofs.front.lexical.Goals as goal
+
+pub returns : goal.returns
+returns c = λ text h.
+    said_reads text (message_of c.args.error.rule) c.args.error.at c.message-text.result c.said.result (front.lexical c.args.error h) (message_is c.message-text.result _ _ c.message-text.ensures c.message.ensures) c.said.ensures.said c.said.ensures.lacking

@@ -1,0 +1,19 @@
+use Rattle.std.specs.Prelude.{◌++◌, slice_range, codes}
+use Rattle.orca_cli.proofs.FrontLemmas.{said_reads, message_is, of_token, of_end, syntactic_slice}
+use Rattle.orca_cli.proofs.front.syntactic.Goals as goal
+
+pub unexpected-words-requires-clause-start : goal.unexpected-words-requires-clause-start
+unexpected-words-requires-clause-start c =
+    (syntactic_slice c.args.text.now _ _ (rw (c.in-Syntax-default-Token.is, c.in-Syntax-default-Token.found-is) at c.requires)).0
+
+pub unexpected-words-requires-clause-end : goal.unexpected-words-requires-clause-end
+unexpected-words-requires-clause-end c =
+    (syntactic_slice c.args.text.now _ _ (rw (c.in-Syntax-default-Token.is, c.in-Syntax-default-Token.found-is) at c.requires)).1
+
+pub returns-in-Syntax-default-Token : goal.returns-in-Syntax-default-Token
+returns-in-Syntax-default-Token c =
+    said_reads c.args.text.now _ _ c.unexpected-words.result _ (of_token c.args.text.now _ _ (rw (c.in-Syntax-default-Token.is, c.in-Syntax-default-Token.found-is) at c.requires)) c.unexpected-words.ensures c.said.ensures.said c.said.ensures.lacking
+
+pub returns-in-Syntax-default-End : goal.returns-in-Syntax-default-End
+returns-in-Syntax-default-End c =
+    said_reads c.args.text.now _ _ c.message-words.result _ (of_end c.args.text.now _ (rw (c.in-Syntax-default-End.is, c.in-Syntax-default-End.found-is) at c.requires)) c.message-words.ensures c.said-in-Syntax-default-End.ensures.said c.said-in-Syntax-default-End.ensures.lacking

@@ -1,0 +1,65 @@
+-- What the front end says of a text: the small program that it is, or why it is none (docs/FORMATS.md, Refusals).
+use Rattle.std.specs.Prelude.{◌≡◌, ℕ, List, [], ◌∷◌, ◌++◌, Result, Ok, Err, slice_range, codes}
+use Rattle.orca_base.specs.declared.place.Place.{Place}
+use Rattle.orca_lexer.specs.declared.error.LexError.{LexError}
+use Rattle.orca_lexer.specs.declared.token.Token.{Token}
+use Rattle.orca_lexer.specs.Refusal as lexer
+use Rattle.orca_lexer.specs.Rules.{message_of}
+use Rattle.orca_lexer.specs.Tokens.{Tokens}
+use Rattle.orca_grammar.specs.Grammar.{IsText, IsUnexpected, IsTooNested}
+use Rattle.orca_tree.specs.declared.tree.Unit.{Unit as UnitTree}
+use Rattle.orca_tree.specs.Marks.{unit as unit_marks}
+use Rattle.parse_units.specs.declared.refusal.ParseError.{ParseError}
+use Rattle.parse_units.specs.Refused.{end_of_text, IsRefusal}
+use Rattle.small_program.specs.declared.tree.SmallProgram.{SmallProgram}
+use Rattle.small_program.specs.Scope.{IsSmall}
+use Rattle.orca_cli.specs.declared.front.FrontFault.{FrontFault}
+use Rattle.orca_cli.specs.declared.front.FrontFault.TheVariants.{Refused, TooNested, NotYet, NoMemory}
+
+-- the text is that of this small program: its tokens are a unit, and that is the program
+pub record IsProgram (text : List ℕ) (p : SmallProgram) : Type 0 where
+  pub tokens : List Token
+  pub unit : UnitTree
+  pub has : Tokens text tokens
+  pub parsed : IsText (unit_marks unit) tokens
+  pub small : IsSmall unit p
+
+-- why a text is refused, the place, and what is said of it
+pub data IsRefused (text : List ℕ) : Place → List ℕ → Type 0 where
+  -- it has no tokens
+  lexical : (error : LexError) → lexer.IsRefusal text error → IsRefused text error.at (message_of error.rule)
+  -- a token with which no unit goes on
+  token : (tokens front rest : List Token) (t : Token) → Tokens text tokens → IsUnexpected tokens front (t ∷ rest) → IsRefused text t.at (codes "unexpected '" ++ (slice_range text t.start t.end ++ codes "'"))
+  -- the text's end, where no unit ends
+  end : (tokens front : List Token) → Tokens text tokens → IsUnexpected tokens front [] → IsRefused text (end_of_text tokens) (codes "unexpected end of text")
+
+-- a token of the text stands in more than 64 nested phrases
+pub record IsTooDeep (text : List ℕ) : Type 0 where
+  pub tokens : List Token
+  pub front : List Token
+  pub token : Token
+  pub rest : List Token
+  pub has : Tokens text tokens
+  pub nested : IsTooNested tokens front token rest
+
+-- the text is a unit, and no small program
+pub record IsNotSmall (text : List ℕ) : Type 0 where
+  pub tokens : List Token
+  pub unit : UnitTree
+  pub has : Tokens text tokens
+  pub parsed : IsText (unit_marks unit) tokens
+  pub none : (p : SmallProgram) → IsSmall unit p → ⊥
+
+-- what was read of a text, or why nothing was
+abbrev pub Reads : List ℕ → Result SmallProgram FrontFault → Type 0
+Reads text (Ok p) = IsProgram text p
+Reads text (Err (Refused at words)) = IsRefused text at words.items
+Reads text (Err TooNested) = IsTooDeep text
+Reads text (Err NotYet) = IsNotSmall text
+Reads text (Err NoMemory) = Unit {0}
+
+-- the text has tokens, and they are no unit for this reason
+pub record IsSyntactic (text : List ℕ) (error : ParseError) : Type 0 where
+  pub tokens : List Token
+  pub has : Tokens text tokens
+  pub refused : IsRefusal tokens error

@@ -1,0 +1,5 @@
+pub mod Loops
+pub mod Decisions
+pub mod ArmLemmas
+pub mod Texts
+pub mod RoundTrips

@@ -1,0 +1,260 @@
+//! Operations, their heads, and parameters.
+
+ghost use Rattle.std.specs.Prelude.{◌≡◌, ◌∷◌, ◌++◌, [], Ok};
+ghost use Rattle.orca_lexer.specs.declared.token.Symbol.TheVariants.{Semicolon};
+ghost use Rattle.orca_lexer.specs.declared.token.TokenKind.TheVariants.{Sign};
+ghost use Rattle.orca_grammar.specs.Grammar.{read};
+ghost use Rattle.orca_grammar.specs.Rules as rules;
+ghost use Rattle.orca_tree.specs.Marks as marks;
+ghost use Rattle.orca_tree.specs.Marks.{word};
+ghost use Rattle.std.specs.List.{flat_map};
+ghost use Rattle.parse_exprs.specs.Gives.{Parses};
+
+use crate::statements::statements;
+use crate::types::{result_type, type_phrase, typed_name, variables};
+use crate::words::comes_name;
+use orca_lexer::{Keyword, Symbol, Token};
+use orca_tree::{Block, Guard, Head, Mode, Operation, OperationBody, Parameter, TypedName};
+use parse_exprs::{Halt, after_key, after_sign, comes_key, expression, key, key_at, name, sign};
+use std::alloc::Global;
+
+// Names with their types, with semicolons between.
+fn some_typed_names(
+    alloc: Global,
+    depth: u32,
+    tokens: &[Token],
+) -> Result<(Vec<TypedName>, &[Token]), Halt<'_>>
+    ensures { Parses (λ ts. marks.typed_names ts.items) result (read depth (rules.listed (rules.sign Semicolon) rules.typed_name) tokens.now) }
+{
+    let (first, mut rest) = typed_name(alloc, depth, tokens)?;
+    let mut parts = vec![in alloc; first]?;
+    'parts: while let Some(after) = after_sign(rest, Symbol::Semicolon) {
+        let (part, next) = typed_name(alloc, depth, after)?;
+        parts.push(part)?;
+        rest = next;
+    }
+    Ok((parts, rest))
+}
+
+/// Names with their types, with semicolons between, or none.
+#[tactic(auto, unfolding(orca_grammar::specs::Rules::typed_names, orca_grammar::specs::Rules::typed_name))]
+pub fn typed_names(
+    alloc: Global,
+    depth: u32,
+    tokens: &[Token],
+) -> Result<(Vec<TypedName>, &[Token]), Halt<'_>>
+    ensures { Parses (λ ts. marks.typed_names ts.items) result (read depth rules.typed_names tokens.now) }
+{
+    if !comes_name(tokens) {
+        return Ok((Vec::new(alloc), tokens));
+    }
+    some_typed_names(alloc, depth, tokens)
+}
+
+/// The head of an operation.
+#[tactic(auto, unfolding(orca_grammar::specs::Rules::head))]
+pub fn head(alloc: Global, depth: u32, tokens: &[Token]) -> Result<(Head, &[Token]), Halt<'_>>
+    ensures { Parses marks.head result (read depth rules.head tokens.now) }
+{
+    let (at, rest) = key_at(tokens, Keyword::KeyOperation)?;
+    let (name, rest) = name(alloc, rest)?;
+    let rest = sign(rest, Symbol::Opens)?;
+    let (parameters, rest) = typed_names(alloc, depth, rest)?;
+    let rest = sign(rest, Symbol::Closes)?;
+    let (kind, rest) = result_type(alloc, depth, rest)?;
+    Ok((
+        Head {
+            at,
+            name,
+            parameters,
+            result: kind,
+        },
+        rest,
+    ))
+}
+
+// How a parameter is passed.
+#[tactic(auto, unfolding(orca_grammar::specs::Rules::mode))]
+fn mode(tokens: &[Token]) -> (Mode, &[Token])
+    ensures { read 0 rules.mode tokens.now ≡ Ok (marks.mode result.0, result.1.now) }
+{
+    if let Some(rest) = after_key(tokens, Keyword::KeyShared) {
+        return (Mode::Shared, rest);
+    }
+    if let Some(rest) = after_key(tokens, Keyword::KeyOut) {
+        return (Mode::Out, rest);
+    }
+    (Mode::Value, tokens)
+}
+
+#[tactic(auto, unfolding(orca_grammar::specs::Rules::parameter, orca_grammar::specs::Rules::mode))]
+fn parameter(alloc: Global, depth: u32, tokens: &[Token]) -> Result<(Parameter, &[Token]), Halt<'_>>
+    ensures { Parses marks.parameter result (read depth rules.parameter tokens.now) }
+{
+    let (name, rest) = name(alloc, tokens)?;
+    let rest = sign(rest, Symbol::Colon)?;
+    let (mode, rest) = mode(rest);
+    let (kind, rest) = type_phrase(alloc, depth, rest)?;
+    Ok((Parameter { name, mode, kind }, rest))
+}
+
+// Parameters with semicolons between.
+fn some_parameters(
+    alloc: Global,
+    depth: u32,
+    tokens: &[Token],
+) -> Result<(Vec<Parameter>, &[Token]), Halt<'_>>
+    ensures { Parses (λ ps. marks.parameters ps.items) result (read depth (rules.listed (rules.sign Semicolon) rules.parameter) tokens.now) }
+{
+    let (first, mut rest) = parameter(alloc, depth, tokens)?;
+    let mut parts = vec![in alloc; first]?;
+    'parts: while let Some(after) = after_sign(rest, Symbol::Semicolon) {
+        let (part, next) = parameter(alloc, depth, after)?;
+        parts.push(part)?;
+        rest = next;
+    }
+    Ok((parts, rest))
+}
+
+/// Parameters with semicolons between, or none.
+#[tactic(auto, unfolding(orca_grammar::specs::Rules::parameters, orca_grammar::specs::Rules::parameter))]
+pub fn parameters(
+    alloc: Global,
+    depth: u32,
+    tokens: &[Token],
+) -> Result<(Vec<Parameter>, &[Token]), Halt<'_>>
+    ensures { Parses (λ ps. marks.parameters ps.items) result (read depth rules.parameters tokens.now) }
+{
+    if !comes_name(tokens) {
+        return Ok((Vec::new(alloc), tokens));
+    }
+    some_parameters(alloc, depth, tokens)
+}
+
+/// The variables and the statements of a function or a process.
+#[tactic(auto, unfolding(orca_grammar::specs::Rules::block))]
+pub fn block(alloc: Global, depth: u32, tokens: &[Token]) -> Result<(Block, &[Token]), Halt<'_>>
+    ensures { Parses marks.block result (read depth rules.block tokens.now) }
+{
+    let (variables, rest) = variables(alloc, depth, tokens)?;
+    let rest = key(rest, Keyword::KeyBegin)?;
+    let (statements, rest) = statements(alloc, depth, rest)?;
+    let rest = key(rest, Keyword::KeyEnd)?;
+    let rest = sign(rest, Symbol::Semicolon)?;
+    Ok((
+        Block {
+            variables,
+            statements,
+        },
+        rest,
+    ))
+}
+
+#[tactic(auto, unfolding(orca_grammar::specs::Rules::guard))]
+fn guard(alloc: Global, depth: u32, tokens: &[Token]) -> Result<(Guard, &[Token]), Halt<'_>>
+    ensures { Parses marks.guard result (read depth rules.guard tokens.now) }
+{
+    let (at, rest) = key_at(tokens, Keyword::KeyGuard)?;
+    let (test, rest) = expression(alloc, depth, rest)?;
+    let rest = key(rest, Keyword::KeyDo)?;
+    let (body, rest) = statements(alloc, depth, rest)?;
+    let rest = key(rest, Keyword::KeyOd)?;
+    let rest = sign(rest, Symbol::Semicolon)?;
+    Ok((Guard { at, test, body }, rest))
+}
+
+// One guard and those behind it.
+#[tactic(auto, unfolding(orca_grammar::specs::Rules::guards))]
+fn guards(alloc: Global, depth: u32, tokens: &[Token]) -> Result<(Vec<Guard>, &[Token]), Halt<'_>>
+    ensures { Parses (λ gs. flat_map marks.guard gs.items) result (read depth rules.guards tokens.now) }
+{
+    let (first, mut rest) = guard(alloc, depth, tokens)?;
+    let mut parts = vec![in alloc; first]?;
+    'parts: while comes_key(rest, Keyword::KeyGuard) {
+        let (part, after) = guard(alloc, depth, rest)?;
+        parts.push(part)?;
+        rest = after;
+    }
+    Ok((parts, rest))
+}
+
+#[tactic(auto, unfolding(orca_grammar::specs::Rules::operation_body, orca_grammar::specs::Rules::guards, orca_grammar::specs::Rules::guard))]
+fn operation_body(
+    alloc: Global,
+    depth: u32,
+    tokens: &[Token],
+) -> Result<(OperationBody, &[Token]), Halt<'_>>
+    ensures { Parses marks.operation_body result (read depth rules.operation_body tokens.now) }
+{
+    if comes_key(tokens, Keyword::KeyGuard) {
+        let (guards, rest) = guards(alloc, depth, tokens)?;
+        return Ok((OperationBody::Guarded { guards }, rest));
+    }
+    let (statements, rest) = statements(alloc, depth, tokens)?;
+    Ok((OperationBody::Plain { statements }, rest))
+}
+
+#[tactic(auto, unfolding(orca_grammar::specs::Rules::operation))]
+fn operation(alloc: Global, depth: u32, tokens: &[Token]) -> Result<(Operation, &[Token]), Halt<'_>>
+    ensures { Parses marks.operation result (read depth rules.operation tokens.now) }
+{
+    let (head, rest) = head(alloc, depth, tokens)?;
+    let rest = sign(rest, Symbol::Semicolon)?;
+    let (variables, rest) = variables(alloc, depth, rest)?;
+    let rest = key(rest, Keyword::KeyBegin)?;
+    let (body, rest) = operation_body(alloc, depth, rest)?;
+    let rest = key(rest, Keyword::KeyEnd)?;
+    let rest = sign(rest, Symbol::Semicolon)?;
+    Ok((
+        Operation {
+            head,
+            variables,
+            body,
+        },
+        rest,
+    ))
+}
+
+/// Operations, as long as one comes.
+#[tactic(auto, unfolding(orca_grammar::specs::Rules::operations))]
+pub fn operations(
+    alloc: Global,
+    depth: u32,
+    tokens: &[Token],
+) -> Result<(Vec<Operation>, &[Token]), Halt<'_>>
+    ensures { Parses (λ os. flat_map marks.operation os.items) result (read depth rules.operations tokens.now) }
+{
+    let mut parts = Vec::new(alloc);
+    let mut rest = tokens;
+    'parts: while comes_key(rest, Keyword::KeyOperation) {
+        let (part, after) = operation(alloc, depth, rest)?;
+        parts.push(part)?;
+        rest = after;
+    }
+    Ok((parts, rest))
+}
+
+// The head of an operation and the semicolon behind it.
+#[tactic(auto, unfolding(orca_grammar::specs::Rules::head_line))]
+fn head_line(alloc: Global, depth: u32, tokens: &[Token]) -> Result<(Head, &[Token]), Halt<'_>>
+    ensures { Parses (λ h. marks.head h ++ word (Sign Semicolon) ∷ []) result (read depth rules.head_line tokens.now) }
+{
+    let (head, rest) = head(alloc, depth, tokens)?;
+    let rest = sign(rest, Symbol::Semicolon)?;
+    Ok((head, rest))
+}
+
+/// Heads of operations, as long as one comes, each with a semicolon behind it.
+#[tactic(auto, unfolding(orca_grammar::specs::Rules::heads))]
+pub fn heads(alloc: Global, depth: u32, tokens: &[Token]) -> Result<(Vec<Head>, &[Token]), Halt<'_>>
+    ensures { Parses (λ hs. marks.heads hs.items) result (read depth rules.heads tokens.now) }
+{
+    let mut parts = Vec::new(alloc);
+    let mut rest = tokens;
+    'parts: while comes_key(rest, Keyword::KeyOperation) {
+        let (part, after) = head_line(alloc, depth, rest)?;
+        parts.push(part)?;
+        rest = after;
+    }
+    Ok((parts, rest))
+}

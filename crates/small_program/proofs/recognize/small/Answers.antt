@@ -1,0 +1,5 @@
+use Rattle.small_program.proofs.Lengths.{operations_long}
+use Rattle.small_program.proofs.recognize.small.Goals as goal
+
+pub returns-in-Ok-clause-few : goal.returns-in-Ok-clause-few
+returns-in-Ok-clause-few c = operations_long c.args.text.now c.in-Ok.program c.in-Ok.ensures.is
