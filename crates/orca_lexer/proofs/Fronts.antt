@@ -10,8 +10,8 @@ use Rattle.orca_lexer.specs.Tables.{symbol_of}
 use Rattle.orca_lexer.specs.Shapes.{is_numeral, is_quote, is_literal, content_of}
 use Rattle.orca_lexer.specs.Contents.{character_count}
 use Rattle.orca_lexer.specs.declared.parts.Fault.{Fault}
-use Rattle.orca_lexer.specs.Fronts.{IsStrayInside}
-use Rattle.orca_lexer.specs.Tokens.{IsLongest, IsSignStart}
+use Rattle.orca_lexer.specs.Fronts.{IsStrayInside, IsSignStart}
+use Rattle.orca_lexer.specs.Tokens.{IsLongest}
 use Rattle.orca_lexer.specs.Refusal.{IsSenseless, IsFault, NoLexeme}
 use Rattle.orca_lexer.specs.Refusal.IsSenseless.{large, in_char, in_string}
 use Rattle.orca_lexer.specs.Refusal.IsFault.{senseless, stray}

@@ -3,7 +3,7 @@ use Rattle.std.proofs.Common.{◌≡◌, ℕ, suc, ◌-◌, ◌+◌, ◌<◌, �
 use Rattle.std.specs.Prelude.{slice_range, is_some, ◌==◌, ◌^◌, nat_lt, nat_le, decimal}
 use Rattle.std.specs.Fmt.{signed_decimal}
 use Rattle.std.specs.Char.{is_ascii_alphabetic, is_ascii_digit, digit_value}
-use Rattle.std.specs.List.{AllByRecursion, list_all, flat_map}
+use Rattle.std.specs.List.{AllByRecursion, list_all, flat_map, join_with_byte}
 use Rattle.std.specs.Str.{IsAscii}
 use Rattle.std.specs.Str.Parse.{AllDigits}
 use Rattle.std.proofs.lemmas.Bool.{and_parts, and_from, or_cases, or_parts, eqb-true, eq-eqb, ltb-true, not-true}
@@ -21,8 +21,8 @@ use Rattle.orca_lexer.specs.Tables.{symbols, symbol_of}
 use Rattle.orca_lexer.specs.Shapes.{is_name_byte, is_word, is_numeral, is_quote, is_literal, is_last, is_lexeme, content_len, content_of}
 use Rattle.orca_lexer.specs.Contents.{escape_of, is_plain, first_character, Spells}
 use Rattle.orca_lexer.specs.Tokens.{is_blank, IsLongest, Means, Begins, Follow, Tokens, end_of, after_gap, place_in}
-use Rattle.orca_lexer.specs.Spelling.{keyword_text, symbol_text, character_text, spelling_of, spelled, is_character, IsSound}
-use Rattle.orca_lexer.proofs.Longest.{IsShaped, shaped, not_true, entry_passes, all_seam, word_longest, numeral_longest, sign_longest, no_empty_lexeme}
+use Rattle.orca_lexer.specs.Spelling.{keyword_text, symbol_text, character_text, spelling_of, written, is_character, IsSound}
+use Rattle.orca_lexer.proofs.Longest.{IsShaped, shaped, not_true, entry_passes, all_seam, stops, word_longest, numeral_longest, sign_longest, no_empty_lexeme}
 use Rattle.orca_lexer.proofs.Longest.IsShaped.{a_word, a_numeral, a_sign, a_char, a_string}
 use Rattle.orca_lexer.proofs.LiteralLemmas.{plain_first, escape_first}
 use Rattle.orca_lexer.proofs.Extents.{literal_from, literal_longest}
@@ -77,8 +77,8 @@ written_escape quote d c q escapes no_feed low = record {
   low = rw low refl;
 }
 
-pub written : (quote c : ℕ) → is_quote quote ≡ true → is_character c ≡ true → IsWritten quote c (character_text quote c)
-written quote c q h = sort (c == 10) (c == 9) (c == 92 || c == quote) refl refl refl
+pub character_written : (quote c : ℕ) → is_quote quote ≡ true → is_character c ≡ true → IsWritten quote c (character_text quote c)
+character_written quote c q h = sort (c == 10) (c == 9) (c == 92 || c == quote) refl refl refl
   where
     by_print : (c == 10) ≡ false → (c == 9) ≡ false → ((nat_le 32 c && nat_le c 126) ≡ true) ⊎ ((c == 10 || c == 9) ≡ true) → (nat_le 32 c && nat_le c 126) ≡ true
     by_print e f (inl printable) = printable
@@ -120,7 +120,7 @@ content_written : (quote : ℕ) (codes : List ℕ) → is_quote quote ≡ true �
 content_written quote [] q all = record { spells = refl; extent = closing quote q; low = refl }
 content_written quote (c ∷ codes) q all =
     let parts = and_parts (is_character c) (list_all is_character codes) all in
-    let here = written quote c q parts.0 in
+    let here = character_written quote c q parts.0 in
     let others = content_written quote codes q parts.1 in
     let text = character_text quote c in
     let rest = flat_map (character_text quote) codes in
@@ -147,8 +147,13 @@ quoted quote codes content q inside = record {
 
 -- ---- a token of each kind
 
+-- a text that begins with a blank
+abbrev pub begins_blank : List ℕ → Bool
+begins_blank [] = false
+begins_blank (c ∷ cs) = is_blank c
+
 pub record IsSpelled (kind : TokenKind) (word : List ℕ) : Type 0 where
-  pub longest : (rest : List ℕ) → IsLongest word (32 ∷ rest)
+  pub longest : (rest : List ℕ) → begins_blank rest ≡ true → IsLongest word rest
   pub means : Means word kind
   pub low : list_all (λ d. nat_lt d 128) word ≡ true
 
@@ -182,6 +187,21 @@ numeral_from_digits : (cs : List ℕ) → 0 < length cs → list_all is_ascii_di
 numeral_from_digits [] some h = absurd (omega arith)
 numeral_from_digits (c ∷ cs) some h = h
 
+-- a blank ends a word and a numeral
+blank_no_name : (c : ℕ) → is_blank c ≡ true → is_name_byte c ≡ false
+blank_no_name c h = grind (arith, nat_tests)
+
+ends_word : (rest : List ℕ) → begins_blank rest ≡ true → stops is_name_byte rest ≡ true
+ends_word [] h = absurd cc
+ends_word (c ∷ cs) h = let no = blank_no_name c h in rw no refl
+
+blank_no_digit : (c : ℕ) → is_blank c ≡ true → is_ascii_digit c ≡ false
+blank_no_digit c h = grind (arith, nat_tests)
+
+ends_numeral : (rest : List ℕ) → begins_blank rest ≡ true → stops is_ascii_digit rest ≡ true
+ends_numeral [] h = absurd cc
+ends_numeral (c ∷ cs) h = let no = blank_no_digit c h in rw no refl
+
 decimal_spelled : (n : ℕ) → n < 2 ^ 63 → IsSpelled (Number (pos n)) (decimal n)
 decimal_spelled n below =
     let numeral = decimal_is_IsNumeral n (omega arith) in
@@ -189,47 +209,46 @@ decimal_spelled n below =
     let is = numeral_from_digits (decimal n) numeral.0.0 digits in
     let value = numeral.1 in
     record {
-      longest = λ rest. numeral_longest (decimal n) (32 ∷ rest) is refl;
+      longest = λ rest blank. numeral_longest (decimal n) rest is (ends_numeral rest blank);
       means = (is, rw value below, ap pos (sym value));
       low = all_low is_ascii_digit digit_low (decimal n) digits;
     }
 
--- no symbol has a space
-no_space : (word : List ℕ) → is_some (symbol_of word) ≡ true → list_all (λ c. not (c == 32)) word ≡ true
+-- no symbol has a blank
+no_blank : (word : List ℕ) → is_some (symbol_of word) ≡ true → list_all (λ c. not (is_blank c)) word ≡ true
 unfolding symbol_of
-no_space word found = entry_passes (list_all (λ c. not (c == 32))) symbols word refl found
+no_blank word found = entry_passes (list_all (λ c. not (is_blank c))) symbols word refl found
 
 sign_spelled : (s : Symbol) → IsSpelled (Sign s) (symbol_text s)
 sign_spelled s = record {
-  longest = λ rest. sign_longest (symbol_text s) (32 ∷ rest) (ap is_some (symbol_back s)) (no_more rest);
+  longest = λ rest blank. sign_longest (symbol_text s) rest (ap is_some (symbol_back s)) (no_more rest blank);
   means = symbol_back s;
   low = symbol_low s;
 }
   where
-    no_more : (rest : List ℕ) (d : ℕ) (m : List ℕ) → 32 ∷ rest ≡ d ∷ m → is_some (symbol_of (symbol_text s ++ d ∷ [])) ≡ true → ⊥
-    no_more rest d m e found =
-        let same : 32 ≡ d = cc in
-        let space = all_seam (λ c. not (c == 32)) (symbol_text s) d [] (no_space (symbol_text s ++ d ∷ []) found) in
-        not_true (d == 32) space (eq-eqb d 32 (sym same))
+    no_more : (rest : List ℕ) → begins_blank rest ≡ true → (d : ℕ) (m : List ℕ) → rest ≡ d ∷ m → is_some (symbol_of (symbol_text s ++ d ∷ [])) ≡ true → ⊥
+    no_more rest blank d m e found =
+        let at : is_blank d ≡ true = subst (λ (l : List ℕ). begins_blank l ≡ true) e blank in
+        not_true (is_blank d) (all_seam (λ c. not (is_blank c)) (symbol_text s) d [] (no_blank (symbol_text s ++ d ∷ []) found)) at
 
 pub sound_spelled : (kind : TokenKind) → IsSound kind → IsSpelled kind (spelling_of kind)
-sound_spelled (Name name) sound = record { longest = λ rest. word_longest name (32 ∷ rest) sound.0 refl; means = (sound.0, sound.1, refl); low = word_low name sound.0 }
+sound_spelled (Name name) sound = record { longest = λ rest blank. word_longest name rest sound.0 (ends_word rest blank); means = (sound.0, sound.1, refl); low = word_low name sound.0 }
 sound_spelled (Number value) sound = subst (λ v. IsSpelled (Number v) (signed_decimal v)) (sym sound.2) (decimal_spelled sound.0 sound.1)
 sound_spelled (Char code) sound =
-    let inside = written 39 code refl sound in
+    let inside = character_written 39 code refl sound in
     let content : IsContent 39 (code ∷ []) (character_text 39 code) = record {
       spells = ([], subst (λ (l : List ℕ). first_character 39 l ≡ Some (code, [])) (append-nil (character_text 39 code)) (inside.first []), refl);
       extent = inside.extent (39 ∷ []) 0 refl ∙ ap (λ (k : ℕ). Some k) (let e : length (character_text 39 code) + 0 ≡ length (character_text 39 code) = omega arith in e);
       low = inside.low;
     } in
     let word = quoted 39 (code ∷ []) (character_text 39 code) refl content in
-    record { longest = λ rest. literal_longest 39 _ (32 ∷ rest) refl word.literal; means = (word.literal, word.spells); low = word.low }
+    record { longest = λ rest blank. literal_longest 39 _ rest refl word.literal; means = (word.literal, word.spells); low = word.low }
 sound_spelled (Text text) sound =
     let word = quoted 34 text (flat_map (character_text 34) text) refl (content_written 34 text refl sound) in
-    record { longest = λ rest. literal_longest 34 _ (32 ∷ rest) refl word.literal; means = (word.literal, word.spells); low = word.low }
+    record { longest = λ rest blank. literal_longest 34 _ rest refl word.literal; means = (word.literal, word.spells); low = word.low }
 sound_spelled (Key keyword) sound =
     let word = keyword_word keyword in
-    record { longest = λ rest. word_longest (keyword_text keyword) (32 ∷ rest) word refl; means = (word, keyword_back keyword); low = word_low (keyword_text keyword) word }
+    record { longest = λ rest blank. word_longest (keyword_text keyword) rest word (ends_word rest blank); means = (word, keyword_back keyword); low = word_low (keyword_text keyword) word }
 sound_spelled (Sign symbol) sound = sign_spelled symbol
 
 -- ---- all of them
@@ -271,21 +290,35 @@ no_gap (c ∷ cs) rest l =
     let none = or_parts (is_blank c) (c == 35) (lexeme_no_gap c cs l) in
     rw (none.0, none.1) refl
 
--- the same text by recursion
+-- what is behind a token, and the same text by recursion
+abbrev behind_of : List TokenKind → List ℕ
+behind_of [] = 10 ∷ []
+behind_of (kind ∷ kinds) = 32 ∷ (spelling_of kind ++ behind_of kinds)
+
+behind_blank : (kinds : List TokenKind) → begins_blank (behind_of kinds) ≡ true
+behind_blank [] = refl
+behind_blank (kind ∷ kinds) = refl
+
 abbrev text_of : List TokenKind → List ℕ
 text_of [] = 10 ∷ []
-text_of (kind ∷ kinds) = spelling_of kind ++ 32 ∷ text_of kinds
+text_of (kind ∷ kinds) = spelling_of kind ++ behind_of kinds
 
-text_is : (kinds : List TokenKind) → spelled kinds ≡ text_of kinds
+joined_is : (kind : TokenKind) (kinds : List TokenKind) → written (kind ∷ kinds) ≡ text_of (kind ∷ kinds)
+joined_is kind [] = refl
+joined_is kind (next ∷ kinds) =
+    append_assoc (spelling_of kind) (32 ∷ join_with_byte 32 (map spelling_of (next ∷ kinds))) (10 ∷ []) ∙ ap (λ (l : List ℕ). spelling_of kind ++ 32 ∷ l) (joined_is next kinds)
+
+text_is : (kinds : List TokenKind) → written kinds ≡ text_of kinds
 text_is [] = refl
-text_is (kind ∷ kinds) =
-    let word = spelling_of kind in
-    let others = flat_map (λ k. spelling_of k ++ 32 ∷ []) kinds in
-    append_assoc (word ++ 32 ∷ []) others (10 ∷ []) ∙ append_assoc word (32 ∷ []) (others ++ 10 ∷ []) ∙ ap (λ (l : List ℕ). word ++ 32 ∷ l) (text_is kinds)
+text_is (kind ∷ kinds) = joined_is kind kinds
+
+behind_low : (kinds : List TokenKind) → AllByRecursion IsSound kinds → list_all (λ d. nat_lt d 128) (behind_of kinds) ≡ true
+behind_low [] sound = refl
+behind_low (kind ∷ kinds) sound = list_all-append (λ d. nat_lt d 128) (spelling_of kind) (behind_of kinds) ∙ and_from _ _ (sound_spelled kind sound.0).low (behind_low kinds sound.1)
 
 text_low : (kinds : List TokenKind) → AllByRecursion IsSound kinds → list_all (λ d. nat_lt d 128) (text_of kinds) ≡ true
 text_low [] sound = refl
-text_low (kind ∷ kinds) sound = list_all-append (λ d. nat_lt d 128) (spelling_of kind) (32 ∷ text_of kinds) ∙ and_from _ _ (sound_spelled kind sound.0).low (text_low kinds sound.1)
+text_low (kind ∷ kinds) sound = behind_low (kind ∷ kinds) sound
 
 ascii_from_low : (bytes : List ℕ) → list_all (λ d. nat_lt d 128) bytes ≡ true → IsAscii bytes
 ascii_from_low [] h = IsAscii-nil
@@ -312,12 +345,12 @@ next_token text from lead kind =
     let start = from + length (lead_of lead) in
     record { kind = kind; start = start; end = start + length (spelling_of kind); at = place_in text start }
 
-is_next : (text : List ℕ) (from : ℕ) (lead : Bool) (kind : TokenKind) (rest : List ℕ) → IsSound kind → from ≤ length text → drop from text ≡ lead_of lead ++ (spelling_of kind ++ 32 ∷ rest) → IsNext text from (next_token text from lead kind) (32 ∷ rest)
-is_next text from lead kind rest sound within e = record {
+is_next : (text : List ℕ) (from : ℕ) (lead : Bool) (kind : TokenKind) (rest : List ℕ) → IsSound kind → from ≤ length text → drop from text ≡ lead_of lead ++ (spelling_of kind ++ rest) → begins_blank rest ≡ true → IsNext text from (next_token text from lead kind) rest
+is_next text from lead kind rest sound within e blank = record {
   begins = record {
-    gap = at_start ∙ sym (no_gap word (32 ∷ rest) (spelled_as.longest rest).lexeme) ∙ sym (ap after_gap e ∙ by_lead lead);
-    within = omega (arith, ap length e, length-append (lead_of lead) (word ++ 32 ∷ rest), length-append word (32 ∷ rest), length-drop from text);
-    longest = rw (slice, behind) (spelled_as.longest rest);
+    gap = at_start ∙ sym (no_gap word rest (spelled_as.longest rest blank).lexeme) ∙ sym (ap after_gap e ∙ by_lead lead);
+    within = omega (arith, ap length e, length-append (lead_of lead) (word ++ rest), length-append word rest, length-drop from text);
+    longest = rw (slice, behind) (spelled_as.longest rest blank);
     means = rw slice spelled_as.means;
     place = refl;
   };
@@ -333,33 +366,43 @@ is_next text from lead kind rest sound within e = record {
     start : ℕ
     start = from + length (lead_of lead)
 
-    by_lead : (b : Bool) → after_gap (lead_of b ++ (word ++ 32 ∷ rest)) ≡ after_gap (word ++ 32 ∷ rest)
+    by_lead : (b : Bool) → after_gap (lead_of b ++ (word ++ rest)) ≡ after_gap (word ++ rest)
     by_lead true = refl
     by_lead false = refl
 
-    at_start : drop start text ≡ word ++ 32 ∷ rest
-    at_start = sym (drop-drop (length (lead_of lead)) from text) ∙ ap (drop (length (lead_of lead))) e ∙ drop_at (lead_of lead) (word ++ 32 ∷ rest) (length (lead_of lead)) refl
+    at_start : drop start text ≡ word ++ rest
+    at_start = sym (drop-drop (length (lead_of lead)) from text) ∙ ap (drop (length (lead_of lead))) e ∙ drop_at (lead_of lead) (word ++ rest) (length (lead_of lead)) refl
 
     len : start + length word - start ≡ length word
     len = omega arith
 
     slice : slice_range text start (start + length word) ≡ word
-    slice = (λ i. take (len i) (at_start i)) ∙ take_at word (32 ∷ rest) (length word) refl
+    slice = (λ i. take (len i) (at_start i)) ∙ take_at word rest (length word) refl
 
-    behind : drop (start + length word) text ≡ 32 ∷ rest
-    behind = sym (drop-drop (length word) start text) ∙ ap (drop (length word)) at_start ∙ drop_at word (32 ∷ rest) (length word) refl
+    behind : drop (start + length word) text ≡ rest
+    behind = sym (drop-drop (length word) start text) ∙ ap (drop (length word)) at_start ∙ drop_at word rest (length word) refl
 
-reads_from : (text : List ℕ) (from : ℕ) (lead : Bool) (kinds : List TokenKind) → AllByRecursion IsSound kinds → from ≤ length text → drop from text ≡ lead_of lead ++ text_of kinds → AreReadFrom text from kinds
-reads_from text from lead [] sound within left = record { tokens = []; follow = tt; over = ap after_gap left ∙ by_lead lead; kinds_are = refl }
-  where
-    by_lead : (b : Bool) → after_gap (lead_of b ++ 10 ∷ []) ≡ []
-    by_lead true = refl
-    by_lead false = refl
-reads_from text from lead (kind ∷ kinds) sound within left =
-    let next = is_next text from lead kind (text_of kinds) sound.0 within left in
-    let others = reads_from text (next_token text from lead kind).end true kinds sound.1 next.begins.within next.left in
+-- behind a token
+reads_behind : (text : List ℕ) (from : ℕ) (kinds : List TokenKind) → AllByRecursion IsSound kinds → from ≤ length text → drop from text ≡ behind_of kinds → AreReadFrom text from kinds
+reads_behind text from [] sound within left = record { tokens = []; follow = tt; over = ap after_gap left; kinds_are = refl }
+reads_behind text from (kind ∷ kinds) sound within left =
+    let next = is_next text from true kind (behind_of kinds) sound.0 within left (behind_blank kinds) in
+    let others = reads_behind text (next_token text from true kind).end kinds sound.1 next.begins.within next.left in
     record {
-      tokens = next_token text from lead kind ∷ others.tokens;
+      tokens = next_token text from true kind ∷ others.tokens;
+      follow = (next.begins, others.follow);
+      over = others.over;
+      kinds_are = λ i. kind ∷ others.kinds_are i;
+    }
+
+reads_text : (kinds : List TokenKind) → AllByRecursion IsSound kinds → AreReadFrom (text_of kinds) 0 kinds
+reads_text [] sound = record { tokens = []; follow = tt; over = refl; kinds_are = refl }
+reads_text (kind ∷ kinds) sound =
+    let text = text_of (kind ∷ kinds) in
+    let next = is_next text 0 false kind (behind_of kinds) sound.0 (omega arith) refl (behind_blank kinds) in
+    let others = reads_behind text (next_token text 0 false kind).end kinds sound.1 next.begins.within next.left in
+    record {
+      tokens = next_token text 0 false kind ∷ others.tokens;
       follow = (next.begins, others.follow);
       over = others.over;
       kinds_are = λ i. kind ∷ others.kinds_are i;
@@ -368,7 +411,7 @@ reads_from text from lead (kind ∷ kinds) sound within left =
 -- the text of sound kinds has tokens of exactly these kinds
 pub record IsReadBack (kinds : List TokenKind) : Type 0 where
   pub tokens : List Token
-  pub are : Tokens (spelled kinds) tokens
+  pub are : Tokens (written kinds) tokens
   pub kinds_are : map (λ token. token.kind) tokens ≡ kinds
 
 pub reads_back : (kinds : List TokenKind) → AllByRecursion IsSound kinds → IsReadBack kinds
@@ -379,4 +422,4 @@ reads_back kinds sound = record {
 }
   where
     found : AreReadFrom (text_of kinds) 0 kinds
-    found = reads_from (text_of kinds) 0 false kinds sound (omega arith) refl
+    found = reads_text kinds sound

@@ -1,5 +1,6 @@
 -- What the parts of the lexer answer.
-use Rattle.std.specs.Prelude.{◌≡◌, ℕ, ◌+◌, ◌≤◌, true, List, length, take, drop}
+use Rattle.std.specs.Prelude.{◌≡◌, ℕ, ◌+◌, ◌≤◌, true, false, List, [], ◌∷◌, length, take, drop}
+use Rattle.std.specs.Char.{is_ascii_alphabetic, is_ascii_digit}
 use Rattle.std.specs.Str.{IsUtf8}
 use Rattle.orca_lexer.specs.declared.error.LexRule.TheVariants.{StrayCharacter}
 use Rattle.orca_lexer.specs.declared.parts.Fault.{Fault}
@@ -7,6 +8,11 @@ use Rattle.orca_lexer.specs.declared.token.TokenKind.{TokenKind}
 use Rattle.orca_lexer.specs.Shapes.{is_quote, is_literal}
 use Rattle.orca_lexer.specs.Tokens.{IsLongest, IsStart, Means}
 use Rattle.orca_lexer.specs.Refusal.{IsWrongBehind, NoLexeme, IsFirstBadByte}
+
+-- a text begins with a byte that is no letter, no digit and no quote
+abbrev pub IsSignStart : List ℕ → Type 0
+IsSignStart [] = ⊥
+IsSignStart (c ∷ cs) = (is_ascii_alphabetic c ≡ false) × (is_ascii_digit c ≡ false) × (is_quote c ≡ false)
 
 -- the first bytes of a text, so many, are its longest lexeme, and stand for this
 pub record IsFront (text : List ℕ) (kind : TokenKind) (len : ℕ) : Type 0 where

@@ -1,7 +1,7 @@
 -- How tokens are written, so that they are read back.
-use Rattle.std.specs.Prelude.{◌≡◌, ℕ, ◌^◌, ◌<◌, Bool, true, ◌||◌, ◌&&◌, ◌==◌, nat_le, List, [], ◌∷◌, ◌++◌, None, if◌then◌else◌, pos, codes}
+use Rattle.std.specs.Prelude.{◌≡◌, ℕ, ◌^◌, ◌<◌, Bool, true, ◌||◌, ◌&&◌, ◌==◌, nat_le, List, [], ◌∷◌, ◌++◌, None, if◌then◌else◌, map, pos, codes}
 use Rattle.std.specs.Fmt.{signed_decimal}
-use Rattle.std.specs.List.{flat_map, list_all}
+use Rattle.std.specs.List.{flat_map, join_with_byte, list_all}
 use Rattle.orca_lexer.specs.declared.token.Keyword.{Keyword}
 use Rattle.orca_lexer.specs.declared.token.Keyword.TheVariants.{KeyAnd, KeyArray, KeyBag, KeyBegin, KeyBoolean, KeyChar, KeyConst, KeyDelete, KeyDo, KeyElse, KeyElsif, KeyEnd, KeyEnum, KeyFalse, KeyFi, KeyFor, KeyFork, KeyFrom, KeyFunction, KeyGuard, KeyIf, KeyImplementation, KeyImport, KeyIn, KeyInsert, KeyInteger, KeyModule, KeyNot, KeyObject, KeyOd, KeyOf, KeyOn, KeyOperation, KeyOr, KeyOrd, KeyOut, KeyProcess, KeyRecord, KeyRepeat, KeyReturn, KeySet, KeyShared, KeySize, KeySpecification, KeyString, KeyThen, KeyTrue, KeyType, KeyUntil, KeyWhile, KeyOutput, KeyWriteLine}
 use Rattle.orca_lexer.specs.declared.token.Symbol.{Symbol}
@@ -107,9 +107,9 @@ spelling_of (Text text) = 34 ∷ (flat_map (character_text 34) text ++ 34 ∷ []
 spelling_of (Key keyword) = keyword_text keyword
 spelling_of (Sign symbol) = symbol_text symbol
 
--- tokens one after the other, a space behind each, and a line feed at the end
-abbrev pub spelled : List TokenKind → List ℕ
-spelled kinds = flat_map (λ kind. spelling_of kind ++ 32 ∷ []) kinds ++ 10 ∷ []
+-- tokens one after the other, with one space between two, and a line feed at the end
+abbrev pub written : List TokenKind → List ℕ
+written kinds = join_with_byte 32 (map spelling_of kinds) ++ 10 ∷ []
 
 -- a character that a char or a string may have: one of codes 32 to 126, a line feed or a tab
 abbrev pub is_character : ℕ → Bool

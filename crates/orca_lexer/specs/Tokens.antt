@@ -1,7 +1,6 @@
 -- The tokens of a text (docs/LANGUAGE.md, Tokens): the longest match at each place, over the shapes of lexemes. What a
 -- lexeme stands for is said apart: a numeral that is too large is one lexeme that stands for no token.
-use Rattle.std.specs.Prelude.{◌≡◌, ℕ, ◌+◌, ◌^◌, ◌<◌, ◌≤◌, Bool, true, false, not, ◌||◌, ◌==◌, List, [], ◌∷◌, ◌++◌, length, take, drop, slice_range, Some, None, if◌then◌else◌, pos}
-use Rattle.std.specs.Char.{is_ascii_alphabetic, is_ascii_digit}
+use Rattle.std.specs.Prelude.{◌≡◌, ℕ, ◌+◌, ◌^◌, ◌<◌, ◌≤◌, Bool, true, not, ◌||◌, ◌==◌, List, [], ◌∷◌, ◌++◌, length, take, drop, slice_range, Some, None, if◌then◌else◌, pos}
 use Rattle.std.specs.List.{count_by, suffix_len}
 use Rattle.std.specs.Str.{IsUtf8}
 use Rattle.std.specs.Str.Parse.{digits_value}
@@ -10,7 +9,7 @@ use Rattle.orca_lexer.specs.declared.token.TokenKind.{TokenKind}
 use Rattle.orca_lexer.specs.declared.token.TokenKind.TheVariants.{Name, Number, Char, Text, Key, Sign}
 use Rattle.orca_lexer.specs.declared.token.Token.{Token}
 use Rattle.orca_lexer.specs.Tables.{keyword_of, symbol_of}
-use Rattle.orca_lexer.specs.Shapes.{is_word, is_numeral, is_quote, is_literal, is_lexeme, content_of}
+use Rattle.orca_lexer.specs.Shapes.{is_word, is_numeral, is_literal, is_lexeme, content_of}
 use Rattle.orca_lexer.specs.Contents.{Spells}
 
 -- a space, a tab, a carriage return or a line feed
@@ -81,8 +80,3 @@ pub record Tokens (text : List ℕ) (tokens : List Token) : Type 0 where
 abbrev pub IsStart : (ℕ → Bool) → List ℕ → Type 0
 IsStart p [] = ⊥
 IsStart p (c ∷ cs) = p c ≡ true
-
--- a text begins with a byte that is no letter, no digit and no quote
-abbrev pub IsSignStart : List ℕ → Type 0
-IsSignStart [] = ⊥
-IsSignStart (c ∷ cs) = (is_ascii_alphabetic c ≡ false) × (is_ascii_digit c ≡ false) × (is_quote c ≡ false)

@@ -2,8 +2,7 @@
 
 ghost use Rattle.std.specs.Prelude.{◌≡◌, ◌≤◌, length, take, MatchOption, MatchResult, None, Some};
 ghost use Rattle.orca_lexer.specs.Tables.{symbol_of};
-ghost use Rattle.orca_lexer.specs.Tokens.{IsSignStart};
-ghost use Rattle.orca_lexer.specs.Fronts.{IsFront};
+ghost use Rattle.orca_lexer.specs.Fronts.{IsFront, IsSignStart};
 ghost use Rattle.orca_lexer.specs.Refusal.{IsFault};
 
 use crate::error::LexRule;

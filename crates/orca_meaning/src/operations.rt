@@ -8,7 +8,9 @@ ghost use Rattle.orca_meaning.specs.Operations.{after_assignments, making_of, pl
 
 use crate::process::no_values;
 use orca_base::{KindNo, NoMemory, OpNo, Text};
-use small_program::{Assignment, HeadKind, Opening, Operand, Operation, OperationBody, SmallProgram};
+use small_program::{
+    Assignment, HeadKind, Opening, Operand, Operation, OperationBody, SmallProgram,
+};
 use std::alloc::Global;
 use value_core::{Making, ObjectState, Parts, Reply, Tried, Value};
 

@@ -1,15 +1,14 @@
 -- What the reading of a whole text says of its tokens.
-use Rattle.std.proofs.Common.{◌≡◌, ◌<◌, true, false, List, [], ◌∷◌, length, Result, Ok, Err, refl, sym, ap, ◌∙◌, subst, arith}
-use Rattle.std.specs.Prelude.{◌==◌, IfOk}
+use Rattle.std.proofs.Common.{◌≡◌, ◌<◌, true, false, List, [], ◌∷◌, length, Ok, refl, ap, ◌∙◌, arith}
+use Rattle.std.specs.Prelude.{◌==◌}
 use Rattle.std.proofs.lemmas.Bool.Decides.{nat_tests}
 use Rattle.orca_base.specs.declared.place.Place.{Place}
 use Rattle.orca_lexer.specs.declared.token.Token.{Token}
 use Rattle.orca_grammar.specs.Forms.{Mark}
 use Rattle.orca_grammar.specs.Rules.{unit}
-use Rattle.orca_grammar.specs.Reading.{bad, Unexpected, TooDeep}
-use Rattle.orca_grammar.specs.Grammar.{IsUnexpected, IsTooNested, read}
-use Rattle.orca_grammar.proofs.Whole.{IsWhole, whole, left_behind, unexpected, too_nested}
-use Rattle.parse_units.specs.declared.refusal.ParseError.{ParseError}
+use Rattle.orca_grammar.specs.Reading.{bad, TooDeep}
+use Rattle.orca_grammar.specs.Grammar.{IsUnexpected, read}
+use Rattle.orca_grammar.proofs.Whole.{IsWhole, whole, left_behind, too_nested}
 use Rattle.parse_units.specs.declared.refusal.ParseError.TheVariants.{TooNested}
 use Rattle.parse_units.specs.Refused.{IsRefusal}
 

@@ -1,5 +1,5 @@
 -- Why tokens are no unit: the refusal that a parser answers (docs/LANGUAGE.md, Refusals).
-use Rattle.std.specs.Prelude.{◌≡◌, ℕ, ◌+◌, ◌-◌, ◌≤◌, ◌<◌, ◌^◌, List, [], ◌∷◌}
+use Rattle.std.specs.Prelude.{◌≡◌, ◌+◌, ◌-◌, ◌≤◌, ◌<◌, ◌^◌, List, [], ◌∷◌}
 use Rattle.orca_base.specs.declared.place.Place.{Place}
 use Rattle.orca_lexer.specs.declared.token.Token.{Token}
 use Rattle.orca_grammar.specs.Grammar.{IsUnexpected, IsTooNested}

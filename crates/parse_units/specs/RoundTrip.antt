@@ -1,10 +1,12 @@
--- A unit that is written down is read back, places aside.
-use Rattle.std.specs.Prelude.{◌≡◌, List, None, map}
+-- A unit that is printed is read back, places aside.
+use Rattle.std.specs.Prelude.{◌≡◌, ℕ, List, None}
 use Rattle.orca_lexer.specs.declared.token.Token.{Token}
-use Rattle.orca_grammar.specs.Forms.{first_deep, spelled, unplaced}
+use Rattle.orca_lexer.specs.Tokens.{Tokens}
+use Rattle.orca_grammar.specs.Forms.{first_deep, unplaced}
 use Rattle.orca_grammar.specs.Grammar.{IsText}
 use Rattle.orca_tree.specs.declared.tree.Unit.{Unit as UnitTree}
 use Rattle.orca_tree.specs.Marks.{unit as unit_marks}
+use Rattle.orca_tree.specs.Printing.{printed}
 use Rattle.parse_units.specs.declared.refusal.ParseError.{ParseError}
 use Rattle.parse_units.specs.Refused.{IsRefusal}
 
@@ -13,6 +15,12 @@ pub record AreReadAs (u : UnitTree) (tokens : List Token) : Type 0 where
   pub same : (v : UnitTree) → IsText (unit_marks v) tokens → unplaced (unit_marks v) ≡ unplaced (unit_marks u)
   pub accepted : (cause : ParseError) → IsRefusal tokens cause → ⊥
 
--- what was parsed from some tokens is read from all tokens of the kinds that it is spelled by
+-- the printed text of a unit has tokens, and they are read as the unit
+pub record IsReadBack (u : UnitTree) : Type 0 where
+  pub tokens : List Token
+  pub are : Tokens (printed u) tokens
+  pub read : (others : List Token) → Tokens (printed u) others → AreReadAs u others
+
+-- so it is for a unit that was read from a text
 abbrev pub ReadsBack : UnitTree → Type 0
-ReadsBack u = (tokens : List Token) (others : List Token) → IsText (unit_marks u) tokens → first_deep (unit_marks u) 64 ≡ None → map (λ t. t.kind) others ≡ spelled (unit_marks u) → AreReadAs u others
+ReadsBack u = (text : List ℕ) (tokens : List Token) → Tokens text tokens → IsText (unit_marks u) tokens → first_deep (unit_marks u) 64 ≡ None → IsReadBack u

@@ -53,8 +53,8 @@ pub fn parse(alloc: Global, tokens: &[Token]) -> Result<Unit, Refusal<ParseError
     }
 }
 
-/// The law of the parser: what was parsed from some tokens is read back from all tokens of the kinds that it is spelled by, places
-/// aside.
+/// The law of the parser and of the printer: the text that `print_tree` gives of a unit that was read has tokens, and they are read as
+/// the same unit, places aside.
 pub fn parse_law()
     ensures { (u : UnitTree) → ReadsBack u }
 {}

@@ -1,6 +1,4 @@
-use Rattle.std.proofs.Common.{◌∷◌, ◌++◌, [], length}
-use Rattle.orca_lexer.specs.declared.token.Symbol.TheVariants.{Semicolon}
-use Rattle.orca_lexer.specs.declared.token.TokenKind.TheVariants.{Sign}
+use Rattle.std.proofs.Common.{length}
 use Rattle.orca_grammar.specs.Rules as rules
 use Rattle.orca_grammar.specs.Grammar.{read}
 use Rattle.orca_tree.specs.Marks as marks

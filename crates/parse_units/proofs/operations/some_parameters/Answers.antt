@@ -1,4 +1,3 @@
-use Rattle.std.proofs.Common.{sym, ◌∙◌}
 use Rattle.std.proofs.lemmas.Result.{err_from_is_err_and}
 use Rattle.orca_lexer.specs.declared.token.Symbol.TheVariants.{Semicolon}
 use Rattle.orca_grammar.specs.Forms.{◌⨾◌}

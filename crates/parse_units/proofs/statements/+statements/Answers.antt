@@ -1,4 +1,4 @@
-use Rattle.std.proofs.Common.{◌-◌, ◌<◌, List, Ok, ap, sym, ◌∙◌, arith}
+use Rattle.std.proofs.Common.{List, Ok, ap, sym, ◌∙◌, arith}
 use Rattle.std.proofs.lemmas.Result.{err_from_is_err_and}
 use Rattle.orca_grammar.specs.Forms.{Mark, Statement as StatementPhrase}
 use Rattle.orca_grammar.specs.Reading.{Read}
@@ -8,7 +8,7 @@ use Rattle.orca_tree.specs.declared.tree.Arm.{When}
 use Rattle.orca_tree.specs.Marks as marks
 use Rattle.orca_tree.proofs.Rows.{when_is}
 use Rattle.parse_exprs.proofs.Readings.{nested_none, nested_read}
-use Rattle.parse_units.proofs.Loops.{row_begins, row_more, row_ends, row_stops, shorter}
+use Rattle.parse_units.proofs.Loops.{row_more, row_ends, row_stops, shorter}
 use Rattle.parse_units.proofs.Decisions.{statement_lines_decided, elsif_arms_decided}
 use Rattle.parse_units.proofs.ArmLemmas.{arms_begin, arms_more, arms_end, arms_stop, no_last, last_fails, with_last}
 use Rattle.parse_units.proofs.statements.+statements.Goals as goal

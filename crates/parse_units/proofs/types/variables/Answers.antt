@@ -1,6 +1,6 @@
-use Rattle.std.proofs.Common.{refl, sym, ◌∙◌}
+use Rattle.std.proofs.Common.{sym, ◌∙◌}
 use Rattle.std.proofs.lemmas.Result.{err_from_is_err_and}
-use Rattle.orca_grammar.specs.Rules.{names, variable_line, variables}
+use Rattle.orca_grammar.specs.Rules.{names, variable_line}
 use Rattle.parse_units.proofs.Loops.{row_more, row_ends, row_stops, shorter}
 use Rattle.parse_units.proofs.Decisions.{variable_lines_decided}
 use Rattle.parse_units.proofs.types.variables.Goals as goal

@@ -1,15 +1,12 @@
-use Rattle.std.proofs.Common.{◌∷◌, ◌++◌, [], length}
-use Rattle.orca_lexer.specs.declared.token.Symbol.TheVariants.{Semicolon}
-use Rattle.orca_lexer.specs.declared.token.TokenKind.TheVariants.{Sign}
+use Rattle.std.proofs.Common.{zero, length}
 use Rattle.orca_grammar.specs.Rules as rules
 use Rattle.orca_grammar.specs.Grammar.{read}
 use Rattle.orca_tree.specs.Marks as marks
-use Rattle.orca_tree.specs.Marks.{word}
 use Rattle.parse_units.proofs.Loops.{Row}
 use Rattle.parse_units.proofs.units.imports.Given as goal
 
 abbrev pub invariant-parts : goal.invariant-parts
-invariant-parts l = Row 0 rules.import_line marks.import_line l.parts.items l.rest (read 0 rules.imports l.tokens)
+invariant-parts l = Row zero rules.import_line marks.import_line l.parts.items l.rest (read 0 rules.imports l.tokens)
 
 abbrev pub decreases-parts : goal.decreases-parts
 decreases-parts l = length l.rest
