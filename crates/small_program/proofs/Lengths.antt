@@ -1,14 +1,9 @@
 -- A text has room for its tokens: each token has a least length in bytes.
-use Rattle.std.proofs.Common.{◌≡◌, ℕ, ◌+◌, ◌*◌, ◌<◌, ◌≤◌, Bool, true, false, List, [], ◌∷◌, ◌++◌, length, Some, refl, sym, ap, ◌∙◌, subst, mul-suc, arith, length-append}
-use Rattle.std.specs.Prelude.{nat_le, ◌&&◌}
+use Rattle.std.proofs.Common.{◌≡◌, ℕ, ◌+◌, ◌*◌, ◌≤◌, List, [], ◌∷◌, ◌++◌, length, sym, ap, ◌∙◌, subst, mul-suc, arith}
 use Rattle.std.specs.List.{flat_map}
-use Rattle.std.proofs.lemmas.Bool.Decides.{nat_tests}
-use Rattle.std.specs.Str.{bytes_eq}
-use Rattle.std.proofs.lemmas.Slice.Eq.{bytes_eq-Decides}
 use Rattle.orca_lexer.specs.declared.token.TokenKind.{TokenKind}
-use Rattle.orca_lexer.specs.declared.token.TokenKind.TheVariants.{Name, Number, Key, Sign}
-use Rattle.orca_lexer.specs.declared.token.Keyword.{Keyword}
-use Rattle.orca_lexer.specs.declared.token.Keyword.TheVariants.{KeyBegin, KeyEnd, KeyOperation}
+use Rattle.orca_lexer.specs.declared.token.TokenKind.TheVariants.{Key, Sign}
+use Rattle.orca_lexer.specs.declared.token.Keyword.TheVariants.{KeyBegin}
 use Rattle.small_program.specs.declared.tree.Head.{Head}
 use Rattle.small_program.specs.declared.tree.HeadKind.{HeadKind}
 use Rattle.small_program.specs.declared.tree.HeadKind.TheVariants.{Gives, Takes, Plain}
@@ -22,7 +17,7 @@ use Rattle.small_program.specs.declared.tree.Call.{Call}
 use Rattle.small_program.specs.declared.tree.Call.TheVariants.{Invokes, Passes, Writes}
 use Rattle.orca_lexer.specs.declared.token.Symbol.TheVariants.{Closes, Semicolon}
 use Rattle.small_program.specs.declared.tree.SmallProgram.{SmallProgram}
-use Rattle.small_program.specs.Least.{keyword_least, least, least_bytes}
+use Rattle.small_program.specs.Least.{least_bytes}
 use Rattle.orca_tree.specs.declared.tree.Unit.{Unit as UnitTree}
 use Rattle.orca_tree.specs.Marks.{unit}
 use Rattle.orca_grammar.specs.Forms.{spelled}

@@ -1,6 +1,6 @@
 -- A text has room for its tokens: each token has a least length in bytes.
-use Rattle.std.proofs.Common.{◌≡◌, ℕ, ◌+◌, ◌-◌, ◌*◌, ◌<◌, ◌≤◌, Bool, true, false, List, [], ◌∷◌, ◌++◌, length, take, drop, Some, refl, sym, ap, ◌∙◌, subst, arith, length-drop, length-take}
-use Rattle.std.specs.Prelude.{nat_le, ◌&&◌, ◌==◌, slice_range, map, if◌then◌else◌, cond}
+use Rattle.std.proofs.Common.{◌≡◌, ℕ, ◌-◌, ◌≤◌, Bool, true, false, List, [], ◌∷◌, length, drop, Some, refl, ap, subst, arith, length-drop, length-take}
+use Rattle.std.specs.Prelude.{nat_le, ◌&&◌, ◌==◌, slice_range, map, if◌then◌else◌}
 use Rattle.std.proofs.lemmas.Bool.Decides.{nat_tests}
 use Rattle.std.specs.Str.{bytes_eq}
 use Rattle.std.proofs.lemmas.Slice.Eq.{bytes_eq-Decides}
@@ -10,10 +10,9 @@ use Rattle.orca_lexer.specs.declared.token.TokenKind.TheVariants.{Name, Number, 
 use Rattle.orca_lexer.specs.declared.token.Token.{Token}
 use Rattle.orca_lexer.specs.Tables.{entry_of, keywords, keyword_of}
 use Rattle.orca_lexer.specs.Shapes.{is_lexeme}
-use Rattle.orca_lexer.specs.Tokens.{Means, Begins, Follow, Tokens, after_gap, after_comment, is_blank}
+use Rattle.orca_lexer.specs.Tokens.{Means, Follow, Tokens, after_gap, after_comment, is_blank}
 use Rattle.orca_lexer.proofs.Longest.{no_empty_lexeme}
 use Rattle.small_program.specs.Least.{keyword_least, least, least_bytes}
-use Rattle.small_program.specs.declared.tree.SmallProgram.{SmallProgram}
 
 and_cases : (x y : Bool) → (x && y) ≡ true → (x ≡ true) × (y ≡ true)
 and_cases true y h = (refl, h)
