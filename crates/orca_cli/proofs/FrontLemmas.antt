@@ -1,27 +1,22 @@
 -- What tokens and units say of a text.
-use Rattle.std.proofs.Common.{◌≡◌, ℕ, ◌+◌, ◌-◌, ◌*◌, ◌<◌, ◌≤◌, Vec, Global, List, [], ◌∷◌, ◌++◌, length, take, drop, Option, Some, None, refl, sym, ap, ◌∙◌, subst, arith, length-drop, length-take}
+use Rattle.std.proofs.Common.{◌≡◌, ℕ, ◌+◌, ◌-◌, ◌*◌, ◌<◌, ◌≤◌, Vec, Global, List, [], ◌∷◌, ◌++◌, length, take, drop, sym, ap, ◌∙◌, subst, arith, length-take}
 use Rattle.std.specs.Prelude.{slice_range, map, not, ◌==◌, ◌^◌, Result, Ok, Err, codes, IfOk, OnErr}
 use Rattle.std.specs.List.{All, AllByRecursion, suffix_len}
 use Rattle.std.proofs.lemmas.List.Elements.{All-from_recursion}
 use Rattle.std.proofs.lemmas.List.Sums.{suffix_len-le-length}
 use Rattle.orca_base.specs.declared.place.Place.{Place}
 use Rattle.orca_base.specs.declared.refusal.NoMemory.{NoMemory}
-use Rattle.orca_lexer.specs.declared.error.LexError.{LexError}
 use Rattle.orca_lexer.specs.declared.token.Token.{Token}
 use Rattle.orca_lexer.specs.Tokens.{Begins, Follow, Tokens}
-use Rattle.orca_lexer.specs.Refusal as lexer
-use Rattle.orca_lexer.specs.Rules.{message_of}
 use Rattle.orca_lexer.proofs.Longest.{no_empty_lexeme}
 use Rattle.orca_grammar.specs.Forms.{spelled}
-use Rattle.orca_grammar.specs.Grammar.{IsText, IsUnexpected}
+use Rattle.orca_grammar.specs.Grammar.{IsText}
 use Rattle.orca_grammar.proofs.Placed.{text_kinds}
 use Rattle.orca_tree.specs.declared.tree.Unit.{Unit as UnitTree}
 use Rattle.orca_tree.specs.Marks.{unit as unit_marks}
-use Rattle.parse_units.specs.declared.refusal.ParseError.{ParseError}
 use Rattle.parse_units.specs.declared.refusal.ParseError.TheVariants.{Syntax, TooNested}
 use Rattle.parse_units.specs.declared.refusal.Found.TheVariants.{Token as OfToken, End}
-use Rattle.parse_units.specs.Refused.{HasRoom, IsRefusal, end_of_text}
-use Rattle.small_program.specs.declared.tree.SmallProgram.{SmallProgram}
+use Rattle.parse_units.specs.Refused.{HasRoom}
 use Rattle.small_program.specs.Least.{least_bytes}
 use Rattle.small_program.proofs.Sizes.{tokens_long}
 use Rattle.orca_cli.specs.declared.front.FrontFault.{FrontFault}

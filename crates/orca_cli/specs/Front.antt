@@ -1,5 +1,5 @@
 -- What the front end says of a text: the small program that it is, or why it is none (docs/FORMATS.md, Refusals).
-use Rattle.std.specs.Prelude.{◌≡◌, ℕ, List, [], ◌∷◌, ◌++◌, Result, Ok, Err, slice_range, codes}
+use Rattle.std.specs.Prelude.{ℕ, List, [], ◌∷◌, ◌++◌, Result, Ok, Err, slice_range, codes}
 use Rattle.orca_base.specs.declared.place.Place.{Place}
 use Rattle.orca_lexer.specs.declared.error.LexError.{LexError}
 use Rattle.orca_lexer.specs.declared.token.Token.{Token}

@@ -1,6 +1,6 @@
 -- The marks of a tree: its derivation by the grammar (orca_grammar, specs/Forms.antt and Rules.antt), which are its tokens in
--- order, with brackets round each nested phrase and round the links of each chain. Two trees with the same marks are one tree,
--- but for where they lie in memory; the places are those of the tree.
+-- order, with brackets round each nested phrase and round the links of each chain, and the tree's places. Read row by row, marks
+-- that a text has are those of one tree alone, but for where it lies in memory.
 use Rattle.std.specs.Prelude.{Bool, true, false, List, [], ◌∷◌, ◌++◌, Option, Some, None}
 use Rattle.std.specs.List.{flat_map}
 use Rattle.orca_base.specs.declared.place.Place.{Place}
@@ -291,7 +291,7 @@ abbrev pub guard : Guard → List Mark
 guard g = word_at g.at (Key KeyGuard) ∷ (expression g.test ++ word (Key KeyDo) ∷ (statements g.body.items ++ word (Key KeyOd) ∷ word (Sign Semicolon) ∷ []))
 
 abbrev pub operation_body : OperationBody → List Mark
-operation_body (Guarded guards) = flat_map guard guards.items
+operation_body (Guarded first others) = guard first ++ flat_map guard others.items
 operation_body (Plain body) = statements body.items
 
 abbrev pub operation : Operation → List Mark

@@ -158,10 +158,10 @@ pub struct Operation {
     pub body: OperationBody,
 }
 
-/// The body of an operation: guarded alternatives, or statements alone.
+/// The body of an operation: guarded alternatives, of which there is at least one, or statements alone.
 #[derive(Drop)]
 pub enum OperationBody {
-    Guarded { guards: Vec<Guard> },
+    Guarded { first: Guard, others: Vec<Guard> },
     Plain { statements: Vec<Statement> },
 }
 

@@ -3,6 +3,7 @@
 ghost use Rattle.std.specs.Prelude.{◌≡◌, ◌∷◌, ◌++◌, [], Ok};
 ghost use Rattle.orca_lexer.specs.declared.token.Symbol.TheVariants.{Semicolon};
 ghost use Rattle.orca_lexer.specs.declared.token.TokenKind.TheVariants.{Sign};
+ghost use Rattle.orca_grammar.specs.Forms.{Many};
 ghost use Rattle.orca_grammar.specs.Grammar.{read};
 ghost use Rattle.orca_grammar.specs.Rules as rules;
 ghost use Rattle.orca_tree.specs.Marks as marks;
@@ -163,13 +164,12 @@ fn guard(alloc: Global, depth: u32, tokens: &[Token]) -> Result<(Guard, &[Token]
     Ok((Guard { at, test, body }, rest))
 }
 
-// One guard and those behind it.
-#[tactic(auto, unfolding(orca_grammar::specs::Rules::guards))]
+// Guards, as long as one comes.
 fn guards(alloc: Global, depth: u32, tokens: &[Token]) -> Result<(Vec<Guard>, &[Token]), Halt<'_>>
-    ensures { Parses (λ gs. flat_map marks.guard gs.items) result (read depth rules.guards tokens.now) }
+    ensures { Parses (λ gs. flat_map marks.guard gs.items) result (read depth (Many rules.guard) tokens.now) }
 {
-    let (first, mut rest) = guard(alloc, depth, tokens)?;
-    let mut parts = vec![in alloc; first]?;
+    let mut parts = Vec::new(alloc);
+    let mut rest = tokens;
     'parts: while comes_key(rest, Keyword::KeyGuard) {
         let (part, after) = guard(alloc, depth, rest)?;
         parts.push(part)?;
@@ -187,8 +187,9 @@ fn operation_body(
     ensures { Parses marks.operation_body result (read depth rules.operation_body tokens.now) }
 {
     if comes_key(tokens, Keyword::KeyGuard) {
-        let (guards, rest) = guards(alloc, depth, tokens)?;
-        return Ok((OperationBody::Guarded { guards }, rest));
+        let (first, rest) = guard(alloc, depth, tokens)?;
+        let (others, rest) = guards(alloc, depth, rest)?;
+        return Ok((OperationBody::Guarded { first, others }, rest));
     }
     let (statements, rest) = statements(alloc, depth, tokens)?;
     Ok((OperationBody::Plain { statements }, rest))

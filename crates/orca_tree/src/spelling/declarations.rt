@@ -203,7 +203,10 @@ impl Speller {
         ensures { OnOk result (self.new ≡ self.old ++ spelled (operation_body body.now)) }
     {
         match body {
-            OperationBody::Guarded { guards } => self.guards(guards),
+            OperationBody::Guarded { first, others } => {
+                self.guard(first)?;
+                self.guards(others)
+            }
             OperationBody::Plain { statements } => self.statements(statements),
         }
     }

@@ -1,4 +1,3 @@
-use Rattle.std.proofs.Common.{◌∙◌}
 use Rattle.orca_lexer.specs.Rules.{message_of}
 use Rattle.orca_cli.specs.Front as front
 use Rattle.orca_cli.proofs.FrontLemmas.{said_reads, message_is}

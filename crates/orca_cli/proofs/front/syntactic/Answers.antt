@@ -1,5 +1,4 @@
-use Rattle.std.specs.Prelude.{◌++◌, slice_range, codes}
-use Rattle.orca_cli.proofs.FrontLemmas.{said_reads, message_is, of_token, of_end, syntactic_slice}
+use Rattle.orca_cli.proofs.FrontLemmas.{said_reads, of_token, of_end, syntactic_slice}
 use Rattle.orca_cli.proofs.front.syntactic.Goals as goal
 
 pub unexpected-words-requires-clause-start : goal.unexpected-words-requires-clause-start

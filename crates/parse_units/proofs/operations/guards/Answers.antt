@@ -1,14 +1,14 @@
 use Rattle.std.proofs.Common.{sym, ◌∙◌}
 use Rattle.std.proofs.lemmas.Result.{err_from_is_err_and}
 use Rattle.orca_grammar.specs.Rules as rules
-use Rattle.parse_units.proofs.Loops.{row_led, row_more, row_ends, row_stops, shorter}
+use Rattle.parse_units.proofs.Loops.{row_begins, row_more, row_ends, row_stops, shorter}
 use Rattle.parse_units.proofs.Decisions.{guards_decided}
 use Rattle.parse_units.proofs.operations.guards.Goals as goal
 
 pub returns-in_err-part : goal.returns-in_err-part
 unfolding rules.guard
 returns-in_err-part c =
-    let p = err_from_is_err_and c.from_residual-in_err-part.result c.from_residual-in_err-part.ensures.1 in
+    let p = err_from_is_err_and c.from_residual.result c.from_residual.ensures.1 in
     rw (p.1, p.2) (row_stops c.in_err-part.field-0.0 (sym c.comes_key.ensures ∙ c.parts-test.true) c.in_err-part.ensures c.parts.invariant)
 
 pub parts-smaller : goal.parts-smaller
@@ -24,5 +24,4 @@ unfolding rules.guard
 returns c = row_ends (sym c.comes_key.ensures ∙ c.parts-test.false) c.parts.invariant
 
 pub parts-init : goal.parts-init
-unfolding rules.guards
-parts-init c = rw c.in_ok-parts.ensures.items (row_led c.in_ok-first.first c.args.tokens.now c.in_ok-first.rest.now c.in_ok-first.ensures)
+parts-init c = rw c.new-parts.ensures.items (row_begins c.args.tokens.now)
