@@ -1,5 +1,5 @@
--- What fits under the performer of pools and flags: every state and every argument.
-use Rattle.std.specs.Prelude.{◌≡◌, Some}
+-- What fits under the performer of pools and flags, every state and every argument, and why a call is refused.
+use Rattle.std.specs.Prelude.{◌≡◌, ◌-◌, ◌^◌, Some}
 use Rattle.orca_base.specs.declared.ids.KindNo.{KindNo}
 use Rattle.orca_base.specs.declared.ids.OpNo.{OpNo}
 use Rattle.orca_base.specs.declared.ids.ObjectId.{ObjectId}
@@ -7,8 +7,14 @@ use Rattle.value_core.specs.Datum.{Data}
 use Rattle.value_core.specs.declared.action.Kept.{Kept}
 use Rattle.value_core.specs.Fits.{Kinds}
 use Rattle.value_core.specs.History.{Objects, object_at}
+use Rattle.value_core.specs.declared.action.Action.{Action}
 use Rattle.object_manager.specs.After.{Copied}
-use Rattle.object_manager.specs.Applies.{CopiesFit}
+use Rattle.object_manager.specs.Applies.{Applies, CopiesFit}
+use Rattle.object_manager.specs.Limits.{IfLimit, IsTooMany}
+use Rattle.object_manager.specs.declared.copies.ApplyError.TheVariants as apply
+use Rattle.bag_performer.specs.Bags.{bag_performs}
+use Rattle.bag_copies.specs.declared.entries.Refused.{Refused}
+use Rattle.bag_copies.specs.declared.entries.Refused.TheVariants as refused
 
 abbrev pub AnyState : Kinds → KindNo → Data → Type 0
 AnyState kinds kind state = Unit {0}
@@ -23,3 +29,15 @@ FitsAll c = CopiesFit AnyState AnyArgs c
 -- the object exists, by this type
 abbrev pub HasObject : Objects → KindNo → ObjectId → Type 0
 HasObject objects kind object = (kept : Kept) × (object_at objects object ≡ Some kept) × (kept.kind ≡ kind)
+
+-- why an entry with this action wasn't applied; a limit is exactly where it is reached
+abbrev pub IsEntryRefusal : Copied → Action → Refused → Type 0
+IsEntryRefusal c action refused.Object = Applies AnyArgs c action → ⊥
+IsEntryRefusal c action refused.Entries = c.applied ≡ 2 ^ 64 - 1
+IsEntryRefusal c action (refused.Copies why) = IfLimit why (IsTooMany bag_performs c action)
+
+-- why an operation wasn't tried
+abbrev pub IsReadRefusal : Objects → KindNo → ObjectId → Refused → Type 0
+IsReadRefusal objects kind object refused.Object = HasObject objects kind object → ⊥
+IsReadRefusal objects kind object refused.Entries = ⊥
+IsReadRefusal objects kind object (refused.Copies why) = why ≡ apply.NoMemory

@@ -1,12 +1,14 @@
 //! Entries and reads on copies of pools and flags.
 
-ghost use Rattle.std.specs.Prelude.{◌≡◌, ◌<◌, ◌^◌, ◌-◌, IfOk, OnOk, OnErr, IsTrue};
+ghost use Rattle.std.specs.Prelude.{◌≡◌, ◌<◌, ◌^◌, ◌-◌, ◌↔◌, IfOk, IfErr, OnOk, OnErr, IsTrue};
 ghost use Rattle.guard_queue.specs.Fitting.{OperationFits, kinds_of};
 ghost use Rattle.guard_queue.specs.Settles.{lines_of, tried_on};
 ghost use Rattle.object_manager.specs.After.{after, lines_after, opening_copies};
 ghost use Rattle.object_manager.specs.Applies.{Applies};
 ghost use Rattle.bag_performer.specs.Bags.{bag_performs};
-ghost use Rattle.bag_copies.specs.Fits.{AnyArgs, FitsAll, HasObject};
+ghost use Rattle.object_manager.specs.declared.copies.ApplyError.TheVariants.{NoMemory as Without};
+ghost use Rattle.bag_copies.specs.declared.entries.Refused.TheVariants.{Copies as OfCopies};
+ghost use Rattle.bag_copies.specs.Fits.{AnyArgs, FitsAll, HasObject, IsEntryRefusal, IsReadRefusal};
 
 use bag_performer::Bags;
 use guard_queue::{Answered, Objects};
@@ -27,12 +29,16 @@ pub enum Refused {
 }
 
 impl From<ApplyError> for Refused {
+    ghost from_gives = { λ why r. r ≡ OfCopies why };
+
     fn from(why: ApplyError) -> Refused {
         Refused::Copies { why }
     }
 }
 
 impl From<NoMemory> for Refused {
+    ghost from_gives = { λ _ r. r ≡ OfCopies Without };
+
     fn from(_: NoMemory) -> Refused {
         Refused::Copies {
             why: ApplyError::NoMemory,
@@ -57,6 +63,7 @@ pub fn entry(
     requires { FitsAll copies.old }
     ensures after { OnOk result (copies.new ≡ after bag_performs copies.old message.now) }
     ensures lines { IfOk result (λ all. lines_of all.items ≡ lines_after bag_performs copies.old message.now) }
+    ensures refused { IfErr result (IsEntryRefusal copies.old message.now.action) }
     ensures err { OnErr result (copies.new ≡ copies.old) }
     ensures fits { FitsAll copies.new }
 {
@@ -78,7 +85,8 @@ pub fn read(
     object: ObjectId,
     args: &Parts,
 ) -> Result<Tried, Refused>
-    ensures { IfOk result (λ t. t ≡ tried_on bag_performs copies.now.objects kind op object args.now) }
+    ensures tried { IfOk result (λ t. t ≡ tried_on bag_performs copies.now.objects kind op object args.now) }
+    ensures refused { IfErr result (IsReadRefusal copies.now.objects kind object) }
 {
     if !has(copies.objects(), kind, object) {
         return Err(Refused::Object);
@@ -95,7 +103,8 @@ pub fn read_view(
     object: ObjectId,
     args: &Parts,
 ) -> Result<Tried, Refused>
-    ensures { IfOk result (λ t. t ≡ tried_on bag_performs view.now.objects kind op object args.now) }
+    ensures tried { IfOk result (λ t. t ≡ tried_on bag_performs view.now.objects kind op object args.now) }
+    ensures refused { IfErr result (IsReadRefusal view.now.objects kind object) }
 {
     if !has(view.objects(), kind, object) {
         return Err(Refused::Object);
@@ -161,7 +170,7 @@ pub fn fork(
 
 /// Whether an entry with this action may be applied.
 fn applies(copies: &Copies, action: &Action) -> bool
-    ensures { IsTrue result → Applies AnyArgs copies.now action.now }
+    ensures { IsTrue result ↔ Applies AnyArgs copies.now action.now }
 {
     match action {
         Action::Make { object, .. } => copies.objects().get(*object).is_none(),
@@ -172,7 +181,7 @@ fn applies(copies: &Copies, action: &Action) -> bool
 
 /// Whether the object exists, by this type.
 pub(crate) fn has(objects: &Objects, kind: KindNo, object: ObjectId) -> bool
-    ensures { IsTrue result → HasObject objects.now kind object }
+    ensures { IsTrue result ↔ HasObject objects.now kind object }
 {
     match objects.get(object) {
         Some(kept) => kept.kind == kind,

@@ -6,6 +6,7 @@ pub mod Ready
 pub mod KindsStay
 pub mod Steps
 pub mod Rounds
+pub mod Undone
 pub mod Behind
 pub mod KindsAt
 pub mod Same

@@ -38,24 +38,19 @@ round p s t o at u is place found did =
     let call = found_call p s.objects s.queue o at u is found in
     did ∙ taken_step p s at u call.0 (place ∙ ap (option_map (λ x. x.0)) is) call.1 call.2
 
--- what a round does in place is a step
-pub round_is : (p : Performs) (es written : SharedObjects) (calls rest : List Suspended) (lines more : List Line) (ready : Option (ℕ × Tried)) (at : ℕ) (t : Tried) (copy call : Suspended) (line : Line) (state : Option Kept) (fresh : Option (Arc Kept Global))
-    → ready ≡ Some (at, t) → next_ready p (shown_objects es) calls ≡ option_map (λ x. x.0) ready → IsFound p (shown_objects es) calls ready
+-- what a round does in place
+pub taken_is : (es written : SharedObjects) (calls rest : List Suspended) (lines more : List Line) (at : ℕ) (t : Tried) (copy call : Suspended) (line : Line) (state : Option Kept) (fresh : Option (Arc Kept Global))
     → slice_get calls at ≡ Some call → copy ≡ call → line ≡ answered copy t → with_state (shown_objects es) copy.object state ≡ objects_with (shown_objects es) copy t
     → option_map arc_value fresh ≡ state → written ≡ entries_with es call.object fresh → rest ≡ remove calls at → more ≡ lines ++ line ∷ []
-    → record { objects = shown_objects written; queue = rest; lines = more } ≡ stepped p (record { objects = shown_objects es; queue = calls; lines = lines }) (next_ready p (shown_objects es) calls)
-round_is p es written calls rest lines more ready at t copy call line state fresh is place found here copied said leaves made put without added =
+    → record { objects = shown_objects written; queue = rest; lines = more } ≡ taken (record { objects = shown_objects es; queue = calls; lines = lines }) at t (slice_get calls at)
+taken_is es written calls rest lines more at t copy call line state fresh here copied said leaves made put without added =
     let s : Settling = record { objects = shown_objects es; queue = calls; lines = lines } in
-    let f : (o : Objects) (q : List Suspended) (ls : List Line) → Settling = λ o q ls. record { objects = o; queue = q; lines = ls } in
     let object = ap (λ (c : Suspended). c.object) copied in
     let objects : shown_objects written ≡ objects_with (shown_objects es) call t =
     (ap shown_objects put ∙ shown_with es call.object fresh ∙ ap (with_state (shown_objects es) call.object) made ∙ sym (ap (λ o. with_state (shown_objects es) o state) object) ∙ leaves
     ∙ ap (λ c. objects_with (shown_objects es) c t) copied) in
     let all : more ≡ lines ++ answered call t ∷ [] = added ∙ ap (λ l. lines ++ l ∷ []) (said ∙ ap (λ c. answered c t) copied) in
-    let did : f (shown_objects written) rest more ≡ taken s at t (slice_get calls at) =
-    (ap (λ o. f o rest more) objects ∙ ap (λ q. f (objects_with (shown_objects es) call t) q more) without ∙ ap (λ ls. f (objects_with (shown_objects es) call t) (remove calls at) ls) all
-    ∙ sym (ap (taken s at t) here)) in
-    round p s (f (shown_objects written) rest more) ready at t is place found did
+    (λ i. record { objects = objects i; queue = without i; lines = all i }) ∙ sym (ap (taken s at t) here)
 
 -- the call that is put back at its place
 pub insert-remove : {X : Type 0} (xs : List X) (i : ℕ) (x : X) → slice_get xs i ≡ Some x → insert (remove xs i) i x ≡ xs

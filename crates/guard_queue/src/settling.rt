@@ -6,7 +6,8 @@ ghost use Rattle.value_core.specs.History.{object_at, with_object};
 ghost use Rattle.guard_queue.specs.Shown.{shown_objects};
 ghost use Rattle.guard_queue.specs.Changes.{objects_changed, queue_changed};
 ghost use Rattle.guard_queue.specs.Fitting.{AllFit, CanTry};
-ghost use Rattle.guard_queue.specs.Settles.{AllBlocked, IsFound, answered, lines_of, next_ready, objects_with, settled, settled_from, tried_in, tried_on, with_state};
+ghost use Rattle.guard_queue.specs.Settles.{AllBlocked, IsFound, answered, lines_of, next_ready, objects_with, settled, settled_from, taken, tried_in, tried_on, with_state};
+ghost use Rattle.guard_queue.specs.Undone.{CanUndo, undone};
 
 use crate::change::Change;
 use crate::objects::{Objects, exchange, find, put_back, put_in};
@@ -21,6 +22,14 @@ use value_core::{Action, Kept, Line, Parts, Performer, Reply, Tried};
 #[derive(Debug, Drop, PartialEq, Eq)]
 pub struct Answered {
     pub line: Line,
+}
+
+/// What a round wrote: where the call stood that left the queue, and the state of its object before, if it was exchanged.
+#[derive(Drop)]
+struct Written {
+    at: usize,
+    call: Suspended,
+    was: Option<Arc<Kept>>,
 }
 
 /// Repeatedly the oldest suspended call whose try isn't blocked is performed or faults and leaves the queue, until each is
@@ -156,7 +165,7 @@ fn settle_on<P: Performer>(
     let Some(map) = Arc::get_mut(&mut objects.shared) else {
         return Err(NoMemory);
     };
-    round(alloc, performer, map, &mut queue.calls, lines, ready)
+    rounds_from(alloc, performer, map, &mut queue.calls, lines, ready)
 }
 
 /// An object is put in, and then the queue settles. Where memory lacks, what stood there is put back.
@@ -213,7 +222,6 @@ fn settle_joined<P: Performer>(
 }
 
 /// Rounds until each call is blocked, in place.
-#[cycle(rounds)]
 fn rounds<P: Performer>(
     alloc: Global,
     performer: &P,
@@ -226,16 +234,14 @@ fn rounds<P: Performer>(
     ensures blocked { OnOk result (AllBlocked (P.performs performer.now) (shown_objects map.new.entries) calls.new.items) }
     ensures err { OnErr result ((map.new.entries ≡ map.old.entries) × (calls.new.items ≡ calls.old.items)) }
     ensures fits { OnOk result (AllFit (P.fits_state performer.now) (P.fits_args performer.now) (shown_objects map.new.entries) calls.new.items) }
-    ensures room { vec_capacity calls.old ≤ vec_capacity calls.new }
 {
     let ready = find_ready(alloc, performer, map, calls.as_slice())?;
-    round(alloc, performer, map, calls, lines, ready)
+    rounds_from(alloc, performer, map, calls, lines, ready)
 }
 
-/// The call that was found is performed or faults and leaves the queue, and then the next rounds. What this round asks memory
-/// for it asks for first. Where the next ones lack it, what stood here is put back.
-#[cycle(rounds)]
-fn round<P: Performer>(
+/// The call that was found, and then rounds until each is blocked. Where memory lacks, what they wrote is put back, which takes
+/// none.
+fn rounds_from<P: Performer>(
     alloc: Global,
     performer: &P,
     map: &mut BTreeMap<ObjectId, Arc<Kept>>,
@@ -250,22 +256,85 @@ fn round<P: Performer>(
     ensures blocked { OnOk result (AllBlocked (P.performs performer.now) (shown_objects map.new.entries) calls.new.items) }
     ensures err { OnErr result ((map.new.entries ≡ map.old.entries) × (calls.new.items ≡ calls.old.items)) }
     ensures fits { OnOk result (AllFit (P.fits_state performer.now) (P.fits_args performer.now) (shown_objects map.new.entries) calls.new.items) }
-    ensures room { vec_capacity calls.old ≤ vec_capacity calls.new }
 {
-    let Some((at, tried)) = ready else {
-        return Ok(());
-    };
-    let (line, state) = answer(map, calls[at].copy(alloc)?, tried);
-    add_line(lines, line)?;
-    let fresh = shared(alloc, state)?;
-    let call = take(calls, at);
-    let was = exchange(map, call.object, fresh);
-    if let Err(error) = rounds(alloc, performer, map, calls, lines) {
-        exchange(map, call.object, was);
-        give_back(calls, at, call);
+    let mut written = Vec::new(alloc);
+    if let Err(error) = write_rounds(alloc, performer, map, calls, lines, &mut written, ready) {
+        undo(map, calls, written);
         return Err(error);
     }
     Ok(())
+}
+
+/// The call that was found, and then rounds until each is blocked. What they wrote comes behind `written`.
+fn write_rounds<P: Performer>(
+    alloc: Global,
+    performer: &P,
+    map: &mut BTreeMap<ObjectId, Arc<Kept>>,
+    calls: &mut Vec<Suspended>,
+    lines: &mut Vec<Answered>,
+    written: &mut Vec<Written>,
+    ready: Option<(usize, Tried)>,
+) -> Result<(), NoMemory>
+    requires fits { AllFit (P.fits_state performer.now) (P.fits_args performer.now) (shown_objects map.old.entries) calls.old.items }
+    requires place { next_ready (P.performs performer.now) (shown_objects map.old.entries) calls.old.items ≡ option_map (λ x. x.0) ready }
+    requires tried { IsFound (P.performs performer.now) (shown_objects map.old.entries) calls.old.items ready }
+    requires none { written.old.items ≡ [] }
+    ensures ok { OnOk result (record { objects = shown_objects map.new.entries; queue = calls.new.items; lines = lines_of lines.new.items } ≡ settled_from (P.performs performer.now) (record { objects = shown_objects map.old.entries; queue = calls.old.items; lines = lines_of lines.old.items })) }
+    ensures blocked { OnOk result (AllBlocked (P.performs performer.now) (shown_objects map.new.entries) calls.new.items) }
+    ensures fits { OnOk result (AllFit (P.fits_state performer.now) (P.fits_args performer.now) (shown_objects map.new.entries) calls.new.items) }
+    ensures back { undone written.new.items (record { entries = map.new.entries; calls = calls.new.items }) ≡ record { entries = map.old.entries; calls = calls.old.items } }
+    ensures can { CanUndo written.new.items (record { entries = map.new.entries; calls = calls.new.items }) }
+    ensures room { length written.new.items + length calls.new.items ≤ vec_capacity calls.new }
+{
+    let mut ready = ready;
+    'rounds: while let Some((at, tried)) = ready {
+        round(alloc, map, calls, lines, written, at, tried)?;
+        ready = find_ready(alloc, performer, map, calls.as_slice())?;
+    }
+    Ok(())
+}
+
+/// The call at this place, whose try gave this, is performed or faults and leaves the queue. What this asks memory for it asks
+/// for first. What it wrote comes behind `written`.
+fn round(
+    alloc: Global,
+    map: &mut BTreeMap<ObjectId, Arc<Kept>>,
+    calls: &mut Vec<Suspended>,
+    lines: &mut Vec<Answered>,
+    written: &mut Vec<Written>,
+    at: usize,
+    tried: Tried,
+) -> Result<(), NoMemory>
+    requires place { at < length calls.old.items }
+    requires can { CanUndo written.old.items (record { entries = map.old.entries; calls = calls.old.items }) }
+    requires room { length written.old.items + length calls.old.items ≤ vec_capacity calls.old }
+    ensures did { OnOk result (record { objects = shown_objects map.new.entries; queue = calls.new.items; lines = lines_of lines.new.items } ≡ taken (record { objects = shown_objects map.old.entries; queue = calls.old.items; lines = lines_of lines.old.items }) at tried (slice_get calls.old.items at)) }
+    ensures fewer { OnOk result (length calls.new.items + 1 ≡ length calls.old.items) }
+    ensures back { undone written.new.items (record { entries = map.new.entries; calls = calls.new.items }) ≡ undone written.old.items (record { entries = map.old.entries; calls = calls.old.items }) }
+    ensures can { CanUndo written.new.items (record { entries = map.new.entries; calls = calls.new.items }) }
+    ensures room { length written.new.items + length calls.new.items ≤ vec_capacity calls.new }
+{
+    let (line, state) = answer(map, calls[at].copy(alloc)?, tried);
+    add_line(lines, line)?;
+    let fresh = shared(alloc, state)?;
+    written.reserve(1)?;
+    let call = take(calls, at);
+    let was = exchange(map, call.object, fresh);
+    written.push(Written { at, call, was }).unwrap();
+    Ok(())
+}
+
+/// Puts back what rounds wrote, the last one first. It takes no memory.
+fn undo(map: &mut BTreeMap<ObjectId, Arc<Kept>>, calls: &mut Vec<Suspended>, written: Vec<Written>)
+    requires can { CanUndo written.items (record { entries = map.old.entries; calls = calls.old.items }) }
+    requires room { length written.items + length calls.old.items ≤ vec_capacity calls.old }
+    ensures { record { entries = map.new.entries; calls = calls.new.items } ≡ undone written.items (record { entries = map.old.entries; calls = calls.old.items }) }
+{
+    let mut left = written;
+    'rounds: while let Some(round) = left.pop() {
+        exchange(map, round.call.object, round.was);
+        give_back(calls, round.at, round.call);
+    }
 }
 
 /// Adds a line.
