@@ -4,7 +4,7 @@ use Rattle.orca_base.specs.declared.ids.KindNo.{KindNo}
 use Rattle.orca_base.specs.declared.ids.OpNo.{OpNo}
 use Rattle.orca_base.specs.declared.ids.ObjectId.{ObjectId}
 use Rattle.value_core.specs.Datum.{Data}
-use Rattle.value_core.specs.declared.action.Kept.{Kept}
+use Rattle.value_core.specs.declared.action.Instance.{Instance}
 use Rattle.value_core.specs.Fits.{Kinds}
 use Rattle.value_core.specs.History.{Objects, object_at}
 use Rattle.value_core.specs.declared.action.Action.{Action}
@@ -28,7 +28,7 @@ FitsAll c = CopiesFit AnyState AnyArgs c
 
 -- the object exists, by this type
 abbrev pub HasObject : Objects → KindNo → ObjectId → Type 0
-HasObject objects kind object = (kept : Kept) × (object_at objects object ≡ Some kept) × (kept.kind ≡ kind)
+HasObject objects kind object = (kept : Instance) × (object_at objects object ≡ Some kept) × (kept.kind ≡ kind)
 
 -- why an entry with this action wasn't applied; a limit is exactly where it is reached
 abbrev pub IsEntryRefusal : Copied → Action → Refused → Type 0

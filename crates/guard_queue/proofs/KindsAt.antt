@@ -3,7 +3,7 @@ use Rattle.std.proofs.Common.{◌≡◌, ℕ, true, false, cond, Option, None, S
 use Rattle.std.specs.Prelude.{slice_get}
 use Rattle.std.specs.BTreeMap.{is_at}
 use Rattle.orca_base.specs.declared.ids.ObjectId.{ObjectId}
-use Rattle.value_core.specs.declared.action.Kept.{Kept}
+use Rattle.value_core.specs.declared.action.Instance.{Instance}
 use Rattle.value_core.specs.declared.meaning.Tried.{Tried}
 use Rattle.value_core.specs.declared.meaning.Tried.TheVariants as tried
 use Rattle.value_core.specs.Meaning.{Performs}
@@ -14,7 +14,7 @@ use Rattle.guard_queue.specs.Settles.{Settling, next_ready, objects_if, objects_
 use Rattle.guard_queue.proofs.Lookups.{object_at-with_object, same_place}
 
 -- an object that is put in by its type
-pub kind_at-with_object : (objects : Objects) (object : ObjectId) (kept : Kept) (q : ObjectId) → kind_at objects object ≡ Some kept.kind → kind_at (with_object objects object kept) q ≡ kind_at objects q
+pub kind_at-with_object : (objects : Objects) (object : ObjectId) (kept : Instance) (q : ObjectId) → kind_at objects object ≡ Some kept.kind → kind_at (with_object objects object kept) q ≡ kind_at objects q
 kind_at-with_object objects object kept q had =
     ap kind_in (object_at-with_object objects object kept q)
     ∙ elim (is_at (object_cmp q) object) as (λ b. is_at (object_cmp q) object ≡ b → kind_in (cond b (Some kept) (object_at objects q)) ≡ kind_at objects q) [
@@ -23,7 +23,7 @@ kind_at-with_object objects object kept q had =
     ] refl
 
 -- an object that wasn't there before
-pub kind_at-made : (objects : Objects) (object : ObjectId) (kept : Kept) (q : ObjectId) (old : Kept) → object_at objects object ≡ None → object_at objects q ≡ Some old → kind_at (with_object objects object kept) q ≡ kind_at objects q
+pub kind_at-made : (objects : Objects) (object : ObjectId) (kept : Instance) (q : ObjectId) (old : Instance) → object_at objects object ≡ None → object_at objects q ≡ Some old → kind_at (with_object objects object kept) q ≡ kind_at objects q
 kind_at-made objects object kept q old absent there =
     ap kind_in (object_at-with_object objects object kept q)
     ∙ elim (is_at (object_cmp q) object) as (λ b. is_at (object_cmp q) object ≡ b → kind_in (cond b (Some kept) (object_at objects q)) ≡ kind_at objects q) [
@@ -31,7 +31,7 @@ kind_at-made objects object kept q old absent there =
       | false ↦ λ away. refl
     ] refl
 
-tried_keeps : (objects : Objects) (object : ObjectId) (kept : Kept) (t : Tried) (q : ObjectId) → object_at objects object ≡ Some kept → kind_at (after_try objects object kept t) q ≡ kind_at objects q
+tried_keeps : (objects : Objects) (object : ObjectId) (kept : Instance) (t : Tried) (q : ObjectId) → object_at objects object ≡ Some kept → kind_at (after_try objects object kept t) q ≡ kind_at objects q
 tried_keeps objects object kept tried.Blocked q there = refl
 tried_keeps objects object kept (tried.Did guard state reply) q there = kind_at-with_object objects object (record { kind = kept.kind; state = state }) q (ap kind_in there)
 tried_keeps objects object kept (tried.Broke guard fault) q there = refl

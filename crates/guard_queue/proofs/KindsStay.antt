@@ -5,7 +5,7 @@ use Rattle.std.specs.Ordering.{is_eq, match_ordering}
 use Rattle.std.specs.List.{Contains}
 use Rattle.orca_base.specs.declared.ids.KindNo.{KindNo}
 use Rattle.orca_base.specs.declared.ids.ObjectId.{ObjectId}
-use Rattle.value_core.specs.declared.action.Kept.{Kept}
+use Rattle.value_core.specs.declared.action.Instance.{Instance}
 use Rattle.value_core.specs.Fits.{ExtendsKinds}
 use Rattle.value_core.specs.History.{Objects, object_cmp, object_at, with_object}
 use Rattle.guard_queue.specs.Fitting.{kinds_of}
@@ -24,10 +24,10 @@ none_here : {P : Type 0} (k : ℕ) → k < 0 → P
 none_here k lt = absurd (omega arith)
 
 -- the types of the old ones stay, where an object that was there keeps its own
-pub kinds_extend : (objects : Objects) (object : ObjectId) (kept : Kept) → ((old : Kept) → object_at objects object ≡ Some old → kept.kind ≡ old.kind) → ExtendsKinds (kinds_of objects) (kinds_of (with_object objects object kept))
+pub kinds_extend : (objects : Objects) (object : ObjectId) (kept : Instance) → ((old : Instance) → object_at objects object ≡ Some old → kept.kind ≡ old.kind) → ExtendsKinds (kinds_of objects) (kinds_of (with_object objects object kept))
 kinds_extend [] object kept same = λ entry has. none_here has.0 has.1
 kinds_extend (e ∷ es) object kept same =
-    elim (object_cmp object e.0) as (λ o. ((old : Kept) → cond (is_eq o) (Some e.1) (object_at es object) ≡ Some old → kept.kind ≡ old.kind) → ExtendsKinds (kinds_of (e ∷ es)) (kinds_of (match_ordering o ((object, kept) ∷ e ∷ es) ((e.0, kept) ∷ es) (e ∷ with_object es object kept)))) [
+    elim (object_cmp object e.0) as (λ o. ((old : Instance) → cond (is_eq o) (Some e.1) (object_at es object) ≡ Some old → kept.kind ≡ old.kind) → ExtendsKinds (kinds_of (e ∷ es)) (kinds_of (match_ordering o ((object, kept) ∷ e ∷ es) ((e.0, kept) ∷ es) (e ∷ with_object es object kept)))) [
       | Less ↦ λ is entry has. contains_there (object, kept.kind) (kinds_of (e ∷ es)) entry has
       | Equal ↦ λ is entry has. let P : KindNo → Type 0 = λ kind. Contains ((e.0, kind) ∷ kinds_of es) entry in subst P (sym (is e.1 refl)) has
       | Greater ↦ λ is entry has.

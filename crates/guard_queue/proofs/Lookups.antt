@@ -9,7 +9,7 @@ use Rattle.std.specs.FinMap.Entries.{find, put, find-put}
 use Rattle.std.proofs.lemmas.Map.Lookups.{CmpEqualImpliesEq, exact_pairs, exact_unsigned}
 use Rattle.std.proofs.lemmas.Cmp.{on_total, then_total, nat_cmp_total}
 use Rattle.orca_base.specs.declared.ids.ObjectId.{ObjectId}
-use Rattle.value_core.specs.declared.action.Kept.{Kept}
+use Rattle.value_core.specs.declared.action.Instance.{Instance}
 use Rattle.value_core.specs.History.{Objects, object_cmp, object_at, with_object}
 
 pub object_total : IsTotalOrder object_cmp
@@ -19,7 +19,7 @@ found : (objects : Objects) (q : ObjectId) → find object_cmp q objects ≡ obj
 found [] q = refl
 found (e ∷ es) q = ap (cond (is_at (object_cmp q) e.0) (Some e.1)) (found es q)
 
-placed : (objects : Objects) (k : ObjectId) (v : Kept) → put object_cmp k v objects ≡ with_object objects k v
+placed : (objects : Objects) (k : ObjectId) (v : Instance) → put object_cmp k v objects ≡ with_object objects k v
 placed [] k v = refl
 placed (e ∷ es) k v = elim (object_cmp k e.0) as (λ o. match_ordering o ((k, v) ∷ e ∷ es) ((e.0, v) ∷ es) (e ∷ put object_cmp k v es) ≡ match_ordering o ((k, v) ∷ e ∷ es) ((e.0, v) ∷ es) (e ∷ with_object es k v)) [
   | Less ↦ refl
@@ -28,7 +28,7 @@ placed (e ∷ es) k v = elim (object_cmp k e.0) as (λ o. match_ordering o ((k, 
 ]
 
 -- what an object put in changes
-pub object_at-with_object : (objects : Objects) (k : ObjectId) (v : Kept) (q : ObjectId) → object_at (with_object objects k v) q ≡ cond (is_at (object_cmp q) k) (Some v) (object_at objects q)
+pub object_at-with_object : (objects : Objects) (k : ObjectId) (v : Instance) (q : ObjectId) → object_at (with_object objects k v) q ≡ cond (is_at (object_cmp q) k) (Some v) (object_at objects q)
 object_at-with_object objects k v q =
     sym (ap (λ es. object_at es q) (placed objects k v)) ∙ sym (found (put object_cmp k v objects) q) ∙ find-put object_cmp object_total q k v objects
     ∙ ap (cond (is_at (object_cmp q) k) (Some v)) (found objects q)

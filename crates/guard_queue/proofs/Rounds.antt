@@ -6,7 +6,7 @@ use Rattle.std.specs.List.{insert, remove}
 use Rattle.std.specs.Arc.{arc_value}
 use Rattle.std.specs.declared.alloc.Global.{Global}
 use Rattle.std.specs.declared.sync.Arc.{Arc}
-use Rattle.value_core.specs.declared.action.Kept.{Kept}
+use Rattle.value_core.specs.declared.action.Instance.{Instance}
 use Rattle.value_core.specs.declared.action.Line.{Line}
 use Rattle.value_core.specs.declared.meaning.Tried.{Tried}
 use Rattle.value_core.specs.declared.meaning.Tried.TheVariants as tried
@@ -39,7 +39,7 @@ round p s t o at u is place found did =
     did ∙ taken_step p s at u call.0 (place ∙ ap (option_map (λ x. x.0)) is) call.1 call.2
 
 -- what a round does in place
-pub taken_is : (es written : SharedObjects) (calls rest : List Suspended) (lines more : List Line) (at : ℕ) (t : Tried) (copy call : Suspended) (line : Line) (state : Option Kept) (fresh : Option (Arc Kept Global))
+pub taken_is : (es written : SharedObjects) (calls rest : List Suspended) (lines more : List Line) (at : ℕ) (t : Tried) (copy call : Suspended) (line : Line) (state : Option Instance) (fresh : Option (Arc Instance Global))
     → slice_get calls at ≡ Some call → copy ≡ call → line ≡ answered copy t → with_state (shown_objects es) copy.object state ≡ objects_with (shown_objects es) copy t
     → option_map arc_value fresh ≡ state → written ≡ entries_with es call.object fresh → rest ≡ remove calls at → more ≡ lines ++ line ∷ []
     → record { objects = shown_objects written; queue = rest; lines = more } ≡ taken (record { objects = shown_objects es; queue = calls; lines = lines }) at t (slice_get calls at)

@@ -6,7 +6,7 @@ use Rattle.orca_base.specs.declared.ids.KindNo.{KindNo}
 use Rattle.orca_base.specs.declared.ids.OpNo.{OpNo}
 use Rattle.orca_base.specs.declared.ids.ObjectId.{ObjectId}
 use Rattle.value_core.specs.Datum.{Data}
-use Rattle.value_core.specs.declared.action.Kept.{Kept}
+use Rattle.value_core.specs.declared.action.Instance.{Instance}
 use Rattle.value_core.specs.declared.meaning.Tried.{Tried}
 use Rattle.value_core.specs.declared.meaning.Tried.TheVariants as tried
 use Rattle.value_core.specs.Fits.{Kinds, ExtendsKinds, KeepsState}
@@ -44,29 +44,29 @@ from_remove (y ∷ ys) (suc n) (suc i) x h = let r = from_remove ys n i x h in (
 module _ (fits_state : Kinds → KindNo → Data → Type 0) (fits_args : Kinds → KindNo → OpNo → Data → Type 0) where
   module _ (kinds : Kinds) where
     -- one object's state changes, and fits again
-    pub states_with : (objects : Objects) (object : ObjectId) (kept : Kept) → ((q : ObjectId) (k : Kept) → object_at objects q ≡ Some k → fits_state kinds k.kind k.state) → fits_state kinds kept.kind kept.state
-        → (q : ObjectId) (k : Kept) → object_at (with_object objects object kept) q ≡ Some k → fits_state kinds k.kind k.state
+    pub states_with : (objects : Objects) (object : ObjectId) (kept : Instance) → ((q : ObjectId) (k : Instance) → object_at objects q ≡ Some k → fits_state kinds k.kind k.state) → fits_state kinds kept.kind kept.state
+        → (q : ObjectId) (k : Instance) → object_at (with_object objects object kept) q ≡ Some k → fits_state kinds k.kind k.state
     states_with objects object kept old here q k is =
         let e : cond (is_at (object_cmp q) object) (Some kept) (object_at objects q) ≡ Some k = sym (object_at-with_object objects object kept q) ∙ is in
         elim (is_at (object_cmp q) object) as (λ b. cond b (Some kept) (object_at objects q) ≡ Some k → fits_state kinds k.kind k.state) [
-          | true ↦ λ f. let same : kept ≡ k = cc f in let P : Kept → Type 0 = λ x. fits_state kinds x.kind x.state in subst P same here
+          | true ↦ λ f. let same : kept ≡ k = cc f in let P : Instance → Type 0 = λ x. fits_state kinds x.kind x.state in subst P same here
           | false ↦ λ f. old q k f
         ] e
 
     -- a call, where one object is changed and keeps its type
-    call_with : (objects : Objects) (object : ObjectId) (kept old : Kept) → object_at objects object ≡ Some old → kept.kind ≡ old.kind → (call : Suspended)
+    call_with : (objects : Objects) (object : ObjectId) (kept old : Instance) → object_at objects object ≡ Some old → kept.kind ≡ old.kind → (call : Suspended)
         → CallFits fits_args kinds objects call → CallFits fits_args kinds (with_object objects object kept) call
     call_with objects object kept old was kind call fit =
         let at : (b : Bool) → is_at (object_cmp call.object) object ≡ b → object_at (with_object objects object kept) call.object ≡ cond b (Some kept) (object_at objects call.object) = λ b h. object_at-with_object objects object kept call.object ∙ ap (λ c. cond c (Some kept) (object_at objects call.object)) h in
         elim (is_at (object_cmp call.object) object) as (λ b. is_at (object_cmp call.object) object ≡ b → CallFits fits_args kinds (with_object objects object kept) call) [
           | true ↦ λ here.
               let s : fit.kept ≡ old = cc (fit.exists, same_place objects call.object object here, was) in
-              record { kept = kept; exists = at true here; kind = kind ∙ sym (ap (λ (k : Kept). k.kind) s) ∙ fit.kind; args = fit.args }
+              record { kept = kept; exists = at true here; kind = kind ∙ sym (ap (λ (k : Instance). k.kind) s) ∙ fit.kind; args = fit.args }
           | false ↦ λ away. record { kept = fit.kept; exists = at false away ∙ fit.exists; kind = fit.kind; args = fit.args }
         ] refl
 
     -- what a try leaves fits
-    after_fits : (objects : Objects) (queue : List Suspended) (object : ObjectId) (kept : Kept) (t : Tried) → object_at objects object ≡ Some kept → KeepsState t (fits_state kinds kept.kind)
+    after_fits : (objects : Objects) (queue : List Suspended) (object : ObjectId) (kept : Instance) (t : Tried) → object_at objects object ≡ Some kept → KeepsState t (fits_state kinds kept.kind)
         → Fitting fits_state fits_args kinds objects queue → Fitting fits_state fits_args kinds (after_try objects object kept t) queue
     after_fits objects queue object kept tried.Blocked was keeps fit = fit
     after_fits objects queue object kept (tried.Did guard state reply) was keeps fit = record {
@@ -83,7 +83,7 @@ module _ (fits_state : Kinds → KindNo → Data → Type 0) (fits_args : Kinds 
     pub with_fits : (p : Performs) → ((kind : KindNo) (op : OpNo) (state args : Data) → fits_state kinds kind state → fits_args kinds kind op args → KeepsState (p.tries kind op state args) (fits_state kinds kind))
         → (objects : Objects) (queue : List Suspended) (call : Suspended) → CallFits fits_args kinds objects call → Fitting fits_state fits_args kinds objects queue → Fitting fits_state fits_args kinds (objects_with objects call (tried_in p objects call)) queue
     with_fits p keeps objects queue call one fit =
-        let P : Option Kept → Type 0 = λ o. Fitting fits_state fits_args kinds (objects_if objects call (tried_at p call o) o) queue in
+        let P : Option Instance → Type 0 = λ o. Fitting fits_state fits_args kinds (objects_if objects call (tried_at p call o) o) queue in
         let fits_kind : fits_state kinds call.kind one.kept.state = (let Q : KindNo → Type 0 = λ k. fits_state kinds k one.kept.state in subst Q one.kind (fit.states call.object one.kept one.exists)) in
         let kept_kind : KeepsState (p.tries call.kind call.op one.kept.state call.args) (fits_state kinds one.kept.kind) = (let Q : KindNo → Type 0 = λ k. KeepsState (p.tries call.kind call.op one.kept.state call.args) (fits_state kinds k) in subst Q (sym one.kind) (keeps call.kind call.op one.kept.state call.args fits_kind one.args)) in
         subst P (sym one.exists) (after_fits objects queue call.object one.kept (p.tries call.kind call.op one.kept.state call.args) one.exists kept_kind fit)
@@ -98,10 +98,10 @@ module _ (fits_state : Kinds → KindNo → Data → Type 0) (fits_args : Kinds 
   }
 
 -- the types stay as a call is tried
-after_extends : (objects : Objects) (object : ObjectId) (kept : Kept) (t : Tried) → object_at objects object ≡ Some kept → ExtendsKinds (kinds_of objects) (kinds_of (after_try objects object kept t))
+after_extends : (objects : Objects) (object : ObjectId) (kept : Instance) (t : Tried) → object_at objects object ≡ Some kept → ExtendsKinds (kinds_of objects) (kinds_of (after_try objects object kept t))
 after_extends objects object kept tried.Blocked was = λ entry has. has
 after_extends objects object kept (tried.Did guard state reply) was =
-    kinds_extend objects object (record { kind = kept.kind; state = state }) (λ old here. let same : kept ≡ old = cc (was, here) in ap (λ (k : Kept). k.kind) same)
+    kinds_extend objects object (record { kind = kept.kind; state = state }) (λ old here. let same : kept ≡ old = cc (was, here) in ap (λ (k : Instance). k.kind) same)
 after_extends objects object kept (tried.Broke guard fault) was = λ entry has. has
 
 pub with_extends : (objects : Objects) (call : Suspended) (t : Tried) → ExtendsKinds (kinds_of objects) (kinds_of (objects_with objects call t))
@@ -149,6 +149,6 @@ can_try fits_state fits_args objects queue call fit one =
       state = λ kept has.
           let same : kept ≡ one.kept = cc (has, one.exists) in
           let P : KindNo → Type 0 = λ kind. fits_state (kinds_of objects) kind kept.state in
-          subst P (ap (λ (k : Kept). k.kind) same ∙ one.kind) (fit.states call.object kept has);
+          subst P (ap (λ (k : Instance). k.kind) same ∙ one.kind) (fit.states call.object kept has);
       args = one.args;
     }

@@ -4,7 +4,7 @@ use Rattle.orca_base.specs.declared.ids.KindNo.{KindNo}
 use Rattle.orca_base.specs.declared.ids.OpNo.{OpNo}
 use Rattle.orca_base.specs.declared.ids.ObjectId.{ObjectId}
 use Rattle.value_core.specs.Datum.{Data}
-use Rattle.value_core.specs.declared.action.Kept.{Kept}
+use Rattle.value_core.specs.declared.action.Instance.{Instance}
 use Rattle.value_core.specs.Fits.{Kinds}
 use Rattle.value_core.specs.History.{Objects, object_at}
 use Rattle.guard_queue.specs.declared.queue.Suspended.{Suspended}
@@ -13,8 +13,8 @@ use Rattle.guard_queue.specs.declared.queue.Suspended.{Suspended}
 abbrev pub kinds_of : Objects → Kinds
 kinds_of objects = map (λ e. (e.0, e.1.kind)) objects
 
-abbrev pub kind_in : Option Kept → Option KindNo
-kind_in o = option_map (λ (k : Kept). k.kind) o
+abbrev pub kind_in : Option Instance → Option KindNo
+kind_in o = option_map (λ (k : Instance). k.kind) o
 
 -- the type of the object with this id, if there is one
 abbrev pub kind_at : Objects → ObjectId → Option KindNo
@@ -22,7 +22,7 @@ kind_at objects object = kind_in (object_at objects object)
 
 -- the object exists and is of this type, and the arguments fit the operation
 pub record OperationFits (fits_args : Kinds → KindNo → OpNo → Data → Type 0) (kinds : Kinds) (objects : Objects) (of_kind : KindNo) (op : OpNo) (object : ObjectId) (given : Data) : Type 0 where
-  pub kept : Kept
+  pub kept : Instance
   pub exists : object_at objects object ≡ Some kept
   pub kind : kept.kind ≡ of_kind
   pub args : fits_args kinds of_kind op given
@@ -33,7 +33,7 @@ CallFits fits_args kinds objects call = OperationFits fits_args kinds objects ca
 
 -- each object's state fits its type, and each call its object
 pub record Fitting (fits_state : Kinds → KindNo → Data → Type 0) (fits_args : Kinds → KindNo → OpNo → Data → Type 0) (kinds : Kinds) (objects : Objects) (queue : List Suspended) : Type 0 where
-  pub states : (object : ObjectId) (kept : Kept) → object_at objects object ≡ Some kept → fits_state kinds kept.kind kept.state
+  pub states : (object : ObjectId) (kept : Instance) → object_at objects object ≡ Some kept → fits_state kinds kept.kind kept.state
   pub calls : (at : ℕ) (call : Suspended) → slice_get queue at ≡ Some call → CallFits fits_args kinds objects call
 
 -- that, over the types of the objects that exist
@@ -43,5 +43,5 @@ AllFit fits_state fits_args objects queue = Fitting fits_state fits_args (kinds_
 -- the operation can be tried: its object's state and its arguments fit, where the object exists
 pub record CanTry (fits_state : Kinds → KindNo → Data → Type 0) (fits_args : Kinds → KindNo → OpNo → Data → Type 0) (objects : Objects) (kind : KindNo) (op : OpNo) (object : ObjectId) (given : Data) : Type 0 where
   pub kinds : Kinds
-  pub state : (kept : Kept) → object_at objects object ≡ Some kept → fits_state kinds kind kept.state
+  pub state : (kept : Instance) → object_at objects object ≡ Some kept → fits_state kinds kind kept.state
   pub args : fits_args kinds kind op given

@@ -6,7 +6,7 @@ use Rattle.orca_base.specs.declared.ids.KindNo.{KindNo}
 use Rattle.orca_base.specs.declared.ids.OpNo.{OpNo}
 use Rattle.orca_base.specs.declared.ids.ObjectId.{ObjectId}
 use Rattle.value_core.specs.Datum.{Data}
-use Rattle.value_core.specs.declared.action.Kept.{Kept}
+use Rattle.value_core.specs.declared.action.Instance.{Instance}
 use Rattle.value_core.specs.declared.action.Line.{Line}
 use Rattle.value_core.specs.declared.action.Reply.{Reply}
 use Rattle.value_core.specs.declared.action.Action.TheVariants as action
@@ -18,7 +18,7 @@ use Rattle.value_core.specs.History.{Objects, object_at, with_object, after_try}
 use Rattle.guard_queue.specs.declared.queue.Suspended.{Suspended}
 use Rattle.guard_queue.specs.declared.settling.Answered.{Answered}
 
-abbrev pub tried_by : Performs → KindNo → OpNo → Data → Option Kept → Tried
+abbrev pub tried_by : Performs → KindNo → OpNo → Data → Option Instance → Tried
 tried_by p kind op args None = tried.Blocked
 tried_by p kind op args (Some kept) = p.tries kind op kept.state args
 
@@ -26,7 +26,7 @@ tried_by p kind op args (Some kept) = p.tries kind op kept.state args
 abbrev pub tried_on : Performs → Objects → KindNo → OpNo → ObjectId → Data → Tried
 tried_on p objects kind op object args = tried_by p kind op args (object_at objects object)
 
-abbrev pub tried_at : Performs → Suspended → Option Kept → Tried
+abbrev pub tried_at : Performs → Suspended → Option Instance → Tried
 tried_at p call kept = tried_by p call.kind call.op call.args kept
 
 -- what a try of a suspended call gives on these objects
@@ -80,7 +80,7 @@ answered call t = record {
   reply = reply_of t;
 }
 
-abbrev pub objects_if : Objects → Suspended → Tried → Option Kept → Objects
+abbrev pub objects_if : Objects → Suspended → Tried → Option Instance → Objects
 objects_if objects call t None = objects
 objects_if objects call t (Some kept) = after_try objects call.object kept t
 
@@ -89,7 +89,7 @@ abbrev pub objects_with : Objects → Suspended → Tried → Objects
 objects_with objects call t = objects_if objects call t (object_at objects call.object)
 
 -- the objects with this state put in, where there is one
-abbrev pub with_state : Objects → ObjectId → Option Kept → Objects
+abbrev pub with_state : Objects → ObjectId → Option Instance → Objects
 with_state objects object None = objects
 with_state objects object (Some kept) = with_object objects object kept
 

@@ -12,7 +12,7 @@ use std::alloc::Global;
 use std::collections::BTreeMap;
 use std::marker::Model;
 use std::sync::Arc;
-use value_core::Kept;
+use value_core::Instance;
 
 /// Objects by their ids, which clauses see as their entries in order.
 ///
@@ -20,7 +20,7 @@ use value_core::Kept;
 /// place; it copies the map's entries first, but no object, where another copy or snapshot has the map too.
 #[derive(Drop)]
 pub struct Objects {
-    pub(crate) shared: Arc<BTreeMap<ObjectId, Arc<Kept>>>,
+    pub(crate) shared: Arc<BTreeMap<ObjectId, Arc<Instance>>>,
 }
 
 impl Model for Objects {
@@ -28,9 +28,9 @@ impl Model for Objects {
     ghost use Rattle.std.specs.Arc.{arc_value};
     ghost use Rattle.guard_queue.specs.Shown.{shown_objects};
     ghost use Rattle.orca_base.specs.declared.ids.ObjectId.{ObjectId};
-    ghost use Rattle.value_core.specs.declared.action.Kept.{Kept};
+    ghost use Rattle.value_core.specs.declared.action.Instance.{Instance};
 
-    ghost Value = { List (ObjectId × Kept) };
+    ghost Value = { List (ObjectId × Instance) };
 
     ghost use Rattle.std.specs.Coded.{codes};
     ghost use Rattle.value_core.specs.Code.{data_code};
@@ -51,7 +51,7 @@ impl Objects {
     }
 
     /// The object with this id, if there is one.
-    pub fn get(&self, object: ObjectId) -> Option<&Kept>
+    pub fn get(&self, object: ObjectId) -> Option<&Instance>
         ensures { option_copied result ≡ object_at self.now object }
     {
         find(&self.shared, object)
@@ -65,7 +65,7 @@ impl Objects {
     }
 
     /// Puts an object in, in place of the one with this id where there is one.
-    pub fn put(&mut self, alloc: Global, object: ObjectId, kept: Kept) -> Result<(), NoMemory>
+    pub fn put(&mut self, alloc: Global, object: ObjectId, kept: Instance) -> Result<(), NoMemory>
         ensures ok { OnOk result (self.new ≡ with_object self.old object kept) }
         ensures err { OnErr result (self.new ≡ self.old) }
     {
@@ -79,7 +79,7 @@ impl Objects {
     }
 
     /// The map.
-    pub(crate) fn entries(&self) -> &BTreeMap<ObjectId, Arc<Kept>>
+    pub(crate) fn entries(&self) -> &BTreeMap<ObjectId, Arc<Instance>>
         ensures { shown_objects result.now.entries ≡ self.now }
     {
         &self.shared
@@ -113,7 +113,7 @@ impl Objects {
 }
 
 /// The object with this id, if there is one.
-pub(crate) fn find(map: &BTreeMap<ObjectId, Arc<Kept>>, object: ObjectId) -> Option<&Kept>
+pub(crate) fn find(map: &BTreeMap<ObjectId, Arc<Instance>>, object: ObjectId) -> Option<&Instance>
     ensures { option_copied result ≡ object_at (shown_objects map.now.entries) object }
 {
     match map.get(&object) {
@@ -124,10 +124,10 @@ pub(crate) fn find(map: &BTreeMap<ObjectId, Arc<Kept>>, object: ObjectId) -> Opt
 
 /// Puts an object in, and gives what stood at its id, which `put_back` puts back.
 pub(crate) fn put_in(
-    map: &mut BTreeMap<ObjectId, Arc<Kept>>,
+    map: &mut BTreeMap<ObjectId, Arc<Instance>>,
     object: ObjectId,
-    kept: Arc<Kept>,
-) -> Result<Option<Arc<Kept>>, NoMemory>
+    kept: Arc<Instance>,
+) -> Result<Option<Arc<Instance>>, NoMemory>
     ensures put { OnOk result (shown_objects map.new.entries ≡ with_object (shown_objects map.old.entries) object (arc_value kept)) }
     ensures back { IfOk result (λ was. entries_back map.new.entries object was ≡ map.old.entries) }
     ensures there { OnOk result (IsSome (get object_cmp map.new object)) }
@@ -138,10 +138,10 @@ pub(crate) fn put_in(
 
 /// Puts a state in, where there is one, in place of the one that is there, which it gives. It takes no memory.
 pub(crate) fn exchange(
-    map: &mut BTreeMap<ObjectId, Arc<Kept>>,
+    map: &mut BTreeMap<ObjectId, Arc<Instance>>,
     object: ObjectId,
-    kept: Option<Arc<Kept>>,
-) -> Option<Arc<Kept>>
+    kept: Option<Arc<Instance>>,
+) -> Option<Arc<Instance>>
     requires { IsSome kept → IsSome (get object_cmp map.old object) }
     ensures entries { map.new.entries ≡ entries_with map.old.entries object kept }
     ensures back { entries_with map.new.entries object result ≡ map.old.entries }
@@ -158,9 +158,9 @@ pub(crate) fn exchange(
 
 /// Puts back what stood at this id before an object was put in there. It takes no memory.
 pub(crate) fn put_back(
-    map: &mut BTreeMap<ObjectId, Arc<Kept>>,
+    map: &mut BTreeMap<ObjectId, Arc<Instance>>,
     object: ObjectId,
-    was: Option<Arc<Kept>>,
+    was: Option<Arc<Instance>>,
 )
     requires { IsSome (get object_cmp map.old object) }
     ensures { map.new.entries ≡ entries_back map.old.entries object was }
@@ -177,15 +177,15 @@ pub(crate) fn put_back(
 
 /// A map of its own with the same objects, which are shared.
 fn entries_copy(
-    map: &BTreeMap<ObjectId, Arc<Kept>>,
-) -> Result<BTreeMap<ObjectId, Arc<Kept>>, NoMemory>
+    map: &BTreeMap<ObjectId, Arc<Instance>>,
+) -> Result<BTreeMap<ObjectId, Arc<Instance>>, NoMemory>
     ensures { IfOk result (λ m. shown_objects m.entries ≡ shown_objects map.now.entries) }
 {
     Ok(map.clone()?)
 }
 
 /// Whether both maps have the same objects.
-fn same_entries(one: &BTreeMap<ObjectId, Arc<Kept>>, other: &BTreeMap<ObjectId, Arc<Kept>>) -> bool
+fn same_entries(one: &BTreeMap<ObjectId, Arc<Instance>>, other: &BTreeMap<ObjectId, Arc<Instance>>) -> bool
     ensures { IsTrue result ↔ (shown_objects one.now.entries ≡ shown_objects other.now.entries) }
 {
     one == other

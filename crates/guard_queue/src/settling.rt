@@ -16,7 +16,7 @@ use orca_base::{KindNo, NoMemory, ObjectId, OpNo};
 use std::alloc::Global;
 use std::collections::BTreeMap;
 use std::sync::Arc;
-use value_core::{Action, Kept, Line, Parts, Performer, Reply, Tried};
+use value_core::{Action, Instance, Line, Parts, Performer, Reply, Tried};
 
 /// An operation that was performed, as its line of the history.
 #[derive(Debug, Drop, PartialEq, Eq)]
@@ -29,7 +29,7 @@ pub struct Answered {
 struct Written {
     at: usize,
     call: Suspended,
-    was: Option<Arc<Kept>>,
+    was: Option<Arc<Instance>>,
 }
 
 /// Repeatedly the oldest suspended call whose try isn't blocked is performed or faults and leaves the queue, until each is
@@ -111,7 +111,7 @@ pub fn try_call<P: Performer>(
 }
 
 /// What a call does and answers, by what its try gave: its line, and its object's new state where the try left one.
-pub fn perform(objects: &Objects, call: Suspended, tried: Tried) -> (Line, Option<Kept>)
+pub fn perform(objects: &Objects, call: Suspended, tried: Tried) -> (Line, Option<Instance>)
     ensures line { result.0 ≡ answered call tried }
     ensures objects { with_state objects.now call.object result.1 ≡ objects_with objects.now call tried }
     ensures there { IsSome result.1 → IsSome (object_at objects.now call.object) }
@@ -176,7 +176,7 @@ fn settle_with<P: Performer>(
     queue: &mut Queue,
     lines: &mut Vec<Answered>,
     object: ObjectId,
-    kept: Kept,
+    kept: Instance,
 ) -> Result<(), NoMemory>
     requires { AllFit (P.fits_state performer.now) (P.fits_args performer.now) (with_object objects.old object kept) queue.old }
     ensures ok { OnOk result (record { objects = objects.new; queue = queue.new; lines = lines_of lines.new.items } ≡ settled_from (P.performs performer.now) (record { objects = with_object objects.old object kept; queue = queue.old; lines = lines_of lines.old.items })) }
@@ -225,7 +225,7 @@ fn settle_joined<P: Performer>(
 fn rounds<P: Performer>(
     alloc: Global,
     performer: &P,
-    map: &mut BTreeMap<ObjectId, Arc<Kept>>,
+    map: &mut BTreeMap<ObjectId, Arc<Instance>>,
     calls: &mut Vec<Suspended>,
     lines: &mut Vec<Answered>,
 ) -> Result<(), NoMemory>
@@ -244,7 +244,7 @@ fn rounds<P: Performer>(
 fn rounds_from<P: Performer>(
     alloc: Global,
     performer: &P,
-    map: &mut BTreeMap<ObjectId, Arc<Kept>>,
+    map: &mut BTreeMap<ObjectId, Arc<Instance>>,
     calls: &mut Vec<Suspended>,
     lines: &mut Vec<Answered>,
     ready: Option<(usize, Tried)>,
@@ -269,7 +269,7 @@ fn rounds_from<P: Performer>(
 fn write_rounds<P: Performer>(
     alloc: Global,
     performer: &P,
-    map: &mut BTreeMap<ObjectId, Arc<Kept>>,
+    map: &mut BTreeMap<ObjectId, Arc<Instance>>,
     calls: &mut Vec<Suspended>,
     lines: &mut Vec<Answered>,
     written: &mut Vec<Written>,
@@ -298,7 +298,7 @@ fn write_rounds<P: Performer>(
 /// for first. What it wrote comes behind `written`.
 fn round(
     alloc: Global,
-    map: &mut BTreeMap<ObjectId, Arc<Kept>>,
+    map: &mut BTreeMap<ObjectId, Arc<Instance>>,
     calls: &mut Vec<Suspended>,
     lines: &mut Vec<Answered>,
     written: &mut Vec<Written>,
@@ -325,7 +325,7 @@ fn round(
 }
 
 /// Puts back what rounds wrote, the last one first. It takes no memory.
-fn undo(map: &mut BTreeMap<ObjectId, Arc<Kept>>, calls: &mut Vec<Suspended>, written: Vec<Written>)
+fn undo(map: &mut BTreeMap<ObjectId, Arc<Instance>>, calls: &mut Vec<Suspended>, written: Vec<Written>)
     requires can { CanUndo written.items (record { entries = map.old.entries; calls = calls.old.items }) }
     requires room { length written.items + length calls.old.items ≤ vec_capacity calls.old }
     ensures { record { entries = map.new.entries; calls = calls.new.items } ≡ undone written.items (record { entries = map.old.entries; calls = calls.old.items }) }
@@ -346,7 +346,7 @@ fn add_line(lines: &mut Vec<Answered>, line: Line) -> Result<(), NoMemory>
 }
 
 /// The state, shared, where there is one.
-fn shared(alloc: Global, state: Option<Kept>) -> Result<Option<Arc<Kept>>, NoMemory>
+fn shared(alloc: Global, state: Option<Instance>) -> Result<Option<Arc<Instance>>, NoMemory>
     ensures { IfOk result (λ r. option_map arc_value r ≡ state) }
 {
     match state {
@@ -380,7 +380,7 @@ fn give_back(calls: &mut Vec<Suspended>, at: usize, call: Suspended)
 fn find_ready<P: Performer>(
     alloc: Global,
     performer: &P,
-    map: &BTreeMap<ObjectId, Arc<Kept>>,
+    map: &BTreeMap<ObjectId, Arc<Instance>>,
     calls: &[Suspended],
 ) -> Result<Option<(usize, Tried)>, NoMemory>
     requires { AllFit (P.fits_state performer.now) (P.fits_args performer.now) (shown_objects map.now.entries) calls.now }
@@ -400,7 +400,7 @@ fn find_ready<P: Performer>(
 fn try_in<P: Performer>(
     alloc: Global,
     performer: &P,
-    map: &BTreeMap<ObjectId, Arc<Kept>>,
+    map: &BTreeMap<ObjectId, Arc<Instance>>,
     call: &Suspended,
 ) -> Result<Tried, NoMemory>
     requires { CanTry (P.fits_state performer.now) (P.fits_args performer.now) (shown_objects map.now.entries) call.now.kind call.now.op call.now.object call.now.args }
@@ -414,10 +414,10 @@ fn try_in<P: Performer>(
 
 /// What a call does and answers on the objects of this map, by what its try gave.
 fn answer(
-    map: &BTreeMap<ObjectId, Arc<Kept>>,
+    map: &BTreeMap<ObjectId, Arc<Instance>>,
     call: Suspended,
     tried: Tried,
-) -> (Line, Option<Kept>)
+) -> (Line, Option<Instance>)
     ensures line { result.0 ≡ answered call tried }
     ensures objects { with_state (shown_objects map.now.entries) call.object result.1 ≡ objects_with (shown_objects map.now.entries) call tried }
     ensures there { IsSome result.1 → IsSome (object_at (shown_objects map.now.entries) call.object) }
@@ -430,7 +430,7 @@ fn answer(
             reply,
         } => {
             let kept = find(map, call.object).map(|kept| kept.kind);
-            (guard, reply, kept.map(|kind| Kept { kind, state }))
+            (guard, reply, kept.map(|kind| Instance { kind, state }))
         }
         Tried::Broke { guard, fault } => (guard, Reply::Broke { fault }, None),
     };

@@ -6,7 +6,7 @@ use Rattle.orca_base.specs.declared.ids.OpNo.{OpNo}
 use Rattle.orca_base.specs.declared.ids.ObjectId.{ObjectId}
 use Rattle.value_core.specs.Datum.{Data, list_of}
 use Rattle.value_core.specs.Datum as datum
-use Rattle.value_core.specs.declared.action.Kept.{Kept}
+use Rattle.value_core.specs.declared.action.Instance.{Instance}
 use Rattle.value_core.specs.declared.action.Line.{Line}
 use Rattle.value_core.specs.declared.meaning.Making.{Making}
 use Rattle.value_core.specs.declared.meaning.Making.TheVariants as making
@@ -50,7 +50,7 @@ module _ (fits_state : Kinds → KindNo → Data → Type 0) (fits_args : Kinds 
     (states_stay : (kinds more : Kinds) (kind : KindNo) (state : Data) → ExtendsKinds kinds more → fits_state kinds kind state → fits_state more kind state)
     (args_stay : (kinds more : Kinds) (kind : KindNo) (op : OpNo) (args : Data) → ExtendsKinds kinds more → fits_args kinds kind op args → fits_args more kind op args) where
   -- a call's object stays, where another one is made
-  call_beside : (kinds : Kinds) (objects : Objects) (object : ObjectId) (kept : Kept) → object_at objects object ≡ None → (call : Suspended) → CallFits fits_args kinds objects call → CallFits fits_args kinds (with_object objects object kept) call
+  call_beside : (kinds : Kinds) (objects : Objects) (object : ObjectId) (kept : Instance) → object_at objects object ≡ None → (call : Suspended) → CallFits fits_args kinds objects call → CallFits fits_args kinds (with_object objects object kept) call
   call_beside kinds objects object kept absent call fit =
       let at : (b : Bool) → is_at (object_cmp call.object) object ≡ b → object_at (with_object objects object kept) call.object ≡ cond b (Some kept) (object_at objects call.object) = λ b h. object_at-with_object objects object kept call.object ∙ ap (λ c. cond c (Some kept) (object_at objects call.object)) h in
       elim (is_at (object_cmp call.object) object) as (λ b. is_at (object_cmp call.object) object ≡ b → CallFits fits_args kinds (with_object objects object kept) call) [
@@ -62,7 +62,7 @@ module _ (fits_state : Kinds → KindNo → Data → Type 0) (fits_args : Kinds 
   pub made_all_fit : (objects : Objects) (queue : List Suspended) (kind : KindNo) (object : ObjectId) (state : Data) → object_at objects object ≡ None
       → ((kinds : Kinds) → fits_state kinds kind state) → AllFit fits_state fits_args objects queue → AllFit fits_state fits_args (with_object objects object (record { kind = kind; state = state })) queue
   made_all_fit objects queue kind object state absent made fit =
-      let kept : Kept = record { kind = kind; state = state } in
+      let kept : Instance = record { kind = kind; state = state } in
       let more = kinds_of (with_object objects object kept) in
       let extends = kinds_extend objects object kept (λ old here. let no : None ≡ Some old = sym absent ∙ here in absurd (cc no)) in
       let over = over_more fits_state fits_args states_stay args_stay (kinds_of objects) more objects queue extends fit in

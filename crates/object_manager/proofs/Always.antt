@@ -6,7 +6,7 @@ use Rattle.orca_base.specs.declared.ids.KindNo.{KindNo}
 use Rattle.orca_base.specs.declared.ids.OpNo.{OpNo}
 use Rattle.orca_base.specs.declared.ids.ObjectId.{ObjectId}
 use Rattle.value_core.specs.Datum.{Data}
-use Rattle.value_core.specs.declared.action.Kept.{Kept}
+use Rattle.value_core.specs.declared.action.Instance.{Instance}
 use Rattle.value_core.specs.declared.action.Message.{Message}
 use Rattle.value_core.specs.declared.action.Action.{Action}
 use Rattle.value_core.specs.declared.action.Action.TheVariants as action
@@ -26,7 +26,7 @@ use Rattle.object_manager.specs.Applies.{Applies}
 use Rattle.object_manager.specs.Limits.{IsTooMany, most_processes}
 
 -- an object whose type is known is there
-has_kind : (o : Option Kept) → kind_in o ≡ Some output_kind → (kept : Kept) × (o ≡ Some kept)
+has_kind : (o : Option Instance) → kind_in o ≡ Some output_kind → (kept : Instance) × (o ≡ Some kept)
 has_kind None h = absurd (cc h)
 has_kind (Some kept) h = (kept, refl)
 

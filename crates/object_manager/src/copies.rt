@@ -24,7 +24,7 @@ use guard_queue::{
 use orca_base::{KindNo, NoMemory, OBJECTS, ObjectId, OpNo, PROCESSES, ProcessNo, What};
 use std::alloc::Global;
 use std::marker::Model;
-use value_core::{Action, Kept, Line, Making, Message, Parts, Performer, Reply, Tried};
+use value_core::{Action, Instance, Line, Making, Message, Parts, Performer, Reply, Tried};
 
 /// Why a message wasn't applied.
 #[derive(Clone, Copy, Debug, PartialEq, Eq)]
@@ -86,7 +86,7 @@ impl Copies {
         ensures { IfOk result (λ c. c ≡ opening_copies) }
     {
         let mut objects = Objects::new(alloc)?;
-        let output = Kept {
+        let output = Instance {
             kind: KindNo(0),
             state: Parts::new(alloc),
         };
@@ -293,7 +293,7 @@ impl Copies {
                 })
             }
             Making::Made { state } => {
-                let kept = Kept { kind, state };
+                let kept = Instance { kind, state };
                 Ok((Reply::Done, Change::Puts { object, kept }))
             }
         }
@@ -346,7 +346,7 @@ impl Copies {
 }
 
 /// The change that puts a state in, where there is one.
-fn put(object: ObjectId, state: Option<Kept>) -> Change
+fn put(object: ObjectId, state: Option<Instance>) -> Change
     ensures objects { (objects : Held) → objects_changed objects result ≡ with_state objects object state }
     ensures queue { (queue : List Suspended) → queue_changed queue result ≡ queue }
 {

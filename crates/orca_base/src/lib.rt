@@ -26,6 +26,6 @@ pub use limits::{
     SOURCE_BYTES, TEXT_LENGTH, TURNS, VALUE_NESTING, VALUE_SIZE, WINDOW, WORKERS,
 };
 pub use place::Place;
-pub use refusal::{NoMemory, Refusal};
+pub use refusal::{NoMemory, Refusal, refuse};
 pub use text::Text;
 pub use what::{Choice, What};

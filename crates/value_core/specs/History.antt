@@ -13,7 +13,7 @@ use Rattle.orca_base.specs.declared.ids.ProcessNo.{ProcessNo}
 use Rattle.orca_base.specs.declared.ids.ObjectId.{ObjectId}
 use Rattle.value_core.specs.Datum.{Datum, Data}
 use Rattle.value_core.specs.Datum as datum
-use Rattle.value_core.specs.declared.action.Kept.{Kept}
+use Rattle.value_core.specs.declared.action.Instance.{Instance}
 use Rattle.value_core.specs.declared.action.Line.{Line}
 use Rattle.value_core.specs.declared.action.Action.{Action}
 use Rattle.value_core.specs.declared.action.Action.TheVariants as action
@@ -28,7 +28,7 @@ use Rattle.value_core.specs.Meaning.{Performs, Computes}
 
 -- the objects, by their ids in order
 abbrev pub Objects : Type 0
-Objects = List (ObjectId × Kept)
+Objects = List (ObjectId × Instance)
 
 -- a process: its text and arguments, and the replies that it received so far
 pub record Process : Type 0 where
@@ -46,11 +46,11 @@ abbrev pub object_cmp : ObjectId → ObjectId → Ordering
 object_cmp a b = ordering_then (nat_cmp a.process b.process) (nat_cmp a.number b.number)
 
 -- the object with this id
-abbrev pub object_at : Objects → ObjectId → Option Kept
+abbrev pub object_at : Objects → ObjectId → Option Instance
 object_at objects object = lookup (is_at (object_cmp object)) objects
 
 -- the objects with this one put in
-abbrev pub with_object : Objects → ObjectId → Kept → Objects
+abbrev pub with_object : Objects → ObjectId → Instance → Objects
 with_object = insert_entry object_cmp
 
 -- the output object, and the type that is its alone
@@ -86,7 +86,7 @@ MakingAnswers (making.Broke fault) reply = reply ≡ answer.Broke fault
 abbrev pub Performed : Performs → Objects → Action → ℕ → Reply → Type 0
 Performed p objects (action.Make kind object) guard reply = (guard ≡ 0) × MakingAnswers (p.made kind) reply
 Performed p objects (action.Call kind op object args) guard reply =
-    (kept : Kept) × (object_at objects object ≡ Some kept) × Answers (p.tries kind op kept.state args) guard reply
+    (kept : Instance) × (object_at objects object ≡ Some kept) × Answers (p.tries kind op kept.state args) guard reply
 Performed p objects (action.Fork process args place_on) guard reply = (guard ≡ 0) × (reply ≡ answer.Done)
 Performed p objects action.Ended guard reply = ⊥
 Performed p objects (action.Faulted fault) guard reply = ⊥
@@ -96,12 +96,12 @@ abbrev pub after_making : Objects → KindNo → ObjectId → Making → Objects
 after_making objects kind object (making.Made state) = with_object objects object (record { kind = kind; state = state })
 after_making objects kind object (making.Broke fault) = objects
 
-abbrev pub after_try : Objects → ObjectId → Kept → Tried → Objects
+abbrev pub after_try : Objects → ObjectId → Instance → Tried → Objects
 after_try objects object kept tried.Blocked = objects
 after_try objects object kept (tried.Did guard state reply) = with_object objects object (record { kind = kept.kind; state = state })
 after_try objects object kept (tried.Broke guard fault) = objects
 
-abbrev pub after_call : Performs → Objects → KindNo → OpNo → ObjectId → Data → Option Kept → Objects
+abbrev pub after_call : Performs → Objects → KindNo → OpNo → ObjectId → Data → Option Instance → Objects
 after_call p objects kind op object args None = objects
 after_call p objects kind op object args (Some kept) = after_try objects object kept (p.tries kind op kept.state args)
 
@@ -204,7 +204,7 @@ pub record IsStuck (p : Performs) (q : Computes) (lines : List Line) (number : P
   pub op : OpNo
   pub object : ObjectId
   pub args : Data
-  pub kept : Kept
+  pub kept : Instance
   pub exists : slice_get (processes_of p q lines) number.0 ≡ Some process
   pub waits : q.doing process.text number process.args process.replies most_turns ≡ doing.At (action.Call kind op object args)
   pub has : object_at (objects_of p q lines) object ≡ Some kept

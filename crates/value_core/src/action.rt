@@ -71,9 +71,9 @@ pub struct Line {
     pub reply: Reply,
 }
 
-/// An object as it is kept: its type and the values of its fields.
+/// An instance of an object type: its type and the values of its fields.
 #[derive(Debug, Drop, PartialEq, Eq)]
-pub struct Kept {
+pub struct Instance {
     pub kind: KindNo,
     pub state: ObjectState,
 }
@@ -238,19 +238,19 @@ impl Line {
     }
 }
 
-impl Kept {
+impl Instance {
     /// An equal object.
-    pub fn copy(&self, alloc: Global) -> Result<Kept, NoMemory>
+    pub fn copy(&self, alloc: Global) -> Result<Instance, NoMemory>
         ensures { IfOk result (λ k. k ≡ self.now) }
     {
-        Ok(Kept {
+        Ok(Instance {
             kind: self.kind,
             state: self.state.copy(alloc)?,
         })
     }
 
     /// Whether both objects are the same.
-    pub fn is(&self, other: &Kept) -> bool
+    pub fn is(&self, other: &Instance) -> bool
         ensures { IsTrue result ↔ (self.now ≡ other.now) }
     {
         self.kind == other.kind && self.state.is(&other.state)

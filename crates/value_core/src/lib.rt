@@ -13,7 +13,7 @@ mod performer;
 mod processor;
 mod value;
 
-pub use action::{Action, Class, Kept, Line, Message, Reply};
+pub use action::{Action, Class, Instance, Line, Message, Reply};
 pub use meaning::{Doing, Making, Tried};
 pub use orca_base::Text as TextValue;
 pub use performer::Performer;

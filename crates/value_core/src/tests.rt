@@ -1,4 +1,4 @@
-use crate::{Action, Kept, Line, Message, Parts, Reply, TextValue, Value};
+use crate::{Action, Instance, Line, Message, Parts, Reply, TextValue, Value};
 use orca_base::{CallNo, FaultKind, KindNo, NoMemory, ObjectId, OpNo, ProcessNo, TextNo};
 use std::alloc::{AllocError, Global};
 use std::process::Abort;
@@ -201,7 +201,7 @@ fn messages_and_objects_are_copied(rt: HostRuntime) -> Result<(), Fail> {
         action: Action::Ended,
     };
     assert!(rt; message.copy(rt.alloc())?.is(&message));
-    let kept = Kept {
+    let kept = Instance {
         kind: KindNo(1),
         state: nested(rt.alloc())?,
     };

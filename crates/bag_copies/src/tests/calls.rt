@@ -9,13 +9,13 @@ use guard_queue::{
 use orca_base::{CallNo, NoMemory, ProcessNo};
 use std::alloc::Global;
 use std::test::Fail;
-use value_core::{Kept, Parts, Value};
+use value_core::{Instance, Parts, Value};
 
 // A flag with this integer.
-fn flag(alloc: Global, number: i64) -> Result<Kept, NoMemory> {
+fn flag(alloc: Global, number: i64) -> Result<Instance, NoMemory> {
     let mut state = Parts::new(alloc);
     state.push(Value::Int(number))?;
-    Ok(Kept {
+    Ok(Instance {
         kind: Bags::FLAG,
         state,
     })
