@@ -20,3 +20,13 @@ pub mod Law
 pub mod Steps
 pub mod Later
 pub mod Conditions
+pub mod Owned
+pub mod Walk
+pub mod Course
+pub mod Forth
+pub mod Single
+pub mod Tally
+pub mod Small
+pub mod Sending
+pub mod Inside
+pub mod OwnPurge

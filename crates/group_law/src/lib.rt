@@ -1,22 +1,55 @@
 //! The law of the group: whatever is lost, repeated or reordered, whichever members crash, and whoever coordinates
 //! when, its members agree.
 //!
-//! The floor above uses `agreement_law`, which speaks of the rules of `group_rules` alone: each world that a list of
-//! events reaches from the opening one meets `Agree`, each event the law on lists, any two moments of a run say the same
-//! of what was accepted, and whatever may come to a member meets the conditions of its calls. It stands on those
-//! definitions and carries no code; members, nodes and worlds are proved against the same functions.
+//! The floor above uses `agreement_law`, which speaks of the rules of `group_rules` alone: of each world that a list of
+//! events reaches from the opening one, of each further event, and of any two moments of a run. It stands on those
+//! definitions and carries no code; members, nodes and worlds are proved against the same functions. That a run ends, or
+//! that anything happens in the end, is no part of it.
 #![tactic(auto)]
 
+ghost use Rattle.group_law.specs.Agreed.{AgreedLaw, ForwardLaw};
+ghost use Rattle.group_law.specs.Messages.{MessagesLaw};
+ghost use Rattle.group_law.specs.Numbers.{FewEventsLaw, NumbersLaw};
 ghost use Rattle.group_law.specs.Promise.{AgreementLaw, ConditionsLaw, LastingLaw, ListsLaw};
+ghost use Rattle.group_law.specs.Sends.{SendsLaw};
+ghost use Rattle.group_law.specs.Told.{PurgesLaw, StaysLaw, ToldLaw};
+ghost use Rattle.group_law.specs.WrongPurge.{OwnPurgeBreaksTheLaw};
 
 /// The law, for every number of members, every resilience below half of them, and messages of any type.
 ///
-/// Agree holds after every list of events (`worlds`). Each event leaves the list of every installed incarnation or
-/// lengthens it at its end, at its active sequencer (`lists`). What was accepted is never lost or moved (`lasting`). What
-/// may be delivered or submitted meets the conditions on the calls of members and resets (`calls`).
+/// - `worlds`: Agree holds after every list of events.
+/// - `lists`: each event leaves the list of every installed incarnation or lengthens it at its end, at its active sequencer.
+/// - `lasting`: what was accepted is never lost or moved.
+/// - `calls`: what may be delivered or submitted meets the conditions on the calls of members and resets.
+/// - `messages`: what a process submitted is, at its home, pending or applied, and never both. Each member applies the
+///   messages of a process in their order, with none left out.
+/// - `forward`: incarnations, accepted and applied numbers of a member never fall, who is outside or crashed stays so, and
+///   what was sent or submitted stays.
+/// - `agreed`: what members know to be accepted is one list, and so is what they applied. Both only grow at their end.
+/// - `told`: applied and stable numbers that are told are true.
+/// - `purges`: no purge goes beyond what a member that answered for the incarnation has applied.
+/// - `stays`: a member is put outside only by a base beyond what it applied.
+/// - `numbers`, `few_events`: entry numbers are at most the number of submissions, incarnations at most 2 N for each
+///   coordination, and so both stay below 2^62 in a run of at most 4,000,000 events.
+/// - `sends`: what a row of a member sends goes from it to another member, and is of the kinds that the row may send.
 pub fn agreement_law<M>()
     ensures worlds { AgreementLaw M }
     ensures lists { ListsLaw M }
     ensures lasting { LastingLaw M }
     ensures calls { ConditionsLaw M }
+    ensures messages { MessagesLaw M }
+    ensures forward { ForwardLaw M }
+    ensures agreed { AgreedLaw M }
+    ensures told { ToldLaw M }
+    ensures purges { PurgesLaw M }
+    ensures stays { StaysLaw M }
+    ensures numbers { NumbersLaw M }
+    ensures few_events { FewEventsLaw M }
+    ensures sends { SendsLaw M }
+{}
+
+/// `purges_to_own_applied`: a sequencer that purges to its own applied number in place of the least that it heard breaks
+/// the law on purges. In a run of 192 messages that reach nobody it would purge what a member that answered lacks.
+pub fn own_purge_breaks_the_law()
+    ensures { OwnPurgeBreaksTheLaw }
 {}

@@ -6,7 +6,5 @@
 #![tactic(auto)]
 
 mod packet;
-#[cfg(test)]
-mod tests;
 
 pub use packet::{Join, News, Packet, PacketKind, packet_length};
