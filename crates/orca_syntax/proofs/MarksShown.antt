@@ -15,16 +15,24 @@ use Rattle.orca_syntax.specs.Forest.{Forest, none, group, flat}
 use Rattle.orca_syntax.specs.Derivation as der
 
 -- a phrase in brackets, and what stands behind it
-in_group : (b : Bracket) (ms : List Mark) (g f : Forest) → ms ≡ flat g → bracketed b ms ++ flat f ≡ flat (group b g f)
+pub in_group : (b : Bracket) (ms : List Mark) (g f : Forest) → ms ≡ flat g → bracketed b ms ++ flat f ≡ flat (group b g f)
 in_group b ms g f same =
     ap (λ (xs : List Mark). Begin b ∷ xs) (append_assoc ms (End b ∷ []) (flat f)) ∙ ap (λ (xs : List Mark). Begin b ∷ (xs ++ End b ∷ flat f)) same
 
-alone : (ms : List Mark) (g : Forest) → ms ++ [] ≡ flat g → ms ≡ flat g
-alone ms g same = sym (append-nil _) ∙ same
+-- where nothing stands behind it
+pub alone : (ms xs : List Mark) → ms ++ [] ≡ xs → ms ≡ xs
+alone ms xs same = sym (append-nil _) ∙ same
 
--- in parentheses
-in_front : (m : Mark) (a b : List Mark) → a ≡ b → m ∷ a ≡ m ∷ b
+-- a token, and what stands behind it
+pub in_front : (m : Mark) (a b : List Mark) → a ≡ b → m ∷ a ≡ m ∷ b
 in_front m a b same = ap (λ (xs : List Mark). m ∷ xs) same
+
+-- what stands behind a phrase, and one part behind another
+pub behind : (a x y z : List Mark) → x ≡ y → a ++ y ≡ z → a ++ x ≡ z
+behind a x y z last first = ap (λ (xs : List Mark). a ++ xs) last ∙ first
+
+pub in_turn : (a b x : List Mark) {y z : List Mark} → b ++ x ≡ y → a ++ y ≡ z → (a ++ b) ++ x ≡ z
+in_turn a b x last first = append_assoc a b x ∙ behind a (b ++ x) _ _ last first
 
 level_is : {n : _} (row : Row_of-Link n) → row_links row ≡ der.level (link_row row)
 level_is end_of-Link = refl
@@ -65,7 +73,7 @@ mutual
   links_shown (more_of-Link op e row) =
       in_front (marks.word (operator_token op)) _ _ (ap (λ (xs : List Mark). marks.operand e ++ xs) (links_shown row) ∙ operand_shown e (der.links (link_row row)))
 
-  step_shown : (s : Selector) (f : Forest) → marks.selector s ++ flat f ≡ flat (der.step (step s) f)
+  pub step_shown : (s : Selector) (f : Forest) → marks.selector s ++ flat f ≡ flat (der.step (step s) f)
   step_shown (Field at n) f = refl
   step_shown (Index at e) f =
       in_front (marks.word_at at (Sign OpensIndex)) _ _
