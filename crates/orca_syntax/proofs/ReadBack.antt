@@ -18,26 +18,26 @@ use Rattle.orca_syntax.specs.Derivation.{word, whole, level, operand, links, pat
 
 -- ---- from marks to the forest: what was read so far, and what stands round it
 
-data Grown : Type 0 where
+pub data Grown : Type 0 where
   grow : Forest → List Forest → Grown
 
-abbrev put_token : Option Place → TokenKind → Grown → Grown
+abbrev pub put_token : Option Place → TokenKind → Grown → Grown
 put_token p k (grow f fs) = grow (token p k f) fs
 
-abbrev closed : Grown → Grown
+abbrev pub closed : Grown → Grown
 closed (grow f fs) = grow none (f ∷ fs)
 
-abbrev opened : Bracket → Grown → Grown
+abbrev pub opened : Bracket → Grown → Grown
 opened b (grow g []) = grow g []
 opened b (grow g (f ∷ fs)) = grow (group b g f) fs
 
-abbrev grown : List Mark → Grown
+abbrev pub grown : List Mark → Grown
 grown [] = grow none []
 grown (Spelled p k ∷ ms) = put_token p k (grown ms)
 grown (Begin b ∷ ms) = opened b (grown ms)
 grown (End b ∷ ms) = closed (grown ms)
 
-abbrev onto : Forest → Forest → Forest
+abbrev pub onto : Forest → Forest → Forest
 onto none h = h
 onto (token p k f) h = token p k (onto f h)
 onto (group b g f) h = group b g (onto f h)
@@ -55,19 +55,19 @@ grows (group b g f) ms h fs is =
     ∙ ap (λ x. opened b x) (grows g (End b ∷ (flat f ++ ms)) none (onto f h ∷ fs) (ap (λ x. closed x) (grows f ms h fs is)))
     ∙ ap (λ x. grow (group b x (onto f h)) fs) (onto-none g)
 
-abbrev forest_in : Grown → Forest
+abbrev pub forest_in : Grown → Forest
 forest_in (grow f fs) = f
 
-forest_of : List Mark → Forest
+pub forest_of : List Mark → Forest
 forest_of ms = forest_in (grown ms)
 
-forest_back : (f : Forest) → forest_of (flat f) ≡ f
+pub forest_back : (f : Forest) → forest_of (flat f) ≡ f
 unfolding forest_of
 forest_back f = ap (λ (xs : List Mark). forest_in (grown xs)) (sym (append-nil (flat f))) ∙ ap forest_in (grows f [] none [] refl) ∙ onto-none f
 
 -- ---- from the forest to the syntax
 
-abbrev operator_of : TokenKind → Operator
+abbrev pub operator_of : TokenKind → Operator
 operator_of (Key KeyOr) = op.Or
 operator_of (Key KeyAnd) = op.And
 operator_of (Key KeyIn) = op.In
@@ -102,14 +102,14 @@ operator_back op.Divide = refl
 operator_back op.Remainder = refl
 
 -- how a factor begins, and what stands behind a name
-data Start : Type 0 where
+pub data Start : Type 0 where
   number : ℤ → Start
   char : ℕ → Start
   text : List ℕ → Start
   truth : Bool → Start
   negation negative parentheses from size ordinal by_name : Start
 
-abbrev start_of : TokenKind → Start
+abbrev pub start_of : TokenKind → Start
 start_of (kind.Number v) = number v
 start_of (kind.Char c) = char c
 start_of (kind.Text t) = text t
@@ -123,26 +123,26 @@ start_of (Sign Minus) = negative
 start_of (Sign Opens) = parentheses
 start_of _ = by_name
 
-data Behind : Type 0 where
+pub data Behind : Type 0 where
   arguments operation steps : Behind
 
-abbrev behind_of : TokenKind → Behind
+abbrev pub behind_of : TokenKind → Behind
 behind_of (Sign Opens) = arguments
 behind_of (Sign Dollar) = operation
 behind_of _ = steps
 
-abbrev place_of : Option Place → Place
+abbrev pub place_of : Option Place → Place
 place_of (Some at) = at
 place_of None = record { line = 0; column = 0 }
 
-abbrev text_of : TokenKind → List ℕ
+abbrev pub text_of : TokenKind → List ℕ
 text_of (kind.Name t) = t
 text_of _ = []
 
-abbrev name_of : Option Place → TokenKind → Name
+abbrev pub name_of : Option Place → TokenKind → Name
 name_of p k = record { at = place_of p; text = text_of k }
 
-abbrev chosen : Start → Place → Expr → Expr → Expr → Expr → Expr → Expr
+abbrev pub chosen : Start → Place → Expr → Expr → Expr → Expr → Expr → Expr
 chosen (number v) at operand inner enclosed path other = syn.Number at v
 chosen (char c) at operand inner enclosed path other = syn.Char at c
 chosen (text t) at operand inner enclosed path other = syn.Text at t
@@ -155,70 +155,70 @@ chosen size at operand inner enclosed path named = syn.Size at enclosed
 chosen ordinal at operand inner enclosed path named = syn.Ordinal at enclosed
 chosen by_name at operand inner enclosed path other = other
 
-abbrev behind_name : Behind → Name → Path → Exprs → Expr → Expr
+abbrev pub behind_name : Behind → Name → Path → Exprs → Expr → Expr
 behind_name arguments n p es e = Expr.Call n es
 behind_name operation n p es e = e
 behind_name steps n p es e = syn.Get n p
 
-abbrev nowhere : Place
+abbrev pub nowhere : Place
 nowhere = record { line = 0; column = 0 }
 
-abbrev nothing : Expr
+abbrev pub nothing : Expr
 nothing = syn.Truth nowhere false
 
 abbrev mutual
-  read_operand : Forest → Expr
+  pub read_operand : Forest → Expr
   read_operand (group b g f) = read_chains (read_factor g) f
   read_operand _ = nothing
 
-  read_chains : Expr → Forest → Expr
+  pub read_chains : Expr → Forest → Expr
   read_chains e (group b g f) = read_chains (syn.Chain e (read_links g)) f
   read_chains e _ = e
 
-  read_factor : Forest → Expr
+  pub read_factor : Forest → Expr
   read_factor (token p k f) = chosen (start_of k) (place_of p) (read_operand f) (read_whole f) (read_enclosed f) (read_from (place_of p) f) (read_named (name_of p k) f)
   read_factor _ = nothing
 
   -- in front of its links stands an operand, which is skipped
-  read_links : Forest → Links
+  pub read_links : Forest → Links
   read_links none = syn.no_link
   read_links (token p k f) = syn.link (operator_of k) (read_operand f) (read_links f)
   read_links (group b g f) = read_links f
 
-  read_whole : Forest → Expr
+  pub read_whole : Forest → Expr
   read_whole (group b g f) = read_operand g
   read_whole _ = nothing
 
-  read_enclosed : Forest → Expr
+  pub read_enclosed : Forest → Expr
   read_enclosed (token p k f) = read_whole f
   read_enclosed _ = nothing
 
-  read_from : Place → Forest → Expr
+  pub read_from : Place → Forest → Expr
   read_from at (token p k (token q n f)) = syn.From at (name_of q n) (read_path f)
   read_from at _ = nothing
 
-  read_named : Name → Forest → Expr
+  pub read_named : Name → Forest → Expr
   read_named n (token p k f) = behind_name (behind_of k) n (read_step (place_of p) f) (read_exprs f) (read_invoke n f)
   read_named n _ = syn.Get n syn.here
 
-  read_invoke : Name → Forest → Expr
+  pub read_invoke : Name → Forest → Expr
   read_invoke n (token p k (token q o f)) = Expr.Invoke n (name_of p k) (read_exprs f)
   read_invoke n _ = nothing
 
-  read_path : Forest → Path
+  pub read_path : Forest → Path
   read_path (token p k f) = read_step (place_of p) f
   read_path _ = syn.here
 
-  read_step : Place → Forest → Path
+  pub read_step : Place → Forest → Path
   read_step at (token p k f) = syn.to (syn.Field at (name_of p k)) (read_path f)
   read_step at (group b g (token p k f)) = syn.to (syn.Index at (read_operand g)) (read_path f)
   read_step at _ = syn.here
 
-  read_exprs : Forest → Exprs
+  pub read_exprs : Forest → Exprs
   read_exprs (group b g f) = syn.expr (read_operand g) (read_more f)
   read_exprs _ = syn.no_expr
 
-  read_more : Forest → Exprs
+  pub read_more : Forest → Exprs
   read_more (token p k (group b g f)) = syn.expr (read_operand g) (read_more f)
   read_more _ = syn.no_expr
 
@@ -233,7 +233,7 @@ ends e syn.no_link = refl
 ends e (syn.link o e2 ls) = refl
 
 mutual
-  operand_back : (e : Expr) (f : Forest) → read_operand (operand e f) ≡ read_chains e f
+  pub operand_back : (e : Expr) (f : Forest) → read_operand (operand e f) ≡ read_chains e f
   operand_back (syn.Chain e ls) f =
       operand_back e (group (ChainOf (level ls)) (links ls) f) ∙ ap (λ x. read_chains (syn.Chain e x) f) (links_back ls)
   operand_back (syn.Number at v) f = refl
@@ -262,13 +262,13 @@ mutual
       ∙ ap (λ x. syn.link o x (read_links (operand e (links ls)))) (operand_back e (links ls) ∙ ends e ls)
       ∙ ap (λ x. syn.link o e x) (skips e (links ls) ∙ links_back ls)
 
-  path_back : (p : Path) (f : Forest) → read_path f ≡ syn.here → read_path (path p f) ≡ p
+  pub path_back : (p : Path) (f : Forest) → read_path f ≡ syn.here → read_path (path p f) ≡ p
   path_back syn.here f end = end
   path_back (syn.to (syn.Field at m) p) f end = ap (λ x. syn.to (syn.Field at m) x) (path_back p f end)
   path_back (syn.to (syn.Index at e) p) f end =
       ap (λ x. syn.to (syn.Index at x) (read_path (path p f))) (operand_back e none) ∙ ap (λ x. syn.to (syn.Index at e) x) (path_back p f end)
 
-  exprs_back : (es : Exprs) (f : Forest) → read_exprs f ≡ syn.no_expr → read_more f ≡ syn.no_expr → read_exprs (exprs es f) ≡ es
+  pub exprs_back : (es : Exprs) (f : Forest) → read_exprs f ≡ syn.no_expr → read_more f ≡ syn.no_expr → read_exprs (exprs es f) ≡ es
   exprs_back syn.no_expr f end last = end
   exprs_back (syn.expr e es) f end last =
       ap (λ x. syn.expr x (read_more (more_exprs es f))) (operand_back e none) ∙ ap (λ x. syn.expr e x) (more_back es f last)
