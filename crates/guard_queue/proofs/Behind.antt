@@ -6,10 +6,7 @@ use Rattle.value_core.specs.declared.action.Line.{Line}
 use Rattle.value_core.specs.Meaning.{Performs}
 use Rattle.value_core.specs.History.{Objects}
 use Rattle.guard_queue.specs.declared.queue.Suspended.{Suspended}
-use Rattle.guard_queue.specs.Settles.{Settling, answered, next_ready, objects_with, performed, settle_up_to, settled, settled_from, stepped, tried_in}
-
-abbrev pub behind : List Line → Settling → Settling
-behind lines s = record { objects = s.objects; queue = s.queue; lines = lines ++ s.lines }
+use Rattle.guard_queue.specs.Settles.{Settling, answered, behind, next_ready, objects_with, performed, settle_up_to, settled, settled_from, stepped, tried_in}
 
 performed_behind : (p : Performs) (lines : List Line) (s : Settling) (at : ℕ) (o : Option Suspended) → performed p (behind lines s) at o ≡ behind lines (performed p s at o)
 performed_behind p lines s at None = refl
@@ -25,7 +22,7 @@ up_to_behind : (p : Performs) (lines : List Line) (n : ℕ) (s : Settling) → s
 up_to_behind p lines zero s = refl
 up_to_behind p lines (suc n) s = ap (settle_up_to p n) (stepped_behind p lines s (next_ready p s.objects s.queue)) ∙ up_to_behind p lines n (stepped p s (next_ready p s.objects s.queue))
 
-append_none : (lines : List Line) → lines ++ [] ≡ lines
+pub append_none : (lines : List Line) → lines ++ [] ≡ lines
 append_none [] = refl
 append_none (line ∷ lines) = ap (λ ls. line ∷ ls) (append_none lines)
 

@@ -1,12 +1,13 @@
 pub mod Lookups
 pub mod Shared
-pub mod PutBack
-pub mod Writing
 pub mod Ready
 pub mod KindsStay
 pub mod Steps
 pub mod Rounds
-pub mod Undone
 pub mod Behind
+pub mod Blocked
 pub mod KindsAt
 pub mod Same
+pub mod Writes
+pub mod Places
+pub mod Changed

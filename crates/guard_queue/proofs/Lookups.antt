@@ -15,11 +15,11 @@ use Rattle.value_core.specs.History.{Objects, object_cmp, object_at, with_object
 pub object_total : IsTotalOrder object_cmp
 object_total = then_total (on_total (λ (s : ObjectId). s.process) nat_cmp_total) (on_total (λ (s : ObjectId). s.number) nat_cmp_total)
 
-found : (objects : Objects) (q : ObjectId) → find object_cmp q objects ≡ object_at objects q
+pub found : (objects : Objects) (q : ObjectId) → find object_cmp q objects ≡ object_at objects q
 found [] q = refl
 found (e ∷ es) q = ap (cond (is_at (object_cmp q) e.0) (Some e.1)) (found es q)
 
-placed : (objects : Objects) (k : ObjectId) (v : Instance) → put object_cmp k v objects ≡ with_object objects k v
+pub placed : (objects : Objects) (k : ObjectId) (v : Instance) → put object_cmp k v objects ≡ with_object objects k v
 placed [] k v = refl
 placed (e ∷ es) k v = elim (object_cmp k e.0) as (λ o. match_ordering o ((k, v) ∷ e ∷ es) ((e.0, v) ∷ es) (e ∷ put object_cmp k v es) ≡ match_ordering o ((k, v) ∷ e ∷ es) ((e.0, v) ∷ es) (e ∷ with_object es k v)) [
   | Less ↦ refl
@@ -45,3 +45,7 @@ is_equal Greater h = cc
 -- what is found at an id that ties
 pub same_place : (objects : Objects) (q k : ObjectId) → is_at (object_cmp q) k ≡ true → object_at objects q ≡ object_at objects k
 same_place objects q k h = ap (object_at objects) (exact_objects q k (is_equal (object_cmp q k) h))
+
+-- ids that tie are one
+pub same_id : (q k : ObjectId) → is_at (object_cmp q) k ≡ true → q ≡ k
+same_id q k h = exact_objects q k (is_equal (object_cmp q k) h)

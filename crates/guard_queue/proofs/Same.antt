@@ -40,7 +40,7 @@ second false t h = cc
 both : (s t : Bool) → s ≡ true → t ≡ true → (s && t) ≡ true
 both s t h k = ap (λ b. b && t) h ∙ k
 
-id_decides : (a b : ObjectId) → (same_id a b ≡ true → a ≡ b) × (a ≡ b → same_id a b ≡ true)
+pub id_decides : (a b : ObjectId) → (same_id a b ≡ true → a ≡ b) × (a ≡ b → same_id a b ≡ true)
 id_decides a b = (
   λ h. let process = eqb-true a.process b.process (first (a.process == b.process) (a.number == b.number) h) in
       let number = eqb-true a.number b.number (second (a.process == b.process) (a.number == b.number) h) in
@@ -48,7 +48,7 @@ id_decides a b = (
   λ e. both (a.process == b.process) (a.number == b.number) (eq-eqb a.process b.process (ap (λ (x : ObjectId). x.process) e)) (eq-eqb a.number b.number (ap (λ (x : ObjectId). x.number) e)),
 )
 
-kept_decides : (a b : Instance) → (same_kept a b ≡ true → a ≡ b) × (a ≡ b → same_kept a b ≡ true)
+pub kept_decides : (a b : Instance) → (same_kept a b ≡ true → a ≡ b) × (a ≡ b → same_kept a b ≡ true)
 kept_decides a b = (
   λ h. let kind = eqb-true a.kind.0 b.kind.0 (first (a.kind.0 == b.kind.0) (eq_by_cmp data_cmp a.state b.state) h) in
       let state = (data_cmp-exact a.state b.state).0 ((Equal-is (data_cmp a.state b.state)).0 (second (a.kind.0 == b.kind.0) (eq_by_cmp data_cmp a.state b.state) h)) in

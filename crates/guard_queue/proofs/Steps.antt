@@ -34,7 +34,7 @@ taken_step p s at t call next here is =
     ap (λ o. taken s at t o) here ∙ ap (λ u. taken s at u (Some call)) is ∙ sym (ap (λ o. performed p s at o) here) ∙ sym (ap (λ o. stepped p s o) next)
 
 -- what is left of a list was in it
-from_remove : {X : Type 0} (xs : List X) (n i : ℕ) (x : X) → slice_get (remove xs n) i ≡ Some x → (j : ℕ) × (slice_get xs j ≡ Some x)
+pub from_remove : {X : Type 0} (xs : List X) (n i : ℕ) (x : X) → slice_get (remove xs n) i ≡ Some x → (j : ℕ) × (slice_get xs j ≡ Some x)
 from_remove [] zero i x h = (i, h)
 from_remove [] (suc n) i x h = (i, h)
 from_remove (y ∷ ys) zero i x h = (suc i, h)
@@ -139,6 +139,11 @@ module _ (fits_state : Kinds → KindNo → Data → Type 0) (fits_args : Kinds 
   all_fit_stepped s t o is fit =
       let P : Settling → Type 0 = λ u. AllFit fits_state fits_args u.objects u.queue in
       subst P (sym is) (stepped_fits s o fit)
+
+  -- settling
+  pub settled_fits : (n : ℕ) (s : Settling) → AllFit fits_state fits_args s.objects s.queue → AllFit fits_state fits_args (settle_up_to p n s).objects (settle_up_to p n s).queue
+  settled_fits zero s fit = fit
+  settled_fits (suc n) s fit = settled_fits n (stepped p s (next_ready p s.objects s.queue)) (stepped_fits s (next_ready p s.objects s.queue) fit)
 
 -- a call that fits can be tried
 pub can_try : (fits_state : Kinds → KindNo → Data → Type 0) (fits_args : Kinds → KindNo → OpNo → Data → Type 0) (objects : Objects) (queue : List Suspended) (call : Suspended)

@@ -1,6 +1,16 @@
--- What a message does before the queue settles.
-use Rattle.std.specs.Prelude.{List, [], ◌∷◌, ◌++◌}
+-- What a message does before the queue settles, and what comes of it.
+use Rattle.std.specs.Prelude.{◌≡◌, List, [], ◌∷◌, ◌++◌, Vec}
+use Rattle.std.specs.declared.alloc.Global.{Global}
+use Rattle.orca_base.specs.declared.ids.KindNo.{KindNo}
+use Rattle.orca_base.specs.declared.ids.OpNo.{OpNo}
+use Rattle.value_core.specs.Datum.{Data}
+use Rattle.value_core.specs.Fits.{Kinds}
+use Rattle.value_core.specs.Meaning.{Performs}
 use Rattle.value_core.specs.History.{Objects, with_object}
+use Rattle.value_core.specs.declared.meaning.Tried.TheVariants as tried
+use Rattle.guard_queue.specs.Fitting.{AllFit}
+use Rattle.guard_queue.specs.Settles.{Settling, behind, lines_of, settled, tried_in}
+use Rattle.guard_queue.specs.declared.settling.Answered.{Answered}
 use Rattle.guard_queue.specs.declared.queue.Suspended.{Suspended}
 use Rattle.guard_queue.specs.declared.change.Change.{Change}
 use Rattle.guard_queue.specs.declared.change.Change.TheVariants as change
@@ -16,3 +26,17 @@ abbrev pub queue_changed : List Suspended → Change → List Suspended
 queue_changed queue change.Nothing = queue
 queue_changed queue (change.Puts object kept) = queue
 queue_changed queue (change.Joins call) = queue ++ call ∷ []
+
+-- all fits after a change
+abbrev pub ChangeFits : (Kinds → KindNo → Data → Type 0) → (Kinds → KindNo → OpNo → Data → Type 0) → Objects → List Suspended → Change → Type 0
+ChangeFits fits_state fits_args objects queue change = AllFit fits_state fits_args (objects_changed objects change) (queue_changed queue change)
+
+-- a call that joins is blocked
+abbrev pub JoinsBlocked : Performs → Objects → Change → Type 0
+JoinsBlocked p objects change.Nothing = Unit {0}
+JoinsBlocked p objects (change.Puts object kept) = Unit {0}
+JoinsBlocked p objects (change.Joins call) = tried_in p objects call ≡ tried.Blocked
+
+-- a change is made and the queue settles, with these lines in front
+abbrev pub settled_by : Performs → Objects → List Suspended → Change → Vec Answered Global → Settling
+settled_by p objects queue change lines = behind (lines_of lines.items) (settled p (objects_changed objects change) (queue_changed queue change))

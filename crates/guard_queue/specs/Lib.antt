@@ -3,4 +3,4 @@ pub mod Waits
 pub mod Settles
 pub mod Fitting
 pub mod Changes
-pub mod Undone
+pub mod Rounds

@@ -1,6 +1,7 @@
 -- How suspended calls settle: repeatedly the oldest one whose try isn't blocked is performed or faults and leaves the queue,
 -- until each is blocked (Bal, Kaashoek, Tanenbaum 1992, section 3; docs/LANGUAGE.md, Guards).
-use Rattle.std.specs.Prelude.{◌≡◌, ℕ, Bool, true, false, not, List, [], ◌∷◌, ◌++◌, length, map, Option, None, Some, slice_get, remove, zero, suc, IfSome}
+use Rattle.std.specs.Prelude.{◌≡◌, ℕ, Bool, true, false, not, List, [], ◌∷◌, ◌++◌, length, map, Option, None, Some, slice_get, remove, zero, suc, IfSome, Vec}
+use Rattle.std.specs.declared.alloc.Global.{Global}
 use Rattle.std.specs.List.{All, position_from}
 use Rattle.orca_base.specs.declared.ids.KindNo.{KindNo}
 use Rattle.orca_base.specs.declared.ids.OpNo.{OpNo}
@@ -125,3 +126,11 @@ settled p objects queue = settled_from p (record { objects = objects; queue = qu
 
 abbrev pub lines_of : List Answered → List Line
 lines_of all = map (λ (a : Answered). a.line) all
+
+-- lines that were there before stay in front
+abbrev pub behind : List Line → Settling → Settling
+behind lines s = record { objects = s.objects; queue = s.queue; lines = lines ++ s.lines }
+
+-- the objects and the queue as they stand, with the lines so far
+abbrev pub stands : Objects → List Suspended → Vec Answered Global → Settling
+stands objects queue lines = record { objects = objects; queue = queue; lines = lines_of lines.items }

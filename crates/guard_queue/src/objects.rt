@@ -1,11 +1,10 @@
 //! Objects by their ids.
 
-ghost use Rattle.std.specs.Prelude.{◌≡◌, ◌↔◌, [], length, IfOk, IsTrue, IsSome, OnOk, OnErr};
+ghost use Rattle.std.specs.Prelude.{◌≡◌, ◌<◌, ◌≤◌, ◌+◌, ◌↔◌, ◌++◌, ◌∷◌, [], IfOk, IfSome, IsTrue, OnOk, OnErr, false, if◌then◌else◌, is_some, length};
 ghost use Rattle.std.specs.Option.{option_copied};
 ghost use Rattle.std.specs.Arc.{arc_value};
-ghost use Rattle.std.specs.BTreeMap.{get};
-ghost use Rattle.value_core.specs.History.{object_at, object_cmp, with_object};
-ghost use Rattle.guard_queue.specs.Shown.{entries_with, entries_back, shown_objects};
+ghost use Rattle.value_core.specs.History.{object_at, with_object};
+ghost use Rattle.guard_queue.specs.Shown.{Rises, shown, shown_objects, written, written_at, written_objects};
 
 use orca_base::{NoMemory, ObjectId};
 use std::alloc::Global;
@@ -14,19 +13,32 @@ use std::marker::Model;
 use std::sync::Arc;
 use value_core::Instance;
 
+/// The most writes that stand beside a shared map.
+const WRITES: usize = 32;
+
 /// Objects by their ids, which clauses see as their entries in order.
 ///
-/// Each object is shared among the copies and snapshots that have it in this state, and so is the whole map. A write is in
-/// place; it copies the map's entries first, but no object, where another copy or snapshot has the map too.
+/// They are a map that copies and snapshots share, and the writes since, at most 32. A copy costs a count for the map and one
+/// for each of these writes; a write is a push. Where nobody else has the map the writes go into it in place, and else, when
+/// they get too many, into a copy of it, which shares each object.
 #[derive(Drop)]
 pub struct Objects {
-    pub(crate) shared: Arc<BTreeMap<ObjectId, Arc<Instance>>>,
+    shared: Arc<BTreeMap<ObjectId, Arc<Instance>>>,
+    recent: Vec<Write>,
+    count: usize,
+}
+
+/// An object that was put in.
+#[derive(Drop)]
+struct Write {
+    object: ObjectId,
+    kept: Arc<Instance>,
 }
 
 impl Model for Objects {
-    ghost use Rattle.std.specs.Prelude.{List};
+    ghost use Rattle.std.specs.Prelude.{List, ◌≡◌, ◌≤◌, length};
     ghost use Rattle.std.specs.Arc.{arc_value};
-    ghost use Rattle.guard_queue.specs.Shown.{shown_objects};
+    ghost use Rattle.guard_queue.specs.Shown.{Rises, shown};
     ghost use Rattle.orca_base.specs.declared.ids.ObjectId.{ObjectId};
     ghost use Rattle.value_core.specs.declared.action.Instance.{Instance};
 
@@ -37,7 +49,13 @@ impl Model for Objects {
 
     ghost coded = { Prim.hlevel (codes, data_code) };
 
-    ghost view = { λ o. shown_objects (arc_value o.shared).entries };
+    ghost view = { λ o. shown (arc_value o.shared) o.recent.items };
+
+    // The ids rise, the count is right, and there are no more writes than may stand beside the map.
+    ghost invariant = { λ o.
+        Rises (shown (arc_value o.shared) o.recent.items) × (o.count ≡ length (shown (arc_value o.shared) o.recent.items))
+        × (length o.recent.items ≤ 32)
+    };
 }
 
 impl Objects {
@@ -47,6 +65,8 @@ impl Objects {
     {
         Ok(Objects {
             shared: Arc::new(alloc, BTreeMap::new(alloc))?,
+            recent: Vec::new(alloc),
+            count: 0,
         })
     }
 
@@ -54,14 +74,18 @@ impl Objects {
     pub fn get(&self, object: ObjectId) -> Option<&Instance>
         ensures { option_copied result ≡ object_at self.now object }
     {
-        find(&self.shared, object)
+        match last_write(&self.recent, object) {
+            Some(kept) => Some(kept),
+            None => find(&self.shared, object),
+        }
     }
 
-    /// How many objects there are.
+    /// How many objects there are. Their ids rise.
     pub fn len(&self) -> usize
-        ensures { result ≡ length self.now }
+        ensures count { result ≡ length self.now }
+        ensures ids { Rises self.now }
     {
-        self.shared.len()
+        self.count
     }
 
     /// Puts an object in, in place of the one with this id where there is one.
@@ -69,51 +93,108 @@ impl Objects {
         ensures ok { OnOk result (self.new ≡ with_object self.old object kept) }
         ensures err { OnErr result (self.new ≡ self.old) }
     {
-        let fresh = Arc::new(alloc, kept)?;
-        self.make_own(alloc)?;
-        let Some(map) = Arc::get_mut(&mut self.shared) else {
-            return Err(NoMemory);
-        };
-        put_in(map, object, fresh)?;
+        let kept = Arc::new(alloc, kept)?;
+        let count = self.count_with(object)?;
+        gather(alloc, &mut self.shared, &mut self.recent)?;
+        self.recent.push(Write { object, kept })?;
+        self.count = count;
         Ok(())
     }
 
-    /// The map.
-    pub(crate) fn entries(&self) -> &BTreeMap<ObjectId, Arc<Instance>>
-        ensures { shown_objects result.now.entries ≡ self.now }
-    {
-        &self.shared
-    }
-
-    /// Sees to it that no other copy or snapshot has the map, so that it can be written in place.
-    pub(crate) fn make_own(&mut self, alloc: Global) -> Result<(), NoMemory>
+    /// Puts the writes since into the map, where nobody else has it, or where they are too many to stand beside it.
+    pub(crate) fn gather(&mut self, alloc: Global) -> Result<(), NoMemory>
         ensures { self.new ≡ self.old }
     {
-        if Arc::strong_count(&self.shared) > 1 {
-            self.shared = Arc::new(alloc, entries_copy(&self.shared)?)?;
-        }
-        Ok(())
+        gather(alloc, &mut self.shared, &mut self.recent)
     }
 
-    /// Whether both have the same objects.
+    /// Whether both have the same objects: equal writes beside equal maps are looked for first.
     pub fn is(&self, other: &Objects) -> bool
         ensures { IsTrue result ↔ (self.now ≡ other.now) }
     {
-        same_entries(&self.shared, &other.shared)
+        if self.stands_as(other) {
+            return true;
+        }
+        if self.len() != other.len() {
+            return false;
+        }
+        self.has_all(other) && other.has_all(self)
     }
 
     /// Equal objects, which are shared with these.
-    pub fn copy(&self) -> Result<Objects, NoMemory>
+    pub fn copy(&self, alloc: Global) -> Result<Objects, NoMemory>
         ensures { IfOk result (λ o. o ≡ self.now) }
     {
         Ok(Objects {
             shared: Arc::try_clone(&self.shared)?,
+            recent: writes_copy(alloc, &self.recent)?,
+            count: self.count,
         })
+    }
+
+    // How many objects there are once one with this id was put in.
+    fn count_with(&self, object: ObjectId) -> Result<usize, NoMemory>
+        ensures { IfOk result (λ n. n ≡ (if is_some (object_at self.now object) then length self.now else length self.now + 1)) }
+    {
+        match self.get(object) {
+            Some(_) => Ok(self.count),
+            None => self.count.checked_add(1).ok_or(NoMemory),
+        }
+    }
+
+    // Whether both have equal writes beside equal maps, and so the same objects.
+    fn stands_as(&self, other: &Objects) -> bool
+        ensures { IsTrue result → self.now ≡ other.now }
+    {
+        same_writes(&self.recent, &other.recent) && same_entries(&self.shared, &other.shared)
+    }
+
+    // Whether each object of the other's is the same here.
+    fn has_all(&self, other: &Objects) -> bool
+        ensures yes { IsTrue result → (id : ObjectId) → IsTrue (is_some (object_at other.now id)) → object_at self.now id ≡ object_at other.now id }
+        ensures no { result ≡ false → self.now ≡ other.now → ⊥ }
+    {
+        for (object, _) in other.shared.iter() {
+            if !self.is_at(other, *object) {
+                return false;
+            }
+        }
+        for write in &other.recent {
+            if !self.is_at(other, write.object) {
+                return false;
+            }
+        }
+        true
+    }
+
+    // Whether both have the same at this id.
+    fn is_at(&self, other: &Objects, object: ObjectId) -> bool
+        ensures { IsTrue result ↔ (object_at self.now object ≡ object_at other.now object) }
+    {
+        match (self.get(object), other.get(object)) {
+            (Some(one), Some(two)) => one == two,
+            (None, None) => true,
+            _ => false,
+        }
     }
 }
 
-/// The object with this id, if there is one.
-pub(crate) fn find(map: &BTreeMap<ObjectId, Arc<Instance>>, object: ObjectId) -> Option<&Instance>
+// The object that the last write to this id put in, if there is one.
+fn last_write(recent: &[Write], object: ObjectId) -> Option<&Instance>
+    ensures { option_copied result ≡ written_at (written_objects recent.now) object }
+{
+    let mut left = recent.len();
+    'writes: while left > 0 {
+        left -= 1;
+        if recent[left].object == object {
+            return Some(&recent[left].kept);
+        }
+    }
+    None
+}
+
+// The object with this id in the map, if there is one.
+fn find(map: &BTreeMap<ObjectId, Arc<Instance>>, object: ObjectId) -> Option<&Instance>
     ensures { option_copied result ≡ object_at (shown_objects map.now.entries) object }
 {
     match map.get(&object) {
@@ -122,60 +203,40 @@ pub(crate) fn find(map: &BTreeMap<ObjectId, Arc<Instance>>, object: ObjectId) ->
     }
 }
 
-/// Puts an object in, and gives what stood at its id, which `put_back` puts back.
-pub(crate) fn put_in(
-    map: &mut BTreeMap<ObjectId, Arc<Instance>>,
-    object: ObjectId,
-    kept: Arc<Instance>,
-) -> Result<Option<Arc<Instance>>, NoMemory>
-    ensures put { OnOk result (shown_objects map.new.entries ≡ with_object (shown_objects map.old.entries) object (arc_value kept)) }
-    ensures back { IfOk result (λ was. entries_back map.new.entries object was ≡ map.old.entries) }
-    ensures there { OnOk result (IsSome (get object_cmp map.new object)) }
-    ensures err { OnErr result (map.new.entries ≡ map.old.entries) }
+// Puts the writes into the map, where nobody else has it, or where they are too many to stand beside it.
+fn gather(
+    alloc: Global,
+    shared: &mut Arc<BTreeMap<ObjectId, Arc<Instance>>>,
+    recent: &mut Vec<Write>,
+) -> Result<(), NoMemory>
+    ensures same { shown (arc_value shared.new) recent.new.items ≡ shown (arc_value shared.old) recent.old.items }
+    ensures room { OnOk result (length recent.new.items < 32) }
+    ensures fewer { length recent.new.items ≤ length recent.old.items }
 {
-    Ok(map.insert(object, kept)?)
-}
-
-/// Puts a state in, where there is one, in place of the one that is there, which it gives. It takes no memory.
-pub(crate) fn exchange(
-    map: &mut BTreeMap<ObjectId, Arc<Instance>>,
-    object: ObjectId,
-    kept: Option<Arc<Instance>>,
-) -> Option<Arc<Instance>>
-    requires { IsSome kept → IsSome (get object_cmp map.old object) }
-    ensures entries { map.new.entries ≡ entries_with map.old.entries object kept }
-    ensures back { entries_with map.new.entries object result ≡ map.old.entries }
-    ensures there { IsSome result → IsSome (get object_cmp map.new object) }
-{
-    match kept {
-        None => None,
-        Some(kept) => match map.insert(object, kept) {
-            Ok(was) => was,
-            Err(_) => None,
-        },
+    if recent.len() >= WRITES && Arc::strong_count(shared) > 1 {
+        *shared = Arc::new(alloc, entries_copy(shared)?)?;
+    }
+    match Arc::get_mut(shared) {
+        Some(map) => write_all(map, recent),
+        None if recent.len() >= WRITES => Err(NoMemory),
+        None => Ok(()),
     }
 }
 
-/// Puts back what stood at this id before an object was put in there. It takes no memory.
-pub(crate) fn put_back(
-    map: &mut BTreeMap<ObjectId, Arc<Instance>>,
-    object: ObjectId,
-    was: Option<Arc<Instance>>,
-)
-    requires { IsSome (get object_cmp map.old object) }
-    ensures { map.new.entries ≡ entries_back map.old.entries object was }
+// Puts the writes into the map, the first one first. Where memory lacks, those that are left stay beside it.
+fn write_all(map: &mut BTreeMap<ObjectId, Arc<Instance>>, recent: &mut Vec<Write>) -> Result<(), NoMemory>
+    ensures same { shown map.new recent.new.items ≡ shown map.old recent.old.items }
+    ensures all { OnOk result (recent.new.items ≡ []) }
+    ensures fewer { length recent.new.items ≤ length recent.old.items }
 {
-    match was {
-        None => {
-            map.remove(&object);
-        }
-        Some(kept) => {
-            exchange(map, object, Some(kept));
-        }
+    'writes: while let Some(write) = recent.first() {
+        map.insert(write.object, Arc::try_clone(&write.kept)?)?;
+        recent.remove(0);
     }
+    Ok(())
 }
 
-/// A map of its own with the same objects, which are shared.
+// A map of its own with the same objects, which are shared.
 fn entries_copy(
     map: &BTreeMap<ObjectId, Arc<Instance>>,
 ) -> Result<BTreeMap<ObjectId, Arc<Instance>>, NoMemory>
@@ -184,9 +245,46 @@ fn entries_copy(
     Ok(map.clone()?)
 }
 
-/// Whether both maps have the same objects.
+// Equal writes, whose objects are shared.
+fn writes_copy(alloc: Global, recent: &[Write]) -> Result<Vec<Write>, NoMemory>
+    ensures writes { IfOk result (λ all. written_objects all.items ≡ written_objects recent.now) }
+    ensures count { IfOk result (λ all. length all.items ≡ length recent.now) }
+{
+    let mut all = Vec::new(alloc);
+    for write in recent {
+        let kept = Arc::try_clone(&write.kept)?;
+        all.push(Write { object: write.object, kept })?;
+    }
+    Ok(all)
+}
+
+// Whether both maps have the same objects.
 fn same_entries(one: &BTreeMap<ObjectId, Arc<Instance>>, other: &BTreeMap<ObjectId, Arc<Instance>>) -> bool
     ensures { IsTrue result ↔ (shown_objects one.now.entries ≡ shown_objects other.now.entries) }
 {
     one == other
+}
+
+// Whether both have the same writes.
+fn same_writes(one: &[Write], other: &[Write]) -> bool
+    ensures { IsTrue result → written_objects one.now ≡ written_objects other.now }
+{
+    if one.len() != other.len() {
+        return false;
+    }
+    for i in 0..one.len() {
+        if !one[i].is(&other[i]) {
+            return false;
+        }
+    }
+    true
+}
+
+impl Write {
+    // Whether both put the same object in.
+    fn is(&self, other: &Write) -> bool
+        ensures { IsTrue result ↔ (written self.now ≡ written other.now) }
+    {
+        self.object == other.object && self.kept == other.kept
+    }
 }

@@ -1,11 +1,12 @@
 //! Suspended calls.
 
 ghost use Rattle.std.specs.Prelude.{◌≡◌, ◌<◌, ◌↔◌, ◌∷◌, ◌++◌, [], length, IfOk, OnOk, OnErr, IsTrue, remove, slice_get, Some};
-ghost use Rattle.guard_queue.specs.Waits.{IsWaiting};
+ghost use Rattle.guard_queue.specs.Waits.{IsWaiting, IsWaitingOn, called};
 
 use orca_base::{CallNo, KindNo, NoMemory, ObjectId, OpNo, ProcessNo};
 use std::alloc::Global;
 use std::marker::Model;
+use std::sync::Arc;
 use value_core::Parts;
 
 /// A call each of whose guards was false when it was tried.
@@ -35,15 +36,17 @@ impl Suspended {
     }
 }
 
-/// The suspended calls in order of their entries, the oldest first.
-#[derive(Debug, Drop)]
+/// The suspended calls in order of their entries, the oldest first. Each is shared with the copies of the queue, so that a copy
+/// is some counts.
+#[derive(Drop)]
 pub struct Queue {
-    pub(crate) calls: Vec<Suspended>,
+    calls: Vec<Arc<Suspended>>,
 }
 
 impl Model for Queue {
     ghost use Rattle.std.specs.Prelude.{List};
     ghost use Rattle.guard_queue.specs.declared.queue.Suspended.{Suspended};
+    ghost use Rattle.guard_queue.specs.Waits.{called};
 
     ghost Value = { List Suspended };
 
@@ -52,7 +55,7 @@ impl Model for Queue {
 
     ghost coded = { Prim.hlevel (codes, data_code) };
 
-    ghost view = { λ q. q.calls.items };
+    ghost view = { λ q. called q.calls.items };
 }
 
 impl Queue {
@@ -63,13 +66,6 @@ impl Queue {
         Queue {
             calls: Vec::new(alloc),
         }
-    }
-
-    /// The calls, the oldest first.
-    pub fn as_slice(&self) -> &[Suspended]
-        ensures { result.now ≡ self.now }
-    {
-        self.calls.as_slice()
     }
 
     /// How many calls there are.
@@ -86,38 +82,62 @@ impl Queue {
         self.calls.is_empty()
     }
 
+    /// The call at this place, the oldest's being 0.
+    pub fn get(&self, at: usize) -> &Suspended
+        requires { at < length self.now }
+        ensures { slice_get self.now at ≡ Some result.now }
+    {
+        &self.calls[at]
+    }
+
     /// Whether a call of this process is among them.
     pub fn has(&self, process: ProcessNo) -> bool
         ensures { IsTrue result ↔ IsWaiting self.now process }
     {
-        self.calls.iter().any(|call| call.process == process)
+        for call in &self.calls {
+            if call.process == process {
+                return true;
+            }
+        }
+        false
+    }
+
+    /// Whether a call on this object is among them.
+    pub fn has_on(&self, object: ObjectId) -> bool
+        ensures { IsTrue result ↔ IsWaitingOn self.now object }
+    {
+        for call in &self.calls {
+            if call.object == object {
+                return true;
+            }
+        }
+        false
     }
 
     /// Adds a call as the newest.
-    pub fn push(&mut self, call: Suspended) -> Result<(), NoMemory>
+    pub fn push(&mut self, alloc: Global, call: Suspended) -> Result<(), NoMemory>
         ensures ok { OnOk result (self.new ≡ self.old ++ call ∷ []) }
         ensures err { OnErr result (self.new ≡ self.old) }
     {
-        self.calls.push(call)?;
+        self.calls.push(Arc::new(alloc, call)?)?;
         Ok(())
     }
 
     /// Takes out the call at this place, the oldest's being 0.
-    pub fn take_out(&mut self, at: usize) -> Suspended
+    pub fn take_out(&mut self, at: usize)
         requires { at < length self.old }
-        ensures taken { slice_get self.old at ≡ Some result }
-        ensures rest { self.new ≡ remove self.old at }
+        ensures { self.new ≡ remove self.old at }
     {
-        self.calls.remove(at)
+        self.calls.remove(at);
     }
 
-    /// Equal calls.
+    /// Equal calls, which are shared with these.
     pub fn copy(&self, alloc: Global) -> Result<Queue, NoMemory>
         ensures { IfOk result (λ q. q ≡ self.now) }
     {
         let mut calls = Vec::new(alloc);
         for call in &self.calls {
-            calls.push(call.copy(alloc)?)?;
+            calls.push(Arc::try_clone(call)?)?;
         }
         Ok(Queue { calls })
     }

@@ -1,21 +1,17 @@
 //! Settling.
 
-ghost use Rattle.std.specs.Prelude.{◌≡◌, ◌<◌, ◌≤◌, ◌+◌, ◌∷◌, ◌++◌, [], length, vec_len, vec_capacity, insert, remove, slice_get, IfOk, OnErr, OnOk, IsSome, option_map, Some};
-ghost use Rattle.std.specs.Arc.{arc_value};
+ghost use Rattle.std.specs.Prelude.{◌≡◌, ◌<◌, ◌+◌, length, slice_get, IfOk, OnErr, OnOk, IsSome, option_map};
 ghost use Rattle.value_core.specs.History.{object_at, with_object};
-ghost use Rattle.guard_queue.specs.Shown.{shown_objects};
-ghost use Rattle.guard_queue.specs.Changes.{objects_changed, queue_changed};
+ghost use Rattle.guard_queue.specs.Changes.{ChangeFits, JoinsBlocked, settled_by};
 ghost use Rattle.guard_queue.specs.Fitting.{AllFit, CanTry};
-ghost use Rattle.guard_queue.specs.Settles.{AllBlocked, IsFound, answered, lines_of, next_ready, objects_with, settled, settled_from, taken, tried_in, tried_on, with_state};
-ghost use Rattle.guard_queue.specs.Undone.{CanUndo, undone};
+ghost use Rattle.guard_queue.specs.Settles.{AllBlocked, IsFound, answered, next_ready, objects_with, settled, settled_from, stands, taken, tried_in, tried_on, with_state};
+ghost use Rattle.guard_queue.specs.Rounds.{IsTriedAt, OthersBlocked, settling_of};
 
 use crate::change::Change;
-use crate::objects::{Objects, exchange, find, put_back, put_in};
+use crate::objects::Objects;
 use crate::queue::{Queue, Suspended};
 use orca_base::{KindNo, NoMemory, ObjectId, OpNo};
 use std::alloc::Global;
-use std::collections::BTreeMap;
-use std::sync::Arc;
 use value_core::{Action, Instance, Line, Parts, Performer, Reply, Tried};
 
 /// An operation that was performed, as its line of the history.
@@ -24,18 +20,10 @@ pub struct Answered {
     pub line: Line,
 }
 
-/// What a round wrote: where the call stood that left the queue, and the state of its object before, if it was exchanged.
-#[derive(Drop)]
-struct Written {
-    at: usize,
-    call: Suspended,
-    was: Option<Arc<Instance>>,
-}
-
 /// Repeatedly the oldest suspended call whose try isn't blocked is performed or faults and leaves the queue, until each is
 /// blocked. The lines are in the order in which the calls ran.
 ///
-/// Each call of the queue is tried at most once a round. Where none is ready, nothing is copied.
+/// Each call of the queue is tried at most once a round.
 pub fn settle<P: Performer>(
     alloc: Global,
     performer: &P,
@@ -43,19 +31,26 @@ pub fn settle<P: Performer>(
     queue: &mut Queue,
 ) -> Result<Vec<Answered>, NoMemory>
     requires { AllFit (P.fits_state performer.now) (P.fits_args performer.now) objects.old queue.old }
-    ensures ok { IfOk result (λ all. record { objects = objects.new; queue = queue.new; lines = lines_of all.items } ≡ settled (P.performs performer.now) objects.old queue.old) }
+    ensures ok { IfOk result (λ all. stands objects.new queue.new all ≡ settled (P.performs performer.now) objects.old queue.old) }
     ensures blocked { OnOk result (AllBlocked (P.performs performer.now) objects.new queue.new) }
     ensures err { OnErr result ((objects.new ≡ objects.old) × (queue.new ≡ queue.old)) }
     ensures fits { AllFit (P.fits_state performer.now) (P.fits_args performer.now) objects.new queue.new }
 {
-    let mut lines = Vec::new(alloc);
-    settle_on(alloc, performer, objects, queue, &mut lines)?;
-    Ok(lines)
+    let mut rounds = Rounds {
+        objects: objects.copy(alloc)?,
+        queue: queue.copy(alloc)?,
+        lines: Vec::new(alloc),
+    };
+    rounds.settle(alloc, performer, None)?;
+    *objects = rounds.objects;
+    *queue = rounds.queue;
+    Ok(rounds.lines)
 }
 
-/// A message's change is made, and then the queue settles. The lines of the calls that ran come behind these.
+/// A message's change is made where each suspended call is blocked, and then the queue settles. The lines of the calls that ran
+/// come behind these.
 ///
-/// Where memory lacks, what was there is put back, which takes none. Where no call is ready, no suspended call is copied.
+/// Only the calls on an object that was put in are tried.
 pub fn settle_after<P: Performer>(
     alloc: Global,
     performer: &P,
@@ -65,17 +60,24 @@ pub fn settle_after<P: Performer>(
     lines: Vec<Answered>,
 ) -> Result<Vec<Answered>, NoMemory>
     requires fits { AllFit (P.fits_state performer.now) (P.fits_args performer.now) objects.old queue.old }
-    requires changed { AllFit (P.fits_state performer.now) (P.fits_args performer.now) (objects_changed objects.old change) (queue_changed queue.old change) }
-    ensures objects { OnOk result (objects.new ≡ (settled (P.performs performer.now) (objects_changed objects.old change) (queue_changed queue.old change)).objects) }
-    ensures queue { OnOk result (queue.new ≡ (settled (P.performs performer.now) (objects_changed objects.old change) (queue_changed queue.old change)).queue) }
-    ensures lines { IfOk result (λ all. lines_of all.items ≡ lines_of lines.items ++ (settled (P.performs performer.now) (objects_changed objects.old change) (queue_changed queue.old change)).lines) }
-    ensures blocked { OnOk result (AllBlocked (P.performs performer.now) objects.new queue.new) }
+    requires changed { ChangeFits (P.fits_state performer.now) (P.fits_args performer.now) objects.old queue.old change }
+    requires blocked { AllBlocked (P.performs performer.now) objects.old queue.old }
+    requires joins { JoinsBlocked (P.performs performer.now) objects.old change }
+    ensures ok { IfOk result (λ all. stands objects.new queue.new all ≡ settled_by (P.performs performer.now) objects.old queue.old change lines) }
+    ensures blocked { AllBlocked (P.performs performer.now) objects.new queue.new }
     ensures err { OnErr result ((objects.new ≡ objects.old) × (queue.new ≡ queue.old)) }
     ensures fits { AllFit (P.fits_state performer.now) (P.fits_args performer.now) objects.new queue.new }
 {
-    let mut lines = lines;
-    settle_changed(alloc, performer, objects, queue, change, &mut lines)?;
-    Ok(lines)
+    match change {
+        Change::Nothing => Ok(lines),
+        Change::Joins { call } => {
+            queue.push(alloc, call)?;
+            Ok(lines)
+        }
+        Change::Puts { object, kept } => {
+            settle_with(alloc, performer, objects, queue, object, kept, lines)
+        }
+    }
 }
 
 /// What a try of the operation gives on these objects. Where the object doesn't exist it is blocked.
@@ -107,7 +109,10 @@ pub fn try_call<P: Performer>(
     requires { CanTry (P.fits_state performer.now) (P.fits_args performer.now) objects.now call.now.kind call.now.op call.now.object call.now.args }
     ensures { IfOk result (λ t. t ≡ tried_in (P.performs performer.now) objects.now call.now) }
 {
-    try_in(alloc, performer, objects.entries(), call)
+    match objects.get(call.object) {
+        None => Ok(Tried::Blocked),
+        Some(kept) => performer.try_op(alloc, call.kind, call.op, &kept.state, &call.args),
+    }
 }
 
 /// What a call does and answers, by what its try gave: its line, and its object's new state where the try left one.
@@ -116,312 +121,6 @@ pub fn perform(objects: &Objects, call: Suspended, tried: Tried) -> (Line, Optio
     ensures objects { with_state objects.now call.object result.1 ≡ objects_with objects.now call tried }
     ensures there { IsSome result.1 → IsSome (object_at objects.now call.object) }
 {
-    answer(objects.entries(), call, tried)
-}
-
-/// A message's change is made, and then the queue settles.
-fn settle_changed<P: Performer>(
-    alloc: Global,
-    performer: &P,
-    objects: &mut Objects,
-    queue: &mut Queue,
-    change: Change,
-    lines: &mut Vec<Answered>,
-) -> Result<(), NoMemory>
-    requires { AllFit (P.fits_state performer.now) (P.fits_args performer.now) (objects_changed objects.old change) (queue_changed queue.old change) }
-    ensures ok { OnOk result (record { objects = objects.new; queue = queue.new; lines = lines_of lines.new.items } ≡ settled_from (P.performs performer.now) (record { objects = objects_changed objects.old change; queue = queue_changed queue.old change; lines = lines_of lines.old.items })) }
-    ensures blocked { OnOk result (AllBlocked (P.performs performer.now) objects.new queue.new) }
-    ensures err { OnErr result ((objects.new ≡ objects.old) × (queue.new ≡ queue.old)) }
-    ensures fits { OnOk result (AllFit (P.fits_state performer.now) (P.fits_args performer.now) objects.new queue.new) }
-{
-    match change {
-        Change::Nothing => settle_on(alloc, performer, objects, queue, lines),
-        Change::Puts { object, kept } => {
-            settle_with(alloc, performer, objects, queue, lines, object, kept)
-        }
-        Change::Joins { call } => settle_joined(alloc, performer, objects, queue, lines, call),
-    }
-}
-
-/// The queue settles. It is looked over first, so that nothing is copied where no call is ready.
-fn settle_on<P: Performer>(
-    alloc: Global,
-    performer: &P,
-    objects: &mut Objects,
-    queue: &mut Queue,
-    lines: &mut Vec<Answered>,
-) -> Result<(), NoMemory>
-    requires { AllFit (P.fits_state performer.now) (P.fits_args performer.now) objects.old queue.old }
-    ensures ok { OnOk result (record { objects = objects.new; queue = queue.new; lines = lines_of lines.new.items } ≡ settled_from (P.performs performer.now) (record { objects = objects.old; queue = queue.old; lines = lines_of lines.old.items })) }
-    ensures blocked { OnOk result (AllBlocked (P.performs performer.now) objects.new queue.new) }
-    ensures err { OnErr result ((objects.new ≡ objects.old) × (queue.new ≡ queue.old)) }
-    ensures fits { OnOk result (AllFit (P.fits_state performer.now) (P.fits_args performer.now) objects.new queue.new) }
-{
-    let ready = find_ready(alloc, performer, objects.entries(), queue.as_slice())?;
-    if ready.is_none() {
-        return Ok(());
-    }
-    objects.make_own(alloc)?;
-    let Some(map) = Arc::get_mut(&mut objects.shared) else {
-        return Err(NoMemory);
-    };
-    rounds_from(alloc, performer, map, &mut queue.calls, lines, ready)
-}
-
-/// An object is put in, and then the queue settles. Where memory lacks, what stood there is put back.
-fn settle_with<P: Performer>(
-    alloc: Global,
-    performer: &P,
-    objects: &mut Objects,
-    queue: &mut Queue,
-    lines: &mut Vec<Answered>,
-    object: ObjectId,
-    kept: Instance,
-) -> Result<(), NoMemory>
-    requires { AllFit (P.fits_state performer.now) (P.fits_args performer.now) (with_object objects.old object kept) queue.old }
-    ensures ok { OnOk result (record { objects = objects.new; queue = queue.new; lines = lines_of lines.new.items } ≡ settled_from (P.performs performer.now) (record { objects = with_object objects.old object kept; queue = queue.old; lines = lines_of lines.old.items })) }
-    ensures blocked { OnOk result (AllBlocked (P.performs performer.now) objects.new queue.new) }
-    ensures err { OnErr result ((objects.new ≡ objects.old) × (queue.new ≡ queue.old)) }
-    ensures fits { OnOk result (AllFit (P.fits_state performer.now) (P.fits_args performer.now) objects.new queue.new) }
-{
-    let fresh = Arc::new(alloc, kept)?;
-    objects.make_own(alloc)?;
-    let Some(map) = Arc::get_mut(&mut objects.shared) else {
-        return Err(NoMemory);
-    };
-    let was = put_in(map, object, fresh)?;
-    if let Err(error) = rounds(alloc, performer, map, &mut queue.calls, lines) {
-        put_back(map, object, was);
-        return Err(error);
-    }
-    Ok(())
-}
-
-/// A blocked call joins the queue, and then the queue settles. Where memory lacks, the call leaves it again.
-fn settle_joined<P: Performer>(
-    alloc: Global,
-    performer: &P,
-    objects: &mut Objects,
-    queue: &mut Queue,
-    lines: &mut Vec<Answered>,
-    call: Suspended,
-) -> Result<(), NoMemory>
-    requires { AllFit (P.fits_state performer.now) (P.fits_args performer.now) objects.old (queue.old ++ call ∷ []) }
-    ensures ok { OnOk result (record { objects = objects.new; queue = queue.new; lines = lines_of lines.new.items } ≡ settled_from (P.performs performer.now) (record { objects = objects.old; queue = queue.old ++ call ∷ []; lines = lines_of lines.old.items })) }
-    ensures blocked { OnOk result (AllBlocked (P.performs performer.now) objects.new queue.new) }
-    ensures err { OnErr result ((objects.new ≡ objects.old) × (queue.new ≡ queue.old)) }
-    ensures fits { OnOk result (AllFit (P.fits_state performer.now) (P.fits_args performer.now) objects.new queue.new) }
-{
-    let newest = queue.len();
-    queue.push(call)?;
-    if let Err(error) = settle_on(alloc, performer, objects, queue, lines) {
-        queue.take_out(newest);
-        return Err(error);
-    }
-    Ok(())
-}
-
-/// Rounds until each call is blocked, in place.
-fn rounds<P: Performer>(
-    alloc: Global,
-    performer: &P,
-    map: &mut BTreeMap<ObjectId, Arc<Instance>>,
-    calls: &mut Vec<Suspended>,
-    lines: &mut Vec<Answered>,
-) -> Result<(), NoMemory>
-    requires { AllFit (P.fits_state performer.now) (P.fits_args performer.now) (shown_objects map.old.entries) calls.old.items }
-    ensures ok { OnOk result (record { objects = shown_objects map.new.entries; queue = calls.new.items; lines = lines_of lines.new.items } ≡ settled_from (P.performs performer.now) (record { objects = shown_objects map.old.entries; queue = calls.old.items; lines = lines_of lines.old.items })) }
-    ensures blocked { OnOk result (AllBlocked (P.performs performer.now) (shown_objects map.new.entries) calls.new.items) }
-    ensures err { OnErr result ((map.new.entries ≡ map.old.entries) × (calls.new.items ≡ calls.old.items)) }
-    ensures fits { OnOk result (AllFit (P.fits_state performer.now) (P.fits_args performer.now) (shown_objects map.new.entries) calls.new.items) }
-{
-    let ready = find_ready(alloc, performer, map, calls.as_slice())?;
-    rounds_from(alloc, performer, map, calls, lines, ready)
-}
-
-/// The call that was found, and then rounds until each is blocked. Where memory lacks, what they wrote is put back, which takes
-/// none.
-fn rounds_from<P: Performer>(
-    alloc: Global,
-    performer: &P,
-    map: &mut BTreeMap<ObjectId, Arc<Instance>>,
-    calls: &mut Vec<Suspended>,
-    lines: &mut Vec<Answered>,
-    ready: Option<(usize, Tried)>,
-) -> Result<(), NoMemory>
-    requires fits { AllFit (P.fits_state performer.now) (P.fits_args performer.now) (shown_objects map.old.entries) calls.old.items }
-    requires place { next_ready (P.performs performer.now) (shown_objects map.old.entries) calls.old.items ≡ option_map (λ x. x.0) ready }
-    requires tried { IsFound (P.performs performer.now) (shown_objects map.old.entries) calls.old.items ready }
-    ensures ok { OnOk result (record { objects = shown_objects map.new.entries; queue = calls.new.items; lines = lines_of lines.new.items } ≡ settled_from (P.performs performer.now) (record { objects = shown_objects map.old.entries; queue = calls.old.items; lines = lines_of lines.old.items })) }
-    ensures blocked { OnOk result (AllBlocked (P.performs performer.now) (shown_objects map.new.entries) calls.new.items) }
-    ensures err { OnErr result ((map.new.entries ≡ map.old.entries) × (calls.new.items ≡ calls.old.items)) }
-    ensures fits { OnOk result (AllFit (P.fits_state performer.now) (P.fits_args performer.now) (shown_objects map.new.entries) calls.new.items) }
-{
-    let mut written = Vec::new(alloc);
-    if let Err(error) = write_rounds(alloc, performer, map, calls, lines, &mut written, ready) {
-        undo(map, calls, written);
-        return Err(error);
-    }
-    Ok(())
-}
-
-/// The call that was found, and then rounds until each is blocked. What they wrote comes behind `written`.
-fn write_rounds<P: Performer>(
-    alloc: Global,
-    performer: &P,
-    map: &mut BTreeMap<ObjectId, Arc<Instance>>,
-    calls: &mut Vec<Suspended>,
-    lines: &mut Vec<Answered>,
-    written: &mut Vec<Written>,
-    ready: Option<(usize, Tried)>,
-) -> Result<(), NoMemory>
-    requires fits { AllFit (P.fits_state performer.now) (P.fits_args performer.now) (shown_objects map.old.entries) calls.old.items }
-    requires place { next_ready (P.performs performer.now) (shown_objects map.old.entries) calls.old.items ≡ option_map (λ x. x.0) ready }
-    requires tried { IsFound (P.performs performer.now) (shown_objects map.old.entries) calls.old.items ready }
-    requires none { written.old.items ≡ [] }
-    ensures ok { OnOk result (record { objects = shown_objects map.new.entries; queue = calls.new.items; lines = lines_of lines.new.items } ≡ settled_from (P.performs performer.now) (record { objects = shown_objects map.old.entries; queue = calls.old.items; lines = lines_of lines.old.items })) }
-    ensures blocked { OnOk result (AllBlocked (P.performs performer.now) (shown_objects map.new.entries) calls.new.items) }
-    ensures fits { OnOk result (AllFit (P.fits_state performer.now) (P.fits_args performer.now) (shown_objects map.new.entries) calls.new.items) }
-    ensures back { undone written.new.items (record { entries = map.new.entries; calls = calls.new.items }) ≡ record { entries = map.old.entries; calls = calls.old.items } }
-    ensures can { CanUndo written.new.items (record { entries = map.new.entries; calls = calls.new.items }) }
-    ensures room { length written.new.items + length calls.new.items ≤ vec_capacity calls.new }
-{
-    let mut ready = ready;
-    'rounds: while let Some((at, tried)) = ready {
-        round(alloc, map, calls, lines, written, at, tried)?;
-        ready = find_ready(alloc, performer, map, calls.as_slice())?;
-    }
-    Ok(())
-}
-
-/// The call at this place, whose try gave this, is performed or faults and leaves the queue. What this asks memory for it asks
-/// for first. What it wrote comes behind `written`.
-fn round(
-    alloc: Global,
-    map: &mut BTreeMap<ObjectId, Arc<Instance>>,
-    calls: &mut Vec<Suspended>,
-    lines: &mut Vec<Answered>,
-    written: &mut Vec<Written>,
-    at: usize,
-    tried: Tried,
-) -> Result<(), NoMemory>
-    requires place { at < length calls.old.items }
-    requires can { CanUndo written.old.items (record { entries = map.old.entries; calls = calls.old.items }) }
-    requires room { length written.old.items + length calls.old.items ≤ vec_capacity calls.old }
-    ensures did { OnOk result (record { objects = shown_objects map.new.entries; queue = calls.new.items; lines = lines_of lines.new.items } ≡ taken (record { objects = shown_objects map.old.entries; queue = calls.old.items; lines = lines_of lines.old.items }) at tried (slice_get calls.old.items at)) }
-    ensures fewer { OnOk result (length calls.new.items + 1 ≡ length calls.old.items) }
-    ensures back { undone written.new.items (record { entries = map.new.entries; calls = calls.new.items }) ≡ undone written.old.items (record { entries = map.old.entries; calls = calls.old.items }) }
-    ensures can { CanUndo written.new.items (record { entries = map.new.entries; calls = calls.new.items }) }
-    ensures room { length written.new.items + length calls.new.items ≤ vec_capacity calls.new }
-{
-    let (line, state) = answer(map, calls[at].copy(alloc)?, tried);
-    add_line(lines, line)?;
-    let fresh = shared(alloc, state)?;
-    written.reserve(1)?;
-    let call = take(calls, at);
-    let was = exchange(map, call.object, fresh);
-    written.push(Written { at, call, was }).unwrap();
-    Ok(())
-}
-
-/// Puts back what rounds wrote, the last one first. It takes no memory.
-fn undo(map: &mut BTreeMap<ObjectId, Arc<Instance>>, calls: &mut Vec<Suspended>, written: Vec<Written>)
-    requires can { CanUndo written.items (record { entries = map.old.entries; calls = calls.old.items }) }
-    requires room { length written.items + length calls.old.items ≤ vec_capacity calls.old }
-    ensures { record { entries = map.new.entries; calls = calls.new.items } ≡ undone written.items (record { entries = map.old.entries; calls = calls.old.items }) }
-{
-    let mut left = written;
-    'rounds: while let Some(round) = left.pop() {
-        exchange(map, round.call.object, round.was);
-        give_back(calls, round.at, round.call);
-    }
-}
-
-/// Adds a line.
-fn add_line(lines: &mut Vec<Answered>, line: Line) -> Result<(), NoMemory>
-    ensures { OnOk result (lines_of lines.new.items ≡ lines_of lines.old.items ++ line ∷ []) }
-{
-    lines.push(Answered { line })?;
-    Ok(())
-}
-
-/// The state, shared, where there is one.
-fn shared(alloc: Global, state: Option<Instance>) -> Result<Option<Arc<Instance>>, NoMemory>
-    ensures { IfOk result (λ r. option_map arc_value r ≡ state) }
-{
-    match state {
-        None => Ok(None),
-        Some(kept) => Ok(Some(Arc::new(alloc, kept)?)),
-    }
-}
-
-/// Takes out the call at this place. The room that it had stays.
-fn take(calls: &mut Vec<Suspended>, at: usize) -> Suspended
-    requires { at < vec_len calls.old }
-    ensures taken { slice_get calls.old.items at ≡ Some result }
-    ensures rest { calls.new.items ≡ remove calls.old.items at }
-    ensures fewer { length calls.new.items + 1 ≡ length calls.old.items }
-    ensures room { (vec_capacity calls.new ≡ vec_capacity calls.old) × (vec_len calls.new < vec_capacity calls.new) }
-{
-    calls.remove(at)
-}
-
-/// Puts a call in at this place, for which there is room.
-fn give_back(calls: &mut Vec<Suspended>, at: usize, call: Suspended)
-    requires place { at ≤ vec_len calls.old }
-    requires room { vec_len calls.old < vec_capacity calls.old }
-    ensures back { calls.new.items ≡ insert calls.old.items at call }
-    ensures room { vec_capacity calls.old ≤ vec_capacity calls.new }
-{
-    calls.insert(at, call).unwrap();
-}
-
-/// The place of the oldest call that isn't blocked, with what its try gives.
-fn find_ready<P: Performer>(
-    alloc: Global,
-    performer: &P,
-    map: &BTreeMap<ObjectId, Arc<Instance>>,
-    calls: &[Suspended],
-) -> Result<Option<(usize, Tried)>, NoMemory>
-    requires { AllFit (P.fits_state performer.now) (P.fits_args performer.now) (shown_objects map.now.entries) calls.now }
-    ensures place { IfOk result (λ r. next_ready (P.performs performer.now) (shown_objects map.now.entries) calls.now ≡ option_map (λ x. x.0) r) }
-    ensures tried { IfOk result (λ r. IsFound (P.performs performer.now) (shown_objects map.now.entries) calls.now r) }
-{
-    for i in 0..calls.len() {
-        match try_in(alloc, performer, map, &calls[i])? {
-            Tried::Blocked => {}
-            tried => return Ok(Some((i, tried))),
-        }
-    }
-    Ok(None)
-}
-
-/// What a try of the call gives on the objects of this map.
-fn try_in<P: Performer>(
-    alloc: Global,
-    performer: &P,
-    map: &BTreeMap<ObjectId, Arc<Instance>>,
-    call: &Suspended,
-) -> Result<Tried, NoMemory>
-    requires { CanTry (P.fits_state performer.now) (P.fits_args performer.now) (shown_objects map.now.entries) call.now.kind call.now.op call.now.object call.now.args }
-    ensures { IfOk result (λ t. t ≡ tried_in (P.performs performer.now) (shown_objects map.now.entries) call.now) }
-{
-    match find(map, call.object) {
-        None => Ok(Tried::Blocked),
-        Some(kept) => performer.try_op(alloc, call.kind, call.op, &kept.state, &call.args),
-    }
-}
-
-/// What a call does and answers on the objects of this map, by what its try gave.
-fn answer(
-    map: &BTreeMap<ObjectId, Arc<Instance>>,
-    call: Suspended,
-    tried: Tried,
-) -> (Line, Option<Instance>)
-    ensures line { result.0 ≡ answered call tried }
-    ensures objects { with_state (shown_objects map.now.entries) call.object result.1 ≡ objects_with (shown_objects map.now.entries) call tried }
-    ensures there { IsSome result.1 → IsSome (object_at (shown_objects map.now.entries) call.object) }
-{
     let (guard, reply, kept) = match tried {
         Tried::Blocked => (0, Reply::Done, None),
         Tried::Did {
@@ -429,7 +128,7 @@ fn answer(
             state,
             reply,
         } => {
-            let kept = find(map, call.object).map(|kept| kept.kind);
+            let kept = objects.get(call.object).map(|kept| kept.kind);
             (guard, reply, kept.map(|kind| Instance { kind, state }))
         }
         Tried::Broke { guard, fault } => (guard, Reply::Broke { fault }, None),
@@ -447,4 +146,134 @@ fn answer(
         reply,
     };
     (line, kept)
+}
+
+// An object is put in, and then the calls on it settle.
+fn settle_with<P: Performer>(
+    alloc: Global,
+    performer: &P,
+    objects: &mut Objects,
+    queue: &mut Queue,
+    object: ObjectId,
+    kept: Instance,
+    lines: Vec<Answered>,
+) -> Result<Vec<Answered>, NoMemory>
+    requires fits { AllFit (P.fits_state performer.now) (P.fits_args performer.now) (with_object objects.old object kept) queue.old }
+    requires blocked { AllBlocked (P.performs performer.now) objects.old queue.old }
+    ensures ok { IfOk result (λ all. stands objects.new queue.new all ≡ settled_from (P.performs performer.now) (stands (with_object objects.old object kept) queue.old lines)) }
+    ensures blocked { OnOk result (AllBlocked (P.performs performer.now) objects.new queue.new) }
+    ensures fits { OnOk result (AllFit (P.fits_state performer.now) (P.fits_args performer.now) objects.new queue.new) }
+    ensures err { OnErr result ((objects.new ≡ objects.old) × (queue.new ≡ queue.old)) }
+{
+    if !queue.has_on(object) {
+        objects.put(alloc, object, kept)?;
+        return Ok(lines);
+    }
+    objects.gather(alloc)?;
+    let mut rounds = Rounds {
+        objects: objects.copy(alloc)?,
+        queue: queue.copy(alloc)?,
+        lines,
+    };
+    rounds.objects.put(alloc, object, kept)?;
+    rounds.settle(alloc, performer, Some(object))?;
+    *objects = rounds.objects;
+    *queue = rounds.queue;
+    Ok(rounds.lines)
+}
+
+// Copies on which suspended calls settle, with the lines so far. Where memory lacks they are dropped.
+#[derive(Drop)]
+struct Rounds {
+    objects: Objects,
+    queue: Queue,
+    lines: Vec<Answered>,
+}
+
+impl Rounds {
+    // Rounds until each call is blocked. Where an object is named, all others' calls are.
+    fn settle<P: Performer>(
+        &mut self,
+        alloc: Global,
+        performer: &P,
+        on: Option<ObjectId>,
+    ) -> Result<(), NoMemory>
+        requires fits { AllFit (P.fits_state performer.now) (P.fits_args performer.now) self.old.objects self.old.queue }
+        requires others { OthersBlocked (P.performs performer.now) self.old.objects self.old.queue on }
+        ensures ok { OnOk result (settling_of self.new ≡ settled_from (P.performs performer.now) (settling_of self.old)) }
+        ensures blocked { OnOk result (AllBlocked (P.performs performer.now) self.new.objects self.new.queue) }
+        ensures fits { OnOk result (AllFit (P.fits_state performer.now) (P.fits_args performer.now) self.new.objects self.new.queue) }
+    {
+        let mut ready = self.find_ready(alloc, performer, on)?;
+        'rounds: while let Some((at, tried)) = ready {
+            self.round(alloc, at, tried)?;
+            ready = self.find_ready(alloc, performer, on)?;
+        }
+        Ok(())
+    }
+
+    // The call at this place, whose try gave this, is performed or faults and leaves the queue.
+    fn round(&mut self, alloc: Global, at: usize, tried: Tried) -> Result<(), NoMemory>
+        requires { at < length self.old.queue }
+        ensures { OnOk result (settling_of self.new ≡ taken (settling_of self.old) at tried (slice_get self.old.queue at)) }
+    {
+        let call = self.queue.get(at).copy(alloc)?;
+        let object = call.object;
+        let (line, state) = perform(&self.objects, call, tried);
+        self.queue.take_out(at);
+        self.lines.push(Answered { line })?;
+        self.write(alloc, object, state)
+    }
+
+    // The state, where there is one, is put in.
+    fn write(&mut self, alloc: Global, object: ObjectId, state: Option<Instance>) -> Result<(), NoMemory>
+        ensures objects { OnOk result (self.new.objects ≡ with_state self.old.objects object state) }
+        ensures rest { (self.new.queue ≡ self.old.queue) × (self.new.lines ≡ self.old.lines) }
+    {
+        match state {
+            None => Ok(()),
+            Some(kept) => self.objects.put(alloc, object, kept),
+        }
+    }
+
+    // The place of the oldest call that isn't blocked, with what its try gives. Where an object is named, all others' calls are.
+    fn find_ready<P: Performer>(
+        &self,
+        alloc: Global,
+        performer: &P,
+        on: Option<ObjectId>,
+    ) -> Result<Option<(usize, Tried)>, NoMemory>
+        requires fits { AllFit (P.fits_state performer.now) (P.fits_args performer.now) self.now.objects self.now.queue }
+        requires others { OthersBlocked (P.performs performer.now) self.now.objects self.now.queue on }
+        ensures place { IfOk result (λ r. next_ready (P.performs performer.now) self.now.objects self.now.queue ≡ option_map (λ x. x.0) r) }
+        ensures tried { IfOk result (λ r. IsFound (P.performs performer.now) self.now.objects self.now.queue r) }
+    {
+        for at in 0..self.queue.len() {
+            match self.try_at(alloc, performer, on, at)? {
+                Tried::Blocked => {}
+                tried => return Ok(Some((at, tried))),
+            }
+        }
+        Ok(None)
+    }
+
+    // What a try of the call at this place gives. Where an object is named, no other's call is tried, since it is blocked.
+    fn try_at<P: Performer>(
+        &self,
+        alloc: Global,
+        performer: &P,
+        on: Option<ObjectId>,
+        at: usize,
+    ) -> Result<Tried, NoMemory>
+        requires fits { AllFit (P.fits_state performer.now) (P.fits_args performer.now) self.now.objects self.now.queue }
+        requires others { OthersBlocked (P.performs performer.now) self.now.objects self.now.queue on }
+        requires place { at < length self.now.queue }
+        ensures { IfOk result (λ t. IsTriedAt (P.performs performer.now) self.now.objects self.now.queue at t) }
+    {
+        let call = self.queue.get(at);
+        if on.is_some_and(|object| call.object != object) {
+            return Ok(Tried::Blocked);
+        }
+        try_call(alloc, performer, &self.objects, call)
+    }
 }
