@@ -1,0 +1,15 @@
+//! What the group's crates do, by expected values that come from elsewhere than the code: the table of packet lengths, and
+//! worked examples. Each public call of these crates that may lack memory is called here with ample memory.
+//!
+//! Tests of the group stand here, so that the crates below are proved once. It stands on all of them with code, and
+//! nothing stands on it.
+#![tactic(auto)]
+
+#[cfg(test)]
+mod packets;
+#[cfg(test)]
+mod plain;
+#[cfg(test)]
+mod seats;
+#[cfg(test)]
+mod windows;
