@@ -18,7 +18,8 @@ ghost use Rattle.group_law.specs.WrongPurge.{OwnPurgeBreaksTheLaw};
 /// The law, for every number of members, every resilience below half of them, and messages of any type.
 ///
 /// - `worlds`: Agree holds after every list of events.
-/// - `lists`: each event leaves the list of every installed incarnation or lengthens it at its end, at its active sequencer.
+/// - `lists`: each event leaves the list of every installed incarnation or lengthens it at its end, at its active
+///   sequencer. What the incarnation began with, and the answers that it was installed from, stay.
 /// - `lasting`: what was accepted is never lost or moved.
 /// - `calls`: what may be delivered or submitted meets the conditions on the calls of members and resets.
 /// - `messages`: what a process submitted is, at its home, pending or applied, and never both. Each member applies the
