@@ -10,7 +10,7 @@
 ghost use Rattle.group_law.specs.Agreed.{AgreedLaw, ForwardLaw};
 ghost use Rattle.group_law.specs.Messages.{MessagesLaw};
 ghost use Rattle.group_law.specs.Numbers.{FewEventsLaw, NumbersLaw};
-ghost use Rattle.group_law.specs.Promise.{AgreementLaw, ConditionsLaw, LastingLaw, ListsLaw};
+ghost use Rattle.group_law.specs.Promise.{AgreementLaw, ConditionsLaw, KeptLaw, LastingLaw, ListsLaw};
 ghost use Rattle.group_law.specs.Sends.{SendsLaw};
 ghost use Rattle.group_law.specs.Told.{PurgesLaw, StaysLaw, ToldLaw};
 ghost use Rattle.group_law.specs.WrongPurge.{OwnPurgeBreaksTheLaw};
@@ -22,6 +22,7 @@ ghost use Rattle.group_law.specs.WrongPurge.{OwnPurgeBreaksTheLaw};
 ///   sequencer. What the incarnation began with, and the answers that it was installed from, stay.
 /// - `lasting`: what was accepted is never lost or moved.
 /// - `calls`: what may be delivered or submitted meets the conditions on the calls of members and resets.
+/// - `kept`: each answer that a member keeps was sent, and each message that it keeps was submitted.
 /// - `messages`: what a process submitted is, at its home, pending or applied, and never both. Each member applies the
 ///   messages of a process in their order, with none left out.
 /// - `forward`: incarnations, accepted and applied numbers of a member never fall, who is outside or crashed stays so, and
@@ -38,6 +39,7 @@ pub fn agreement_law<M>()
     ensures lists { ListsLaw M }
     ensures lasting { LastingLaw M }
     ensures calls { ConditionsLaw M }
+    ensures kept { KeptLaw M }
     ensures messages { MessagesLaw M }
     ensures forward { ForwardLaw M }
     ensures agreed { AgreedLaw M }
