@@ -11,7 +11,7 @@ ghost use Rattle.group_law.specs.Agreed.{AgreedLaw, ForwardLaw};
 ghost use Rattle.group_law.specs.Messages.{MessagesLaw};
 ghost use Rattle.group_law.specs.Numbers.{FewEventsLaw, NumbersLaw};
 ghost use Rattle.group_law.specs.Promise.{AgreementLaw, ConditionsLaw, KeptLaw, LastingLaw, ListsLaw};
-ghost use Rattle.group_law.specs.Sends.{SendsLaw};
+ghost use Rattle.group_law.specs.Sends.{RoutesLaw, SendsLaw};
 ghost use Rattle.group_law.specs.Told.{PurgesLaw, StaysLaw, ToldLaw};
 ghost use Rattle.group_law.specs.WrongPurge.{OwnPurgeBreaksTheLaw};
 
@@ -34,6 +34,8 @@ ghost use Rattle.group_law.specs.WrongPurge.{OwnPurgeBreaksTheLaw};
 /// - `numbers`, `few_events`: entry numbers are at most the number of submissions, incarnations at most 2 N for each
 ///   coordination, and so both stay below 2^62 in a run of at most 4,000,000 events.
 /// - `sends`: what a row of a member sends goes from it to another member, and is of the kinds that the row may send.
+/// - `routes`: with n = k mod N, Order, Entry, Accept, Invite and Result of incarnation k come from member n, Request, Ack,
+///   Nack, Status and Join go to n, and a Body to all.
 pub fn agreement_law<M>()
     ensures worlds { AgreementLaw M }
     ensures lists { ListsLaw M }
@@ -49,6 +51,7 @@ pub fn agreement_law<M>()
     ensures numbers { NumbersLaw M }
     ensures few_events { FewEventsLaw M }
     ensures sends { SendsLaw M }
+    ensures routes { RoutesLaw M }
 {}
 
 /// `purges_to_own_applied`: a sequencer that purges to its own applied number in place of the least that it heard breaks
