@@ -28,5 +28,6 @@ pub mod Single
 pub mod Tally
 pub mod Small
 pub mod Sending
+pub mod Routing
 pub mod Inside
 pub mod OwnPurge

@@ -71,8 +71,8 @@ pub record Numbers {M : Type 0} (w : GroupWorld M) (entries incarnations : ℕ) 
 abbrev pub NumbersLaw : Type 0 → Type 0
 NumbersLaw M = (g : Group M) → 2 * g.resilience < g.nodes → (events : List (Event M)) → Numbers (run g opening events) (submissions events) (2 * g.nodes * coordinations events)
 
--- so all of them are below 2^62 where members are numbered by 8 bits and a run has no more events than it may
+-- so all of them are below 2^62 where members are numbered by 8 bits, and there are as many submissions, and at each member as many ticks and coordinations, as a run may have steps: a step submits one message at most, and is at most one tick or coordination of each member
 abbrev pub FewEventsLaw : Type 0 → Type 0
 FewEventsLaw M =
-    (g : Group M) → g.nodes ≤ 2 ^ 8 → (events : List (Event M)) → length events ≤ EVENTS
+    (g : Group M) → g.nodes ≤ 2 ^ 8 → (events : List (Event M)) → submissions events ≤ EVENTS → coordinations events ≤ g.nodes * EVENTS
     → (suc (submissions events) < 2 ^ 62) × (2 * g.nodes * coordinations events < 2 ^ 62)

@@ -10,17 +10,19 @@
 ghost use Rattle.group_law.specs.Agreed.{AgreedLaw, ForwardLaw};
 ghost use Rattle.group_law.specs.Messages.{MessagesLaw};
 ghost use Rattle.group_law.specs.Numbers.{FewEventsLaw, NumbersLaw};
-ghost use Rattle.group_law.specs.Promise.{AgreementLaw, ConditionsLaw, LastingLaw, ListsLaw};
-ghost use Rattle.group_law.specs.Sends.{SendsLaw};
+ghost use Rattle.group_law.specs.Promise.{AgreementLaw, ConditionsLaw, KeptLaw, LastingLaw, ListsLaw};
+ghost use Rattle.group_law.specs.Sends.{RoutesLaw, SendsLaw};
 ghost use Rattle.group_law.specs.Told.{PurgesLaw, StaysLaw, ToldLaw};
 ghost use Rattle.group_law.specs.WrongPurge.{OwnPurgeBreaksTheLaw};
 
 /// The law, for every number of members, every resilience below half of them, and messages of any type.
 ///
 /// - `worlds`: Agree holds after every list of events.
-/// - `lists`: each event leaves the list of every installed incarnation or lengthens it at its end, at its active sequencer.
+/// - `lists`: each event leaves the list of every installed incarnation or lengthens it at its end, at its active
+///   sequencer. What the incarnation began with, and the answers that it was installed from, stay.
 /// - `lasting`: what was accepted is never lost or moved.
 /// - `calls`: what may be delivered or submitted meets the conditions on the calls of members and resets.
+/// - `kept`: each answer that a member keeps was sent, and each message that it keeps was submitted.
 /// - `messages`: what a process submitted is, at its home, pending or applied, and never both. Each member applies the
 ///   messages of a process in their order, with none left out.
 /// - `forward`: incarnations, accepted and applied numbers of a member never fall, who is outside or crashed stays so, and
@@ -29,14 +31,18 @@ ghost use Rattle.group_law.specs.WrongPurge.{OwnPurgeBreaksTheLaw};
 /// - `told`: applied and stable numbers that are told are true.
 /// - `purges`: no purge goes beyond what a member that answered for the incarnation has applied.
 /// - `stays`: a member is put outside only by a base beyond what it applied.
-/// - `numbers`, `few_events`: entry numbers are at most the number of submissions, incarnations at most 2 N for each
-///   coordination, and so both stay below 2^62 in a run of at most 4,000,000 events.
+/// - `numbers`: entry numbers are at most the number of submissions, incarnations at most 2 N for each tick or coordination.
+/// - `few_events`: so both stay below 2^62 in a run of at most 4,000,000 steps, each of which submits one message at most
+///   and is at most one tick or coordination of each member. Deliveries and notes don't count.
 /// - `sends`: what a row of a member sends goes from it to another member, and is of the kinds that the row may send.
+/// - `routes`: with n = k mod N, Order, Entry, Accept, Invite and Result of incarnation k come from member n, Request, Ack,
+///   Nack, Status and Join go to n, and a Body to all.
 pub fn agreement_law<M>()
     ensures worlds { AgreementLaw M }
     ensures lists { ListsLaw M }
     ensures lasting { LastingLaw M }
     ensures calls { ConditionsLaw M }
+    ensures kept { KeptLaw M }
     ensures messages { MessagesLaw M }
     ensures forward { ForwardLaw M }
     ensures agreed { AgreedLaw M }
@@ -46,6 +52,7 @@ pub fn agreement_law<M>()
     ensures numbers { NumbersLaw M }
     ensures few_events { FewEventsLaw M }
     ensures sends { SendsLaw M }
+    ensures routes { RoutesLaw M }
 {}
 
 /// `purges_to_own_applied`: a sequencer that purges to its own applied number in place of the least that it heard breaks

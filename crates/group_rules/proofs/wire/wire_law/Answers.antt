@@ -1,0 +1,8 @@
+use Rattle.group_rules.proofs.Travelling.{numbered_law, posted_law}
+use Rattle.group_rules.proofs.wire.wire_law.Goals as goal
+
+pub returns-clause-numbered : goal.returns-clause-numbered
+returns-clause-numbered g c = numbered_law _
+
+pub returns-clause-posted : goal.returns-clause-posted
+returns-clause-posted g c = posted_law _ _
