@@ -1,6 +1,6 @@
 -- Behind each `if` of a text stands an expression, so an `if` has a first arm with a test. The grammar is asked, form by form, whether
 -- what is derived ends with an `if` that waits for its expression.
-use Rattle.std.proofs.Common.{◌≡◌, Bool, true, false, cond, List, [], ◌∷◌, ◌++◌, Option, Some, None, refl, sym, ap, ◌∙◌, subst, append_assoc, append-nil}
+use Rattle.std.proofs.Common.{◌≡◌, Bool, true, false, cond, List, [], ◌∷◌, ◌++◌, Option, Some, None, refl, sym, ap, ◌∙◌, append_assoc, append-nil}
 use Rattle.std.specs.Prelude.{not}
 use Rattle.std.proofs.lemmas.Bool.{true≢false}
 use Rattle.orca_lexer.specs.declared.token.Keyword.{Keyword}

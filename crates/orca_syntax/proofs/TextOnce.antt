@@ -1,5 +1,5 @@
 -- A text has one syntax at most, and it is that of each tree whose marks the text has.
-use Rattle.std.proofs.Common.{◌≡◌, ℕ, List, refl, sym, ap, ◌∙◌, subst}
+use Rattle.std.proofs.Common.{◌≡◌, ℕ, List, sym, ap, ◌∙◌, subst}
 use Rattle.orca_lexer.specs.declared.token.Token.{Token}
 use Rattle.orca_lexer.specs.Tokens.{Tokens}
 use Rattle.orca_lexer.proofs.Once.{tokens_once}
@@ -10,7 +10,6 @@ use Rattle.orca_tree.specs.declared.tree.Unit.{Unit as UnitTree}
 use Rattle.orca_tree.specs.Marks.{unit as unit_marks}
 use Rattle.orca_syntax.specs.Syntax.{Syntax}
 use Rattle.orca_syntax.specs.Shown.{syntax_of}
-use Rattle.orca_syntax.specs.Forest.{Forest}
 use Rattle.orca_syntax.specs.Derivation.{unit, syntax_marks}
 use Rattle.orca_syntax.specs.TextSyntax.{HasSyntax}
 use Rattle.orca_syntax.proofs.MarksOfDeclarations.{unit_shown}

@@ -492,7 +492,7 @@ unit_told s t h e =
     let decls = der.each der.decl s.declarations none in
     let decls' = der.each der.decl t.declarations none in
     let m = any_told der.module_line module_told no_module (λ n f. refl) s.name t.name (der.each der.import_line s.imports decls) (der.each der.import_line t.imports decls')
-        (imports_no_module s.imports s.declarations) (imports_no_module t.imports t.declarations) h e in
+    (imports_no_module s.imports s.declarations) (imports_no_module t.imports t.declarations) h e in
     let i = each_told der.import_line import_told no_import (λ n f. refl) s.imports t.imports decls decls' (decls_no_import s.declarations) (decls_no_import t.declarations) m.full m.rest in
     let d = each_told der.decl decl_told is_none decl_start s.declarations t.declarations none none refl refl i.full i.rest in
     ap (λ x. made_syntax x s.imports s.declarations) m.part ∙ ap (λ x. made_syntax t.name x s.declarations) i.part ∙ ap (λ x. made_syntax t.name t.imports x) d.part
