@@ -3,3 +3,4 @@ pub mod Rules
 pub mod Reading
 pub mod Sets
 pub mod Grammar
+pub mod Promise
