@@ -1,5 +1,5 @@
 -- What is read back from a printed unit is its syntax, places aside.
-use Rattle.std.proofs.Common.{◌≡◌, ℕ, true, false, List, [], ◌∷◌, ◌++◌, refl, sym, ap, ◌∙◌, subst}
+use Rattle.std.proofs.Common.{◌≡◌, true, false, List, [], ◌∷◌, ◌++◌, refl, sym, ap, ◌∙◌, subst}
 use Rattle.std.specs.Prelude.{map}
 use Rattle.std.specs.List.{AllByRecursion}
 use Rattle.orca_lexer.specs.declared.token.Token.{Token}
@@ -19,7 +19,7 @@ use Rattle.orca_syntax.specs.Syntax.{Syntax}
 use Rattle.orca_syntax.specs.Shown.{syntax_of}
 use Rattle.orca_syntax.specs.Forest.{Forest, none, token, group, flat}
 use Rattle.orca_syntax.specs.Derivation.{unit, syntax_marks}
-use Rattle.orca_syntax.specs.TextSyntax.{HasSyntax}
+use Rattle.orca_syntax.specs.TextSyntax.{IsReadBack as ReadsBack}
 use Rattle.orca_syntax.specs.Bare.{nowhere, bare}
 use Rattle.orca_syntax.proofs.MarksOfDeclarations.{unit_shown}
 use Rattle.orca_syntax.proofs.TextOnce.{derived_once}
@@ -94,7 +94,7 @@ all_sound [] sound = tt
 all_sound (t ∷ tokens) sound = (sound.0, all_sound tokens sound.1)
 
 -- the tokens of a printed unit are those that it spells
-pub printed_once : (u : UnitTree) (text : List ℕ) → HasSyntax text (syntax_of u) → (s : Syntax) → HasSyntax (printed u) s → bare s ≡ bare (syntax_of u)
+pub printed_once : (u : UnitTree) → ReadsBack u
 printed_once u text p s q =
     let is : IsText (unit_marks u) p.tokens = subst (λ (ms : List Mark). IsText ms p.tokens) (sym (unit_shown u)) p.derived in
     let spells = text_kinds (unit_marks u) p.tokens is in
