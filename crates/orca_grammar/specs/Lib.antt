@@ -4,3 +4,4 @@ pub mod Reading
 pub mod Sets
 pub mod Grammar
 pub mod Promise
+pub mod Wrong

@@ -1,12 +1,12 @@
 -- The derivation of a syntax without places is its derivation with each place that of nowhere.
-use Rattle.std.proofs.Common.{◌≡◌, List, [], ◌∷◌, ◌++◌, Option, Some, None, refl, ap, ◌∙◌}
+use Rattle.std.proofs.Common.{◌≡◌, List, [], ◌∷◌, Option, Some, None, refl, ap, ◌∙◌}
 use Rattle.std.specs.Prelude.{map, option_map}
 use Rattle.orca_base.specs.declared.place.Place.{Place}
-use Rattle.orca_lexer.specs.declared.token.Keyword.TheVariants.{KeyArray, KeyBag, KeyBegin, KeyConst, KeyDelete, KeyDo, KeyElse, KeyElsif, KeyEnd, KeyEnum, KeyFi, KeyFor, KeyFork, KeyFrom, KeyFunction, KeyGuard, KeyIf, KeyImplementation, KeyImport, KeyIn, KeyInsert, KeyModule, KeyNot, KeyObject, KeyOd, KeyOf, KeyOn, KeyOperation, KeyOrd, KeyProcess, KeyRecord, KeyRepeat, KeyReturn, KeySet, KeySize, KeySpecification, KeyThen, KeyType, KeyUntil, KeyWhile, KeyWriteLine}
+use Rattle.orca_lexer.specs.declared.token.Keyword.TheVariants.{KeyArray, KeyBag, KeyBegin, KeyConst, KeyDelete, KeyDo, KeyElse, KeyElsif, KeyEnd, KeyEnum, KeyFi, KeyFor, KeyFork, KeyFrom, KeyFunction, KeyGuard, KeyIf, KeyImplementation, KeyIn, KeyInsert, KeyNot, KeyObject, KeyOd, KeyOf, KeyOn, KeyOperation, KeyOrd, KeyProcess, KeyRecord, KeyRepeat, KeyReturn, KeySet, KeySize, KeySpecification, KeyThen, KeyType, KeyUntil, KeyWhile, KeyWriteLine}
 use Rattle.orca_lexer.specs.declared.token.Symbol.TheVariants.{Becomes, Closes, ClosesIndex, Colon, Comma, Dollar, Equals, Minus, Opens, OpensIndex, Range as RangeSign, Semicolon}
 use Rattle.orca_lexer.specs.declared.token.TokenKind.{TokenKind}
 use Rattle.orca_lexer.specs.declared.token.TokenKind.TheVariants.{Key, Sign}
-use Rattle.orca_grammar.specs.Forms.{Statement as StatementPhrase, Expression as ExpressionPhrase, TypePhrase as TypeNest, Links as Level, Phrase, Chain as ChainOf}
+use Rattle.orca_grammar.specs.Forms.{Statement as StatementPhrase, TypePhrase as TypeNest, Links as Level, Phrase, Chain as ChainOf}
 use Rattle.orca_tree.specs.declared.tree.Name.{Name}
 use Rattle.orca_tree.specs.declared.tree.Bound.{Bound}
 use Rattle.orca_tree.specs.declared.tree.Bound.TheVariants as bounds
@@ -116,7 +116,7 @@ inside_blank (syn.Array at low high k) =
     let of_element = der.word (Sign ClosesIndex) (der.word (Key KeyOf) (der.type_phrase k none)) in
     ap (λ x. der.word_at nowhere (Key KeyArray) (der.word (Sign OpensIndex) x))
     (on (λ x. der.bound (bare.bound low) (der.word (Sign RangeSign) x)) (bound_blank low (der.word (Sign RangeSign) (der.bound high of_element)))
-      (on (λ x. der.bound (bare.bound high) (der.word (Sign ClosesIndex) (der.word (Key KeyOf) (group (Phrase TypeNest) x none)))) (bound_blank high of_element) (inside_blank k)))
+    (on (λ x. der.bound (bare.bound high) (der.word (Sign ClosesIndex) (der.word (Key KeyOf) (group (Phrase TypeNest) x none)))) (bound_blank high of_element) (inside_blank k)))
 inside_blank (syn.Set at k) = ap (λ x. der.word_at nowhere (Key KeySet) (der.word (Key KeyOf) (group (Phrase TypeNest) x none))) (inside_blank k)
 inside_blank (syn.Bag at k) = ap (λ x. der.word_at nowhere (Key KeyBag) (der.word (Key KeyOf) (group (Phrase TypeNest) x none))) (inside_blank k)
 
@@ -149,7 +149,7 @@ mutual
       let does_body = der.word (Key KeyDo) (der.stmts ss last) in
       ap (λ x. der.word_at nowhere (Key KeyFor) (der.name (bare.name n) (der.word (Key KeyIn) x)))
       (on (λ x. der.value (bare.expr low) (der.word (Sign RangeSign) x)) (value_blank low (der.word (Sign RangeSign) (der.value high does_body)))
-        (on (λ x. der.value (bare.expr high) (der.word (Key KeyDo) x)) (value_blank high does_body) (stmts_blank ss last)))
+      (on (λ x. der.value (bare.expr high) (der.word (Key KeyDo) x)) (value_blank high does_body) (stmts_blank ss last)))
   inner_blank (syn.Repeat at ss test) =
       ap (λ x. der.word_at nowhere (Key KeyRepeat) x)
       (on (λ x. der.stmts (bare.stmts ss) (der.word (Key KeyUntil) x)) (stmts_blank ss (der.word (Key KeyUntil) (der.value test none))) (value_blank test none))
@@ -215,7 +215,7 @@ head_blank h f =
     let last = der.if_any der.result h.result f in
     ap (λ x. der.word_at nowhere (Key KeyOperation) (der.name (bare.name h.name) (der.word (Sign Opens) x)))
     (on (λ x. der.separated (Sign Semicolon) der.typed_name (map bare.typed_name h.parameters) (der.word (Sign Closes) x))
-      (separated_blank (Sign Semicolon) der.typed_name bare.typed_name typed_name_blank h.parameters (der.word (Sign Closes) last)) (results_blank h.result f))
+    (separated_blank (Sign Semicolon) der.typed_name bare.typed_name typed_name_blank h.parameters (der.word (Sign Closes) last)) (results_blank h.result f))
 
 head_line_blank : (h : syn.Head) (f : Forest) → blank (der.head_line h f) ≡ der.head_line (bare.head h) (blank f)
 head_line_blank h f = head_blank h (der.word (Sign Semicolon) f)
@@ -259,13 +259,13 @@ decl_blank (syn.Implementation at n vs os o) f =
     let opening = der.if_any der.opening o (der.ended f) in
     ap (λ x. der.word_at nowhere (Key KeyObject) (der.word (Key KeyImplementation) (der.name (bare.name n) (der.word (Sign Semicolon) x))))
     (on (der.each der.variables (map bare.variables vs)) (all_variables_blank vs (der.each der.operation os opening))
-      (on (der.each der.operation (map bare.operation os)) (each_blank der.operation bare.operation operation_blank os opening)
-        (any_blank der.opening bare.stmts (λ ss g. ap (λ x. der.word (Key KeyBegin) x) (stmts_blank ss g)) o (der.ended f))))
+    (on (der.each der.operation (map bare.operation os)) (each_blank der.operation bare.operation operation_blank os opening)
+    (any_blank der.opening bare.stmts (λ ss g. ap (λ x. der.word (Key KeyBegin) x) (stmts_blank ss g)) o (der.ended f))))
 decl_blank (syn.Function at n ps r b) f =
     let rest = der.word (Sign Semicolon) (der.block b f) in
     ap (λ x. der.word_at nowhere (Key KeyFunction) x)
     (on (der.called (bare.name n) (map bare.parameter ps)) (called_blank n ps (der.if_any der.result r rest))
-      (on (λ x. der.if_any der.result (option_map bare.kind r) (der.word (Sign Semicolon) x)) (results_blank r rest) (block_blank b f)))
+    (on (λ x. der.if_any der.result (option_map bare.kind r) (der.word (Sign Semicolon) x)) (results_blank r rest) (block_blank b f)))
 decl_blank (syn.Process at n ps b) f =
     ap (λ x. der.word_at nowhere (Key KeyProcess) x)
     (on (λ x. der.called (bare.name n) (map bare.parameter ps) (der.word (Sign Semicolon) x)) (called_blank n ps (der.word (Sign Semicolon) (der.block b f))) (block_blank b f))

@@ -1,6 +1,6 @@
 -- Behind each `if` of a text stands an expression, so an `if` has a first arm with a test. The grammar is asked, form by form, whether
 -- what is derived ends with an `if` that waits for its expression.
-use Rattle.std.proofs.Common.{◌≡◌, Bool, true, false, cond, List, [], ◌∷◌, ◌++◌, Option, Some, None, refl, sym, ap, ◌∙◌, subst, append_assoc, append-nil}
+use Rattle.std.proofs.Common.{◌≡◌, Bool, true, false, cond, List, [], ◌∷◌, ◌++◌, Option, Some, None, refl, sym, ap, ◌∙◌, append_assoc, append-nil}
 use Rattle.std.specs.Prelude.{not}
 use Rattle.std.proofs.lemmas.Bool.{true≢false}
 use Rattle.orca_lexer.specs.declared.token.Keyword.{Keyword}
@@ -12,8 +12,9 @@ use Rattle.orca_lexer.specs.declared.token.TokenKind.TheVariants.{Key}
 use Rattle.orca_lexer.specs.contracts.token.Keyword as keyword
 use denote.Enum.Bare.{same_true}
 use Rattle.orca_grammar.specs.Forms.{Terminal, KeyOf, SignOf, AnyName, AnyNumber, AnyChar, AnyText, is, Nest, Statement, Expression, Factor, TypePhrase, Form, Nothing, Word, ◌⨾◌, ◌∣◌, Many, Chained, Nested, Bracket, Phrase, Chain, Mark, Spelled, Begin, End, Derives, nothing, word, both, one, other, none as no_more, more, links as linked, nested}
-use Rattle.orca_grammar.specs.Rules.{rule, names, bound, element_rest, array_rest, plain_type, type_rule, typed_name, result, variable_line, variables, arguments, argument_list, invocation_rest, selector, selectors, designator, in_parentheses, designator_in_parentheses, named_rest, factor_rule, operator, links_of, links, chained, level, statement_line, statements, when, elsif_arm, elsif_arms, when_arms, otherwise, else_arm, arms, if_rest, while_rest, for_rest, repeat_rest, return_rest, on_member, fork_rest, element_and_designator, assignment_rest, named_statement_rest, statement_rule, typed_names, head, mode, parameter, parameters, block, guard, guards, operation_body, operation, constant_rest, field, fields, record_rest, enumeration_rest, definition, type_rest, head_line, heads, operations, specification_rest, opening, implementation_rest, object_rest, function_rest, process_rest, declaration, module_line, import_line, imports, declarations, unit}
+use Rattle.orca_grammar.specs.Rules.{rule, unit}
 use Rattle.orca_grammar.specs.Grammar.{IsText}
+use Rattle.orca_grammar.proofs.Opened.{every_form}
 use Rattle.orca_syntax.specs.Syntax.{Syntax}
 use Rattle.orca_syntax.specs.Forest.{Forest, none, token, group, flat}
 use Rattle.orca_syntax.specs.Derivation as der
@@ -74,14 +75,14 @@ flow (Chained l f) false = closed (flow f false)
 flow (Nested n) b = cond (admits b (Phrase n)) (Some false) None
 
 rule_flows : (n : Nest) → flow (rule n) false ≡ Some false
-unfolding names bound element_rest array_rest plain_type type_rule typed_name result variable_line variables arguments argument_list invocation_rest selector selectors designator in_parentheses designator_in_parentheses named_rest factor_rule operator links_of links chained level statement_line statements when elsif_arm elsif_arms when_arms otherwise else_arm arms if_rest while_rest for_rest repeat_rest return_rest on_member fork_rest element_and_designator assignment_rest named_statement_rest statement_rule typed_names head mode parameter parameters block guard guards operation_body operation constant_rest field fields record_rest enumeration_rest definition type_rest head_line heads operations specification_rest opening implementation_rest object_rest function_rest process_rest declaration module_line import_line imports declarations unit
+unfolding every_form
 rule_flows Statement = refl
 rule_flows Expression = refl
 rule_flows Factor = refl
 rule_flows TypePhrase = refl
 
 unit_flows : flow unit false ≡ Some false
-unfolding names bound element_rest array_rest plain_type type_rule typed_name result variable_line variables arguments argument_list invocation_rest selector selectors designator in_parentheses designator_in_parentheses named_rest factor_rule operator links_of links chained level statement_line statements when elsif_arm elsif_arms when_arms otherwise else_arm arms if_rest while_rest for_rest repeat_rest return_rest on_member fork_rest element_and_designator assignment_rest named_statement_rest statement_rule typed_names head mode parameter parameters block guard guards operation_body operation constant_rest field fields record_rest enumeration_rest definition type_rest head_line heads operations specification_rest opening implementation_rest object_rest function_rest process_rest declaration module_line import_line imports declarations unit
+unfolding every_form
 unit_flows = refl
 
 -- ---- what is derived does so

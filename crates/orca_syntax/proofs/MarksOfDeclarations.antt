@@ -11,19 +11,11 @@ use Rattle.orca_tree.specs.declared.tree.Name.{Name}
 use Rattle.orca_tree.specs.declared.tree.Mode.{Mode}
 use Rattle.orca_tree.specs.declared.tree.Mode.TheVariants as modes
 use Rattle.orca_tree.specs.declared.tree.TypePhrase.{TypePhrase}
-use Rattle.orca_tree.specs.declared.tree.TypedName.{TypedName}
 use Rattle.orca_tree.specs.declared.tree.Variables.{Variables}
 use Rattle.orca_tree.specs.declared.tree.Parameter.{Parameter}
-use Rattle.orca_tree.specs.declared.tree.Head.{Head}
 use Rattle.orca_tree.specs.declared.tree.Statement.{Statement}
-use Rattle.orca_tree.specs.declared.tree.Guard.{Guard}
-use Rattle.orca_tree.specs.declared.tree.Block.{Block}
-use Rattle.orca_tree.specs.declared.tree.Operation.{Operation}
-use Rattle.orca_tree.specs.declared.tree.OperationBody.{OperationBody}
 use Rattle.orca_tree.specs.declared.tree.OperationBody.TheVariants.{Guarded, Plain}
-use Rattle.orca_tree.specs.declared.tree.Definition.{Definition}
 use Rattle.orca_tree.specs.declared.tree.Definition.TheVariants.{Record, Enumeration, Alias}
-use Rattle.orca_tree.specs.declared.tree.Declaration.{Declaration}
 use Rattle.orca_tree.specs.declared.tree.Declaration.TheVariants as declares
 use Rattle.orca_tree.specs.declared.tree.Unit.{Unit as UnitTree}
 use Rattle.orca_tree.specs.Marks as marks
@@ -105,7 +97,7 @@ mode_shown modes.Out f = refl
 parameter_shown : Shows marks.parameter der.parameter shown.parameter
 parameter_shown p f =
     in_front _ _ _ (in_front _ _ _
-      (in_turn (marks.mode p.mode) (marks.type_phrase p.kind) (flat f) (type_shown p.kind f) (mode_shown p.mode (der.type_phrase (kind p.kind) f))))
+    (in_turn (marks.mode p.mode) (marks.type_phrase p.kind) (flat f) (type_shown p.kind f) (mode_shown p.mode (der.type_phrase (kind p.kind) f))))
 
 parameters_shown : (ps : List Parameter) (f : Forest) → marks.parameters ps ++ flat f ≡ flat (der.separated (Sign Semicolon) der.parameter (map shown.parameter ps) f)
 parameters_shown ps f = separated_shown (Sign Semicolon) marks.parameter der.parameter shown.parameter parameter_shown ps f
@@ -113,8 +105,8 @@ parameters_shown ps f = separated_shown (Sign Semicolon) marks.parameter der.par
 head_shown : Shows marks.head der.head shown.head
 head_shown h f =
     in_front _ _ _ (in_front _ _ _ (in_front _ _ _
-      (in_turn (marks.typed_names h.parameters.items) (marks.word (Sign Closes) ∷ marks.result h.result) (flat f) (in_front (marks.word (Sign Closes)) _ _ (result_shown h.result f))
-      (separated_shown (Sign Semicolon) marks.typed_name der.typed_name shown.typed_name typed_name_shown h.parameters.items (der.word (Sign Closes) (der.if_any der.result (option_map kind h.result) f))))))
+    (in_turn (marks.typed_names h.parameters.items) (marks.word (Sign Closes) ∷ marks.result h.result) (flat f) (in_front (marks.word (Sign Closes)) _ _ (result_shown h.result f))
+    (separated_shown (Sign Semicolon) marks.typed_name der.typed_name shown.typed_name typed_name_shown h.parameters.items (der.word (Sign Closes) (der.if_any der.result (option_map kind h.result) f))))))
 
 head_line_shown : Shows (λ h. marks.head h ++ marks.word (Sign Semicolon) ∷ []) der.head_line shown.head
 head_line_shown h f = in_turn (marks.head h) (marks.word (Sign Semicolon) ∷ []) (flat f) refl (head_shown h (der.word (Sign Semicolon) f))
@@ -134,9 +126,9 @@ guard_shown g f =
     let last = der.word (Key KeyOd) (der.word (Sign Semicolon) f) in
     in_front _ _ _
     (in_turn (marks.expression g.test) (marks.word (Key KeyDo) ∷ (marks.statements g.body.items ++ marks.word (Key KeyOd) ∷ marks.word (Sign Semicolon) ∷ [])) (flat f)
-      (in_front (marks.word (Key KeyDo)) _ _
-        (in_turn (marks.statements g.body.items) (marks.word (Key KeyOd) ∷ marks.word (Sign Semicolon) ∷ []) (flat f) refl (statements_shown g.body.items last)))
-      (expression_shown g.test (der.word (Key KeyDo) (der.stmts (stmts g.body.items) last))))
+    (in_front (marks.word (Key KeyDo)) _ _
+    (in_turn (marks.statements g.body.items) (marks.word (Key KeyOd) ∷ marks.word (Sign Semicolon) ∷ []) (flat f) refl (statements_shown g.body.items last)))
+    (expression_shown g.test (der.word (Key KeyDo) (der.stmts (stmts g.body.items) last))))
 
 body_shown : Shows marks.operation_body der.body shown.body
 body_shown (Guarded first others) f =
@@ -150,16 +142,16 @@ operation_shown o f =
     let rest = der.each der.variables (map shown.variables o.variables.items) (der.word (Key KeyBegin) inside) in
     in_turn (marks.head o.head) (marks.word (Sign Semicolon) ∷ (marks.all_variables o.variables.items ++ marks.word (Key KeyBegin) ∷ marks.ended (marks.operation_body o.body))) (flat f)
     (in_front (marks.word (Sign Semicolon)) _ _
-      (in_turn (marks.all_variables o.variables.items) (marks.word (Key KeyBegin) ∷ marks.ended (marks.operation_body o.body)) (flat f)
-        (in_front (marks.word (Key KeyBegin)) _ _ (ended_shown (marks.operation_body o.body) f (body_shown o.body (der.ended f))))
-        (all_variables_shown o.variables.items (der.word (Key KeyBegin) inside))))
+    (in_turn (marks.all_variables o.variables.items) (marks.word (Key KeyBegin) ∷ marks.ended (marks.operation_body o.body)) (flat f)
+    (in_front (marks.word (Key KeyBegin)) _ _ (ended_shown (marks.operation_body o.body) f (body_shown o.body (der.ended f))))
+    (all_variables_shown o.variables.items (der.word (Key KeyBegin) inside))))
     (head_shown o.head (der.word (Sign Semicolon) rest))
 
 definition_shown : Shows marks.definition der.definition shown.definition
 definition_shown (Record at fields) f =
     in_front _ _ _
     (in_turn (flat_map (λ t. marks.typed_name t ++ marks.word (Sign Semicolon) ∷ []) fields.items) (marks.word (Key KeyEnd) ∷ []) (flat f) refl
-      (each_shown (λ t. marks.typed_name t ++ marks.word (Sign Semicolon) ∷ []) der.field shown.typed_name field_shown fields.items (der.word (Key KeyEnd) f)))
+    (each_shown (λ t. marks.typed_name t ++ marks.word (Sign Semicolon) ∷ []) der.field shown.typed_name field_shown fields.items (der.word (Key KeyEnd) f)))
 definition_shown (Enumeration at ns) f =
     in_front _ _ _ (in_front _ _ _ (in_turn (marks.names ns.items) (marks.word (Sign Closes) ∷ []) (flat f) refl (names_shown ns.items (der.word (Sign Closes) f))))
 definition_shown (Alias t) f = type_shown t f
@@ -171,34 +163,34 @@ decl_shown (declares.Constant at n b) f =
     in_front _ _ _ (in_front _ _ _ (in_front _ _ _ (in_turn (marks.bound b) (marks.word (Sign Semicolon) ∷ []) (flat f) refl (bound_shown b (der.word (Sign Semicolon) f)))))
 decl_shown (declares.Type at n d) f =
     in_front _ _ _ (in_front _ _ _ (in_front _ _ _
-      (in_turn (marks.definition d) (marks.word (Sign Semicolon) ∷ []) (flat f) refl (definition_shown d (der.word (Sign Semicolon) f)))))
+    (in_turn (marks.definition d) (marks.word (Sign Semicolon) ∷ []) (flat f) refl (definition_shown d (der.word (Sign Semicolon) f)))))
 decl_shown (declares.Specification at n hs) f =
     in_front _ _ _ (in_front _ _ _ (in_front _ _ _ (in_front _ _ _
-      (ended_shown (marks.heads hs.items) f
-        (each_shown (λ h. marks.head h ++ marks.word (Sign Semicolon) ∷ []) der.head_line shown.head head_line_shown hs.items (der.ended f))))))
+    (ended_shown (marks.heads hs.items) f
+    (each_shown (λ h. marks.head h ++ marks.word (Sign Semicolon) ∷ []) der.head_line shown.head head_line_shown hs.items (der.ended f))))))
 decl_shown (declares.Implementation at n vs os begins) f =
     let opening_marks = marks.if_any (λ ss. marks.opening ss.items) begins in
     let opening = der.if_any der.opening (option_map (λ ss. stmts ss.items) begins) (der.ended f) in
     let operations = der.each der.operation (map shown.operation os.items) opening in
     in_front _ _ _ (in_front _ _ _ (in_front _ _ _ (in_front _ _ _
-      (ended_shown (marks.all_variables vs.items ++ (flat_map marks.operation os.items ++ opening_marks)) f
-        (in_turn (marks.all_variables vs.items) (flat_map marks.operation os.items ++ opening_marks) (flat (der.ended f))
-          (in_turn (flat_map marks.operation os.items) opening_marks (flat (der.ended f))
-            (any_shown (λ ss. marks.opening ss.items) der.opening (λ ss. stmts ss.items) (λ ss g. in_front (marks.word (Key KeyBegin)) _ _ (statements_shown ss.items g)) begins (der.ended f))
-            (each_shown marks.operation der.operation shown.operation operation_shown os.items opening))
-          (all_variables_shown vs.items operations))))))
+    (ended_shown (marks.all_variables vs.items ++ (flat_map marks.operation os.items ++ opening_marks)) f
+    (in_turn (marks.all_variables vs.items) (flat_map marks.operation os.items ++ opening_marks) (flat (der.ended f))
+    (in_turn (flat_map marks.operation os.items) opening_marks (flat (der.ended f))
+    (any_shown (λ ss. marks.opening ss.items) der.opening (λ ss. stmts ss.items) (λ ss g. in_front (marks.word (Key KeyBegin)) _ _ (statements_shown ss.items g)) begins (der.ended f))
+    (each_shown marks.operation der.operation shown.operation operation_shown os.items opening))
+    (all_variables_shown vs.items operations))))))
 decl_shown (declares.Function at n ps r b) f =
     let rest = der.word (Sign Semicolon) (der.block (shown.block b) f) in
     in_front _ _ _ (in_front _ _ _ (in_front _ _ _
-      (in_turn (marks.parameters ps.items) (marks.word (Sign Closes) ∷ (marks.result r ++ marks.word (Sign Semicolon) ∷ marks.block b)) (flat f)
-        (in_front (marks.word (Sign Closes)) _ _
-          (in_turn (marks.result r) (marks.word (Sign Semicolon) ∷ marks.block b) (flat f) (in_front (marks.word (Sign Semicolon)) _ _ (block_shown b f)) (result_shown r rest)))
-        (parameters_shown ps.items (der.word (Sign Closes) (der.if_any der.result (option_map kind r) rest))))))
+    (in_turn (marks.parameters ps.items) (marks.word (Sign Closes) ∷ (marks.result r ++ marks.word (Sign Semicolon) ∷ marks.block b)) (flat f)
+    (in_front (marks.word (Sign Closes)) _ _
+    (in_turn (marks.result r) (marks.word (Sign Semicolon) ∷ marks.block b) (flat f) (in_front (marks.word (Sign Semicolon)) _ _ (block_shown b f)) (result_shown r rest)))
+    (parameters_shown ps.items (der.word (Sign Closes) (der.if_any der.result (option_map kind r) rest))))))
 decl_shown (declares.Process at n ps b) f =
     in_front _ _ _ (in_front _ _ _ (in_front _ _ _
-      (in_turn (marks.parameters ps.items) (marks.word (Sign Closes) ∷ marks.word (Sign Semicolon) ∷ marks.block b) (flat f)
-        (in_front (marks.word (Sign Closes)) _ _ (in_front (marks.word (Sign Semicolon)) _ _ (block_shown b f)))
-        (parameters_shown ps.items (der.word (Sign Closes) (der.word (Sign Semicolon) (der.block (shown.block b) f)))))))
+    (in_turn (marks.parameters ps.items) (marks.word (Sign Closes) ∷ marks.word (Sign Semicolon) ∷ marks.block b) (flat f)
+    (in_front (marks.word (Sign Closes)) _ _ (in_front (marks.word (Sign Semicolon)) _ _ (block_shown b f)))
+    (parameters_shown ps.items (der.word (Sign Closes) (der.word (Sign Semicolon) (der.block (shown.block b) f)))))))
 
 module_shown : (o : Option Name) (f : Forest) → marks.module_line o ++ flat f ≡ flat (der.if_any der.module_line o f)
 module_shown None f = refl
@@ -210,6 +202,6 @@ unit_shown u =
     let decls = der.each der.decl (map shown.decl u.declarations.items) none in
     alone (marks.unit u) _
     (in_turn (marks.module_line u.module) (flat_map marks.import_line u.imports.items ++ flat_map marks.declaration u.declarations.items) []
-      (in_turn (flat_map marks.import_line u.imports.items) (flat_map marks.declaration u.declarations.items) []
-        (each_shown marks.declaration der.decl shown.decl decl_shown u.declarations.items none) (imports_shown u.imports.items decls))
-      (module_shown u.module (der.each der.import_line u.imports.items decls)))
+    (in_turn (flat_map marks.import_line u.imports.items) (flat_map marks.declaration u.declarations.items) []
+    (each_shown marks.declaration der.decl shown.decl decl_shown u.declarations.items none) (imports_shown u.imports.items decls))
+    (module_shown u.module (der.each der.import_line u.imports.items decls)))

@@ -2,11 +2,11 @@
 use Rattle.std.proofs.Common.{◌≡◌, List, [], ◌∷◌, ◌++◌, Option, Some, None, refl, ap, ◌∙◌}
 use Rattle.std.specs.Prelude.{option_map}
 use Rattle.std.specs.List.{flat_map}
-use Rattle.orca_lexer.specs.declared.token.Keyword.TheVariants.{KeyArray, KeyBag, KeyDo, KeyElse, KeyElsif, KeyFi, KeyOd, KeyOf, KeyOn, KeySet, KeyThen, KeyUntil}
+use Rattle.orca_lexer.specs.declared.token.Keyword.TheVariants.{KeyDo, KeyFi, KeyOd, KeyOf, KeyOn, KeyThen, KeyUntil}
 use Rattle.orca_lexer.specs.declared.token.Symbol.TheVariants.{Becomes, Closes, ClosesIndex, Comma, Range as RangeSign, Semicolon}
 use Rattle.orca_lexer.specs.declared.token.TokenKind.{TokenKind}
 use Rattle.orca_lexer.specs.declared.token.TokenKind.TheVariants.{Key, Sign}
-use Rattle.orca_grammar.specs.Forms.{Statement as StatementPhrase, Expression as ExpressionPhrase, TypePhrase as TypeNest, Phrase, Mark}
+use Rattle.orca_grammar.specs.Forms.{Statement as StatementPhrase, Expression as ExpressionPhrase, Phrase, Mark}
 use Rattle.orca_tree.specs.declared.tree.Bound.{Bound}
 use Rattle.orca_tree.specs.declared.tree.Bound.TheVariants as bounds
 use Rattle.orca_tree.specs.declared.tree.TypePhrase.{TypePhrase}
@@ -59,7 +59,7 @@ type_shown (types.Array' at low high p t) f =
     let to_high = der.word (Sign RangeSign) (der.bound high of_element) in
     in_group _ _ (der.type_inside (kind (types.Array' at low high p t))) f
     (in_front _ _ _ (in_front _ _ _
-      (behind _ _ _ _ (in_front _ _ _ (behind _ _ _ _ (in_front _ _ _ (in_front _ _ _ (alone _ _ (type_shown t none)))) (bound_shown high of_element))) (bound_shown low to_high))))
+    (behind _ _ _ _ (in_front _ _ _ (behind _ _ _ _ (in_front _ _ _ (in_front _ _ _ (alone _ _ (type_shown t none)))) (bound_shown high of_element))) (bound_shown low to_high))))
 type_shown (types.Set' at p t) f = in_group _ _ (der.type_inside (kind (types.Set' at p t))) f (in_front _ _ _ (in_front _ _ _ (alone _ _ (type_shown t none))))
 type_shown (types.Bag' at p t) f = in_group _ _ (der.type_inside (kind (types.Bag' at p t))) f (in_front _ _ _ (in_front _ _ _ (alone _ _ (type_shown t none))))
 
@@ -91,25 +91,25 @@ mutual
       let to_high = der.word (Sign RangeSign) (der.value (expr range.high) does_body) in
       in_statement (stmt (does.For' at n range shape row)) _ f
       (in_front _ _ _ (in_front _ _ _ (in_front _ _ _
-        (behind (marks.expression range.low) _ _ _ (in_front (marks.word (Sign RangeSign)) _ _ (behind (marks.expression range.high) _ _ _ (in_front (marks.word (Key KeyDo)) _ _ (stmts_shown row last)) (expression_shown range.high does_body))) (expression_shown range.low to_high)))))
+      (behind (marks.expression range.low) _ _ _ (in_front (marks.word (Sign RangeSign)) _ _ (behind (marks.expression range.high) _ _ _ (in_front (marks.word (Key KeyDo)) _ _ (stmts_shown row last)) (expression_shown range.high does_body))) (expression_shown range.low to_high)))))
   stmt_shown (does.Repeat' at shape row test) f =
       in_statement (stmt (does.Repeat' at shape row test)) _ f
       (in_front _ _ _ (behind _ _ _ _ (in_front _ _ _ (alone (marks.expression test) _ (expression_shown test none))) (stmts_shown row (der.word (Key KeyUntil) (der.value (expr test) none)))))
   stmt_shown (does.Fork at n es on) f =
       in_statement (stmt (does.Fork at n es on)) _ f
       (in_front _ _ _ (in_front _ _ _ (in_front _ _ _
-        (in_turn (marks.arguments es.items) (marks.word (Sign Closes) ∷ []) (marks.if_any (λ e. marks.word (Key KeyOn) ∷ marks.expression e) on) (in_front _ _ _ (on_shown on)) (arguments_shown es.items (der.word (Sign Closes) (der.if_any der.on_value (option_map expr on) none)))))))
+      (in_turn (marks.arguments es.items) (marks.word (Sign Closes) ∷ []) (marks.if_any (λ e. marks.word (Key KeyOn) ∷ marks.expression e) on) (in_front _ _ _ (on_shown on)) (arguments_shown es.items (der.word (Sign Closes) (der.if_any der.on_value (option_map expr on) none)))))))
   stmt_shown (does.WriteLine at es) f = in_statement (stmt (does.WriteLine at es)) _ f (in_front _ _ _ (in_front _ _ _ (arguments_shown es.items (der.word (Sign Closes) none))))
   stmt_shown (does.Insert at e into) f =
       let last = der.word (Sign Closes) none in
       in_statement (stmt (does.Insert at e into)) _ f
       (in_front _ _ _ (in_front _ _ _
-        (in_turn (marks.expression e) (marks.word (Sign Comma) ∷ marks.designator into) (marks.word (Sign Closes) ∷ []) (in_front _ _ _ (in_front _ _ _ (selectors_shown into.path.items last))) (expression_shown e (der.word (Sign Comma) (der.name into.name (der.path (path into.path.items) last)))))))
+      (in_turn (marks.expression e) (marks.word (Sign Comma) ∷ marks.designator into) (marks.word (Sign Closes) ∷ []) (in_front _ _ _ (in_front _ _ _ (selectors_shown into.path.items last))) (expression_shown e (der.word (Sign Comma) (der.name into.name (der.path (path into.path.items) last)))))))
   stmt_shown (does.Delete at e from) f =
       let last = der.word (Sign Closes) none in
       in_statement (stmt (does.Delete at e from)) _ f
       (in_front _ _ _ (in_front _ _ _
-        (in_turn (marks.expression e) (marks.word (Sign Comma) ∷ marks.designator from) (marks.word (Sign Closes) ∷ []) (in_front _ _ _ (in_front _ _ _ (selectors_shown from.path.items last))) (expression_shown e (der.word (Sign Comma) (der.name from.name (der.path (path from.path.items) last)))))))
+      (in_turn (marks.expression e) (marks.word (Sign Comma) ∷ marks.designator from) (marks.word (Sign Closes) ∷ []) (in_front _ _ _ (in_front _ _ _ (selectors_shown from.path.items last))) (expression_shown e (der.word (Sign Comma) (der.name from.name (der.path (path from.path.items) last)))))))
   stmt_shown (does.Assign to e) f =
       in_statement (stmt (does.Assign to e)) _ f
       (in_front _ _ _ (behind _ _ _ _ (in_front _ _ _ (alone (marks.expression e) _ (expression_shown e none))) (selectors_shown to.path.items (der.word (Sign Becomes) (der.value (expr e) none)))))

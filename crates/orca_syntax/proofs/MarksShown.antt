@@ -3,7 +3,7 @@ use Rattle.std.proofs.Common.{◌≡◌, List, [], ◌∷◌, ◌++◌, refl, sy
 use Rattle.orca_lexer.specs.declared.token.Keyword.TheVariants.{KeyFrom, KeyNot, KeyOrd, KeySize}
 use Rattle.orca_lexer.specs.declared.token.Symbol.TheVariants.{Closes, ClosesIndex, Comma, Dollar, Minus, Opens, OpensIndex}
 use Rattle.orca_lexer.specs.declared.token.TokenKind.TheVariants.{Key, Sign}
-use Rattle.orca_grammar.specs.Forms.{Expression as ExpressionPhrase, Links as Level, Phrase, Chain as ChainOf, Bracket, Mark, Begin, End, bracketed}
+use Rattle.orca_grammar.specs.Forms.{Links as Level, Chain as ChainOf, Bracket, Mark, Begin, End, bracketed}
 use Rattle.orca_tree.specs.declared.tree.Expression.{Expression, Row_of-Expression, end_of-Expression, more_of-Expression, Row_of-Link, end_of-Link, more_of-Link, Row_of-Selector, end_of-Selector, more_of-Selector}
 use Rattle.orca_tree.specs.declared.tree.Expression.TheVariants as is
 use Rattle.orca_tree.specs.declared.tree.Selector.{Selector}

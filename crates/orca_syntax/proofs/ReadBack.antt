@@ -14,7 +14,7 @@ use Rattle.orca_tree.specs.Marks.{operator_token}
 use Rattle.orca_syntax.specs.Syntax as syn
 use Rattle.orca_syntax.specs.Syntax.{Expr, Links, Step, Path, Exprs}
 use Rattle.orca_syntax.specs.Forest.{Forest, none, token, group, flat}
-use Rattle.orca_syntax.specs.Derivation.{word, whole, level, operand, links, path, exprs, more_exprs}
+use Rattle.orca_syntax.specs.Derivation.{word, level, operand, links, path, exprs, more_exprs}
 
 -- ---- from marks to the forest: what was read so far, and what stands round it
 

@@ -1,9 +1,9 @@
 -- Types and statements are read back from their derivations.
-use Rattle.std.proofs.Common.{◌≡◌, ℤ, Bool, true, false, cond, Option, Some, None, refl, sym, ap, ◌∙◌}
+use Rattle.std.proofs.Common.{◌≡◌, ℤ, Bool, true, false, cond, Option, Some, None, refl, ap, ◌∙◌}
 use Rattle.std.specs.Prelude.{pos}
 use Rattle.orca_base.specs.declared.place.Place.{Place}
-use Rattle.orca_lexer.specs.declared.token.Keyword.TheVariants.{KeyArray, KeyBag, KeyBoolean, KeyChar, KeyDelete, KeyDo, KeyElse, KeyElsif, KeyFi, KeyFor, KeyFork, KeyIf, KeyInsert, KeyInteger, KeyOd, KeyOf, KeyOn, KeyRepeat, KeyReturn, KeySet, KeyString, KeyUntil, KeyWhile, KeyWriteLine}
-use Rattle.orca_lexer.specs.declared.token.Symbol.TheVariants.{Becomes, Closes, ClosesIndex, Minus, Range as RangeSign, Semicolon}
+use Rattle.orca_lexer.specs.declared.token.Keyword.TheVariants.{KeyArray, KeyBag, KeyBoolean, KeyChar, KeyDelete, KeyElse, KeyElsif, KeyFi, KeyFor, KeyFork, KeyIf, KeyInsert, KeyInteger, KeyOd, KeyOf, KeyOn, KeyRepeat, KeyReturn, KeySet, KeyString, KeyUntil, KeyWhile, KeyWriteLine}
+use Rattle.orca_lexer.specs.declared.token.Symbol.TheVariants.{Becomes, Closes, ClosesIndex, Minus, Range as RangeSign}
 use Rattle.orca_lexer.specs.declared.token.TokenKind.{TokenKind}
 use Rattle.orca_lexer.specs.declared.token.TokenKind.TheVariants as kind
 use Rattle.orca_lexer.specs.declared.token.TokenKind.TheVariants.{Key, Sign}
@@ -15,7 +15,7 @@ use Rattle.orca_syntax.specs.Syntax.{Expr, Path, Exprs, Kind, Stmt, Stmts, Arm, 
 use Rattle.orca_syntax.specs.Forest.{Forest, none, token, group}
 use Rattle.orca_syntax.specs.Derivation as der
 use Rattle.orca_syntax.proofs.Branches.{Full, Starts}
-use Rattle.orca_syntax.proofs.ReadBack.{Behind, arguments, operation, steps, behind_of, place_of, name_of, nothing, read_operand, read_whole, read_exprs, read_more, read_path, operand_back, exprs_back, path_back}
+use Rattle.orca_syntax.proofs.ReadBack.{Behind, arguments, operation, steps, behind_of, place_of, name_of, read_operand, read_whole, read_exprs, read_more, read_path, operand_back, exprs_back, path_back}
 
 -- ---- what stands behind a token
 

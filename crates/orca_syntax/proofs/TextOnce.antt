@@ -1,7 +1,6 @@
 -- A text has one syntax at most, and it is that of each tree whose marks the text has.
-use Rattle.std.proofs.Common.{◌≡◌, ℕ, List, refl, sym, ap, ◌∙◌, subst}
+use Rattle.std.proofs.Common.{◌≡◌, ℕ, List, sym, ap, ◌∙◌, subst}
 use Rattle.orca_lexer.specs.declared.token.Token.{Token}
-use Rattle.orca_lexer.specs.Tokens.{Tokens}
 use Rattle.orca_lexer.proofs.Once.{tokens_once}
 use Rattle.orca_grammar.specs.Forms.{Mark}
 use Rattle.orca_grammar.specs.Grammar.{IsText}
@@ -10,9 +9,8 @@ use Rattle.orca_tree.specs.declared.tree.Unit.{Unit as UnitTree}
 use Rattle.orca_tree.specs.Marks.{unit as unit_marks}
 use Rattle.orca_syntax.specs.Syntax.{Syntax}
 use Rattle.orca_syntax.specs.Shown.{syntax_of}
-use Rattle.orca_syntax.specs.Forest.{Forest}
 use Rattle.orca_syntax.specs.Derivation.{unit, syntax_marks}
-use Rattle.orca_syntax.specs.TextSyntax.{HasSyntax}
+use Rattle.orca_syntax.specs.TextSyntax.{HasSyntax, IsShown}
 use Rattle.orca_syntax.proofs.MarksOfDeclarations.{unit_shown}
 use Rattle.orca_syntax.proofs.Branches.{text_full}
 use Rattle.orca_syntax.proofs.ReadBack.{forest_of, forest_back}
@@ -32,7 +30,7 @@ text_once text s t p q = derived_once s t p.tokens p.derived (subst (IsText (syn
 pub tree_derived : (u : UnitTree) (tokens : List Token) → IsText (unit_marks u) tokens → IsText (syntax_marks (syntax_of u)) tokens
 tree_derived u tokens text = subst (λ (ms : List Mark). IsText ms tokens) (unit_shown u) text
 
-pub text_syntax : (u : UnitTree) (text : List ℕ) (tokens : List Token) → Tokens text tokens → IsText (unit_marks u) tokens → HasSyntax text (syntax_of u)
+pub text_syntax : (u : UnitTree) → IsShown u
 text_syntax u text tokens are is = record { tokens = tokens; are = are; derived = tree_derived u tokens is }
 
 pub trees_once : (u v : UnitTree) (tokens : List Token) → IsText (unit_marks u) tokens → IsText (unit_marks v) tokens → syntax_of u ≡ syntax_of v

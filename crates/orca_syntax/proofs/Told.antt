@@ -189,25 +189,25 @@ stmts_told (syn.stmt s ss) (syn.stmt t ss') f g p q h e =
 
 -- ---- parts of declarations
 
-abbrev made_variables : List Name → Kind → Variables
+abbrev pub made_variables : List Name → Kind → Variables
 made_variables ns k = record { names = ns; kind = k }
 
-abbrev made_typed : Name → Kind → TypedName
+abbrev pub made_typed : Name → Kind → TypedName
 made_typed n k = record { name = n; kind = k }
 
-abbrev made_parameter : Name → Mode → Kind → Parameter
+abbrev pub made_parameter : Name → Mode → Kind → Parameter
 made_parameter n m k = record { name = n; mode = m; kind = k }
 
-abbrev made_head : Place → Name → List TypedName → Option Kind → Head
+abbrev pub made_head : Place → Name → List TypedName → Option Kind → Head
 made_head at n ps r = record { at = at; name = n; parameters = ps; result = r }
 
-abbrev made_guard : Place → Expr → Stmts → Guard
+abbrev pub made_guard : Place → Expr → Stmts → Guard
 made_guard at e ss = record { at = at; test = e; body = ss }
 
-abbrev made_operation : Head → List Variables → Body → Operation
+abbrev pub made_operation : Head → List Variables → Body → Operation
 made_operation h vs b = record { head = h; variables = vs; body = b }
 
-abbrev made_block : List Variables → Stmts → Block
+abbrev pub made_block : List Variables → Stmts → Block
 made_block vs ss = record { variables = vs; statements = ss }
 
 variables_told : Tells der.variables
@@ -483,7 +483,7 @@ module_told n m f g h e = record { part = ap (λ x. first_name (behind_token x))
 import_told : Tells der.import_line
 import_told n m f g h e = record { part = ap (λ x. first_name (behind_token x)) e; rest = ap (λ x. behind_token (behind_token (behind_token x))) e; full = h.1.1.1 }
 
-abbrev made_syntax : Option Name → List Name → List Decl → Syntax
+abbrev pub made_syntax : Option Name → List Name → List Decl → Syntax
 made_syntax n is ds = record { name = n; imports = is; declarations = ds }
 
 -- the derivation determines the syntax
@@ -492,7 +492,7 @@ unit_told s t h e =
     let decls = der.each der.decl s.declarations none in
     let decls' = der.each der.decl t.declarations none in
     let m = any_told der.module_line module_told no_module (λ n f. refl) s.name t.name (der.each der.import_line s.imports decls) (der.each der.import_line t.imports decls')
-        (imports_no_module s.imports s.declarations) (imports_no_module t.imports t.declarations) h e in
+    (imports_no_module s.imports s.declarations) (imports_no_module t.imports t.declarations) h e in
     let i = each_told der.import_line import_told no_import (λ n f. refl) s.imports t.imports decls decls' (decls_no_import s.declarations) (decls_no_import t.declarations) m.full m.rest in
     let d = each_told der.decl decl_told is_none decl_start s.declarations t.declarations none none refl refl i.full i.rest in
     ap (λ x. made_syntax x s.imports s.declarations) m.part ∙ ap (λ x. made_syntax t.name x s.declarations) i.part ∙ ap (λ x. made_syntax t.name t.imports x) d.part

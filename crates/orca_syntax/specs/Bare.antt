@@ -1,5 +1,5 @@
 -- A syntax without its places: each place is that of nowhere.
-use Rattle.std.specs.Prelude.{List, [], ◌∷◌, map, option_map}
+use Rattle.std.specs.Prelude.{map, option_map}
 use Rattle.orca_base.specs.declared.place.Place.{Place}
 use Rattle.orca_tree.specs.declared.tree.Name.{Name}
 use Rattle.orca_tree.specs.declared.tree.Bound.{Bound}

@@ -1,4 +1,5 @@
--- The derivation of a syntax by the grammar, and its marks. Each phrase stands in front of what comes behind it.
+-- The derivation of a syntax by the grammar (orca_grammar, specs/Rules.antt), and its marks. Each phrase stands in front of what comes
+-- behind it, which is the last argument.
 use Rattle.std.specs.Prelude.{List, [], ◌∷◌, Option, Some, None}
 use Rattle.orca_base.specs.declared.place.Place.{Place}
 use Rattle.orca_lexer.specs.declared.token.Keyword.TheVariants.{KeyArray, KeyBag, KeyBegin, KeyBoolean, KeyChar, KeyConst, KeyDelete, KeyDo, KeyElse, KeyElsif, KeyEnd, KeyEnum, KeyFi, KeyFor, KeyFork, KeyFrom, KeyFunction, KeyGuard, KeyIf, KeyImplementation, KeyImport, KeyIn, KeyInsert, KeyInteger, KeyModule, KeyNot, KeyObject, KeyOd, KeyOf, KeyOn, KeyOperation, KeyOrd, KeyOut, KeyProcess, KeyRecord, KeyRepeat, KeyReturn, KeySet, KeyShared, KeySize, KeySpecification, KeyString, KeyThen, KeyType, KeyUntil, KeyWhile, KeyWriteLine}
@@ -17,6 +18,7 @@ use Rattle.orca_syntax.specs.Syntax as syn
 use Rattle.orca_syntax.specs.Syntax.{Expr, Links, Step, Path, Exprs, Kind, Stmt, Stmts, Arm, Arms, Variables, TypedName, Parameter, Head, Guard, Body, Operation, Block, Definition, Decl, Syntax}
 use Rattle.orca_syntax.specs.Forest.{Forest, none, token, group, flat}
 
+-- a token, and one with its place; a name
 abbrev pub word : TokenKind → Forest → Forest
 word k f = token None k f
 
@@ -26,17 +28,22 @@ word_at at k f = token (Some at) k f
 abbrev pub name : Name → Forest → Forest
 name n f = word_at n.at (kind.Name n.text) f
 
+-- a factor, and an expression that stands by itself, in their brackets
 abbrev pub factor : Forest → Forest → Forest
 factor g f = group (Phrase FactorPhrase) g f
 
 abbrev pub whole : Forest → Forest → Forest
 whole g f = group (Phrase ExpressionPhrase) g f
 
+-- the operator of the first link says what they are
 abbrev pub level : Links → Level
 level syn.no_link = Term
 level (syn.link op e ls) = links_of op
 
+-- ---- expressions
+
 abbrev mutual
+  -- an expression, as an operand
   pub operand : Expr → Forest → Forest
   operand (syn.Chain first ls) f = operand first (group (ChainOf (level ls)) (links ls) f)
   operand (syn.Number at value) f = factor (word_at at (kind.Number value) none) f

@@ -1,4 +1,5 @@
--- The syntax that a tree shows.
+-- The syntax that a tree shows: each Rust type shows one type of Syntax.antt, and a `Vec` shows what its list does. A phrase with a `Vec`
+-- has its children as a row here; in words of its list it is in proofs/ShownLaws.antt.
 use Rattle.std.specs.Prelude.{List, [], ◌∷◌, map, option_map}
 use Rattle.orca_tree.specs.declared.tree.TypePhrase.{TypePhrase}
 use Rattle.orca_tree.specs.declared.tree.TypePhrase.TheVariants as types

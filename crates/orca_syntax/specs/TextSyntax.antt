@@ -1,12 +1,26 @@
--- The syntax of a text: its tokens are derived from the grammar with the marks of this syntax.
-use Rattle.std.specs.Prelude.{ℕ, List}
+-- The syntax of a text.
+use Rattle.std.specs.Prelude.{◌≡◌, ℕ, List}
 use Rattle.orca_lexer.specs.declared.token.Token.{Token}
 use Rattle.orca_lexer.specs.Tokens.{Tokens}
 use Rattle.orca_grammar.specs.Grammar.{IsText}
+use Rattle.orca_tree.specs.declared.tree.Unit.{Unit as UnitTree}
+use Rattle.orca_tree.specs.Marks.{unit as unit_marks}
+use Rattle.orca_tree.specs.Printing.{printed}
 use Rattle.orca_syntax.specs.Syntax.{Syntax}
+use Rattle.orca_syntax.specs.Shown.{syntax_of}
+use Rattle.orca_syntax.specs.Bare.{bare}
 use Rattle.orca_syntax.specs.Derivation.{syntax_marks}
 
+-- the text's tokens are derived by the grammar, with the marks of this syntax
 pub record HasSyntax (text : List ℕ) (s : Syntax) : Type 0 where
   pub tokens : List Token
   pub are : Tokens text tokens
   pub derived : IsText (syntax_marks s) tokens
+
+-- what a tree shows is the syntax of each text that has the tree's marks
+abbrev pub IsShown : UnitTree → Type 0
+IsShown u = (text : List ℕ) (tokens : List Token) → Tokens text tokens → IsText (unit_marks u) tokens → HasSyntax text (syntax_of u)
+
+-- where a tree is that of a text, the text that it is printed as has no other syntax, places aside
+abbrev pub IsReadBack : UnitTree → Type 0
+IsReadBack u = (text : List ℕ) → HasSyntax text (syntax_of u) → (s : Syntax) → HasSyntax (printed u) s → bare s ≡ bare (syntax_of u)

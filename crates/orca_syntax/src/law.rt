@@ -2,18 +2,21 @@
 
 ghost use Rattle.std.specs.Prelude.{◌≡◌, ℕ, List};
 ghost use Rattle.orca_lexer.specs.declared.token.Token.{Token};
-ghost use Rattle.orca_lexer.specs.Tokens.{Tokens};
 ghost use Rattle.orca_grammar.specs.Grammar.{IsText};
 ghost use Rattle.orca_tree.specs.declared.tree.Unit.{Unit as UnitTree};
 ghost use Rattle.orca_tree.specs.Marks.{unit as unit_marks};
 ghost use Rattle.orca_syntax.specs.Syntax.{Syntax};
 ghost use Rattle.orca_syntax.specs.Shown.{syntax_of};
 ghost use Rattle.orca_syntax.specs.Derivation.{syntax_marks};
-ghost use Rattle.orca_syntax.specs.TextSyntax.{HasSyntax};
+ghost use Rattle.orca_syntax.specs.TextSyntax.{HasSyntax, IsReadBack, IsShown};
 
-/// A text has one syntax at most. A tree has the marks of the syntax that it shows; so each tree of a text shows *the* syntax of the text.
+/// The law of the syntax. No list of tokens has two syntaxes, so a text has one at most. A tree has the marks of the syntax that it
+/// shows: where a text has the marks of a tree, that is *the* syntax of the text. The text that `print_tree` gives of a unit
+/// that was read from a text has no other syntax, places aside.
 pub fn syntax_law()
+    ensures derived { (s t : Syntax) (tokens : List Token) → IsText (syntax_marks s) tokens → IsText (syntax_marks t) tokens → s ≡ t }
     ensures once { (text : List ℕ) (s t : Syntax) → HasSyntax text s → HasSyntax text t → s ≡ t }
     ensures marks { (u : UnitTree) → unit_marks u ≡ syntax_marks (syntax_of u) }
-    ensures shown { (u : UnitTree) (text : List ℕ) (tokens : List Token) → Tokens text tokens → IsText (unit_marks u) tokens → HasSyntax text (syntax_of u) }
+    ensures shown { (u : UnitTree) → IsShown u }
+    ensures printed { (u : UnitTree) → IsReadBack u }
 {}

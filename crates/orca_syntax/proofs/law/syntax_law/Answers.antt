@@ -1,6 +1,10 @@
 use Rattle.orca_syntax.proofs.MarksOfDeclarations.{unit_shown}
-use Rattle.orca_syntax.proofs.TextOnce.{text_once, text_syntax}
+use Rattle.orca_syntax.proofs.PrintedOnce.{printed_once}
+use Rattle.orca_syntax.proofs.TextOnce.{derived_once, text_once, text_syntax}
 use Rattle.orca_syntax.proofs.law.syntax_law.Goals as goal
+
+pub returns-clause-derived : goal.returns-clause-derived
+returns-clause-derived c = derived_once
 
 pub returns-clause-once : goal.returns-clause-once
 returns-clause-once c = text_once
@@ -10,3 +14,6 @@ returns-clause-marks c = unit_shown
 
 pub returns-clause-shown : goal.returns-clause-shown
 returns-clause-shown c = text_syntax
+
+pub returns-clause-printed : goal.returns-clause-printed
+returns-clause-printed c = printed_once
