@@ -125,8 +125,8 @@ others_stepped p s (Some object) at is others =
     let same : one.0.object ≡ object = on_object p s.objects object one.0 (others at one.0 one.1) one.2 in
     subst (λ o. OthersBlocked p (performed p s at o).objects (performed p s at o).queue (Some object)) (sym one.1)
     (λ k call there apart.
-      let was = from_remove s.queue at k call there in
-      tried_with_beside p s.objects one.0 (tried_in p s.objects one.0) call (λ e. apart (e ∙ same)) ∙ others was.0 call was.1 apart)
+    let was = from_remove s.queue at k call there in
+    tried_with_beside p s.objects one.0 (tried_in p s.objects one.0) call (λ e. apart (e ∙ same)) ∙ others was.0 call was.1 apart)
 
 -- where all are blocked, a write leaves the calls on other objects so
 pub others_put : (p : Performs) (objects : Objects) (queue : List Suspended) (object : ObjectId) (kept : Instance) → AllBlocked p objects queue → OthersBlocked p (with_object objects object kept) queue (Some object)
@@ -141,7 +141,7 @@ or_place (y ∷ ys) (suc i) x is = or_place ys i x is
 pub none_on : (p : Performs) (objects : Objects) (queue : List Suspended) (object : ObjectId) (kept : Instance) → AllBlocked p objects queue → (IsWaitingOn queue object → ⊥) → AllBlocked p (with_object objects object kept) queue
 none_on p objects queue object kept all none =
     from_places p (with_object objects object kept) queue (λ at call is.
-      others_put p objects queue object kept all at call is (λ e. none (at, call, within queue at call is, or_place queue at call is, e)))
+    others_put p objects queue object kept all at call is (λ e. none (at, call, within queue at call is, or_place queue at call is, e)))
 
 -- one more call that is blocked
 pub blocked_last : (p : Performs) (objects : Objects) (queue : List Suspended) (call : Suspended) → AllBlocked p objects queue → tried_in p objects call ≡ tried.Blocked → AllBlocked p objects (queue ++ call ∷ [])

@@ -11,3 +11,4 @@ pub mod Same
 pub mod Writes
 pub mod Places
 pub mod Changed
+pub mod Stays

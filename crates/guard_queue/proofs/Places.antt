@@ -1,5 +1,5 @@
 -- Elements of a list by their places, seen through a function.
-use Rattle.std.proofs.Common.{◌≡◌, ℕ, ◌+◌, ◌<◌, ◌≤◌, List, [], ◌∷◌, ◌++◌, length, get_or, drop, map, ap, ◌∙◌, sym, refl, subst, zero, suc, arith, remove}
+use Rattle.std.proofs.Common.{◌≡◌, ℕ, ◌+◌, ◌<◌, ◌≤◌, List, [], ◌∷◌, length, get_or, drop, map, ap, sym, refl, subst, zero, suc, arith, remove}
 use Rattle.std.specs.List.{Any}
 use Rattle.guard_queue.proofs.Ready.{from_here}
 

@@ -1,5 +1,5 @@
 -- Writes beside a map: what they show, and what is found among them.
-use Rattle.std.proofs.Common.{◌≡◌, ℕ, ◌+◌, ◌<◌, T, Bool, true, false, cond, List, [], ◌∷◌, ◌++◌, length, Option, Some, None, ap, ◌∙◌, sym, refl, subst, zero, suc, is_some, drop, map}
+use Rattle.std.proofs.Common.{◌≡◌, ℕ, ◌+◌, T, Bool, true, false, cond, List, [], ◌∷◌, ◌++◌, length, Some, None, ap, ◌∙◌, sym, refl, subst, zero, suc, is_some, drop}
 use Rattle.std.specs.Prelude.{slice_get}
 use Rattle.std.specs.List.{AllByRecursion}
 use Rattle.std.specs.Arc.{arc_value}
@@ -8,9 +8,8 @@ use Rattle.std.specs.Cmp.{tied_itself}
 use Rattle.std.specs.declared.alloc.Global.{Global}
 use Rattle.std.specs.declared.sync.Arc.{Arc}
 use Rattle.std.specs.Ordering.{is_eq, match_ordering}
-use Rattle.std.specs.declared.cmp.Ordering.{Ordering}
 use Rattle.std.specs.declared.cmp.Ordering.TheVariants.{Less, Equal, Greater}
-use Rattle.std.specs.FinMap.Entries.{find, is_sorted, is_sorted-put, length-put, put, same_entries}
+use Rattle.std.specs.FinMap.Entries.{is_sorted, is_sorted-put, length-put, put, same_entries}
 use Rattle.orca_base.specs.declared.ids.ObjectId.{ObjectId}
 use Rattle.value_core.specs.declared.action.Instance.{Instance}
 use Rattle.value_core.specs.History.{Objects, object_cmp, object_at, with_object}
@@ -116,13 +115,13 @@ pub same_both : (one other : Objects) → Rises one → Rises other
     → ((id : ObjectId) → is_some (object_at one id) ≡ true → object_at other id ≡ object_at one id) → one ≡ other
 same_both one other r s there here =
     same_objects one other r s (λ q.
-      elim (object_at other q) as (λ o. object_at other q ≡ o → object_at one q ≡ object_at other q) [
-        | Some kept ↦ λ is. there q (ap is_some is)
-        | None ↦ λ is. elim (object_at one q) as (λ o. object_at one q ≡ o → object_at one q ≡ object_at other q) [
-          | Some kept ↦ λ has. sym (here q (ap is_some has))
-          | None ↦ λ has. has ∙ sym is
-        ] refl
-      ] refl)
+    elim (object_at other q) as (λ o. object_at other q ≡ o → object_at one q ≡ object_at other q) [
+      | Some kept ↦ λ is. there q (ap is_some is)
+      | None ↦ λ is. elim (object_at one q) as (λ o. object_at one q ≡ o → object_at one q ≡ object_at other q) [
+        | Some kept ↦ λ has. sym (here q (ap is_some has))
+        | None ↦ λ has. has ∙ sym is
+      ] refl
+    ] refl)
 
 pub true_unless : (b : Bool) → (b ≡ false → ⊥) → b ≡ true
 true_unless true apart = refl

@@ -4,3 +4,4 @@ pub mod Settles
 pub mod Fitting
 pub mod Changes
 pub mod Rounds
+pub mod Laws

@@ -1,5 +1,5 @@
 -- What objects show that are kept as a shared map and the writes since.
-use Rattle.std.specs.Prelude.{◌≡◌, T, List, [], ◌∷◌, Option, None, Some, cond, map}
+use Rattle.std.specs.Prelude.{T, List, [], ◌∷◌, Option, None, Some, cond, map}
 use Rattle.std.specs.Arc.{arc_value}
 use Rattle.std.specs.BTreeMap.{BTreeMap, is_at}
 use Rattle.std.specs.FinMap.Entries.{is_sorted}

@@ -6,11 +6,13 @@
 #![tactic(auto)]
 
 mod change;
+mod laws;
 mod objects;
 mod queue;
 mod settling;
 
 pub use change::Change;
+pub use laws::settling_law;
 pub use objects::Objects;
 pub use queue::{Queue, Suspended};
 pub use settling::{Answered, perform, settle, settle_after, try_call, try_on};

@@ -54,8 +54,7 @@ impl Model for Objects {
     // The ids rise, the count is right, and there are no more writes than may stand beside the map.
     ghost invariant = { λ o.
         Rises (shown (arc_value o.shared) o.recent.items) × (o.count ≡ length (shown (arc_value o.shared) o.recent.items))
-        × (length o.recent.items ≤ 32)
-    };
+        × (length o.recent.items ≤ 32) };
 }
 
 impl Objects {
@@ -224,7 +223,10 @@ fn gather(
 }
 
 // Puts the writes into the map, the first one first. Where memory lacks, those that are left stay beside it.
-fn write_all(map: &mut BTreeMap<ObjectId, Arc<Instance>>, recent: &mut Vec<Write>) -> Result<(), NoMemory>
+fn write_all(
+    map: &mut BTreeMap<ObjectId, Arc<Instance>>,
+    recent: &mut Vec<Write>,
+) -> Result<(), NoMemory>
     ensures same { shown map.new recent.new.items ≡ shown map.old recent.old.items }
     ensures all { OnOk result (recent.new.items ≡ []) }
     ensures fewer { length recent.new.items ≤ length recent.old.items }
@@ -253,13 +255,19 @@ fn writes_copy(alloc: Global, recent: &[Write]) -> Result<Vec<Write>, NoMemory>
     let mut all = Vec::new(alloc);
     for write in recent {
         let kept = Arc::try_clone(&write.kept)?;
-        all.push(Write { object: write.object, kept })?;
+        all.push(Write {
+            object: write.object,
+            kept,
+        })?;
     }
     Ok(all)
 }
 
 // Whether both maps have the same objects.
-fn same_entries(one: &BTreeMap<ObjectId, Arc<Instance>>, other: &BTreeMap<ObjectId, Arc<Instance>>) -> bool
+fn same_entries(
+    one: &BTreeMap<ObjectId, Arc<Instance>>,
+    other: &BTreeMap<ObjectId, Arc<Instance>>,
+) -> bool
     ensures { IsTrue result ↔ (shown_objects one.now.entries ≡ shown_objects other.now.entries) }
 {
     one == other

@@ -226,7 +226,12 @@ impl Rounds {
     }
 
     // The state, where there is one, is put in.
-    fn write(&mut self, alloc: Global, object: ObjectId, state: Option<Instance>) -> Result<(), NoMemory>
+    fn write(
+        &mut self,
+        alloc: Global,
+        object: ObjectId,
+        state: Option<Instance>,
+    ) -> Result<(), NoMemory>
         ensures objects { OnOk result (self.new.objects ≡ with_state self.old.objects object state) }
         ensures rest { (self.new.queue ≡ self.old.queue) × (self.new.lines ≡ self.old.lines) }
     {

@@ -7,7 +7,7 @@ use Rattle.orca_base.specs.declared.ids.OpNo.{OpNo}
 use Rattle.orca_base.specs.declared.ids.ObjectId.{ObjectId}
 use Rattle.value_core.specs.Datum.{Data}
 use Rattle.value_core.specs.declared.action.Instance.{Instance}
-use Rattle.value_core.specs.declared.action.Message.{Message}
+use Rattle.value_core.specs.declared.message.Message.{Message}
 use Rattle.value_core.specs.declared.action.Action.{Action}
 use Rattle.value_core.specs.declared.action.Action.TheVariants as action
 use Rattle.value_core.specs.declared.meaning.Making.{Making}

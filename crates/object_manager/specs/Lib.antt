@@ -3,3 +3,4 @@ pub mod Limits
 pub mod Applies
 pub mod Viewed
 pub mod Acts
+pub mod Laws

@@ -2,14 +2,15 @@
 
 ghost use Rattle.std.specs.Prelude.{◌≡◌, ◌<◌, ◌≤◌, ◌^◌, ◌-◌, ◌+◌, ◌↔◌, ◌∷◌, [], ℕ, List, IfOk, IfErr, OnOk, OnErr, IsTrue, None, Some, length};
 ghost use Rattle.value_core.specs.History.{Objects as Held, after_making, forked, object_at, output_kind, output_object};
-ghost use Rattle.guard_queue.specs.Changes.{objects_changed, queue_changed};
+ghost use Rattle.guard_queue.specs.Changes.{ChangeFits, JoinsBlocked, objects_changed, queue_changed};
 ghost use Rattle.guard_queue.specs.Fitting.{CallFits, OperationFits, kind_at, kinds_of};
 ghost use Rattle.guard_queue.specs.declared.queue.Suspended.{Suspended};
 ghost use Rattle.guard_queue.specs.Settles.{AllBlocked, lines_of, tried_on, tried_in, with_state};
 ghost use Rattle.guard_queue.specs.Waits.{IsWaiting};
+ghost use Rattle.value_core.specs.Meaning.{Performs};
 ghost use Rattle.object_manager.specs.After.{acted, after, called, lines_after, making_reply, opening_copies};
 ghost use Rattle.object_manager.specs.Viewed.{StatesFit};
-ghost use Rattle.object_manager.specs.Applies.{Applies, ChangeFits, CopiesFit};
+ghost use Rattle.object_manager.specs.Applies.{Applies, CopiesFit};
 ghost use Rattle.object_manager.specs.Acts.{acts};
 ghost use Rattle.object_manager.specs.Limits.{IfLimit, IsTooMany, MakesTooMany, most_objects, most_processes};
 ghost use Rattle.orca_base.specs.declared.what.What.{What};
@@ -87,14 +88,10 @@ impl Copies {
     {
         let mut objects = Objects::new(alloc)?;
         let output = Instance {
-            kind: KindNo(0),
+            kind: KindNo::OUTPUT,
             state: Parts::new(alloc),
         };
-        let object = ObjectId {
-            process: 0,
-            number: 0,
-        };
-        objects.put(alloc, object, output)?;
+        objects.put(alloc, ObjectId::OUTPUT, output)?;
         Ok(Copies {
             objects,
             queue: Queue::new(alloc),
@@ -108,7 +105,7 @@ impl Copies {
         ensures { IfOk result (λ c. c ≡ self.now) }
     {
         Ok(Copies {
-            objects: self.objects.copy()?,
+            objects: self.objects.copy(alloc)?,
             queue: self.queue.copy(alloc)?,
             processes: self.processes,
             applied: self.applied,
@@ -162,15 +159,15 @@ impl Copies {
         try_on(alloc, performer, &self.objects, kind, op, object, args)
     }
 
-    /// A snapshot of the objects, which stays as it is while the copies go on. It costs a constant number of steps.
-    pub fn view(&self) -> Result<View, NoMemory>
+    /// A snapshot of the objects, which stays as it is while the copies go on. It costs some counts.
+    pub fn view(&self, alloc: Global) -> Result<View, NoMemory>
         ensures { IfOk result (λ v. v ≡ record { objects = self.now.objects; place = self.now.applied }) }
     {
-        Ok(View::new(self.objects.copy()?, self.applied))
+        Ok(View::new(self.objects.copy(alloc)?, self.applied))
     }
 
-    /// One more entry is applied: the message's action, and then the queue settles. The lines are in the order in which they
-    /// ran.
+    /// One more entry is applied where each suspended call is blocked: the message's action, and then the queue settles. The
+    /// lines are in the order in which they ran.
     ///
     /// Limit comes where the message would make the 4,097th object, the output object not counted, or the 257th process,
     /// process 0 counted. A making that faults makes none.
@@ -181,11 +178,12 @@ impl Copies {
         message: &Message,
     ) -> Result<Vec<Answered>, ApplyError>
         requires fits { CopiesFit (P.fits_state performer.now) (P.fits_args performer.now) self.old }
+        requires blocked { AllBlocked (P.performs performer.now) self.old.objects self.old.queue }
         requires applies { Applies (P.fits_args performer.now) self.old message.now.action }
         requires room { self.old.applied < 2 ^ 64 - 1 }
         ensures after { OnOk result (self.new ≡ after (P.performs performer.now) self.old message.now) }
         ensures lines { IfOk result (λ all. lines_of all.items ≡ lines_after (P.performs performer.now) self.old message.now) }
-        ensures blocked { OnOk result (AllBlocked (P.performs performer.now) self.new.objects self.new.queue) }
+        ensures blocked { AllBlocked (P.performs performer.now) self.new.objects self.new.queue }
         ensures within { OnOk result ((what : What) (number : ℕ) → IsTooMany (P.performs performer.now) self.old message.now.action what number → ⊥) }
         ensures limit { IfErr result (λ e. IfLimit e (IsTooMany (P.performs performer.now) self.old message.now.action)) }
         ensures err { OnErr result (self.new ≡ self.old) }
@@ -215,10 +213,11 @@ impl Copies {
         requires fits { CopiesFit (P.fits_state performer.now) (P.fits_args performer.now) self.now }
         requires applies { Applies (P.fits_args performer.now) self.now message.now.action }
         ensures acted { IfOk result (λ a. acts self.now a.change (lines_of a.lines.items) ≡ acted (P.performs performer.now) self.now message.now) }
+        ensures joins { IfOk result (λ a. JoinsBlocked (P.performs performer.now) self.now.objects a.change) }
         ensures forks { IfOk result (λ a. a.forks ≡ length (forked message.now.action)) }
         ensures within { OnOk result ((what : What) (number : ℕ) → IsTooMany (P.performs performer.now) self.now message.now.action what number → ⊥) }
         ensures limit { IfErr result (λ e. IfLimit e (IsTooMany (P.performs performer.now) self.now message.now.action)) }
-        ensures fits { IfOk result (λ a. ChangeFits (P.fits_state performer.now) (P.fits_args performer.now) self.now a.change) }
+        ensures fits { IfOk result (λ a. ChangeFits (P.fits_state performer.now) (P.fits_args performer.now) self.now.objects self.now.queue a.change) }
     {
         let (reply, change, forks) = match &message.action {
             Action::Make { kind, object } => {
@@ -245,13 +244,7 @@ impl Copies {
                 };
                 return Ok(self.call(alloc, performer, call)?);
             }
-            Action::Ended | Action::Faulted { .. } => {
-                return Ok(Acted {
-                    change: Change::Nothing,
-                    lines: Vec::new(alloc),
-                    forks: 0,
-                });
-            }
+            Action::Ended | Action::Faulted { .. } => unreachable!(),
         };
         let line = Line {
             process: message.process,
@@ -280,9 +273,10 @@ impl Copies {
         ensures reply { IfOk result (λ r. r.0 ≡ making_reply ((P.performs performer.now).made kind)) }
         ensures objects { IfOk result (λ r. objects_changed self.now.objects r.1 ≡ after_making self.now.objects kind object ((P.performs performer.now).made kind)) }
         ensures queue { IfOk result (λ r. queue_changed self.now.queue r.1 ≡ self.now.queue) }
+        ensures joins { IfOk result (λ r. JoinsBlocked (P.performs performer.now) self.now.objects r.1) }
         ensures within { OnOk result (MakesTooMany self.now.objects ((P.performs performer.now).made kind) → ⊥) }
         ensures limit { IfErr result (λ e. IfLimit e (λ what number. MakesTooMany self.now.objects ((P.performs performer.now).made kind) × (what ≡ TooManyObjects) × (number ≡ most_objects))) }
-        ensures fits { IfOk result (λ r. ChangeFits (P.fits_state performer.now) (P.fits_args performer.now) self.now r.1) }
+        ensures fits { IfOk result (λ r. ChangeFits (P.fits_state performer.now) (P.fits_args performer.now) self.now.objects self.now.queue r.1) }
     {
         match performer.make(alloc, kind)? {
             Making::Broke { fault } => Ok((Reply::Broke { fault }, Change::Nothing)),
@@ -323,8 +317,9 @@ impl Copies {
         requires fits { CopiesFit (P.fits_state performer.now) (P.fits_args performer.now) self.now }
         requires operation { CallFits (P.fits_args performer.now) (kinds_of self.now.objects) self.now.objects call }
         ensures acted { IfOk result (λ a. acts self.now a.change (lines_of a.lines.items) ≡ called self.now call (tried_in (P.performs performer.now) self.now.objects call)) }
+        ensures joins { IfOk result (λ a. JoinsBlocked (P.performs performer.now) self.now.objects a.change) }
         ensures forks { IfOk result (λ a. a.forks ≡ 0) }
-        ensures fits { IfOk result (λ a. ChangeFits (P.fits_state performer.now) (P.fits_args performer.now) self.now a.change) }
+        ensures fits { IfOk result (λ a. ChangeFits (P.fits_state performer.now) (P.fits_args performer.now) self.now.objects self.now.queue a.change) }
     {
         match try_call(alloc, performer, &self.objects, &call)? {
             Tried::Blocked => Ok(Acted {
@@ -349,6 +344,7 @@ impl Copies {
 fn put(object: ObjectId, state: Option<Instance>) -> Change
     ensures objects { (objects : Held) → objects_changed objects result ≡ with_state objects object state }
     ensures queue { (queue : List Suspended) → queue_changed queue result ≡ queue }
+    ensures joins { (p : Performs) (objects : Held) → JoinsBlocked p objects result }
 {
     match state {
         None => Change::Nothing,

@@ -6,7 +6,9 @@
 #![tactic(auto)]
 
 mod copies;
+mod laws;
 mod view;
 
 pub use copies::{ApplyError, Copies};
+pub use laws::copies_law;
 pub use view::View;

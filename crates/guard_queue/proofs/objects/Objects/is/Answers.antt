@@ -1,5 +1,4 @@
-use Rattle.std.proofs.Common.{◌≡◌, false, sym, subst}
-use Rattle.value_core.specs.History.{Objects}
+use Rattle.std.proofs.Common.{sym}
 use Rattle.guard_queue.proofs.Writes.{same_both, true_unless}
 use Rattle.guard_queue.proofs.objects.Objects.is.Goals as goal
 

@@ -13,7 +13,7 @@ invariant_of-self-2 c =
     let before = c.gather.new.recent.items in
     let pushed : c.push.new.self.items ≡ before ++ w ∷ [] = (c.in_ok-push.ensures {u = tt}).items in
     let is : shown (arc_value c.gather.new.shared) c.push.new.self.items ≡ with_object now c.args.object c.args.kept =
-        shown_last (arc_value c.gather.new.shared) before c.push.new.self.items w now c.args.kept (c.gather.ensures.same ∙ c.self.view_is) pushed (c.in_ok-kept.ensures {u = tt}).ok in
+    shown_last (arc_value c.gather.new.shared) before c.push.new.self.items w now c.args.kept (c.gather.ensures.same ∙ c.self.view_is) pushed (c.in_ok-kept.ensures {u = tt}).ok in
     let rises : Rises now = subst Rises c.self.view_is c.self.invariant.0 in
     let room = (c.in_ok-gather.ensures {u = tt}).room in
     let longer = ap length pushed in (

@@ -14,7 +14,7 @@ invariant_of-self-2 g c =
     let message = c.args.message.now in
     let change = c.in_ok-acted.acted.change in
     let acts = c.in_ok-acted.ensures {u = tt} in
-    let objects : c.settle_after.new.objects ≡ (after p now message).objects = (c.in_ok-lines.ensures {u = tt}).objects
+    let objects : c.settle_after.new.objects ≡ (after p now message).objects = ap (λ (s : Settling). s.objects) (c.in_ok-lines.ensures {u = tt}).ok
     ∙ ap (λ (x : Copied). (settled p (objects_changed x.objects change) (queue_changed x.queue change)).objects) c.self.view_is ∙ ap (λ (s : Settling). (settled_after p s).objects) acts.acted in
     let had : kind_at now.objects output_object ≡ Some output_kind = ap (λ (x : Copied). kind_at x.objects output_object) (sym c.self.view_is) ∙ c.self.invariant.0 in
     let processes : c.self.inside.processes ≡ now.processes = ap (λ (x : Copied). x.processes) c.self.view_is in

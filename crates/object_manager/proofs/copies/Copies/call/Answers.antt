@@ -22,6 +22,7 @@ returns-in_ok-one_line-in_default g c =
     record {
       acted = ap (λ q. record { objects = objects_changed now.objects c.put.result; queue = q; lines = lines }) waits
           ∙ called_so now call tried (tried_in p now.objects call) (objects_changed now.objects c.put.result) c.perform-line.result.0 lines is c.in_default.not-Blocked put c.perform-line.ensures.line (c.in_ok-one_line-in_default.ensures {u = tt});
+      joins = c.put.ensures.joins p now.objects;
       forks = refl;
       fits = fits_moved (g.P.Performer.fits_state m) (g.P.Performer.fits_args m) (objects_changed now.objects c.put.result) (objects_with now.objects call (tried_in p now.objects call)) (queue_changed now.queue c.put.result) now.queue (put ∙ ap (objects_with now.objects call) is) waits
           (all_fit_with (g.P.Performer.fits_state m) (g.P.Performer.fits_args m) p (g.met.P.Performer.keeps_fit m) (g.met.P.Performer.state_stays_fit m) (g.met.P.Performer.args_stay_fit m) now.objects now.queue call c.requires.operation c.requires.fits);
