@@ -113,14 +113,14 @@ pub by_route : {M : Type 0} {g : Group M} {w : GroupWorld M} → Inv g w → Del
 by_route {M} {g} {w} h d = record {
   to = λ l i. (d l i).to;
   letters = λ l i. (d l i).by;
-  submit = λ m x low. walk_submit (alone m low) tt tt x (w.members m) tt;
-  receive = λ m from k kind low known other way. walk_receive from k kind (w.members m) (keeps_routes g m (came_of from k kind) low (leads_if g from m k kind way)) tt tt tt tt tt (known, other) tt;
-  invited = λ m from k low. walk_invited (keeps_routes g m (came_of {M = M} from k Invite) low (none_leads g (came_of {M = M} from k Invite) refl)) tt from k (w.members m) refl tt;
-  joined = λ m from k report low. walk_joined (alone m low) tt tt from k report (w.members m) (λ o is. (tt, λ u b e d best many base. d, λ b e l. tt)) tt;
+  submit = λ m x s low. walk_submit (alone m low) tt tt x s tt;
+  receive = λ m from k kind s low known other way. walk_receive from k kind s (keeps_routes g m (came_of from k kind) low (leads_if g from m k kind way)) tt tt tt tt tt (known, other) tt;
+  invited = λ m from k s low. walk_invited (keeps_routes g m (came_of {M = M} from k Invite) low (none_leads g (came_of {M = M} from k Invite) refl)) tt from k s refl tt;
+  joined = λ m from k report s low. walk_joined (alone m low) tt tt from k report s (λ o is. (tt, λ u b e d best many base. d, λ b e l. tt)) tt;
   announced = λ m from k a b named log low sent. walk_announced (keeps_routes g m (came_of from k (News a b named log)) low (none_leads g (came_of from k (News a b named log)) refl)) tt tt from k a b named log (w.members m) refl (λ above le base. (other m from k a b named log sent above, tt)) (λ x y. tt) (λ x y z. tt) tt;
-  coordinate = λ m low. coordinates g m (w.members m) low;
-  timer = λ m low. walk_timer (alone m low) tt tt tt tt (w.members m) (λ d. coordinates g m (ticked g m (w.members m)) low) tt;
-  note = λ m n low. walk_note (alone m low) tt tt n (w.members m) tt;
+  coordinate = λ m s low. coordinates g m s low;
+  timer = λ m s low. walk_timer (alone m low) tt tt tt tt s (λ d. coordinates g m (ticked g m s) low) tt;
+  note = λ m n s low. walk_note (alone m low) tt tt n s tt;
 }
   where
     alone : (m : ℕ) → m < g.nodes → Keeper g m nothing Any (Unit {0}) (λ (u : Work M). Routes g u.acts)
