@@ -1,5 +1,5 @@
 -- What is derived from a form is what some parts have, which are put in front of what comes behind: for each way to make a form.
-use Rattle.std.proofs.Common.{◌≡◌, ℕ, ℤ, suc, ◌<◌, Bool, true, false, List, [], ◌∷◌, ◌++◌, length, Option, Some, None, refl, sym, ap, ◌∙◌, arith, length-append}
+use Rattle.std.proofs.Common.{◌≡◌, ℕ, ℤ, suc, ◌<◌, true, false, List, [], ◌∷◌, ◌++◌, length, Option, Some, None, refl, ap, ◌∙◌, arith, length-append}
 use Rattle.std.specs.Prelude.{map}
 use Rattle.orca_base.specs.declared.place.Place.{Place}
 use Rattle.orca_lexer.specs.declared.token.Keyword.{Keyword}
@@ -11,10 +11,9 @@ use Rattle.orca_lexer.specs.declared.token.TokenKind.TheVariants.{Key, Sign}
 use Rattle.orca_lexer.specs.contracts.token.Keyword as keyword
 use Rattle.orca_lexer.specs.contracts.token.Symbol as symbol
 use denote.Enum.Bare.{same_true}
-use Rattle.orca_tree.specs.declared.tree.Name.{Name}
-use Rattle.orca_grammar.specs.Forms.{Terminal, KeyOf, SignOf, AnyName, AnyNumber, AnyChar, AnyText, is, Nest, Links, Form, Nothing, Word, ◌⨾◌, ◌∣◌, Many, Chained, Nested, Bracket, Phrase, Chain, Mark, Spelled, Begin, End, Derives, nothing, word, both, one, other, none as no_more, more, links, nested}
+use Rattle.orca_grammar.specs.Forms.{KeyOf, SignOf, AnyName, AnyNumber, AnyChar, AnyText, is, Nest, Links, Form, Nothing, Word, ◌⨾◌, ◌∣◌, Many, Chained, Nested, Phrase, Chain, Mark, Spelled, Begin, End, Derives, nothing, word, both, one, other, none as no_more, more, links, nested}
 use Rattle.orca_grammar.specs.Rules.{rule, optional, listed, key, key_at, sign, sign_at, name}
-use Rattle.orca_syntax.specs.Forest.{Forest, none, token, group, flat}
+use Rattle.orca_syntax.specs.Forest.{Forest, none, group, flat}
 use Rattle.orca_syntax.specs.Derivation as der
 use Rattle.orca_syntax.proofs.MarksShown.{in_group, alone, in_turn}
 use Rattle.orca_syntax.proofs.ReadBack.{text_of}

@@ -1,5 +1,5 @@
 -- What is read back from a printed unit is its syntax, places aside.
-use Rattle.std.proofs.Common.{◌≡◌, true, false, List, [], ◌∷◌, ◌++◌, refl, sym, ap, ◌∙◌, subst}
+use Rattle.std.proofs.Common.{◌≡◌, ℕ, true, false, List, [], ◌∷◌, ◌++◌, refl, sym, ap, ◌∙◌, subst, append-nil}
 use Rattle.std.specs.Prelude.{map}
 use Rattle.std.specs.List.{AllByRecursion}
 use Rattle.orca_lexer.specs.declared.token.Token.{Token}
@@ -10,8 +10,8 @@ use Rattle.orca_lexer.proofs.ReadsBack.{IsReadBack, reads_back}
 use Rattle.orca_lexer.proofs.Sound.{tokens_sound}
 use Rattle.orca_grammar.specs.Forms.{Form, ◌⨾◌, Many, Chained, Nested, Bracket, Phrase, Chain, Mark, Spelled, Begin, End, bracketed, spelled, Derives, nothing, word, both, one, other, none as no_more, more, links, nested}
 use Rattle.orca_grammar.specs.Grammar.{IsText}
-use Rattle.orca_grammar.specs.Rules.{rule}
-use Rattle.orca_grammar.proofs.Placed.{kinds, text_kinds}
+use Rattle.orca_grammar.specs.Rules.{rule, unit as unit_form}
+use Rattle.orca_grammar.proofs.Placed.{derived_again, kinds, text_kinds}
 use Rattle.orca_tree.specs.declared.tree.Unit.{Unit as UnitTree}
 use Rattle.orca_tree.specs.Marks.{unit as unit_marks}
 use Rattle.orca_tree.specs.Printing.{printed}
@@ -19,9 +19,10 @@ use Rattle.orca_syntax.specs.Syntax.{Syntax}
 use Rattle.orca_syntax.specs.Shown.{syntax_of}
 use Rattle.orca_syntax.specs.Forest.{Forest, none, token, group, flat}
 use Rattle.orca_syntax.specs.Derivation.{unit, syntax_marks}
-use Rattle.orca_syntax.specs.TextSyntax.{IsReadBack as ReadsBack}
+use Rattle.orca_syntax.specs.TextSyntax.{HasSyntax, IsReadBack as ReadsBack}
 use Rattle.orca_syntax.specs.Bare.{nowhere, bare}
 use Rattle.orca_syntax.proofs.MarksOfDeclarations.{unit_shown}
+use Rattle.orca_syntax.proofs.Complete.{some_syntax}
 use Rattle.orca_syntax.proofs.TextOnce.{derived_once}
 use Rattle.orca_syntax.proofs.BareForests.{blank_place, blank, unit_blank}
 
@@ -94,10 +95,29 @@ all_sound [] sound = tt
 all_sound (t ∷ tokens) sound = (sound.0, all_sound tokens sound.1)
 
 -- the tokens of a printed unit are those that it spells
-pub printed_once : (u : UnitTree) → ReadsBack u
-printed_once u text p s q =
+record Spells (u : UnitTree) (text : List ℕ) (p : HasSyntax text (syntax_of u)) : Type 0 where
+  is : IsText (unit_marks u) p.tokens
+  kinds_are : kinds p.tokens ≡ spelled (unit_marks u)
+  back : IsReadBack (spelled (unit_marks u))
+
+spells : (u : UnitTree) (text : List ℕ) (p : HasSyntax text (syntax_of u)) → Spells u text p
+spells u text p =
     let is : IsText (unit_marks u) p.tokens = subst (λ (ms : List Mark). IsText ms p.tokens) (sym (unit_shown u)) p.derived in
-    let spells = text_kinds (unit_marks u) p.tokens is in
-    let sound = subst (λ (ks : List TokenKind). AllByRecursion IsSound ks) spells (all_sound p.tokens (tokens_sound text p.tokens p.are)) in
-    let back : IsReadBack (spelled (unit_marks u)) = reads_back (spelled (unit_marks u)) sound in
-    kinds_once s (syntax_of u) q.tokens p.tokens q.derived p.derived (ap kinds (tokens_once (printed u) q.tokens back.tokens q.are back.are) ∙ back.kinds_are ∙ sym spells)
+    let kinds_are = text_kinds (unit_marks u) p.tokens is in
+    let sound = subst (λ (ks : List TokenKind). AllByRecursion IsSound ks) kinds_are (all_sound p.tokens (tokens_sound text p.tokens p.are)) in
+    record { is = is; kinds_are = kinds_are; back = reads_back (spelled (unit_marks u)) sound }
+
+pub printed_once : (u : UnitTree) (text : List ℕ) → HasSyntax text (syntax_of u) → (s : Syntax) → HasSyntax (printed u) s → bare s ≡ bare (syntax_of u)
+printed_once u text p s q =
+    let r = spells u text p in
+    kinds_once s (syntax_of u) q.tokens p.tokens q.derived p.derived (ap kinds (tokens_once (printed u) q.tokens r.back.tokens q.are r.back.are) ∙ r.back.kinds_are ∙ sym r.kinds_are)
+
+-- and they are derived again, with the marks of a syntax
+pub read_back : (u : UnitTree) → ReadsBack u
+read_back u text p =
+    let r = spells u text p in
+    let again = derived_again r.is r.back.tokens r.back.kinds_are in
+    let derived : IsText again.marks r.back.tokens = subst (λ (ts : List Token). Derives rule unit_form again.marks ts []) (append-nil r.back.tokens) (again.derives []) in
+    let x = some_syntax again.marks r.back.tokens derived in
+    let has : HasSyntax (printed u) x.0 = record { tokens = r.back.tokens; are = r.back.are; derived = subst (λ (ms : List Mark). IsText ms r.back.tokens) (sym x.1) derived } in
+    (x.0, has, printed_once u text p x.0 has)

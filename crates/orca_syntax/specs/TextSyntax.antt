@@ -2,6 +2,7 @@
 use Rattle.std.specs.Prelude.{◌≡◌, ℕ, List}
 use Rattle.orca_lexer.specs.declared.token.Token.{Token}
 use Rattle.orca_lexer.specs.Tokens.{Tokens}
+use Rattle.orca_grammar.specs.Forms.{Mark}
 use Rattle.orca_grammar.specs.Grammar.{IsText}
 use Rattle.orca_tree.specs.declared.tree.Unit.{Unit as UnitTree}
 use Rattle.orca_tree.specs.Marks.{unit as unit_marks}
@@ -21,6 +22,10 @@ pub record HasSyntax (text : List ℕ) (s : Syntax) : Type 0 where
 abbrev pub IsShown : UnitTree → Type 0
 IsShown u = (text : List ℕ) (tokens : List Token) → Tokens text tokens → IsText (unit_marks u) tokens → HasSyntax text (syntax_of u)
 
--- where a tree is that of a text, the text that it is printed as has no other syntax, places aside
+-- where a tree is that of a text, the text that it is printed as has a syntax, which is the same, places aside
 abbrev pub IsReadBack : UnitTree → Type 0
-IsReadBack u = (text : List ℕ) → HasSyntax text (syntax_of u) → (s : Syntax) → HasSyntax (printed u) s → bare s ≡ bare (syntax_of u)
+IsReadBack u = (text : List ℕ) → HasSyntax text (syntax_of u) → (s : Syntax) × HasSyntax (printed u) s × (bare s ≡ bare (syntax_of u))
+
+-- marks that are derived by the grammar are those of a syntax
+abbrev pub IsOfSyntax : List Mark → Type 0
+IsOfSyntax ms = (s : Syntax) × (syntax_marks s ≡ ms)

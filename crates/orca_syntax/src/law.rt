@@ -2,18 +2,21 @@
 
 ghost use Rattle.std.specs.Prelude.{◌≡◌, ℕ, List};
 ghost use Rattle.orca_lexer.specs.declared.token.Token.{Token};
+ghost use Rattle.orca_grammar.specs.Forms.{Mark};
 ghost use Rattle.orca_grammar.specs.Grammar.{IsText};
 ghost use Rattle.orca_tree.specs.declared.tree.Unit.{Unit as UnitTree};
 ghost use Rattle.orca_tree.specs.Marks.{unit as unit_marks};
 ghost use Rattle.orca_syntax.specs.Syntax.{Syntax};
 ghost use Rattle.orca_syntax.specs.Shown.{syntax_of};
 ghost use Rattle.orca_syntax.specs.Derivation.{syntax_marks};
-ghost use Rattle.orca_syntax.specs.TextSyntax.{HasSyntax, IsReadBack, IsShown};
+ghost use Rattle.orca_syntax.specs.TextSyntax.{HasSyntax, IsOfSyntax, IsReadBack, IsShown};
 
-/// The law of the syntax. No list of tokens has two syntaxes, so a text has one at most. A tree has the marks of the syntax that it
-/// shows: where a text has the marks of a tree, that is *the* syntax of the text. The text that `print_tree` gives of a unit
-/// that was read from a text has no other syntax, places aside.
+/// The law of the syntax. What the grammar derives is derived with the marks of a syntax, and no list of tokens has two: so a text whose
+/// tokens are a unit has one syntax, and each other text none. A tree has the marks of the syntax that it shows: where a text has
+/// the marks of a tree, that is *the* syntax of the text. The text that `print_tree` gives of a unit that was read from a text has the
+/// same syntax, places aside.
 pub fn syntax_law()
+    ensures some { (ms : List Mark) (tokens : List Token) → IsText ms tokens → IsOfSyntax ms }
     ensures derived { (s t : Syntax) (tokens : List Token) → IsText (syntax_marks s) tokens → IsText (syntax_marks t) tokens → s ≡ t }
     ensures once { (text : List ℕ) (s t : Syntax) → HasSyntax text s → HasSyntax text t → s ≡ t }
     ensures marks { (u : UnitTree) → unit_marks u ≡ syntax_marks (syntax_of u) }

@@ -1,7 +1,11 @@
+use Rattle.orca_syntax.proofs.Complete.{some_syntax}
 use Rattle.orca_syntax.proofs.MarksOfDeclarations.{unit_shown}
-use Rattle.orca_syntax.proofs.PrintedOnce.{printed_once}
+use Rattle.orca_syntax.proofs.PrintedOnce.{read_back}
 use Rattle.orca_syntax.proofs.TextOnce.{derived_once, text_once, text_syntax}
 use Rattle.orca_syntax.proofs.law.syntax_law.Goals as goal
+
+pub returns-clause-some : goal.returns-clause-some
+returns-clause-some c = some_syntax
 
 pub returns-clause-derived : goal.returns-clause-derived
 returns-clause-derived c = derived_once
@@ -16,4 +20,4 @@ pub returns-clause-shown : goal.returns-clause-shown
 returns-clause-shown c = text_syntax
 
 pub returns-clause-printed : goal.returns-clause-printed
-returns-clause-printed c = printed_once
+returns-clause-printed c = read_back
