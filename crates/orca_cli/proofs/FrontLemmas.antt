@@ -14,8 +14,8 @@ use Rattle.orca_grammar.specs.Grammar.{IsText}
 use Rattle.orca_grammar.proofs.Placed.{text_kinds}
 use Rattle.orca_tree.specs.declared.tree.Unit.{Unit as UnitTree}
 use Rattle.orca_tree.specs.Marks.{unit as unit_marks}
-use Rattle.parse_units.specs.declared.refusal.ParseError.TheVariants.{Syntax, TooNested}
-use Rattle.parse_units.specs.declared.refusal.Found.TheVariants.{Token as OfToken, End}
+use Rattle.parse_units.specs.declared.parse_error.ParseError.TheVariants.{Syntax, TooNested}
+use Rattle.parse_units.specs.declared.parse_error.Found.TheVariants.{Token as OfToken, End}
 use Rattle.parse_units.specs.Refused.{HasRoom}
 use Rattle.small_program.specs.Least.{least_bytes}
 use Rattle.small_program.proofs.Sizes.{tokens_long}

@@ -9,7 +9,7 @@ use Rattle.orca_lexer.specs.Tokens.{Tokens}
 use Rattle.orca_grammar.specs.Grammar.{IsText, IsUnexpected, IsTooNested}
 use Rattle.orca_tree.specs.declared.tree.Unit.{Unit as UnitTree}
 use Rattle.orca_tree.specs.Marks.{unit as unit_marks}
-use Rattle.parse_units.specs.declared.refusal.ParseError.{ParseError}
+use Rattle.parse_units.specs.declared.parse_error.ParseError.{ParseError}
 use Rattle.parse_units.specs.Refused.{end_of_text, IsRefusal}
 use Rattle.small_program.specs.declared.tree.SmallProgram.{SmallProgram}
 use Rattle.small_program.specs.Scope.{IsSmall}

@@ -1,3 +1,4 @@
+pub mod Opened
 pub mod Decided
 pub mod Tests
 pub mod Derivations
@@ -9,3 +10,4 @@ pub mod Fronts
 pub mod Whole
 pub mod Placed
 pub mod Once
+pub mod Promises

@@ -3,6 +3,7 @@ use Rattle.std.proofs.Common.{◌≡◌, ℕ, zero, suc, List, [], ◌∷◌, �
 use Rattle.std.specs.Prelude.{map}
 use Rattle.std.proofs.lemmas.List.{append-nil}
 use Rattle.orca_lexer.specs.declared.token.TokenKind.{TokenKind}
+use Rattle.orca_base.specs.declared.limits.TheConstants.{NESTING}
 use Rattle.orca_lexer.specs.declared.token.Token.{Token}
 use Rattle.orca_grammar.specs.Forms.{is, Form, ◌⨾◌, Many, Bracket, Phrase, Chain, Mark, Spelled, Begin, End, mark_of, bracketed, Derives, nothing, word, both, one, other, none, more, links, nested, first_deep, one_later, unplaced, spelled}
 use Rattle.orca_grammar.specs.Rules.{rule, unit}
@@ -99,14 +100,14 @@ derived_again (nested {n = n} {a = a} p) us e =
 -- tokens of the kinds that a unit is spelled by are read as that unit, places aside
 pub record ReadAgain (ms : List Mark) (us : List Token) : Type 0 where
   pub marks : List Mark
-  pub reads : read 64 unit us ≡ Ok (marks, [])
+  pub reads : read NESTING unit us ≡ Ok (marks, [])
   pub same : unplaced marks ≡ unplaced ms
 
-pub reads_again : (ms : List Mark) (tokens us : List Token) → IsText ms tokens → first_deep ms 64 ≡ None → kinds us ≡ spelled ms → ReadAgain ms us
+pub reads_again : (ms : List Mark) (tokens us : List Token) → IsText ms tokens → first_deep ms NESTING ≡ None → kinds us ≡ spelled ms → ReadAgain ms us
 reads_again ms tokens us text fits e =
     let r = derived_again text us e in
     let whole : IsText r.marks us = subst (λ x. Derives rule unit r.marks x []) (append-nil us) (r.derives []) in
-    let deep : first_deep r.marks 64 ≡ None = sym (deep_unplaced r.marks 64) ∙ ap (λ x. first_deep x 64) r.same ∙ deep_unplaced ms 64 ∙ fits in
+    let deep : first_deep r.marks NESTING ≡ None = sym (deep_unplaced r.marks NESTING) ∙ ap (λ x. first_deep x NESTING) r.same ∙ deep_unplaced ms NESTING ∙ fits in
     record { marks = r.marks; reads = read_again r.marks us whole ∙ ap (λ o. judged o r.marks us []) deep; same = r.same }
 
 -- the tokens of a derivation are its words

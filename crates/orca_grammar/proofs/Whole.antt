@@ -1,9 +1,10 @@
 -- Whole texts: what reading says of all the tokens is what the grammar says of them.
-use Rattle.std.proofs.Common.{◌≡◌, ℕ, zero, suc, ◌<◌, ◌≤◌, true, false, List, [], ◌∷◌, ◌++◌, length, drop, Option, Some, None, Ok, Err, refl, sym, ap, ◌∙◌, subst, inl, inr, ◌⊎◌, arith, append_assoc, length-append, length-drop}
+use Rattle.std.proofs.Common.{◌≡◌, ℕ, ◌<◌, ◌≤◌, true, false, List, [], ◌∷◌, ◌++◌, length, drop, Option, Some, None, Ok, Err, refl, sym, ap, ◌∙◌, subst, inl, inr, ◌⊎◌, arith, append_assoc, length-append, length-drop}
 use Rattle.std.proofs.lemmas.Bool.{true≢false, cases_lt}
+use Rattle.orca_base.specs.declared.limits.TheConstants.{NESTING}
 use Rattle.orca_lexer.specs.declared.token.Token.{Token}
-use Rattle.orca_grammar.specs.Forms.{Terminal, Nest, Statement, Expression, Factor, TypePhrase, Nothing, Nested, Mark, nothing, first_deep}
-use Rattle.orca_grammar.specs.Rules.{rule, plain_type, type_rule, factor_rule, chained, level, statement_rule, return_rest, unit, factor_rule}
+use Rattle.orca_grammar.specs.Forms.{Terminal, Nest, Statement, Expression, Factor, TypePhrase, Links, Term, Sum, Relation, Conjunction, Disjunction, Form, Nothing, Nested, Mark, nothing, first_deep}
+use Rattle.orca_grammar.specs.Rules.{rule, plain_type, type_rule, factor_rule, chain, chained, term, sum, relation, conjunction, disjunction, statement_rule, return_rest, unit}
 use Rattle.orca_grammar.specs.Reading.{comes, next, Unexpected, TooDeep, Bad, bad, Read}
 use Rattle.orca_grammar.specs.Sets.{sets, firsts_of}
 use Rattle.orca_grammar.specs.Grammar.{IsText, IsUnexpected, IsTooNested, nest_at, read}
@@ -21,15 +22,20 @@ some_factor : Viable rule (Nested Factor) []
 unfolding factor_rule
 some_factor = some_nested rule Factor [] (some_one rule _ _ [] (some_word rule true Terminal.AnyNumber))
 
-some_level : (r : ℕ) → Viable rule (level r) []
-unfolding level chained
-some_level zero = some_factor
-some_level (suc r) = then_some rule (level r) _ [] (some_level r) (some_other rule _ Nothing [] (record { marks = []; rest = []; derives = nothing }))
+-- an operand alone is a phrase of its level
+some_alone : (level : Links) (f : Form) → Viable rule f [] → Viable rule (chain level f) []
+unfolding chained
+some_alone level f some = then_some rule f _ [] some (some_other rule _ Nothing [] (record { marks = []; rest = []; derives = nothing }))
+
+some_disjunction : Viable rule disjunction []
+unfolding term sum relation conjunction disjunction
+some_disjunction =
+    some_alone Disjunction conjunction (some_alone Conjunction relation (some_alone Relation sum (some_alone Sum term (some_alone Term (Nested Factor) some_factor))))
 
 pub some_nest : (n : Nest) → Viable rule (Nested n) []
 unfolding statement_rule return_rest plain_type type_rule
 some_nest Statement = some_nested rule Statement [] (some_one rule _ _ [] (then_some rule _ _ [] (some_word rule true _) (some_other rule _ Nothing [] (record { marks = []; rest = []; derives = nothing }))))
-some_nest Expression = some_nested rule Expression [] (some_level 5)
+some_nest Expression = some_nested rule Expression [] some_disjunction
 some_nest Factor = some_factor
 some_nest TypePhrase = some_nested rule TypePhrase [] (some_one rule _ _ [] (some_one rule _ _ [] (some_word rule true _)))
 
@@ -56,35 +62,35 @@ begun_nest Expression t c =
 at_end : comes (next sets unit) [] ≡ false
 at_end = refl
 
-read_takes : (ts : List Token) (ms : List Mark) (rest : List Token) → read 64 unit ts ≡ Ok (ms, rest) → Took sets rule 64 unit ts ms rest
+read_takes : (ts : List Token) (ms : List Mark) (rest : List Token) → read NESTING unit ts ≡ Ok (ms, rest) → Took sets rule NESTING unit ts ms rest
 unfolding nest_at
-read_takes ts ms rest e = takes sets rule checked 64 unit unit_decided ts ms rest e
+read_takes ts ms rest e = takes sets rule checked NESTING unit unit_decided ts ms rest e
 
-took_again : (ts : List Token) (ms : List Mark) (rest : List Token) (t : Took sets rule 64 unit ts ms rest) (y : List Token) → head rest ≡ head y → read 64 unit (t.front ++ y) ≡ Ok (ms, y)
+took_again : (ts : List Token) (ms : List Mark) (rest : List Token) (t : Took sets rule NESTING unit ts ms rest) (y : List Token) → head rest ≡ head y → read NESTING unit (t.front ++ y) ≡ Ok (ms, y)
 unfolding nest_at
 took_again ts ms rest t y e = t.local y e
 
-pub read_again : (ms : List Mark) (ts : List Token) → IsText ms ts → read 64 unit ts ≡ judged (first_deep ms 64) ms ts []
+pub read_again : (ms : List Mark) (ts : List Token) → IsText ms ts → read NESTING unit ts ≡ judged (first_deep ms NESTING) ms ts []
 unfolding nest_at
-read_again ms ts h = again sets rule checked 64 h unit_decided at_end
+read_again ms ts h = again sets rule checked NESTING h unit_decided at_end
 
-read_fails : (ts : List Token) (b : Bad) → read 64 unit ts ≡ Err b → Fault rule unit (read 64 unit) ts b
+read_fails : (ts : List Token) (b : Bad) → read NESTING unit ts ≡ Err b → Fault rule unit (read NESTING unit) ts b
 unfolding nest_at
-read_fails ts b e = fails sets rule checked some_nest begun_nest 64 unit unit_decided ts b e
+read_fails ts b e = fails sets rule checked some_nest begun_nest NESTING unit unit_decided ts b e
 
 -- what was read whole is the one unit of the tokens
 pub record IsWhole (tokens : List Token) (ms : List Mark) : Type 0 where
   pub text : IsText ms tokens
-  pub fits : first_deep ms 64 ≡ None
+  pub fits : first_deep ms NESTING ≡ None
   pub only : (other : List Mark) → IsText other tokens → other ≡ ms
 
-pub whole : (tokens : List Token) (ms : List Mark) → read 64 unit tokens ≡ Ok (ms, []) → IsWhole tokens ms
+pub whole : (tokens : List Token) (ms : List Mark) → read NESTING unit tokens ≡ Ok (ms, []) → IsWhole tokens ms
 whole tokens ms e =
     let t = read_takes tokens ms [] e in
     record {
       text = subst (λ x. IsText ms x) (sym t.splits) (t.derives []);
       fits = t.fits;
-      only = λ ns h. by_deep ns (first_deep ns 64) (sym (read_again ns tokens h) ∙ e);
+      only = λ ns h. by_deep ns (first_deep ns NESTING) (sym (read_again ns tokens h) ∙ e);
     }
   where
     by_deep : (ns : List Mark) (o : Option ℕ) → judged o ns tokens [] ≡ Ok (ms, []) → ns ≡ ms
@@ -101,11 +107,11 @@ cut_before (c ∷ a) (d ∷ b) x t y e lt =
     let m = cut_before a b x t y r (omega arith) in
     (m.0, λ i. h i ∷ m.1 i)
 
-nests_so : (front found : List Token) → ((b : List Token) → read 64 unit (front ++ found) ≡ bad TooDeep b → ⊥) →
-    (ms : List Mark) (rest : List Token) → IsText ms (front ++ rest) → (k : ℕ) → first_deep ms 64 ≡ Some k → length front ≤ k
+nests_so : (front found : List Token) → ((b : List Token) → read NESTING unit (front ++ found) ≡ bad TooDeep b → ⊥) →
+    (ms : List Mark) (rest : List Token) → IsText ms (front ++ rest) → (k : ℕ) → first_deep ms NESTING ≡ Some k → length front ≤ k
 nests_so front found not_deep ms rest text k e = by_order (cases_lt k (length front))
   where
-    deep : read 64 unit (front ++ rest) ≡ bad TooDeep (drop k (front ++ rest))
+    deep : read NESTING unit (front ++ rest) ≡ bad TooDeep (drop k (front ++ rest))
     deep = read_again ms (front ++ rest) text ∙ ap (λ o. judged o ms (front ++ rest) []) e
 
     by_order : (k < length front) ⊎ (length front ≤ k) → length front ≤ k
@@ -115,13 +121,13 @@ nests_so front found not_deep ms rest text k e = by_order (cases_lt k (length fr
         let at = f.deeper refl in
         let long : length f.front ≡ k = omega (arith, ap length f.splits, length-append f.front (drop k (front ++ rest)), length-drop k (front ++ rest), ap length at.2, length-append front rest) in
         let cut = cut_before front f.front rest at.0 at.1 (f.splits ∙ ap (λ z. f.front ++ z) at.2) (omega arith) in
-        absurd (not_deep (at.0 ∷ (cut.0 ++ found)) (ap (λ z. read 64 unit (z ++ found)) cut.1 ∙ ap (read 64 unit) (append_assoc f.front (at.0 ∷ cut.0) found) ∙ f.same at.0 at.1 (cut.0 ++ found) at.2))
+        absurd (not_deep (at.0 ∷ (cut.0 ++ found)) (ap (λ z. read NESTING unit (z ++ found)) cut.1 ∙ ap (read NESTING unit) (append_assoc f.front (at.0 ∷ cut.0) found) ∙ f.same at.0 at.1 (cut.0 ++ found) at.2))
 
 longer_front : (front : List Token) (t : Token) (rest : List Token) → (front ++ t ∷ []) ++ rest ≡ front ++ t ∷ rest
 longer_front front t rest = append_assoc front (t ∷ []) rest
 
 -- a unit ends, and more tokens stand there
-pub left_behind : (tokens : List Token) (ms : List Mark) (t : Token) (rest : List Token) → read 64 unit tokens ≡ Ok (ms, t ∷ rest) → (front : List Token) × IsUnexpected tokens front (t ∷ rest)
+pub left_behind : (tokens : List Token) (ms : List Mark) (t : Token) (rest : List Token) → read NESTING unit tokens ≡ Ok (ms, t ∷ rest) → (front : List Token) × IsUnexpected tokens front (t ∷ rest)
 left_behind tokens ms t rest e =
     let p = read_takes tokens ms (t ∷ rest) e in (
       p.front,
@@ -130,7 +136,7 @@ left_behind tokens ms t rest e =
         begins = record { marks = ms; rest = []; text = p.derives [] };
         goes_no_further = λ u r is b.
             let same : t ≡ u = cc in
-            no_unit p.front u b.rest b.marks (first_deep b.marks 64)
+            no_unit p.front u b.rest b.marks (first_deep b.marks NESTING)
             (sym (read_again b.marks (p.front ++ u ∷ b.rest) (subst (IsText b.marks) (longer_front p.front u b.rest) b.text)) ∙ took_again tokens ms (t ∷ rest) p (u ∷ b.rest) (ap (λ z. Some z) same));
         ends = λ is. absurd cc;
         nests = nests_so p.front (t ∷ rest) (λ b q. let z = sym (took_again tokens ms (t ∷ rest) p (t ∷ rest) refl) ∙ q in absurd cc);
@@ -142,7 +148,7 @@ left_behind tokens ms t rest e =
     no_unit front u r ns (Some k) q = cc
 
 -- a token, or the end, with which nothing goes on
-pub unexpected : (tokens found : List Token) → read 64 unit tokens ≡ bad Unexpected found → (front : List Token) × IsUnexpected tokens front found
+pub unexpected : (tokens found : List Token) → read NESTING unit tokens ≡ bad Unexpected found → (front : List Token) × IsUnexpected tokens front found
 unexpected tokens found e =
     let p = read_fails tokens (record { why = Unexpected; rest = found }) e in (
       p.front,
@@ -150,10 +156,10 @@ unexpected tokens found e =
         splits = p.splits;
         begins = record { marks = p.viable.marks; rest = p.viable.rest; text = p.viable.derives };
         goes_no_further = λ u r is b.
-            no_unit (p.front ++ u ∷ b.rest) (u ∷ b.rest) b.marks (first_deep b.marks 64)
+            no_unit (p.front ++ u ∷ b.rest) (u ∷ b.rest) b.marks (first_deep b.marks NESTING)
             (sym (read_again b.marks (p.front ++ u ∷ b.rest) (subst (IsText b.marks) (longer_front p.front u b.rest) b.text)) ∙ p.same u r b.rest is);
-        ends = λ is ns text. no_unit tokens found ns (first_deep ns 64) (sym (read_again ns tokens text) ∙ e);
-        nests = nests_so p.front found (λ b q. let z = sym e ∙ ap (read 64 unit) p.splits ∙ q in absurd (other_why z));
+        ends = λ is ns text. no_unit tokens found ns (first_deep ns NESTING) (sym (read_again ns tokens text) ∙ e);
+        nests = nests_so p.front found (λ b q. let z = sym e ∙ ap (read NESTING unit) p.splits ∙ q in absurd (other_why z));
       },
     )
   where
@@ -165,7 +171,7 @@ unexpected tokens found e =
     other_why {x} {y} h = let z = (bad_parts Unexpected TooDeep x y h).0 in cc
 
 -- a token that would be nested too deep
-pub too_nested : (tokens found : List Token) → read 64 unit tokens ≡ bad TooDeep found → (front : List Token) × (t : Token) × (rest : List Token) × (found ≡ t ∷ rest) × IsTooNested tokens front t rest
+pub too_nested : (tokens found : List Token) → read NESTING unit tokens ≡ bad TooDeep found → (front : List Token) × (t : Token) × (rest : List Token) × (found ≡ t ∷ rest) × IsTooNested tokens front t rest
 too_nested tokens found e =
     let p = read_fails tokens (record { why = TooDeep; rest = found }) e in
     let at = p.deeper refl in (
@@ -176,11 +182,11 @@ too_nested tokens found e =
       record {
         splits = p.splits ∙ ap (λ z. p.front ++ z) at.2;
         begins = record { marks = at.3.marks; rest = at.3.rest; text = at.3.derives };
-        deep = λ ns r text. by_deep ns p.front at.0 r (first_deep ns 64) refl (sym (read_again ns (p.front ++ at.0 ∷ r) text) ∙ p.same at.0 at.1 r at.2);
+        deep = λ ns r text. by_deep ns p.front at.0 r (first_deep ns NESTING) refl (sym (read_again ns (p.front ++ at.0 ∷ r) text) ∙ p.same at.0 at.1 r at.2);
       },
     )
   where
-    by_deep : (ns : List Mark) (front : List Token) (t : Token) (r : List Token) (o : Option ℕ) → first_deep ns 64 ≡ o → judged o ns (front ++ t ∷ r) [] ≡ bad TooDeep (t ∷ r) → first_deep ns 64 ≡ Some (length front)
+    by_deep : (ns : List Mark) (front : List Token) (t : Token) (r : List Token) (o : Option ℕ) → first_deep ns NESTING ≡ o → judged o ns (front ++ t ∷ r) [] ≡ bad TooDeep (t ∷ r) → first_deep ns NESTING ≡ Some (length front)
     by_deep ns front t r None same_ q = cc
     by_deep ns front t r (Some k) same_ q =
         let same = (bad_parts TooDeep TooDeep (drop k (front ++ t ∷ r)) (t ∷ r) q).1 in

@@ -3,3 +3,5 @@ pub mod Rules
 pub mod Reading
 pub mod Sets
 pub mod Grammar
+pub mod Promise
+pub mod Wrong

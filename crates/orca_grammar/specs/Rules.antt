@@ -1,6 +1,6 @@
 -- The grammar of a text (docs/LANGUAGE.md, Grammar), production by production. A place is kept of each name, and of each word
 -- that begins a phrase. What stands in itself is named where it stands: statements, expressions, factors and types.
-use Rattle.std.specs.Prelude.{ℕ, zero, suc, true, false}
+use Rattle.std.specs.Prelude.{true, false}
 use Rattle.orca_lexer.specs.declared.token.Keyword.{Keyword}
 use Rattle.orca_lexer.specs.declared.token.Keyword.TheVariants.{KeyAnd, KeyArray, KeyBag, KeyBegin, KeyBoolean, KeyChar, KeyConst, KeyDelete, KeyDo, KeyElse, KeyElsif, KeyEnd, KeyEnum, KeyFalse, KeyFi, KeyFor, KeyFork, KeyFrom, KeyFunction, KeyGuard, KeyIf, KeyImplementation, KeyImport, KeyIn, KeyInsert, KeyInteger, KeyModule, KeyNot, KeyObject, KeyOd, KeyOf, KeyOn, KeyOperation, KeyOr, KeyOrd, KeyOut, KeyProcess, KeyRecord, KeyRepeat, KeyReturn, KeySet, KeyShared, KeySize, KeySpecification, KeyString, KeyThen, KeyTrue, KeyType, KeyUntil, KeyWhile, KeyWriteLine}
 use Rattle.orca_lexer.specs.declared.token.Symbol.{Symbol}
@@ -116,33 +116,49 @@ factor_rule =
     ∣ name ⨾ named_rest
 
 -- the operators of each level, those that bind tightest first
-unfoldable pub operator : ℕ → Form
-operator zero = sign Times ∣ sign Over ∣ sign Percent
-operator (suc zero) = sign Plus ∣ sign Minus ∣ sign Joins
-operator (suc (suc zero)) = sign Equals ∣ sign Differs ∣ sign Less ∣ sign AtMost ∣ sign Greater ∣ sign AtLeast ∣ key KeyIn
-operator (suc (suc (suc zero))) = key KeyAnd
-operator (suc (suc (suc (suc r)))) = key KeyOr
-
-unfoldable pub links_of : ℕ → Links
-links_of zero = Term
-links_of (suc zero) = Sum
-links_of (suc (suc zero)) = Relation
-links_of (suc (suc (suc zero))) = Conjunction
-links_of (suc (suc (suc (suc r)))) = Disjunction
+unfoldable pub operator : Links → Form
+operator Term = sign Times ∣ sign Over ∣ sign Percent
+operator Sum = sign Plus ∣ sign Minus ∣ sign Joins
+operator Relation = sign Equals ∣ sign Differs ∣ sign Less ∣ sign AtMost ∣ sign Greater ∣ sign AtLeast ∣ key KeyIn
+operator Conjunction = key KeyAnd
+operator Disjunction = key KeyOr
 
 -- { operator operand }, and at least one; of a relation there is one alone
-unfoldable pub links : ℕ → Form → Form
-links (suc (suc zero)) operand = operator 2 ⨾ operand
-links r operand = (operator r ⨾ operand) ⨾ Many (operator r ⨾ operand)
+unfoldable pub links : Links → Form → Form
+links Relation operand = operator Relation ⨾ operand
+links level operand = (operator level ⨾ operand) ⨾ Many (operator level ⨾ operand)
 
 -- [ .. ], in brackets
-unfoldable pub chained : ℕ → Form → Form
-chained r operand = optional (Chained (links_of r) (links r operand))
+unfoldable pub chained : Links → Form → Form
+chained level operand = optional (Chained level (links level operand))
 
--- Conj { "or" Conj }, Rel { "and" Rel }, Sum [ relation Sum ], Term { "+" Term }, Factor { "*" Factor }, from the last
-unfoldable pub level : ℕ → Form
-level zero = Nested Factor
-level (suc r) = level r ⨾ chained r (level r)
+-- an operand, and links behind it
+abbrev pub chain : Links → Form → Form
+chain level operand = operand ⨾ chained level operand
+
+-- Factor { "*" Factor }, Term { "+" Term }, Sum [ relation Sum ], Rel { "and" Rel }, Conj { "or" Conj }
+unfoldable pub term : Form
+term = chain Term (Nested Factor)
+
+unfoldable pub sum : Form
+sum = chain Sum term
+
+unfoldable pub relation : Form
+relation = chain Relation sum
+
+unfoldable pub conjunction : Form
+conjunction = chain Conjunction relation
+
+unfoldable pub disjunction : Form
+disjunction = chain Disjunction conjunction
+
+-- what stands between the operators of a level
+unfoldable pub operand : Links → Form
+operand Term = Nested Factor
+operand Sum = term
+operand Relation = sum
+operand Conjunction = relation
+operand Disjunction = conjunction
 
 -- ---- statements
 
@@ -335,6 +351,6 @@ unit = module_line ⨾ imports ⨾ declarations
 -- the rule of each nested phrase
 abbrev pub rule : Nest → Form
 rule Statement = statement_rule
-rule Expression = level 5
+rule Expression = disjunction
 rule Factor = factor_rule
 rule TypePhrase = type_rule

@@ -9,4 +9,4 @@
 
 mod law;
 
-pub use law::grammar_law;
+pub use law::{decision_law, grammar_law};

@@ -12,3 +12,4 @@ pub mod Bytes
 pub mod Sound
 pub mod TextsBack
 pub mod ReadsBack
+pub mod Shorter

@@ -25,6 +25,3 @@ pub use error::{LexError, LexRule};
 pub use lexer::tokens;
 pub use spelling::write_token;
 pub use token::{KEYWORDS, Keyword, SYMBOLS, Symbol, Token, TokenKind};
-
-#[cfg(test)]
-mod tests;

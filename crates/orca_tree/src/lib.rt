@@ -16,8 +16,6 @@
 mod place;
 mod printing;
 mod spelling;
-#[cfg(test)]
-mod tests;
 mod tree;
 
 pub use printing::print_tree;

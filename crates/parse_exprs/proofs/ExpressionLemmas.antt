@@ -1,12 +1,12 @@
 -- The forms of expressions, opened.
-use Rattle.std.proofs.Common.{◌≡◌, ℕ, zero, suc, ◌-◌, ◌<◌, true, false, List, [], ◌∷◌, ◌++◌, length, Ok, refl, sym, ap, ◌∙◌, arith}
+use Rattle.std.proofs.Common.{◌≡◌, ℕ, ◌<◌, true, false, List, [], ◌∷◌, ◌++◌, length, Ok, refl, sym, ap, ◌∙◌, arith}
 use Rattle.std.specs.Prelude.{if◌then◌else◌}
 use Rattle.std.proofs.lemmas.List.{append-nil, flat_map_more}
 use Rattle.orca_lexer.specs.declared.token.Symbol.TheVariants.{Comma}
 use Rattle.orca_lexer.specs.declared.token.Token.{Token}
 use Rattle.orca_lexer.specs.declared.token.TokenKind.TheVariants.{Sign}
-use Rattle.orca_grammar.specs.Forms.{Form, ◌⨾◌, Many, Nested, Expression, Factor, Mark}
-use Rattle.orca_grammar.specs.Rules.{sign, arguments, selector, selectors, chained, level}
+use Rattle.orca_grammar.specs.Forms.{Form, ◌⨾◌, Many, Nested, Expression, Mark}
+use Rattle.orca_grammar.specs.Rules.{sign, arguments, selector, selectors}
 use Rattle.orca_grammar.specs.Reading.{comes, first, decided, Read, ◌>>=◌, behind}
 use Rattle.orca_grammar.specs.Sets.{sets, factor_firsts, expression_nexts}
 use Rattle.orca_grammar.specs.Grammar.{read, nest_at}
@@ -14,34 +14,8 @@ use Rattle.orca_tree.specs.declared.tree.Expression.{Expression as ExpressionTre
 use Rattle.orca_grammar.proofs.Steps.{form_shorter}
 use Rattle.orca_tree.specs.declared.tree.Selector.{Selector}
 use Rattle.orca_tree.specs.Marks.{word, expression, selector as selector_marks, selectors as selectors_marks, arguments as arguments_marks}
-use Rattle.parse_exprs.specs.declared.halt.Halt.{Halt}
-use Rattle.parse_exprs.specs.Gives.{Fails}
+use Rattle.parse_exprs.specs.Gives.{Failure, Fails}
 use Rattle.parse_exprs.proofs.Readings.{fails_same, both_first, both_second, both_read, goes_on, stops, breaks}
-
--- ---- levels
-
-pub level_zero : (r d : ℕ) (ts : List Token) → r ≡ 0 → read d (level r) ts ≡ nest_at d Factor ts
-unfolding level
-level_zero r d ts e = ap (λ k. read d (level k) ts) e
-
-pub level_next : (r : ℕ) → 0 < r → level r ≡ level (r - 1) ⨾ chained (r - 1) (level (r - 1))
-unfolding level
-level_next zero some = absurd (omega arith)
-level_next (suc r) some = let one : suc r - 1 ≡ r = omega arith in ap (λ k. level k ⨾ chained k (level k)) (sym one)
-
-module _ (r d : ℕ) (ts : List Token) (some : 0 < r) where
-  next_is : read d (level r) ts ≡ read d (level (r - 1) ⨾ chained (r - 1) (level (r - 1))) ts
-  next_is = ap (λ f. read d f ts) (level_next r some)
-
-  pub level_first_fails : (h : Halt) → Fails h (read d (level (r - 1)) ts) → Fails h (read d (level r) ts)
-  level_first_fails h bad = fails_same h _ _ next_is (both_first d (level (r - 1)) (chained (r - 1) (level (r - 1))) ts h bad)
-
-  module _ (a : List Mark) (mid : List Token) (one : read d (level (r - 1)) ts ≡ Ok (a, mid)) where
-    pub level_links_fail : (h : Halt) → Fails h (read d (chained (r - 1) (level (r - 1))) mid) → Fails h (read d (level r) ts)
-    level_links_fail h bad = fails_same h _ _ next_is (both_second d (level (r - 1)) (chained (r - 1) (level (r - 1))) ts a mid one h bad)
-
-    pub level_read : (b : List Mark) (rest : List Token) → read d (chained (r - 1) (level (r - 1))) mid ≡ Ok (b, rest) → read d (level r) ts ≡ Ok (a ++ b, rest)
-    level_read b rest two = next_is ∙ both_read d (level (r - 1)) (chained (r - 1) (level (r - 1))) ts a mid one b rest two
 
 -- ---- selectors
 
@@ -55,7 +29,7 @@ selector_shorter d ts rest ms e = form_shorter d selector ts rest ms refl refl e
 
 -- those so far, and those still to come
 module _ (d : ℕ) (tokens rest : List Token) where
-  pub selectors_break : (h : Halt) (so_far : List Mark) → read d (Many selector) tokens ≡ behind so_far (read d (Many selector) rest) → comes (first sets selector) rest ≡ true → Fails h (read d selector rest) → Fails h (read d selectors tokens)
+  pub selectors_break : (h : Failure) (so_far : List Mark) → read d (Many selector) tokens ≡ behind so_far (read d (Many selector) rest) → comes (first sets selector) rest ≡ true → Fails h (read d selector rest) → Fails h (read d selectors tokens)
   unfolding selectors
   selectors_break h so_far so c bad = breaks d selector so_far rest (read d (Many selector) tokens) so h c bad
 
@@ -109,12 +83,12 @@ unfolding factor_firsts expression_nexts
 argument_shorter d ts after rest e comma one = form_shorter d argument_more ts rest (word (Sign Comma) ∷ expression e) refl refl (argument_read d ts after rest e comma one)
 
 -- the first isn't read
-pub arguments_fail : (h : Halt) (d : ℕ) (ts : List Token) → comes factor_firsts ts ≡ true → Fails h (nest_at d Expression ts) → Fails h (read d arguments ts)
+pub arguments_fail : (h : Failure) (d : ℕ) (ts : List Token) → comes factor_firsts ts ≡ true → Fails h (nest_at d Expression ts) → Fails h (read d arguments ts)
 arguments_fail h d ts c bad = fails_same h _ _ (arguments_some d ts c) (both_first d (Nested Expression) (Many argument_more) ts h bad)
 
 -- those so far, and those still to come
 module _ (d : ℕ) (rest : List Token) (total : Read) where
-  pub arguments_break : (h : Halt) (after : List Token) (so_far : List Mark) → total ≡ behind so_far (read d (Many argument_more) rest) → comes (first sets (sign Comma)) rest ≡ true → read d (sign Comma) rest ≡ Ok (word (Sign Comma) ∷ [], after)
+  pub arguments_break : (h : Failure) (after : List Token) (so_far : List Mark) → total ≡ behind so_far (read d (Many argument_more) rest) → comes (first sets (sign Comma)) rest ≡ true → read d (sign Comma) rest ≡ Ok (word (Sign Comma) ∷ [], after)
       → Fails h (nest_at d Expression after) → Fails h total
   arguments_break h after so_far so c comma bad =
       breaks d argument_more so_far rest total so h c (both_second d (sign Comma) (Nested Expression) rest (word (Sign Comma) ∷ []) after comma h bad)

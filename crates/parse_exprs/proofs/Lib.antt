@@ -1,5 +1,6 @@
-pub mod WordLemmas
+pub mod TokenLemmas
 pub mod OperatorLemmas
 pub mod Readings
 pub mod ChainLemmas
 pub mod ExpressionLemmas
+pub mod Loops

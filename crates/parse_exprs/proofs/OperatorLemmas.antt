@@ -1,10 +1,10 @@
 -- A choice of words reads the one that comes.
-use Rattle.std.proofs.Common.{◌≡◌, ℕ, zero, suc, ◌≤◌, Bool, true, false, ◌||◌, ◌&&◌, List, [], ◌∷◌, None, Ok, refl, sym, ap, ◌∙◌, inl, inr}
+use Rattle.std.proofs.Common.{◌≡◌, ℕ, Bool, true, false, ◌||◌, ◌&&◌, List, [], ◌∷◌, None, Ok, refl, sym, ap, ◌∙◌, inl, inr}
 use Rattle.std.specs.Prelude.{if◌then◌else◌}
 use Rattle.std.proofs.lemmas.Bool.{or_cases}
 use Rattle.orca_lexer.specs.declared.token.Token.{Token}
 use Rattle.orca_lexer.specs.declared.token.TokenKind.{TokenKind}
-use Rattle.orca_grammar.specs.Forms.{is, Nest, Form, Nothing, Word, ◌⨾◌, ◌∣◌, Many, Chained, Nested, Spelled}
+use Rattle.orca_grammar.specs.Forms.{is, Nest, Links, Term, Sum, Relation, Conjunction, Disjunction, Form, Nothing, Word, ◌⨾◌, ◌∣◌, Many, Chained, Nested, Spelled}
 use Rattle.orca_grammar.specs.Rules as rules
 use Rattle.orca_grammar.specs.Reading.{is_any, comes, first, Read, Reader, bad, Unexpected, read_over}
 use Rattle.orca_grammar.specs.Sets.{sets}
@@ -48,20 +48,20 @@ words_read sub (Many f) t ts a c = absurd cc
 words_read sub (Chained l f) t ts a c = absurd cc
 words_read sub (Nested n) t ts a c = absurd cc
 
-operators_are_words : (r : ℕ) → r ≤ 4 → are_words (rules.operator r) ≡ true
+operators_are_words : (level : Links) → are_words (rules.operator level) ≡ true
 unfolding rules.operator
-operators_are_words zero le = refl
-operators_are_words (suc zero) le = refl
-operators_are_words (suc (suc zero)) le = refl
-operators_are_words (suc (suc (suc zero))) le = refl
-operators_are_words (suc (suc (suc (suc r)))) le = refl
+operators_are_words Term = refl
+operators_are_words Sum = refl
+operators_are_words Relation = refl
+operators_are_words Conjunction = refl
+operators_are_words Disjunction = refl
 
-pub operator_comes : (r : ℕ) (ts : List Token) (t : Token) (rest : List Token) → ts ≡ t ∷ rest → is_any (first sets (rules.operator r)) t.kind ≡ true → comes (first sets (rules.operator r)) ts ≡ true
-operator_comes r ts t rest e c = ap (comes (first sets (rules.operator r))) e ∙ c
+pub operator_comes : (level : Links) (ts : List Token) (t : Token) (rest : List Token) → ts ≡ t ∷ rest → is_any (first sets (rules.operator level)) t.kind ≡ true → comes (first sets (rules.operator level)) ts ≡ true
+operator_comes level ts t rest e c = ap (comes (first sets (rules.operator level))) e ∙ c
 
-pub operator_read : (r d : ℕ) (ts : List Token) (t : Token) (rest : List Token) (op : Operator) → r ≤ 4 → ts ≡ t ∷ rest → is_any (first sets (rules.operator r)) t.kind ≡ true → t.kind ≡ operator_token op
-    → read d (rules.operator r) ts ≡ Ok (word (operator_token op) ∷ [], rest)
-operator_read r d ts t rest op le e c k =
-    ap (read d (rules.operator r)) e
-    ∙ words_read (nest_at d) (rules.operator r) t rest (operators_are_words r le) c
+pub operator_read : (level : Links) (d : ℕ) (ts : List Token) (t : Token) (rest : List Token) (op : Operator) → ts ≡ t ∷ rest → is_any (first sets (rules.operator level)) t.kind ≡ true → t.kind ≡ operator_token op
+    → read d (rules.operator level) ts ≡ Ok (word (operator_token op) ∷ [], rest)
+operator_read level d ts t rest op e c k =
+    ap (read d (rules.operator level)) e
+    ∙ words_read (nest_at d) (rules.operator level) t rest (operators_are_words level) c
     ∙ ap (λ (kind : TokenKind). let x : Read = Ok (Spelled None kind ∷ [], rest) in x) k

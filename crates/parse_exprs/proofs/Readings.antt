@@ -10,9 +10,9 @@ use Rattle.orca_grammar.specs.Reading.{comes, first, decided, Read, ◌>>=◌, b
 use Rattle.orca_grammar.specs.Sets.{sets, firsts_of}
 use Rattle.orca_grammar.specs.Grammar.{read, nest_at}
 use Rattle.orca_grammar.proofs.Steps.{many_stop, many_step, many_fail, nest_zero, nest_below}
-use Rattle.parse_exprs.specs.declared.halt.Halt.{Halt}
-use Rattle.parse_exprs.specs.declared.halt.Halt.TheVariants as halts
-use Rattle.parse_exprs.specs.Gives.{Fails, Parses, none_left}
+use Rattle.orca_base.specs.declared.refusal.Refusal.TheVariants.{Because, NoMemory}
+use Rattle.parse_exprs.specs.declared.read_error.ReadError.TheVariants as errors
+use Rattle.parse_exprs.specs.Gives.{Failure, Fails, Parses, none_left}
 
 pub behind_behind : (a b : List Mark) (r : Read) → behind a (behind b r) ≡ behind (a ++ b) r
 behind_behind a b (Ok x) = ap (λ (ms : List Mark). let r : Read = Ok (ms, x.1) in r) (sym (append_assoc a b x.0))
@@ -25,31 +25,31 @@ behind_none (Err e) = refl
 -- ---- why nothing is read
 
 -- two readings are one
-pub fails_same : (h : Halt) (r s : Read) → r ≡ s → Fails h s → Fails h r
-fails_same halts.NoMemory r s e f = tt
-fails_same (halts.Unexpected rest) r s e f = e ∙ f
-fails_same (halts.TooNested rest) r s e f = e ∙ f
+pub fails_same : (h : Failure) (r s : Read) → r ≡ s → Fails h s → Fails h r
+fails_same NoMemory r s e f = tt
+fails_same (Because (errors.Unexpected rest)) r s e f = e ∙ f
+fails_same (Because (errors.TooNested rest)) r s e f = e ∙ f
 
 -- where the first part fails, so does what goes on with it
-pub fails_then : (h : Halt) (r : Read) (f : List Mark × List Token → Read) → Fails h r → Fails h (r >>= f)
-fails_then halts.NoMemory r f e = tt
-fails_then (halts.Unexpected rest) r f e = ap (λ (x : Read). x >>= f) e
-fails_then (halts.TooNested rest) r f e = ap (λ (x : Read). x >>= f) e
+pub fails_then : (h : Failure) (r : Read) (f : List Mark × List Token → Read) → Fails h r → Fails h (r >>= f)
+fails_then NoMemory r f e = tt
+fails_then (Because (errors.Unexpected rest)) r f e = ap (λ (x : Read). x >>= f) e
+fails_then (Because (errors.TooNested rest)) r f e = ap (λ (x : Read). x >>= f) e
 
 -- an exit by `?`
-pub exit : {X : Type 0} {Q : Halt → Type 0} (marks : X → List Mark) (result : Result (X × Bor (List Token)) Halt) (h : Halt) (reading : Read)
-    → IsErrAnd result Q → ((y : Halt) → Q y → y ≡ h) → Fails h reading → Parses marks result reading
+pub exit : {X : Type 0} {Q : Failure → Type 0} (marks : X → List Mark) (result : Result (X × Bor (List Token)) Failure) (h : Failure) (reading : Read)
+    → IsErrAnd result Q → ((y : Failure) → Q y → y ≡ h) → Fails h reading → Parses marks result reading
 exit marks (Ok x) h reading e same f = absurd e
 exit marks (Err y) h reading e same f = subst (λ z. Fails z reading) (sym (same y e)) f
 
 -- ---- one after the other
 
 module _ (d : ℕ) (f g : Form) (ts : List Token) where
-  pub both_first : (h : Halt) → Fails h (read d f ts) → Fails h (read d (f ⨾ g) ts)
+  pub both_first : (h : Failure) → Fails h (read d f ts) → Fails h (read d (f ⨾ g) ts)
   both_first h e = fails_then h (read d f ts) (λ x. behind x.0 (read d g x.1)) e
 
   module _ (a : List Mark) (mid : List Token) (one : read d f ts ≡ Ok (a, mid)) where
-    pub both_second : (h : Halt) → Fails h (read d g mid) → Fails h (read d (f ⨾ g) ts)
+    pub both_second : (h : Failure) → Fails h (read d g mid) → Fails h (read d (f ⨾ g) ts)
     both_second h e = fails_same h _ _ (ap (λ (r : Read). r >>= (λ x. behind x.0 (read d g x.1))) one) (fails_then h (read d g mid) (λ x. Ok (a ++ x.0, x.1)) e)
 
     pub both_read : (b : List Mark) (rest : List Token) → read d g mid ≡ Ok (b, rest) → read d (f ⨾ g) ts ≡ Ok (a ++ b, rest)
@@ -58,16 +58,16 @@ module _ (d : ℕ) (f g : Form) (ts : List Token) where
 -- ---- nested phrases
 
 -- no level is left
-pub nested_none : (h : Halt) (d : ℕ) (n : Nest) (ts : List Token) (begins : Bool) → d ≡ 0 → begins ≡ comes (firsts_of n) ts → Fails h (none_left begins ts) → Fails h (nest_at d n ts)
+pub nested_none : (h : Failure) (d : ℕ) (n : Nest) (ts : List Token) (begins : Bool) → d ≡ 0 → begins ≡ comes (firsts_of n) ts → Fails h (none_left begins ts) → Fails h (nest_at d n ts)
 nested_none h d n ts begins zero b f = fails_same h _ _ (ap (λ k. nest_at k n ts) zero ∙ nest_zero n ts ∙ ap (λ c. none_left c ts) (sym b)) f
 
 -- one level is
-pub nested_read : {X : Type 0} (marks : X → List Mark) (result : Result (X × Bor (List Token)) Halt) (d : ℕ) (n : Nest) (ts : List Token) → 0 < d
+pub nested_read : {X : Type 0} (marks : X → List Mark) (result : Result (X × Bor (List Token)) Failure) (d : ℕ) (n : Nest) (ts : List Token) → 0 < d
     → Parses marks result (in_brackets (Phrase n) (read (d - 1) (rule n) ts)) → Parses marks result (nest_at d n ts)
 nested_read marks result d n ts some p = subst (Parses marks result) (sym (nest_below d n ts some)) p
 
 -- what is read, in brackets
-pub in_brackets_read : {X : Type 0} (marks : X → List Mark) (result : Result (X × Bor (List Token)) Halt) (n : Nest) (reading : Read)
+pub in_brackets_read : {X : Type 0} (marks : X → List Mark) (result : Result (X × Bor (List Token)) Failure) (n : Nest) (reading : Read)
     → Parses marks result reading → Parses (λ x. bracketed (Phrase n) (marks x)) result (in_brackets (Phrase n) reading)
 in_brackets_read marks (Ok x) n reading p = ap (in_brackets (Phrase n)) p
 in_brackets_read marks (Err h) n reading p = fails_then h reading (λ x. Ok (bracketed (Phrase n) x.0, x.1)) p
@@ -85,7 +85,7 @@ module _ (d : ℕ) (f : Form) (so_far : List Mark) (ts : List Token) (total : Re
   stops c = invariant ∙ ap (behind so_far) (many_stop d f ts c) ∙ ap (λ (ms : List Mark). let r : Read = Ok (ms, ts) in r) (append-nil so_far)
 
   -- one comes, and isn't read
-  pub breaks : (h : Halt) → comes (first sets f) ts ≡ true → Fails h (read d f ts) → Fails h total
-  breaks halts.NoMemory c bad = tt
-  breaks (halts.Unexpected rest) c bad = invariant ∙ ap (behind so_far) (many_fail d f ts _ c bad)
-  breaks (halts.TooNested rest) c bad = invariant ∙ ap (behind so_far) (many_fail d f ts _ c bad)
+  pub breaks : (h : Failure) → comes (first sets f) ts ≡ true → Fails h (read d f ts) → Fails h total
+  breaks NoMemory c bad = tt
+  breaks (Because (errors.Unexpected rest)) c bad = invariant ∙ ap (behind so_far) (many_fail d f ts _ c bad)
+  breaks (Because (errors.TooNested rest)) c bad = invariant ∙ ap (behind so_far) (many_fail d f ts _ c bad)

@@ -12,18 +12,16 @@
 
 mod expressions;
 mod factors;
-mod halt;
 mod operators;
-#[cfg(test)]
-mod tests;
-mod words;
+mod read_error;
+mod token_readers;
 
 pub use expressions::{
     argument_list, arguments, designator, designator_in_parentheses, expression, in_parentheses,
     invocation_rest, selectors,
 };
-pub use halt::Halt;
-pub use words::{
-    after_key, after_sign, begins_expression, comes_key, comes_sign, first_token, key, key_at,
-    name, sign, sign_at, too_nested,
+pub use read_error::{Parsed, ReadError};
+pub use token_readers::{
+    after_key, after_sign, begins_expression, comes_key, comes_name, comes_sign, first_token, key,
+    key_at, name, sign, sign_at, too_nested,
 };

@@ -1,19 +1,39 @@
 //! The operators of each level.
 
-ghost use Rattle.std.specs.Prelude.{◌≤◌};
+ghost use Rattle.std.specs.Prelude.{◌≡◌};
+ghost use Rattle.orca_grammar.specs.Forms.{Conjunction, Disjunction, Relation, Sum, Term};
 ghost use Rattle.orca_lexer.specs.declared.token.TokenKind.TheVariants.{Sign};
-ghost use Rattle.parse_exprs.specs.Chains.{IsOperator, Operates};
+ghost use Rattle.parse_exprs.specs.Chains.{IsOperator, Operates, links_at, one_alone};
 
-use crate::words::first_token;
+use crate::token_readers::first_token;
 use orca_lexer::{Keyword, Symbol, Token, TokenKind};
 use orca_tree::Operator;
 
-/// The level of the relations, of which no two stand in a chain.
-pub const RELATION: u8 = 2;
+/// The levels of operators, from those that bind tightest.
+#[derive(Clone, Copy)]
+pub enum Level {
+    /// Of factors.
+    Term,
+    /// Of terms.
+    Sum,
+    /// Of sums, of which two are compared.
+    Relation,
+    /// Of relations.
+    Conjunction,
+    /// Of conjunctions.
+    Disjunction,
+}
 
-#[tactic(auto, unfolding(orca_grammar::specs::Rules::operator, orca_grammar::specs::Rules::links_of))]
+/// Whether no two operators of this level stand in a chain.
+pub fn is_single(level: Level) -> bool
+    ensures { result ≡ one_alone (links_at level) }
+{
+    matches!(level, Level::Relation)
+}
+
+#[tactic(auto, unfolding(orca_grammar::specs::Rules::operator))]
 fn term_operator(kind: &TokenKind) -> Option<Operator>
-    ensures { IsOperator 0 kind.now result }
+    ensures { IsOperator Term kind.now result }
 {
     let TokenKind::Sign { symbol } = kind else {
         return None;
@@ -26,9 +46,9 @@ fn term_operator(kind: &TokenKind) -> Option<Operator>
     }
 }
 
-#[tactic(auto, unfolding(orca_grammar::specs::Rules::operator, orca_grammar::specs::Rules::links_of))]
+#[tactic(auto, unfolding(orca_grammar::specs::Rules::operator))]
 fn sum_operator(kind: &TokenKind) -> Option<Operator>
-    ensures { IsOperator 1 kind.now result }
+    ensures { IsOperator Sum kind.now result }
 {
     let TokenKind::Sign { symbol } = kind else {
         return None;
@@ -41,9 +61,9 @@ fn sum_operator(kind: &TokenKind) -> Option<Operator>
     }
 }
 
-#[tactic(auto, unfolding(orca_grammar::specs::Rules::operator, orca_grammar::specs::Rules::links_of))]
+#[tactic(auto, unfolding(orca_grammar::specs::Rules::operator))]
 fn relation_sign(symbol: Symbol) -> Option<Operator>
-    ensures { IsOperator 2 (Sign symbol) result }
+    ensures { IsOperator Relation (Sign symbol) result }
 {
     match symbol {
         Symbol::Equals => Some(Operator::Equal),
@@ -56,9 +76,9 @@ fn relation_sign(symbol: Symbol) -> Option<Operator>
     }
 }
 
-#[tactic(auto, unfolding(orca_grammar::specs::Rules::operator, orca_grammar::specs::Rules::links_of))]
+#[tactic(auto, unfolding(orca_grammar::specs::Rules::operator))]
 fn relation(kind: &TokenKind) -> Option<Operator>
-    ensures { IsOperator 2 kind.now result }
+    ensures { IsOperator Relation kind.now result }
 {
     match kind {
         TokenKind::Sign { symbol } => relation_sign(*symbol),
@@ -69,9 +89,9 @@ fn relation(kind: &TokenKind) -> Option<Operator>
     }
 }
 
-#[tactic(auto, unfolding(orca_grammar::specs::Rules::operator, orca_grammar::specs::Rules::links_of))]
+#[tactic(auto, unfolding(orca_grammar::specs::Rules::operator))]
 fn conjunction(kind: &TokenKind) -> Option<Operator>
-    ensures { IsOperator 3 kind.now result }
+    ensures { IsOperator Conjunction kind.now result }
 {
     match kind {
         TokenKind::Key {
@@ -81,9 +101,9 @@ fn conjunction(kind: &TokenKind) -> Option<Operator>
     }
 }
 
-#[tactic(auto, unfolding(orca_grammar::specs::Rules::operator, orca_grammar::specs::Rules::links_of))]
+#[tactic(auto, unfolding(orca_grammar::specs::Rules::operator))]
 fn disjunction(kind: &TokenKind) -> Option<Operator>
-    ensures { IsOperator 4 kind.now result }
+    ensures { IsOperator Disjunction kind.now result }
 {
     match kind {
         TokenKind::Key {
@@ -94,25 +114,23 @@ fn disjunction(kind: &TokenKind) -> Option<Operator>
 }
 
 // The operator of this level that a token is.
-fn operator_of(rank: u8, kind: &TokenKind) -> Option<Operator>
-    requires { rank ≤ 4 }
-    ensures { IsOperator rank kind.now result }
+fn operator_of(level: Level, kind: &TokenKind) -> Option<Operator>
+    ensures { IsOperator (links_at level) kind.now result }
 {
-    match rank {
-        0 => term_operator(kind),
-        1 => sum_operator(kind),
-        2 => relation(kind),
-        3 => conjunction(kind),
-        _ => disjunction(kind),
+    match level {
+        Level::Term => term_operator(kind),
+        Level::Sum => sum_operator(kind),
+        Level::Relation => relation(kind),
+        Level::Conjunction => conjunction(kind),
+        Level::Disjunction => disjunction(kind),
     }
 }
 
 /// An operator of this level, and the tokens behind it.
-pub fn operator(rank: u8, tokens: &[Token]) -> Option<(Operator, &[Token])>
-    requires { rank ≤ 4 }
-    ensures { Operates rank tokens.now result }
+pub fn operator(level: Level, tokens: &[Token]) -> Option<(Operator, &[Token])>
+    ensures { Operates (links_at level) tokens.now result }
 {
     let (first, rest) = first_token(tokens)?;
-    let operator = operator_of(rank, &first.kind)?;
+    let operator = operator_of(level, &first.kind)?;
     Some((operator, rest))
 }

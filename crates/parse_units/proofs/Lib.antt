@@ -1,5 +1,3 @@
-pub mod Loops
 pub mod Decisions
-pub mod ArmLemmas
 pub mod Texts
 pub mod RoundTrips

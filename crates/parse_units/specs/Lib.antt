@@ -1,3 +1,2 @@
-pub mod Phrases
 pub mod Refused
 pub mod RoundTrip

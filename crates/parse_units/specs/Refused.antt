@@ -3,9 +3,9 @@ use Rattle.std.specs.Prelude.{◌≡◌, ◌+◌, ◌-◌, ◌≤◌, ◌<◌, �
 use Rattle.orca_base.specs.declared.place.Place.{Place}
 use Rattle.orca_lexer.specs.declared.token.Token.{Token}
 use Rattle.orca_grammar.specs.Grammar.{IsUnexpected, IsTooNested}
-use Rattle.parse_units.specs.declared.refusal.ParseError.{ParseError}
-use Rattle.parse_units.specs.declared.refusal.ParseError.TheVariants.{Syntax, TooNested}
-use Rattle.parse_units.specs.declared.refusal.Found.TheVariants.{Token as OfToken, End}
+use Rattle.parse_units.specs.declared.parse_error.ParseError.{ParseError}
+use Rattle.parse_units.specs.declared.parse_error.ParseError.TheVariants.{Syntax, TooNested}
+use Rattle.parse_units.specs.declared.parse_error.Found.TheVariants.{Token as OfToken, End}
 
 -- a token's slice is one, and the place behind it has a number
 pub record HasRoom (t : Token) : Type 0 where

@@ -1,5 +1,6 @@
--- A unit that is printed is read back, places aside.
-use Rattle.std.specs.Prelude.{◌≡◌, ℕ, List, None}
+-- A unit that is printed is read back, places aside, and its text is not too long to be read.
+use Rattle.std.specs.Prelude.{◌≡◌, ℕ, ◌-◌, ◌<◌, ◌^◌, List, None, length}
+use Rattle.orca_base.specs.declared.limits.TheConstants.{NESTING}
 use Rattle.orca_lexer.specs.declared.token.Token.{Token}
 use Rattle.orca_lexer.specs.Tokens.{Tokens}
 use Rattle.orca_grammar.specs.Forms.{first_deep, unplaced}
@@ -7,7 +8,7 @@ use Rattle.orca_grammar.specs.Grammar.{IsText}
 use Rattle.orca_tree.specs.declared.tree.Unit.{Unit as UnitTree}
 use Rattle.orca_tree.specs.Marks.{unit as unit_marks}
 use Rattle.orca_tree.specs.Printing.{printed}
-use Rattle.parse_units.specs.declared.refusal.ParseError.{ParseError}
+use Rattle.parse_units.specs.declared.parse_error.ParseError.{ParseError}
 use Rattle.parse_units.specs.Refused.{IsRefusal}
 
 -- tokens are read as this unit, places aside: they are no other, and there is no cause to refuse them
@@ -23,4 +24,8 @@ pub record IsReadBack (u : UnitTree) : Type 0 where
 
 -- so it is for a unit that was read from a text
 abbrev pub ReadsBack : UnitTree → Type 0
-ReadsBack u = (text : List ℕ) (tokens : List Token) → Tokens text tokens → IsText (unit_marks u) tokens → first_deep (unit_marks u) 64 ≡ None → IsReadBack u
+ReadsBack u = (text : List ℕ) (tokens : List Token) → Tokens text tokens → IsText (unit_marks u) tokens → first_deep (unit_marks u) NESTING ≡ None → IsReadBack u
+
+-- the text is short enough to be read, where the one that the unit was read from is below half of that
+abbrev pub StaysShort : UnitTree → Type 0
+StaysShort u = (text : List ℕ) (tokens : List Token) → Tokens text tokens → IsText (unit_marks u) tokens → length text < 2 ^ 31 - 1 → length (printed u) < 2 ^ 32 - 1

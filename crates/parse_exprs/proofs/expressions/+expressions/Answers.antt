@@ -1,47 +1,31 @@
-use Rattle.std.proofs.Common.{◌≡◌, ◌-◌, List, [], ◌∷◌, ◌++◌, Ok, sym, ap, ◌∙◌, arith, length-append}
+use Rattle.std.proofs.Common.{◌≡◌, ◌-◌, List, [], ◌∷◌, ◌++◌, sym, ap, ◌∙◌, arith, length-append}
 use Rattle.std.proofs.lemmas.Result.{err_from_is_err_and}
-use Rattle.orca_grammar.specs.Forms.{Mark, Expression as ExpressionPhrase, Factor as FactorPhrase}
-use Rattle.orca_grammar.specs.Reading.{Read}
-use Rattle.orca_grammar.specs.Grammar.{read, nest_at}
-use Rattle.orca_grammar.specs.Rules.{arguments as arguments_form, level as level_form}
+use Rattle.orca_grammar.specs.Forms.{Expression as ExpressionPhrase, Factor as FactorPhrase}
+use Rattle.orca_grammar.specs.Grammar.{read}
+use Rattle.orca_grammar.specs.Rules.{arguments as arguments_form, disjunction, operand as operand_form}
 use Rattle.orca_tree.specs.declared.tree.Expression.{Expression}
 use Rattle.orca_tree.specs.declared.tree.Link.{Link}
 use Rattle.orca_tree.specs.Marks.{operand, expression as expression_marks, selector as selector_marks, selectors as selectors_marks}
-use Rattle.parse_exprs.specs.Chains.{links_marks}
+use Rattle.parse_exprs.specs.Chains.{links_at}
 use Rattle.parse_exprs.proofs.Readings.{nested_none, nested_read, in_brackets_read}
 use Rattle.parse_exprs.proofs.ChainLemmas.{link_read, link_fails, link_shorter, links_end, links_break, links_go_on, links_last}
-use Rattle.parse_exprs.proofs.ExpressionLemmas.{level_zero, level_first_fails, level_links_fail, level_read, selector_shorter, selectors_break, selectors_go_on, selectors_end, arguments_none, arguments_fail, argument_first, argument_shorter, arguments_go_on}
+use Rattle.parse_exprs.proofs.ExpressionLemmas.{selector_shorter, selectors_break, selectors_go_on, selectors_end, arguments_none, arguments_fail, argument_first, argument_shorter, arguments_go_on}
 use Rattle.parse_exprs.proofs.expressions.+expressions.Goals as goal
 
 pub expression-returns-then-depth-eq0 : goal.expression-returns-then-depth-eq0
 expression-returns-then-depth-eq0 t c = nested_none c.too_nested.result c.args.depth ExpressionPhrase c.args.tokens.now c.begins_expression.result c.if-depth-eq0.true c.begins_expression.ensures c.too_nested.ensures
 
 pub expression-returns : goal.expression-returns
-expression-returns t c = let one = in_brackets_read operand c.level.result ExpressionPhrase (read (c.args.depth - 1) (level_form 5) c.args.tokens.now) c.level.ensures in nested_read expression_marks c.level.result c.args.depth ExpressionPhrase c.args.tokens.now (omega arith) one
+unfolding disjunction operand_form
+expression-returns t c =
+    let one = in_brackets_read operand c.chain_of.result ExpressionPhrase (read (c.args.depth - 1) disjunction c.args.tokens.now) c.chain_of.ensures in
+    nested_read expression_marks c.chain_of.result c.args.depth ExpressionPhrase c.args.tokens.now (omega arith) one
 
 pub factor-returns-then-depth-eq0 : goal.factor-returns-then-depth-eq0
 factor-returns-then-depth-eq0 t c = nested_none c.too_nested.result c.args.depth FactorPhrase c.args.tokens.now c.begins_expression.result c.if-depth-eq0.true c.begins_expression.ensures c.too_nested.ensures
 
 pub factor-returns : goal.factor-returns
 factor-returns t c = nested_read operand c.alternative.result c.args.depth FactorPhrase c.args.tokens.now (omega arith) c.alternative.ensures
-
-pub level-returns-then-rank-eq0 : goal.level-returns-then-rank-eq0
-level-returns-then-rank-eq0 t c = let same : read c.args.depth (level_form c.args.rank) c.args.tokens.now ≡ nest_at c.args.depth FactorPhrase c.args.tokens.now = level_zero c.args.rank c.args.depth c.args.tokens.now c.if-rank-eq0.true in rw same c.factor.ensures
-
-pub level-returns-in_err-first : goal.level-returns-in_err-first
-level-returns-in_err-first t c =
-    let p = err_from_is_err_and c.from_residual.result c.from_residual.ensures.1 in
-    rw (p.1, p.2) (level_first_fails c.args.rank c.args.depth c.args.tokens.now (omega arith) c.in_err-first.field-0.0 c.in_err-first.ensures)
-
-pub level-returns-in_err-links : goal.level-returns-in_err-links
-level-returns-in_err-links t c =
-    let p = err_from_is_err_and c.from_residual-in_err-links.result c.from_residual-in_err-links.ensures.1 in
-    rw (p.1, p.2) (level_links_fail c.args.rank c.args.depth c.args.tokens.now (omega arith) (operand c.in_ok-first.first) c.in_ok-first.rest.now c.in_ok-first.ensures c.in_err-links.field-0.0 c.in_err-links.ensures)
-
-pub level-returns : goal.level-returns
-level-returns t c =
-    level_read c.args.rank c.args.depth c.args.tokens.now (omega arith) (operand c.in_ok-first.first) c.in_ok-first.rest.now c.in_ok-first.ensures (links_marks c.in_ok-links.links.items) c.in_ok-links.rest.now c.in_ok-links.ensures
-    ∙ ap (λ (ms : List Mark). let r : Read = Ok (ms, c.in_ok-links.rest.now) in r) (sym (c.in_ok-chain.ensures {u = tt}))
 
 pub selectors-returns-in_err-step : goal.selectors-returns-in_err-step
 selectors-returns-in_err-step t c =
@@ -88,26 +72,26 @@ arguments-arguments-preserved t c =
 pub links-returns-in_err-right : goal.links-returns-in_err-right
 links-returns-in_err-right t c =
     let p = err_from_is_err_and c.from_residual.result c.from_residual.ensures.1 in
-    let bad = link_fails c.in_err-right.field-0.0 c.args.depth c.args.rank c.links.rest.now c.in-Some.after.now c.in-Some.operator (c.in-Some.ensures.1 c.args.depth) c.in_err-right.ensures in
-    rw (p.1, p.2) (links_break c.in_err-right.field-0.0 c.args.depth c.args.rank c.args.tokens.now c.links.rest.now c.links.links.items c.links.invariant c.requires c.in-Some.ensures.0 bad)
+    let bad = link_fails c.in_err-right.field-0.0 c.args.depth (links_at c.args.level) c.links.rest.now c.in-Some.after.now c.in-Some.operator (c.in-Some.ensures.1 c.args.depth) c.in_err-right.ensures in
+    rw (p.1, p.2) (links_break c.in_err-right.field-0.0 c.args.depth (links_at c.args.level) c.args.tokens.now c.links.rest.now c.links.links.items c.links.invariant c.in-Some.ensures.0 bad)
 
-pub links-returns-then-rank-eq-RELATION : goal.links-returns-then-rank-eq-RELATION
-links-returns-then-rank-eq-RELATION t c =
+pub links-returns-then-is_single : goal.links-returns-then-is_single
+links-returns-then-is_single t c =
     let l : Link = record { operator = c.in-Some.operator; right = c.in_ok-right.right } in
-    rw c.in_ok-push.ensures.items (links_last c.args.depth c.args.rank c.args.tokens.now c.links.rest.now c.in_ok-right.next.now c.links.links.items l c.if-rank-eq-RELATION.true c.links.invariant c.in-Some.ensures.0 c.in-Some.ensures.2
-    (link_read c.args.depth c.args.rank c.links.rest.now c.in-Some.after.now c.in_ok-right.next.now c.in-Some.operator c.in_ok-right.right (c.in-Some.ensures.1 c.args.depth) c.in_ok-right.ensures))
+    rw c.in_ok-push.ensures.items (links_last c.args.depth (links_at c.args.level) c.args.tokens.now c.links.rest.now c.in_ok-right.next.now c.links.links.items l (sym c.is_single.ensures ∙ c.if-is_single.true) c.links.invariant c.in-Some.ensures.0 c.in-Some.ensures.2
+    (link_read c.args.depth (links_at c.args.level) c.links.rest.now c.in-Some.after.now c.in_ok-right.next.now c.in-Some.operator c.in_ok-right.right (c.in-Some.ensures.1 c.args.depth) c.in_ok-right.ensures))
 
 pub links-links-smaller : goal.links-links-smaller
 links-links-smaller t c =
-    link_shorter c.args.depth c.args.rank c.links.rest.now c.in_ok-right.next.now _ c.requires
-    (link_read c.args.depth c.args.rank c.links.rest.now c.in-Some.after.now c.in_ok-right.next.now c.in-Some.operator c.in_ok-right.right (c.in-Some.ensures.1 c.args.depth) c.in_ok-right.ensures)
+    link_shorter c.args.depth (links_at c.args.level) c.links.rest.now c.in_ok-right.next.now _
+    (link_read c.args.depth (links_at c.args.level) c.links.rest.now c.in-Some.after.now c.in_ok-right.next.now c.in-Some.operator c.in_ok-right.right (c.in-Some.ensures.1 c.args.depth) c.in_ok-right.ensures)
 
 pub links-links-preserved : goal.links-links-preserved
 links-links-preserved t c =
     let l : Link = record { operator = c.in-Some.operator; right = c.in_ok-right.right } in
-    rw c.in_ok-push.ensures.items (links_go_on c.args.depth c.args.rank c.args.tokens.now c.links.rest.now c.in_ok-right.next.now c.links.links.items l c.requires c.if-rank-eq-RELATION.false c.links.invariant c.in-Some.ensures.0 c.in-Some.ensures.2
-    (link_read c.args.depth c.args.rank c.links.rest.now c.in-Some.after.now c.in_ok-right.next.now c.in-Some.operator c.in_ok-right.right (c.in-Some.ensures.1 c.args.depth) c.in_ok-right.ensures))
+    rw c.in_ok-push.ensures.items (links_go_on c.args.depth (links_at c.args.level) c.args.tokens.now c.links.rest.now c.in_ok-right.next.now c.links.links.items l (sym c.is_single.ensures ∙ c.if-is_single.false) c.links.invariant c.in-Some.ensures.0 c.in-Some.ensures.2
+    (link_read c.args.depth (links_at c.args.level) c.links.rest.now c.in-Some.after.now c.in_ok-right.next.now c.in-Some.operator c.in_ok-right.right (c.in-Some.ensures.1 c.args.depth) c.in_ok-right.ensures))
 
 pub links-returns : goal.links-returns
 links-returns t c =
-    links_end c.args.depth c.args.rank c.args.tokens.now c.links.rest.now c.links.links.items c.requires c.links.invariant c.in_default.ensures
+    links_end c.args.depth (links_at c.args.level) c.args.tokens.now c.links.rest.now c.links.links.items c.links.invariant c.in_default.ensures

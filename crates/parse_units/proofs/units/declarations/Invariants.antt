@@ -3,7 +3,7 @@ use Rattle.orca_grammar.specs.Rules as rules
 use Rattle.orca_grammar.specs.Grammar.{read}
 use Rattle.orca_tree.specs.Marks as marks
 use Rattle.orca_tree.specs.Marks.{word}
-use Rattle.parse_units.proofs.Loops.{Row}
+use Rattle.parse_exprs.proofs.Loops.{Row}
 use Rattle.parse_units.proofs.units.declarations.Given as goal
 
 abbrev pub invariant-parts : goal.invariant-parts

@@ -1,7 +1,7 @@
 use Rattle.std.proofs.Common.{sym, ◌∙◌}
 use Rattle.std.proofs.lemmas.Result.{err_from_is_err_and}
 use Rattle.orca_grammar.specs.Rules as rules
-use Rattle.parse_units.proofs.Loops.{row_begins, row_more, row_ends, row_stops, shorter}
+use Rattle.parse_exprs.proofs.Loops.{row_begins, row_more, row_ends, row_stops, shorter}
 use Rattle.parse_units.proofs.Decisions.{import_lines_decided}
 use Rattle.parse_units.proofs.units.imports.Goals as goal
 

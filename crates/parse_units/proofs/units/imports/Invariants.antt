@@ -2,7 +2,7 @@ use Rattle.std.proofs.Common.{zero, length}
 use Rattle.orca_grammar.specs.Rules as rules
 use Rattle.orca_grammar.specs.Grammar.{read}
 use Rattle.orca_tree.specs.Marks as marks
-use Rattle.parse_units.proofs.Loops.{Row}
+use Rattle.parse_exprs.proofs.Loops.{Row}
 use Rattle.parse_units.proofs.units.imports.Given as goal
 
 abbrev pub invariant-parts : goal.invariant-parts

@@ -1,5 +1,5 @@
-use Rattle.parse_units.proofs.RoundTrips.{reads_back}
+use Rattle.parse_units.proofs.RoundTrips.{reads_back, stays_short}
 use Rattle.parse_units.proofs.whole.parse_law.Goals as goal
 
 pub returns : goal.returns
-returns c = reads_back
+returns c = record { back = reads_back; short = stays_short }

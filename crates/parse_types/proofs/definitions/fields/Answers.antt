@@ -1,0 +1,28 @@
+use Rattle.std.proofs.Common.{sym, ◌∙◌}
+use Rattle.std.proofs.lemmas.Result.{err_from_is_err_and}
+use Rattle.orca_grammar.specs.Rules as rules
+use Rattle.parse_exprs.proofs.Loops.{row_led, row_more, row_ends, row_stops, shorter}
+use Rattle.parse_types.proofs.Decisions.{fields_decided}
+use Rattle.parse_types.proofs.definitions.fields.Goals as goal
+
+pub returns-in_err-part : goal.returns-in_err-part
+unfolding rules.field rules.typed_name
+returns-in_err-part c =
+    let p = err_from_is_err_and c.from_residual-in_err-part.result c.from_residual-in_err-part.ensures.1 in
+    rw (p.1, p.2) (row_stops c.in_err-part.field-0.0 (sym c.comes_name.ensures ∙ c.parts-test.true) c.in_err-part.ensures c.parts.invariant)
+
+pub parts-smaller : goal.parts-smaller
+parts-smaller c = shorter c.args.depth rules.field _ c.parts.rest.now c.in_ok-part.after.now fields_decided c.in_ok-part.ensures
+
+pub parts-preserved : goal.parts-preserved
+unfolding rules.field rules.typed_name
+parts-preserved c =
+    rw c.in_ok-push.ensures.items (row_more c.in_ok-part.part c.in_ok-part.after.now fields_decided (sym c.comes_name.ensures ∙ c.parts-test.true) c.in_ok-part.ensures c.parts.invariant)
+
+pub returns : goal.returns
+unfolding rules.field rules.typed_name
+returns c = row_ends (sym c.comes_name.ensures ∙ c.parts-test.false) c.parts.invariant
+
+pub parts-init : goal.parts-init
+unfolding rules.fields
+parts-init c = rw c.in_ok-parts.ensures.items (row_led c.in_ok-first.first c.args.tokens.now c.in_ok-first.rest.now c.in_ok-first.ensures)

@@ -1,5 +1,0 @@
-use Rattle.orca_tree.proofs.Rows.{repeat_is}
-use Rattle.parse_units.proofs.made.repeat_loop.Goals as goal
-
-pub returns : goal.returns
-returns c = repeat_is c.args.at c.args.body c.args.test
