@@ -1,9 +1,10 @@
--- What the operations of pools and flags mean. A pool has one field, a bag of integers; a flag has one field, an integer.
-use Rattle.std.specs.Prelude.{ℕ, ℤ, pos, ◌==◌, ◌&&◌, [], ◌∷◌, ◌++◌, Option, None, Some, slice_get, not, if◌then◌else◌}
+-- What the operations of pools and flags mean. A pool has one field, an array of integers; a flag has one field, an integer.
+use Rattle.std.specs.Prelude.{ℕ, ℤ, pos, ◌-◌, ◌==◌, ◌&&◌, [], ◌∷◌, ◌++◌, Option, None, Some, length, nat_lt, slice_get, not, if◌then◌else◌}
 use Rattle.std.specs.Ordering.{int_eq, int_cmp, is_gt}
 use Rattle.orca_base.specs.declared.ids.KindNo.{KindNo}
 use Rattle.orca_base.specs.declared.ids.OpNo.{OpNo}
-use Rattle.orca_base.specs.declared.fault.FaultKind.TheVariants.{DivideByZero}
+use Rattle.orca_base.specs.declared.fault.FaultKind.TheVariants.{DivideByZero, TooLarge}
+use Rattle.orca_base.specs.declared.limits.TheConstants.{VALUE_SIZE}
 use Rattle.value_core.specs.Datum.{Datum, Data, data_of, list_of}
 use Rattle.value_core.specs.Datum as datum
 use Rattle.value_core.specs.View.{value_of}
@@ -24,31 +25,37 @@ only v = datum.more v datum.none
 abbrev pub first : Data → Option Datum
 first values = slice_get (list_of values) 0
 
--- the bag that a value is
-abbrev pub bag_of : Option Datum → Option Data
-bag_of (Some (datum.bag items)) = Some items
-bag_of _ = None
+-- the parts of the array that a value is
+abbrev pub items_of : Option Datum → Option Data
+items_of (Some (datum.array items)) = Some items
+items_of _ = None
 
 -- the integer that a value is
 abbrev pub number_of : Option Datum → Option ℤ
 number_of (Some (datum.int number)) = Some number
 number_of _ = None
 
--- an integer joins the bag
+-- the most integers that a pool holds: with them its array has the greatest size of a value
+abbrev pub most_items : ℕ
+most_items = VALUE_SIZE - 1
+
+-- an integer joins the pool at the end, where there is room
 abbrev pub put_of : Option Data → Option ℤ → Tried
-put_of (Some items) (Some number) = tried.Did 0 (only (datum.bag (data_of (list_of items ++ datum.int number ∷ [])))) answer.Done
+put_of (Some items) (Some number) =
+    if nat_lt (length (list_of items)) most_items then tried.Did 0 (only (datum.array (data_of (list_of items ++ datum.int number ∷ [])))) answer.Done
+    else tried.Broke 0 TooLarge
 put_of (Some items) None = tried.Blocked
 put_of None number = tried.Blocked
 
--- guard 1, the bag isn't empty: what is there longest leaves it
+-- guard 1, the pool isn't empty: what is there longest leaves it
 abbrev pub take_of : Option Data → Tried
-take_of (Some (datum.more value rest)) = tried.Did 1 (only (datum.bag rest)) (answer.Gave (value_of value))
+take_of (Some (datum.more value rest)) = tried.Did 1 (only (datum.array rest)) (answer.Gave (value_of value))
 take_of (Some datum.none) = tried.Blocked
 take_of None = tried.Blocked
 
 abbrev pub pool_tries : OpNo → Data → Data → Tried
 pool_tries op state args =
-    if op.0 == 0 then put_of (bag_of (first state)) (number_of (first args)) else (if op.0 == 1 then take_of (bag_of (first state)) else tried.Blocked)
+    if op.0 == 0 then put_of (items_of (first state)) (number_of (first args)) else (if op.0 == 1 then take_of (items_of (first state)) else tried.Blocked)
 
 -- this guard's body leaves this integer
 abbrev pub assigns : ℕ → ℤ → Tried
@@ -87,7 +94,7 @@ class_of kind op = if kind.0 == 2 && op.0 == 0 then Reads else Writes
 -- a pool is empty at first, a flag 0; any other making faults
 abbrev pub made : KindNo → Making
 made kind =
-    if kind.0 == 1 then making.Made (only (datum.bag datum.none)) else (if kind.0 == 2 then making.Made (only (datum.int (pos 0))) else making.Broke DivideByZero)
+    if kind.0 == 1 then making.Made (only (datum.array datum.none)) else (if kind.0 == 2 then making.Made (only (datum.int (pos 0))) else making.Broke DivideByZero)
 
 abbrev pub bag_performs : Performs
 bag_performs = record {

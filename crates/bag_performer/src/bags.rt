@@ -1,8 +1,10 @@
 //! The performer.
 
-ghost use Rattle.std.specs.Prelude.{◌≡◌, IfOk};
+ghost use Rattle.std.specs.Prelude.{◌≡◌, ◌↔◌, IfOk, IsTrue};
 ghost use Rattle.bag_performer.specs.Bags.{class_of, flag_tries, made, pool_tries};
+ghost use Rattle.bag_performer.specs.Fitting.{FitsArgs, IsOneInteger, takes};
 
+use crate::pool::number_in;
 use crate::{flag, pool};
 use orca_base::{FaultKind, KindNo, NoMemory, OpNo};
 use std::alloc::Global;
@@ -13,8 +15,8 @@ use value_core::{Class, Making, ObjectState, Parts, Performer, Tried, Value};
 pub struct Bags;
 
 impl Bags {
-    /// A type with a bag, first empty. `PUT` adds an integer; `TAKE` has one guard, that the bag isn't empty, and gives the
-    /// integer that is there longest.
+    /// A type with an array of integers, first empty. `PUT` adds one at the end, or faults where the array has its greatest
+    /// size; `TAKE` has one guard, that it isn't empty, and gives the integer that is there longest.
     pub const POOL: KindNo = KindNo(1);
 
     /// A type with an integer, first 0. `AWAIT` is a read with one guard, that the integer is its argument. `SET` assigns.
@@ -38,25 +40,61 @@ impl Bags {
     pub const STEP: OpNo = OpNo(3);
 }
 
+impl Bags {
+    /// Whether these arguments fit the operation: one integer where it takes one, else none.
+    pub fn fits(kind: KindNo, op: OpNo, args: &Parts) -> bool
+        ensures { IsTrue result ↔ FitsArgs kind op args.now }
+    {
+        if takes(kind, op) {
+            is_one_integer(args)
+        } else {
+            args.is_empty()
+        }
+    }
+}
+
+// Whether the operation takes an integer.
+fn takes(kind: KindNo, op: OpNo) -> bool
+    ensures { result ≡ takes kind op }
+{
+    if kind.0 == 1 {
+        op.0 == 0
+    } else {
+        kind.0 == 2 && op.0 < 3
+    }
+}
+
+// Whether the values are one integer.
+fn is_one_integer(values: &Parts) -> bool
+    ensures { IsTrue result ↔ IsOneInteger values.now }
+{
+    values.len() == 1 && number_in(values).is_some()
+}
+
 impl Performer for Bags {
+    ghost use Rattle.std.specs.Prelude.{refl};
+    ghost use Rattle.value_core.specs.Sound.{AreSoundArguments};
     ghost use Rattle.bag_performer.specs.Bags.{bag_performs};
-    ghost use Rattle.bag_performer.specs.Laws.{leaves_fit, makes_fit, replies_well, reads_keep_states};
+    ghost use Rattle.bag_performer.specs.Fitting.{FitsArgs, FitsReply, FitsState};
+    ghost use Rattle.bag_performer.specs.Laws.{arguments_sound, leaves_fit, makes_fit, reads_keep_states, replies_fit, replies_sound, states_sound};
 
     ghost performs = { λ m. bag_performs };
 
-    ghost fits_state = { λ m kinds kind state. Unit {0} };
+    ghost fits_state = { λ m kinds. FitsState };
 
-    ghost fits_args = { λ m kinds kind op args. Unit {0} };
+    ghost fits_args = { λ m kinds. FitsArgs };
 
-    ghost fits_text = { λ m kinds text args. Unit {0} };
+    ghost fits_text = { λ m kinds text. AreSoundArguments };
 
-    ghost fits_reply = { λ m kind op reply. Unit {0} };
+    ghost fits_reply = { λ m. FitsReply };
 
-    ghost made_fits = { λ m kinds kind. makes_fit (made kind) };
+    ghost output_fits = { λ m kinds. refl };
 
-    ghost keeps_fit = { λ m kinds kind op state args fits given. leaves_fit (bag_performs.tries kind op state args) };
+    ghost made_fits = { λ m kinds. makes_fit };
 
-    ghost replies_fit = { λ m kinds kind op state args fits given. replies_well (bag_performs.tries kind op state args) };
+    ghost keeps_fit = { λ m kinds kind op state args fits given. leaves_fit kind op state args fits };
+
+    ghost replies_fit = { λ m kinds kind op state args fits given. replies_fit kind op state args fits };
 
     ghost reads_keep = { λ m kinds kind op state args reads fits given. reads_keep_states kind op state args reads };
 
@@ -65,6 +103,14 @@ impl Performer for Bags {
     ghost args_stay_fit = { λ m kinds more kind op args extends fits. fits };
 
     ghost text_stays_fit = { λ m kinds more text args extends fits. fits };
+
+    ghost state_sound = { λ m kinds. states_sound };
+
+    ghost args_sound = { λ m kinds. arguments_sound };
+
+    ghost text_sound = { λ m kinds text args fits. fits };
+
+    ghost reply_sound = { λ m. replies_sound };
 
     fn class(&self, kind: KindNo, op: OpNo) -> Class {
         if kind.0 == 2 && op.0 == 0 {
@@ -76,7 +122,7 @@ impl Performer for Bags {
 
     fn make(&self, alloc: Global, kind: KindNo) -> Result<Making, NoMemory> {
         if kind.0 == 1 {
-            let state = pool::one(alloc, Value::Bag(Parts::new(alloc)))?;
+            let state = pool::one(alloc, Value::Array(Parts::new(alloc)))?;
             Ok(Making::Made { state })
         } else if kind.0 == 2 {
             let state = pool::one(alloc, Value::Int(0))?;

@@ -8,7 +8,7 @@ use orca_base::{FaultKind, NoMemory, OpNo};
 use std::alloc::Global;
 use value_core::{Parts, Reply, Tried, Value};
 
-/// A try of an operation of a flag.
+// A try of an operation of a flag.
 pub(crate) fn try_op(
     alloc: Global,
     op: OpNo,
@@ -30,7 +30,7 @@ pub(crate) fn try_op(
     }
 }
 
-/// Where the integer is the argument, nothing is done.
+// Where the integer is the argument, nothing is done.
 fn wait(alloc: Global, state: &Parts, args: &Parts) -> Result<Tried, NoMemory>
     ensures { IfOk result (λ t. t ≡ await_of state.now (number_of (first state.now)) (number_of (first args.now))) }
 {
@@ -44,7 +44,7 @@ fn wait(alloc: Global, state: &Parts, args: &Parts) -> Result<Tried, NoMemory>
     }
 }
 
-/// The integer becomes the argument.
+// The integer becomes the argument.
 fn set(alloc: Global, args: &Parts) -> Result<Tried, NoMemory>
     ensures { IfOk result (λ t. t ≡ set_of (number_of (first args.now))) }
 {
@@ -54,7 +54,7 @@ fn set(alloc: Global, args: &Parts) -> Result<Tried, NoMemory>
     }
 }
 
-/// The integer becomes the argument, and then the body divides by zero: nothing stays of it.
+// The integer becomes the argument, and then the body divides by zero: nothing stays of it.
 fn spoil(alloc: Global, args: &Parts) -> Result<Tried, NoMemory>
     ensures { IfOk result (λ t. t ≡ spoil_of (number_of (first args.now))) }
 {
@@ -70,7 +70,7 @@ fn spoil(alloc: Global, args: &Parts) -> Result<Tried, NoMemory>
     }
 }
 
-/// The first guard in text order decides: where the integer is 0 it becomes 1; where it is at most 1 it becomes 2.
+// The first guard in text order decides: where the integer is 0 it becomes 1; where it is at most 1 it becomes 2.
 fn step(alloc: Global, state: &Parts) -> Result<Tried, NoMemory>
     ensures { IfOk result (λ t. t ≡ step_of (number_of (first state.now))) }
 {
@@ -81,7 +81,7 @@ fn step(alloc: Global, state: &Parts) -> Result<Tried, NoMemory>
     }
 }
 
-/// The operation ran by this guard, and left this integer.
+// The operation ran by this guard, and left this integer.
 fn assigned(alloc: Global, guard: u16, number: i64) -> Result<Tried, NoMemory>
     ensures { IfOk result (λ t. t ≡ assigns guard number) }
 {

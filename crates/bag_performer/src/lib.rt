@@ -1,4 +1,4 @@
-//! A performer written by hand: a type with a bag, one with an integer, and one whose making faults.
+//! A performer written by hand: a type with an array of integers, one with an integer, and one whose making faults.
 //!
 //! The crates above use that `Bags` is a `Performer` whose meaning is `bag_performs` of specs/Bags.antt. It serves tests and
 //! times of what is built over performers, where no text is at hand. It stands on `value_core`. Operations are total: on a

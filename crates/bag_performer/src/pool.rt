@@ -1,17 +1,20 @@
 //! Operations on a pool.
 
-ghost use Rattle.std.specs.Prelude.{◌≡◌, [], ◌∷◌, ◌++◌, IfOk};
-ghost use Rattle.value_core.specs.Datum as datum;
+ghost use Rattle.std.specs.Prelude.{◌≡◌, [], ◌∷◌, ◌++◌, IfOk, Some};
 ghost use Rattle.std.specs.Option.{option_copied};
+ghost use Rattle.value_core.specs.Datum as datum;
 ghost use Rattle.value_core.specs.Datum.{data_of, list_of};
 ghost use Rattle.value_core.specs.View.{datum_of};
-ghost use Rattle.bag_performer.specs.Bags.{bag_of, first, number_of, only, pool_tries, put_of, take_of};
+ghost use Rattle.bag_performer.specs.Bags.{first, items_of, number_of, only, pool_tries, put_of, take_of};
 
-use orca_base::{NoMemory, OpNo};
+use orca_base::{FaultKind, NoMemory, OpNo, VALUE_SIZE};
 use std::alloc::Global;
 use value_core::{Parts, Reply, Tried, Value};
 
-/// A try of an operation of a pool.
+// The most integers that a pool holds: with them its array has the greatest size of a value.
+const MOST_ITEMS: usize = VALUE_SIZE as usize - 1;
+
+// A try of an operation of a pool.
 pub(crate) fn try_op(
     alloc: Global,
     op: OpNo,
@@ -29,43 +32,54 @@ pub(crate) fn try_op(
     }
 }
 
-/// The integer joins the bag.
+// The integer joins the pool, where there is room.
 fn put(alloc: Global, state: &Parts, args: &Parts) -> Result<Tried, NoMemory>
-    ensures { IfOk result (λ t. t ≡ put_of (bag_of (first state.now)) (number_of (first args.now))) }
+    ensures { IfOk result (λ t. t ≡ put_of (items_of (first state.now)) (number_of (first args.now))) }
 {
-    match (bag_in(state), number_in(args)) {
-        (Some(bag), Some(number)) => {
-            let bag = joined(alloc, bag, number)?;
-            Ok(Tried::Did {
-                guard: 0,
-                state: one(alloc, Value::Bag(bag))?,
-                reply: Reply::Done,
-            })
-        }
+    match (items_in(state), number_in(args)) {
+        (Some(items), Some(number)) => add(alloc, items, number),
         _ => Ok(Tried::Blocked),
     }
 }
 
-/// The bag with this integer, which is the last to leave.
-fn joined(alloc: Global, bag: &Parts, number: i64) -> Result<Parts, NoMemory>
-    ensures { IfOk result (λ p. p ≡ data_of (list_of bag.now ++ datum.int number ∷ [])) }
+// The integer joins these at the end, where there is room.
+fn add(alloc: Global, items: &Parts, number: i64) -> Result<Tried, NoMemory>
+    ensures { IfOk result (λ t. t ≡ put_of (Some items.now) (Some number)) }
 {
-    let mut more = bag.copy(alloc)?;
+    if items.len() >= MOST_ITEMS {
+        return Ok(Tried::Broke {
+            guard: 0,
+            fault: FaultKind::TooLarge,
+        });
+    }
+    let items = joined(alloc, items, number)?;
+    Ok(Tried::Did {
+        guard: 0,
+        state: one(alloc, Value::Array(items))?,
+        reply: Reply::Done,
+    })
+}
+
+// These with this integer, which is the last to leave.
+fn joined(alloc: Global, items: &Parts, number: i64) -> Result<Parts, NoMemory>
+    ensures { IfOk result (λ p. p ≡ data_of (list_of items.now ++ datum.int number ∷ [])) }
+{
+    let mut more = items.copy(alloc)?;
     more.push(Value::Int(number))?;
     Ok(more)
 }
 
-/// Where the bag isn't empty: what is there longest leaves it, and is the answer.
+// Where the pool isn't empty: what is there longest leaves it, and is the answer.
 fn take(alloc: Global, state: &Parts) -> Result<Tried, NoMemory>
-    ensures { IfOk result (λ t. t ≡ take_of (bag_of (first state.now))) }
+    ensures { IfOk result (λ t. t ≡ take_of (items_of (first state.now))) }
 {
-    match bag_in(state) {
-        Some(bag) if !bag.is_empty() => {
-            let mut rest = bag.copy(alloc)?;
+    match items_in(state) {
+        Some(items) if !items.is_empty() => {
+            let mut rest = items.copy(alloc)?;
             let value = rest.remove(0);
             Ok(Tried::Did {
                 guard: 1,
-                state: one(alloc, Value::Bag(rest))?,
+                state: one(alloc, Value::Array(rest))?,
                 reply: Reply::Gave { value },
             })
         }
@@ -73,17 +87,17 @@ fn take(alloc: Global, state: &Parts) -> Result<Tried, NoMemory>
     }
 }
 
-/// The first value, where it is a bag.
-fn bag_in(values: &Parts) -> Option<&Parts>
-    ensures { option_copied result ≡ bag_of (first values.now) }
+// The parts of the first value, where it is an array.
+fn items_in(values: &Parts) -> Option<&Parts>
+    ensures { option_copied result ≡ items_of (first values.now) }
 {
     match values.get(0) {
-        Some(Value::Bag(bag)) => Some(bag),
+        Some(Value::Array(items)) => Some(items),
         _ => None,
     }
 }
 
-/// The first value, where it is an integer.
+// The first value, where it is an integer.
 pub(crate) fn number_in(values: &Parts) -> Option<i64>
     ensures { result ≡ number_of (first values.now) }
 {
@@ -93,7 +107,7 @@ pub(crate) fn number_in(values: &Parts) -> Option<i64>
     }
 }
 
-/// This value alone.
+// This value alone.
 pub(crate) fn one(alloc: Global, value: Value) -> Result<Parts, NoMemory>
     ensures { IfOk result (λ p. p ≡ only (datum_of value)) }
 {

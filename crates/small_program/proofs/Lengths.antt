@@ -91,6 +91,28 @@ operations_long u p small =
     together : (a b m n : ℕ) → a ≡ b → 13 * a + 22 * b ≤ m → m ≡ n → 35 * b ≤ n
     together a b m n e p q = omega arith
 
+field_long : (f : List ℕ) → 4 ≤ least_bytes (field_tokens f)
+field_long f = omega arith
+
+fields_in : (kind : List ℕ) (fields : List (List ℕ)) (operations : List Operation) (opening : Opening) → 4 * length fields ≤ least_bytes (implementation_tokens kind fields operations opening)
+fields_in kind fields operations opening = omega (
+  arith,
+  list_long field_tokens 4 field_long fields,
+  least_bytes-append (flat_map field_tokens fields) (flat_map operation_tokens operations ++ opening_tokens opening),
+)
+
+-- its fields have four bytes and more each
+pub fields_long : (u : UnitTree) (p : SmallProgram) → IsSmall u p → 4 * length p.fields ≤ least_bytes (spelled (unit u))
+fields_long u p small =
+    let spec = specification_tokens p.kind p.heads in
+    let impl = implementation_tokens p.kind p.fields p.operations p.opening in
+    let process = process_tokens p.kind p.variable p.calls in
+    let whole : least_bytes (program_tokens p) ≡ (least_bytes spec + least_bytes impl) + least_bytes process = least_bytes-append (spec ++ impl) process ∙ ap (λ (n : ℕ). n + least_bytes process) (least_bytes-append spec impl) in
+    together (4 * length p.fields) (least_bytes spec) (least_bytes impl) (least_bytes process) (least_bytes (program_tokens p)) (least_bytes (spelled (unit u))) whole (fields_in p.kind p.fields p.operations p.opening) (ap least_bytes (sym small.tokens))
+  where
+    together : (a x y z m n : ℕ) → m ≡ (x + y) + z → a ≤ y → m ≡ n → a ≤ n
+    together a x y z m n e p q = omega arith
+
 argument_long : (v : List ℕ) (a : Argument) → 1 ≤ least_bytes (argument_tokens v a)
 argument_long v (NumberArgument n) = omega arith
 argument_long v (Result o) = omega arith

@@ -18,7 +18,7 @@ use crate::tree::{
     Argument, Assignment, Call, Head, HeadKind, Opening, Operand, Operation, OperationBody,
     SmallProgram,
 };
-use orca_base::{Items, Refusal, Text};
+use orca_base::{Items, Refusal, Text, refuse};
 use orca_lexer::{Keyword, Symbol, TokenKind};
 use std::alloc::Global;
 
@@ -33,7 +33,7 @@ fn key(tokens: &[TokenKind], word: Keyword) -> Result<&[TokenKind], Refusal<NotS
 {
     match tokens {
         [TokenKind::Key { word: found }, rest @ ..] if found.is(word) => Ok(rest),
-        _ => Err(Refusal::Because { cause: NotSmall }),
+        _ => refuse(NotSmall),
     }
 }
 
@@ -42,7 +42,7 @@ fn sign(tokens: &[TokenKind], symbol: Symbol) -> Result<&[TokenKind], Refusal<No
 {
     match tokens {
         [TokenKind::Sign { symbol: found }, rest @ ..] if *found == symbol => Ok(rest),
-        _ => Err(Refusal::Because { cause: NotSmall }),
+        _ => refuse(NotSmall),
     }
 }
 
@@ -51,7 +51,7 @@ fn name(alloc: Global, tokens: &[TokenKind]) -> Result<(Text, &[TokenKind]), Ref
 {
     match tokens {
         [TokenKind::Name { name }, rest @ ..] => Ok((name.copy(alloc)?, rest)),
-        _ => Err(Refusal::Because { cause: NotSmall }),
+        _ => refuse(NotSmall),
     }
 }
 
@@ -64,7 +64,7 @@ fn same_name<'a>(
 {
     match tokens {
         [TokenKind::Name { name }, rest @ ..] if name.is_text(wanted) => Ok(rest),
-        _ => Err(Refusal::Because { cause: NotSmall }),
+        _ => refuse(NotSmall),
     }
 }
 

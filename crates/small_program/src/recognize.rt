@@ -11,7 +11,7 @@ ghost use Rattle.small_program.specs.Scope.{IsSmall};
 use crate::reader::{NotSmall, program};
 use crate::scope::is_scoped;
 use crate::tree::SmallProgram;
-use orca_base::{NoMemory, Refusal};
+use orca_base::{NoMemory, Refusal, refuse};
 use orca_tree::{Unit, words};
 use std::alloc::Global;
 
@@ -24,6 +24,9 @@ pub fn small(alloc: Global, text: &Unit) -> Result<Option<SmallProgram>, NoMemor
 
     // Each operation takes 35 bytes and more, so a text of a million bytes has fewer than 16 bits count.
     ensures few { IfOk result (λ r. IfSome r (λ p. 35 * length p.operations ≤ least_bytes (spelled (unit text.now)))) }
+
+    // Each field takes four bytes and more.
+    ensures fields { IfOk result (λ r. IfSome r (λ p. 4 * length p.fields ≤ least_bytes (spelled (unit text.now)))) }
 {
     match recognized(alloc, text) {
         Ok(program) => Ok(Some(program)),
@@ -32,6 +35,7 @@ pub fn small(alloc: Global, text: &Unit) -> Result<Option<SmallProgram>, NoMemor
     }
 }
 
+// The same, with a refusal in place of none.
 fn recognized(alloc: Global, text: &Unit) -> Result<SmallProgram, Refusal<NotSmall>>
     ensures is { MatchRefusal result (λ p. IsSmall text.now p) (λ _. (p : SmallProgram) → IsSmall text.now p → ⊥) }
     ensures only { IfOk result (λ p. (q : SmallProgram) → IsSmall text.now q → q ≡ p) }
@@ -41,6 +45,6 @@ fn recognized(alloc: Global, text: &Unit) -> Result<SmallProgram, Refusal<NotSma
     if rest.is_empty() && is_scoped(alloc, &program)? {
         Ok(program)
     } else {
-        Err(Refusal::Because { cause: NotSmall })
+        refuse(NotSmall)
     }
 }

@@ -1,5 +1,5 @@
 -- Histories, one line on.
-use Rattle.std.proofs.Common.{◌≡◌, List, [], ◌∷◌, ◌++◌, refl, sym, ap, ◌∙◌}
+use Rattle.std.proofs.Common.{◌≡◌, List, [], ◌∷◌, ◌++◌, refl, sym}
 use Rattle.std.proofs.lemmas.List.{flat_map_more}
 use Rattle.value_core.specs.declared.action.Line.{Line}
 use Rattle.value_core.specs.Meaning.{Performs, Computes}

@@ -1,10 +1,27 @@
 -- What a computation with a budget comes to.
-use Rattle.std.specs.Prelude.{◌≡◌, ◌⊎◌, ℕ, ◌+◌, ◌<◌, ◌≤◌}
-use Rattle.value_core.specs.declared.action.Action.TheVariants as action
+use Rattle.std.specs.Prelude.{◌≡◌, ◌⊎◌, ℕ, ◌+◌, ◌<◌, ◌≤◌, List, [], ◌∷◌, ◌++◌}
+use Rattle.orca_base.specs.declared.ids.TextNo.{TextNo}
+use Rattle.orca_base.specs.declared.ids.ProcessNo.{ProcessNo}
+use Rattle.value_core.specs.Datum.{Data}
+use Rattle.value_core.specs.Meaning.{Computes}
+use Rattle.value_core.specs.declared.action.Action.{Action}
+use Rattle.value_core.specs.declared.action.Reply.{Reply}
 use Rattle.value_core.specs.declared.meaning.Doing.{Doing}
 use Rattle.value_core.specs.declared.meaning.Doing.TheVariants as doing
 use Rattle.value_core.specs.declared.processor.Halt.{Halt}
 use Rattle.value_core.specs.declared.processor.Halt.TheVariants as halt
+
+-- what is said of a process, by its text, number, arguments, replies and turns
+abbrev pub Stands : Type 1
+Stands = TextNo → ProcessNo → Data → List Reply → ℕ → Type 0
+
+-- there is a process of which it is said
+abbrev pub ForSome : Stands → Type 0
+ForSome stands = (text : TextNo) × (number : ProcessNo) × (args : Data) × (replies : List Reply) × (turns : ℕ) × stands text number args replies turns
+
+-- P of each process of which it is said
+abbrev pub ForEach : Stands → Stands → Type 0
+ForEach stands P = (text : TextNo) (number : ProcessNo) (args : Data) (replies : List Reply) (turns : ℕ) → stands text number args replies turns → P text number args replies turns
 
 -- the next action is reached after exactly so many turns: with one more it isn't busy, and with these it is
 abbrev pub Reaches : (ℕ → Doing) → ℕ → Doing → Type 0
@@ -16,11 +33,15 @@ abbrev pub Goes : (ℕ → Doing) → (ℕ → Type 0) → ℕ → ℕ → Halt 
 Goes next stands turns budget (halt.At act) = (used : ℕ) × (turns ≤ used) × (used < turns + budget) × Reaches next used (doing.At act) × stands used
 Goes next stands turns budget halt.Paused = (next (turns + budget) ≡ doing.Busy) × stands (turns + budget)
 
--- the process is at an action that is replied: a make, a call or a fork
-abbrev pub HaltedAtReplied : Doing → Type 0
-HaltedAtReplied doing.Busy = ⊥
-HaltedAtReplied (doing.At (action.Make kind object)) = Unit {0}
-HaltedAtReplied (doing.At (action.Call kind op object args)) = Unit {0}
-HaltedAtReplied (doing.At (action.Fork process args place_on)) = Unit {0}
-HaltedAtReplied (doing.At action.Ended) = ⊥
-HaltedAtReplied (doing.At (action.Faulted fault)) = ⊥
+-- what a computation with this budget comes to, for the process that its state stands for
+abbrev pub GoesOn : Computes → Stands → ℕ → Halt → Stands
+GoesOn q stands budget halt text number args replies turns = Goes (q.doing text number args replies) (stands text number args replies) turns budget halt
+
+-- the process has one more reply
+abbrev pub HasReplied : Reply → Stands → Stands
+HasReplied reply stands text number args replies turns = stands text number args (replies ++ reply ∷ []) turns
+
+-- P of the action, where the computation halted at one
+abbrev pub IfAt : Halt → (Action → Type 0) → Type 0
+IfAt (halt.At act) P = P act
+IfAt halt.Paused P = Unit {0}

@@ -11,6 +11,7 @@ use Rattle.orca_base.specs.declared.ids.OpNo.{OpNo}
 use Rattle.orca_base.specs.declared.ids.TextNo.{TextNo}
 use Rattle.orca_base.specs.declared.ids.ProcessNo.{ProcessNo}
 use Rattle.orca_base.specs.declared.ids.ObjectId.{ObjectId}
+use Rattle.orca_base.specs.declared.fault.FaultKind.{FaultKind}
 use Rattle.value_core.specs.Datum.{Datum, Data}
 use Rattle.value_core.specs.Datum as datum
 use Rattle.value_core.specs.declared.action.Instance.{Instance}
@@ -209,3 +210,15 @@ pub record IsStuck (p : Performs) (q : Computes) (lines : List Line) (number : P
   pub waits : q.doing process.text number process.args process.replies most_turns ≡ doing.At (action.Call kind op object args)
   pub has : object_at (objects_of p q lines) object ≡ Some kept
   pub blocked : p.tries kind op kept.state args ≡ tried.Blocked
+
+-- a process has ended at the end of a history
+pub record HasEnded (p : Performs) (q : Computes) (lines : List Line) (number : ProcessNo) : Type 0 where
+  pub process : Process
+  pub exists : slice_get (processes_of p q lines) number.0 ≡ Some process
+  pub ended : q.doing process.text number process.args process.replies most_turns ≡ doing.At action.Ended
+
+-- a process has ended by this fault
+pub record HasFaulted (p : Performs) (q : Computes) (lines : List Line) (number : ProcessNo) (fault : FaultKind) : Type 0 where
+  pub process : Process
+  pub exists : slice_get (processes_of p q lines) number.0 ≡ Some process
+  pub faulted : q.doing process.text number process.args process.replies most_turns ≡ doing.At (action.Faulted fault)

@@ -6,8 +6,11 @@ pub mod Falls
 pub mod Meaning
 pub mod History
 pub mod Order
+pub mod Performable
 pub mod Sound
+pub mod Integers
 pub mod Size
+pub mod Lengths
 pub mod OrderLaws
 pub mod Fits
 pub mod Goes

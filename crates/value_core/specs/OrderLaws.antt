@@ -9,6 +9,7 @@ use Rattle.std.specs.FinMap.{int_cmp-IsAntisymmetric, nat_cmp-IsAntisymmetric, s
 use Rattle.std.specs.Cmp.Derive.{point_total}
 use Rattle.std.specs.Cmp.Lexicographic.{slice_cmp}
 use Rattle.std.proofs.lemmas.Cmp.{on_total, then_total, nat_cmp_total, int_cmp_total, lists_total}
+use Rattle.orca_base.specs.declared.limits.TheConstants.{VALUE_NESTING}
 use Rattle.value_core.specs.Datum.{Datum, Data, list_of}
 use Rattle.value_core.specs.Datum as datum
 use Rattle.value_core.specs.Order.{tag, datum_cmp, data_cmp}
@@ -224,6 +225,6 @@ datum_cmp-exact v w = (datum_exact v w, λ same. ap (datum_cmp v) (sym same) ∙
 pub data_cmp-exact : (vs ws : Data) → (data_cmp vs ws ≡ Equal) ↔ (vs ≡ ws)
 data_cmp-exact vs ws = (data_exact vs ws, λ same. ap (data_cmp vs) (sym same) ∙ tied_itself data_total vs)
 
--- sound values are compared sixteen deep
-pub sound-within : (v w : Datum) → IsSound v → IsSound w → cmp_within 16 v w ≡ datum_cmp v w
-sound-within v w h k = within-datum v w 16 h.shallow k.shallow
+-- sound values are compared as deep as values nest
+pub sound-within : (v w : Datum) → IsSound v → IsSound w → cmp_within VALUE_NESTING v w ≡ datum_cmp v w
+sound-within v w h k = within-datum v w VALUE_NESTING h.shallow k.shallow

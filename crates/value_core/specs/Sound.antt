@@ -1,16 +1,18 @@
 -- Sound values: those that a program has, and that bytes spell (docs/LANGUAGE.md, Values).
-use Rattle.std.specs.Prelude.{◌≡◌, ℕ, ◌+◌, ◌<◌, ◌≤◌, ◌^◌, List, All, length, max}
+use Rattle.std.specs.Prelude.{◌≡◌, ℕ, ◌+◌, ◌<◌, ◌≤◌, ◌^◌, List, All, length, max, IsTrue}
 use Rattle.std.specs.List.Sorted.{IsSorted, IsStrictlySortedBy}
+use Rattle.orca_base.specs.declared.limits.TheConstants.{PARAMETERS, VALUE_NESTING}
 use Rattle.value_core.specs.Datum.{Datum, Data, list_of}
 use Rattle.value_core.specs.Datum as datum
 use Rattle.value_core.specs.Order.{datum_cmp}
+use Rattle.value_core.specs.Performable.{is_performable}
 use Rattle.value_core.specs.View.{datum_of}
 use Rattle.value_core.specs.declared.action.Action.{Action}
 use Rattle.value_core.specs.declared.action.Action.TheVariants as action
 use Rattle.value_core.specs.declared.action.Reply.{Reply}
 use Rattle.value_core.specs.declared.action.Reply.TheVariants as answer
 use Rattle.value_core.specs.declared.action.Line.{Line}
-use Rattle.value_core.specs.declared.action.Message.{Message}
+use Rattle.value_core.specs.declared.message.Message.{Message}
 
 -- how deep a value nests: one deep where it has no parts, and else one deeper than its parts
 abbrev mutual
@@ -56,32 +58,29 @@ abbrev mutual
   AreWellFormed datum.none = Unit {0}
   AreWellFormed (datum.more v w) = IsWellFormed v × AreWellFormed w
 
--- a well formed value that nests at most 16 deep
+-- a well formed value that nests at most so deep as values may
 pub record IsSound (v : Datum) : Type 0 where
   pub well_formed : IsWellFormed v
-  pub shallow : nesting v ≤ 16
+  pub shallow : nesting v ≤ VALUE_NESTING
 
 -- a list of sound values
 pub record AreSound (vs : Data) : Type 0 where
   pub well_formed : AreWellFormed vs
-  pub shallow : nesting_of_all vs ≤ 16
+  pub shallow : nesting_of_all vs ≤ VALUE_NESTING
   pub short : IsShort (list_of vs)
 
--- an action whose arguments are sound, and at most 255
+-- sound values, as many as one call may have as arguments
+pub record AreSoundArguments (args : Data) : Type 0 where
+  pub values : AreSound args
+  pub few : length (list_of args) ≤ PARAMETERS
+
+-- an action whose arguments are sound
 abbrev pub IsSoundAction : Action → Type 0
 IsSoundAction (action.Make kind object) = Unit {0}
-IsSoundAction (action.Call kind op object args) = AreSound args × (length (list_of args) ≤ 255)
-IsSoundAction (action.Fork process args place_on) = AreSound args × (length (list_of args) ≤ 255)
+IsSoundAction (action.Call kind op object args) = AreSoundArguments args
+IsSoundAction (action.Fork process args place_on) = AreSoundArguments args
 IsSoundAction action.Ended = Unit {0}
 IsSoundAction (action.Faulted fault) = Unit {0}
-
--- an action that a line can have: a make, a call or a fork
-abbrev pub IsPerformable : Action → Type 0
-IsPerformable (action.Make kind object) = Unit {0}
-IsPerformable (action.Call kind op object args) = Unit {0}
-IsPerformable (action.Fork process args place_on) = Unit {0}
-IsPerformable action.Ended = ⊥
-IsPerformable (action.Faulted fault) = ⊥
 
 abbrev pub IsSoundReply : Reply → Type 0
 IsSoundReply answer.Done = Unit {0}
@@ -98,9 +97,10 @@ IsGuardOf (action.Faulted fault) guard = guard ≡ 0
 
 pub record IsSoundMessage (message : Message) : Type 0 where
   pub action : IsSoundAction message.action
+  pub performable : IsTrue (is_performable message.action)
 
 pub record IsSoundLine (line : Line) : Type 0 where
   pub action : IsSoundAction line.action
-  pub performable : IsPerformable line.action
+  pub performable : IsTrue (is_performable line.action)
   pub guard : IsGuardOf line.action line.guard
   pub reply : IsSoundReply line.reply

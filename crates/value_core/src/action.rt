@@ -1,6 +1,7 @@
 //! Actions, replies, and the lines of a history.
 
 ghost use Rattle.std.specs.Prelude.{◌≡◌, ◌↔◌, IfOk, IsTrue};
+ghost use Rattle.value_core.specs.Lengths.{action_length, answer_length, told_length};
 
 use crate::value::{ObjectState, Parts, Value};
 use orca_base::{CallNo, FaultKind, KindNo, NoMemory, ObjectId, OpNo, ProcessNo, TextNo};
@@ -51,14 +52,6 @@ pub enum Reply {
     Gave { value: Value },
     /// It faulted, and left every object as it was.
     Broke { fault: FaultKind },
-}
-
-/// An action that the group orders: a make, a call or a fork.
-#[derive(Debug, Drop, PartialEq, Eq)]
-pub struct Message {
-    pub process: ProcessNo,
-    pub call: CallNo,
-    pub action: Action,
 }
 
 /// A performed operation: who did it, as the how manyeth of its lines, by which guard, and what it was answered.
@@ -165,7 +158,35 @@ impl Action {
     }
 }
 
+impl Action {
+    /// How many bytes spell the action in a message, or `u32::MAX` where there are more.
+    pub(crate) fn byte_length(&self) -> u32
+        ensures { result ≡ told_length (action_length self.now) }
+    {
+        match self {
+            Action::Make { .. } => 9,
+            Action::Call { args, .. } => args.byte_length().saturating_add(12),
+            Action::Fork { args, place_on, .. } => {
+                let place = if place_on.is_some() { 9 } else { 1 };
+                args.byte_length().saturating_add(place + 4)
+            }
+            Action::Ended | Action::Faulted { .. } => 0,
+        }
+    }
+}
+
 impl Reply {
+    /// How many bytes spell the reply, or `u32::MAX` where there are more.
+    pub fn byte_length(&self) -> u32
+        ensures { result ≡ told_length (answer_length self.now) }
+    {
+        match self {
+            Reply::Done => 1,
+            Reply::Gave { value } => value.byte_length().saturating_add(1),
+            Reply::Broke { .. } => 2,
+        }
+    }
+
     /// An equal reply.
     pub fn copy(&self, alloc: Global) -> Result<Reply, NoMemory>
         ensures { IfOk result (λ r. r ≡ self.now) }
@@ -189,26 +210,6 @@ impl Reply {
             (Reply::Broke { fault }, Reply::Broke { fault: other_fault }) => fault == other_fault,
             _ => false,
         }
-    }
-}
-
-impl Message {
-    /// An equal message.
-    pub fn copy(&self, alloc: Global) -> Result<Message, NoMemory>
-        ensures { IfOk result (λ m. m ≡ self.now) }
-    {
-        Ok(Message {
-            process: self.process,
-            call: self.call,
-            action: self.action.copy(alloc)?,
-        })
-    }
-
-    /// Whether both messages are the same.
-    pub fn is(&self, other: &Message) -> bool
-        ensures { IsTrue result ↔ (self.now ≡ other.now) }
-    {
-        self.process == other.process && self.call == other.call && self.action.is(&other.action)
     }
 }
 

@@ -9,17 +9,20 @@ use std::alloc::Global;
 /// What performs a program's operations. Its member `performs` is what they mean; contracts above speak of that alone.
 ///
 /// The numbers of object types and operations are the program's. Three predicates say what fits, over the types of the
-/// objects that exist; more objects leave fitting what fits.
+/// objects that exist; more objects leave fitting what fits, and what fits is sound.
 pub trait Performer {
     ghost use Rattle.std.specs.Prelude.{◌≡◌, IfOk};
     ghost use Rattle.orca_base.specs.declared.ids.KindNo.{KindNo};
     ghost use Rattle.orca_base.specs.declared.ids.OpNo.{OpNo};
     ghost use Rattle.orca_base.specs.declared.ids.TextNo.{TextNo};
+    ghost use Rattle.value_core.specs.Datum as datum;
     ghost use Rattle.value_core.specs.Datum.{Data};
     ghost use Rattle.value_core.specs.declared.action.Class.TheVariants.{Reads};
     ghost use Rattle.value_core.specs.declared.action.Reply.{Reply};
     ghost use Rattle.value_core.specs.Meaning.{Performs};
     ghost use Rattle.value_core.specs.Fits.{Kinds, ExtendsKinds, IfMade, KeepsState, RepliesWell};
+    ghost use Rattle.value_core.specs.History.{output_kind};
+    ghost use Rattle.value_core.specs.Sound.{AreSound, AreSoundArguments, IsSoundReply};
 
     /// What the program's operations mean.
     ghost performs: { Self → Performs };
@@ -56,6 +59,9 @@ pub trait Performer {
         requires { (kinds : Kinds) × fits_state self.now kinds kind state.now × fits_args self.now kinds kind op args.now }
         ensures { IfOk result (λ tried. tried ≡ (performs self.now).tries kind op state.now args.now) };
 
+    /// The output object has no fields, and so its state fits.
+    ghost output_fits: { (m : Self) (kinds : Kinds) → fits_state m kinds output_kind datum.none };
+
     /// A made state fits.
     ghost made_fits: { (m : Self) (kinds : Kinds) (kind : KindNo) → IfMade ((performs m).made kind) (fits_state m kinds kind) };
 
@@ -74,4 +80,13 @@ pub trait Performer {
     ghost args_stay_fit: { (m : Self) (kinds more : Kinds) (kind : KindNo) (op : OpNo) (args : Data) → ExtendsKinds kinds more → fits_args m kinds kind op args → fits_args m more kind op args };
 
     ghost text_stays_fit: { (m : Self) (kinds more : Kinds) (text : TextNo) (args : Data) → ExtendsKinds kinds more → fits_text m kinds text args → fits_text m more text args };
+
+    /// What fits is sound: a program has no other values, and bytes spell these.
+    ghost state_sound: { (m : Self) (kinds : Kinds) (kind : KindNo) (state : Data) → fits_state m kinds kind state → AreSound state };
+
+    ghost args_sound: { (m : Self) (kinds : Kinds) (kind : KindNo) (op : OpNo) (args : Data) → fits_args m kinds kind op args → AreSoundArguments args };
+
+    ghost text_sound: { (m : Self) (kinds : Kinds) (text : TextNo) (args : Data) → fits_text m kinds text args → AreSoundArguments args };
+
+    ghost reply_sound: { (m : Self) (kind : KindNo) (op : OpNo) (reply : Reply) → fits_reply m kind op reply → IsSoundReply reply };
 }

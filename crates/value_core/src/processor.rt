@@ -23,12 +23,14 @@ pub trait Processor: Performer {
     ghost use Rattle.orca_base.specs.declared.ids.ProcessNo.{ProcessNo};
     ghost use Rattle.value_core.specs.Datum as datum;
     ghost use Rattle.value_core.specs.Datum.{Data};
+    ghost use Rattle.value_core.specs.declared.action.Action.{Action};
     ghost use Rattle.value_core.specs.declared.action.Reply.{Reply};
-    ghost use Rattle.value_core.specs.declared.meaning.Doing.TheVariants.{Busy};
+    ghost use Rattle.value_core.specs.declared.meaning.Doing.TheVariants.{At, Busy};
     ghost use Rattle.value_core.specs.Meaning.{Computes};
     ghost use Rattle.value_core.specs.Fits.{Kinds};
-    ghost use Rattle.value_core.specs.Goes.{Goes, HaltedAtReplied};
-    ghost use Rattle.value_core.specs.Lawful.{RepliesFit, IsLawful};
+    ghost use Rattle.value_core.specs.Goes.{ForEach, ForSome, GoesOn, HasReplied, IfAt};
+    ghost use Rattle.value_core.specs.History.{most_turns};
+    ghost use Rattle.value_core.specs.Lawful.{FitsAction, RepliesFit, IsLawful};
 
     type State: Drop;
 
@@ -37,6 +39,9 @@ pub trait Processor: Performer {
 
     /// A state stands for a text, number, arguments, replies and turns.
     ghost stands: { Self → Self.State → TextNo → ProcessNo → Data → List Reply → ℕ → Type 0 };
+
+    /// A state is left at this action by `go`, and takes one reply to it without memory.
+    ghost halted: { Self → Self.State → Action → Type 0 };
 
     /// The text `OrcaMain`.
     fn main_text(&self) -> TextNo
@@ -53,7 +58,8 @@ pub trait Processor: Performer {
         requires { (kinds : Kinds) × Self.fits_text self.now kinds process args.now }
         ensures { IfOk result (λ s. stands self.now s process number args.now [] 0) };
 
-    /// Computes up to the next action, or until the budget's last turn is begun.
+    /// Computes up to the next action, or until the budget's last turn is begun. Where it comes to an action, the state is
+    /// left at it.
     fn go(
         &self,
         alloc: Global,
@@ -61,23 +67,25 @@ pub trait Processor: Performer {
         budget: u32,
     ) -> Result<(Self::State, Halt), NoMemory>
         requires some { 1 ≤ budget }
-        requires room { (text : TextNo) (number : ProcessNo) (args : Data) (replies : List Reply) (turns : ℕ) → stands self.now state text number args replies turns → turns + budget ≤ 10000000 }
-        ensures { IfOk result (λ r. (text : TextNo) (number : ProcessNo) (args : Data) (replies : List Reply) (turns : ℕ) → stands self.now state text number args replies turns → Goes ((computes self.now).doing text number args replies) (stands self.now r.0 text number args replies) turns budget r.1) };
+        requires room { ForEach (stands self.now state) (λ text number args replies turns. turns + budget ≤ most_turns) }
+        ensures goes { IfOk result (λ r. ForEach (stands self.now state) (GoesOn (computes self.now) (stands self.now r.0) budget r.1)) }
+        ensures left { IfOk result (λ r. IfAt r.1 (halted self.now r.0)) };
 
-    /// The process receives the reply to the action at which it halted.
+    /// The process receives the reply to the action at which `go` left it. It takes no memory.
     fn reply(&self, state: Self::State, reply: Reply) -> Self::State
-        requires { (text : TextNo) × (number : ProcessNo) × (args : Data) × (replies : List Reply) × (turns : ℕ) × stands self.now state text number args replies turns × HaltedAtReplied ((computes self.now).doing text number args replies (turns + 1)) }
-        ensures { (text : TextNo) (number : ProcessNo) (args : Data) (replies : List Reply) (turns : ℕ) → stands self.now state text number args replies turns → stands self.now result text number args (replies ++ reply ∷ []) turns };
+        requires stands { ForSome (stands self.now state) }
+        requires fits { (action : Action) × halted self.now state action × FitsAction (Self.fits_reply self.now) (At action) reply }
+        ensures { ForEach (stands self.now state) (HasReplied reply (stands self.now result)) };
 
     /// The turns that the process took.
     fn turns(&self, state: &Self::State) -> u64
-        ensures { (text : TextNo) (number : ProcessNo) (args : Data) (replies : List Reply) (turns : ℕ) → stands self.now state.now text number args replies turns → result ≡ turns };
+        ensures { ForEach (stands self.now state.now) (λ text number args replies turns. result ≡ turns) };
 
     /// Whether two states are equal.
     fn same(one: &Self::State, other: &Self::State) -> bool
         ensures { IsTrue result ↔ (one.now ≡ other.now) };
 
-    /// An equal state.
+    /// An equal state, left at the same action where this one is left at one.
     fn copy(&self, alloc: Global, state: &Self::State) -> Result<Self::State, NoMemory>
         ensures { IfOk result (λ s. s ≡ state.now) };
 

@@ -5,6 +5,7 @@ ghost use Rattle.std.specs.Option.{option_copied};
 ghost use Rattle.value_core.specs.Datum.{list_of};
 ghost use Rattle.value_core.specs.View.{datum_of};
 ghost use Rattle.value_core.specs.Order.{tag, datum_cmp, data_cmp};
+ghost use Rattle.value_core.specs.Lengths.{told_length, value_length, values_length};
 
 use orca_base::{NoMemory, ObjectId, Text};
 use std::alloc::Global;
@@ -178,6 +179,18 @@ impl Parts {
         Ok(Parts { items })
     }
 
+    /// How many bytes spell the values one after the other, or `u32::MAX` where there are more.
+    #[cycle(lengths)]
+    pub fn byte_length(&self) -> u32
+        ensures { result ≡ told_length (values_length self.now) }
+    {
+        let mut length = 0u32;
+        for value in &self.items {
+            length = length.saturating_add(value.byte_length());
+        }
+        length
+    }
+
     /// The order of lists of values: by values from the left, a prefix first.
     #[cycle(compares)]
     pub fn compare(&self, other: &Parts) -> Ordering
@@ -223,6 +236,23 @@ impl Value {
         }
     }
 
+    /// How many bytes spell the value, or `u32::MAX` where there are more.
+    #[cycle(lengths)]
+    pub fn byte_length(&self) -> u32
+        ensures { result ≡ told_length (value_length (datum_of self.now)) }
+    {
+        match self {
+            Value::Int(_) => 9,
+            Value::Truth(_) | Value::Char(_) => 2,
+            Value::Enum(_) => 3,
+            Value::Text(text) => told(text.as_bytes().len()).saturating_add(5),
+            Value::Array(parts) | Value::Fields(parts) | Value::Set(parts) | Value::Bag(parts) => {
+                parts.byte_length().saturating_add(5)
+            }
+            Value::Object(_) => 7,
+        }
+    }
+
     /// The order of values. Values of one type are ordered as docs/LANGUAGE.md, Values, says; values of two kinds by the
     /// order of the variants.
     #[cycle(compares)]
@@ -251,7 +281,7 @@ impl Value {
         self.compare(other).is_eq()
     }
 
-    /// The place of the variant, from 1.
+    // The place of the variant, from 1.
     fn tag(&self) -> u8
         ensures { result ≡ tag (datum_of self.now) }
     {
@@ -267,5 +297,16 @@ impl Value {
             Value::Bag(_) => 9,
             Value::Object(_) => 10,
         }
+    }
+}
+
+// A length, or `u32::MAX` where it is greater.
+fn told(length: usize) -> u32
+    ensures { result ≡ told_length length }
+{
+    if length > u32::MAX as usize {
+        u32::MAX
+    } else {
+        length as u32
     }
 }

@@ -22,10 +22,11 @@ returns-then-branch-clause-only c = λ q reads.
     sym (same_program c.args.text.now c.deref.result.now c.in_ok-program.program c.in_ok-program.rest.now (c.deref.ensures.value ∙ c.in_ok-tokens.ensures) c.in_ok-program.ensures q reads).0
 
 pub returns-clause-is : goal.returns-clause-is
-returns-clause-is c = λ q reads.
+returns-clause-is c =
+    rw c.refuse.ensures (λ q reads.
     let same = same_program c.args.text.now c.deref.result.now c.in_ok-program.program c.in_ok-program.rest.now (c.deref.ensures.value ∙ c.in_ok-tokens.ensures) c.in_ok-program.ensures q reads in
     let scoped = subst IsScoped (sym same.0) reads.scope in
     elim c.else-is_empty.branch [
       | else-is_empty-via-then-is_empty+in_ok-is_scoped+else-branch w ↦ true≢false (sym (w.in_ok-is_scoped.ensures.1 scoped) ∙ w.if-branch.false)
       | else-is_empty-via-else-is_empty w ↦ not_empty _ w.if-is_empty.ensures same.1
-    ]
+    ])
