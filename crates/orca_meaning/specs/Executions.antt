@@ -7,7 +7,7 @@ use Rattle.orca_base.specs.declared.ids.ProcessNo.{ProcessNo}
 use Rattle.small_program.specs.declared.tree.SmallProgram.{SmallProgram}
 use Rattle.value_core.specs.Datum.{Data}
 use Rattle.value_core.specs.Datum as datum
-use Rattle.value_core.specs.History.{Configuration, Legal, Objects, after_lines, opening, output_kind, output_object, replies_of}
+use Rattle.value_core.specs.History.{Configuration, HasEnded as ProcessHasEnded, Legal, Objects, after_lines, opening, output_kind, output_object}
 use Rattle.value_core.specs.Lawful.{RepliesFit}
 use Rattle.value_core.specs.declared.action.Action.{Action}
 use Rattle.value_core.specs.declared.action.Action.TheVariants as action
@@ -18,9 +18,8 @@ use Rattle.value_core.specs.declared.meaning.Making.{Making}
 use Rattle.value_core.specs.declared.meaning.Making.TheVariants as making
 use Rattle.value_core.specs.declared.meaning.Tried.{Tried}
 use Rattle.value_core.specs.declared.meaning.Tried.TheVariants as tried
-use Rattle.value_core.specs.declared.meaning.Doing.TheVariants as doing
 use Rattle.orca_meaning.specs.Operations.{making_of, tries_of}
-use Rattle.orca_meaning.specs.Processes.{doing_of, first_object, small_kind}
+use Rattle.orca_meaning.specs.Processes.{first_object, small_kind}
 use Rattle.orca_meaning.specs.Program.{performs_of, computes_of}
 use Rattle.orca_meaning.specs.Fitting.{FitsArgs, FitsReply, FitsState}
 use Rattle.orca_meaning.specs.Stages.{Stands}
@@ -99,4 +98,4 @@ pub record Follows (program : SmallProgram) (e : Execution) (lines : List Line) 
 
 -- the process has ended after these lines
 abbrev pub HasEnded : SmallProgram → List Line → Type 0
-HasEnded program lines = doing_of program main_process (replies_of (performs_of program) (computes_of program) lines 0) ≡ doing.At action.Ended
+HasEnded program lines = ProcessHasEnded (performs_of program) (computes_of program) lines main_process
