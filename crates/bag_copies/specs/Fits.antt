@@ -1,4 +1,4 @@
--- What fits under the performer of pools and flags, every state and every argument, and why a call is refused.
+-- What fits copies of pools and flags, and why an entry or a read is refused.
 use Rattle.std.specs.Prelude.{◌≡◌, ◌-◌, ◌^◌, Some}
 use Rattle.orca_base.specs.declared.ids.KindNo.{KindNo}
 use Rattle.orca_base.specs.declared.ids.OpNo.{OpNo}
@@ -13,18 +13,21 @@ use Rattle.object_manager.specs.Applies.{Applies, CopiesFit}
 use Rattle.object_manager.specs.Limits.{IfLimit, IsTooMany}
 use Rattle.object_manager.specs.declared.copies.ApplyError.TheVariants as apply
 use Rattle.bag_performer.specs.Bags.{bag_performs}
+use Rattle.bag_performer.specs.Fitting.{FitsArgs, FitsState}
+use Rattle.guard_queue.specs.Settles.{AllBlocked}
 use Rattle.bag_copies.specs.declared.entries.Refused.{Refused}
 use Rattle.bag_copies.specs.declared.entries.Refused.TheVariants as refused
 
-abbrev pub AnyState : Kinds → KindNo → Data → Type 0
-AnyState kinds kind state = Unit {0}
+-- what fits, whatever objects there are
+abbrev pub BagState : Kinds → KindNo → Data → Type 0
+BagState kinds = FitsState
 
-abbrev pub AnyArgs : Kinds → KindNo → OpNo → Data → Type 0
-AnyArgs kinds kind op args = Unit {0}
+abbrev pub BagArgs : Kinds → KindNo → OpNo → Data → Type 0
+BagArgs kinds = FitsArgs
 
--- what is left: each suspended call's object exists, by its type
+-- all fits, and each suspended call is blocked
 abbrev pub FitsAll : Copied → Type 0
-FitsAll c = CopiesFit AnyState AnyArgs c
+FitsAll c = CopiesFit BagState BagArgs c × AllBlocked bag_performs c.objects c.queue
 
 -- the object exists, by this type
 abbrev pub HasObject : Objects → KindNo → ObjectId → Type 0
@@ -32,12 +35,12 @@ HasObject objects kind object = (kept : Instance) × (object_at objects object �
 
 -- why an entry with this action wasn't applied; a limit is exactly where it is reached
 abbrev pub IsEntryRefusal : Copied → Action → Refused → Type 0
-IsEntryRefusal c action refused.Object = Applies AnyArgs c action → ⊥
+IsEntryRefusal c action refused.Object = Applies BagArgs c action → ⊥
 IsEntryRefusal c action refused.Entries = c.applied ≡ 2 ^ 64 - 1
 IsEntryRefusal c action (refused.Copies why) = IfLimit why (IsTooMany bag_performs c action)
 
 -- why an operation wasn't tried
-abbrev pub IsReadRefusal : Objects → KindNo → ObjectId → Refused → Type 0
-IsReadRefusal objects kind object refused.Object = HasObject objects kind object → ⊥
-IsReadRefusal objects kind object refused.Entries = ⊥
-IsReadRefusal objects kind object (refused.Copies why) = why ≡ apply.NoMemory
+abbrev pub IsReadRefusal : Objects → KindNo → OpNo → ObjectId → Data → Refused → Type 0
+IsReadRefusal objects kind op object args refused.Object = HasObject objects kind object → FitsArgs kind op args → ⊥
+IsReadRefusal objects kind op object args refused.Entries = ⊥
+IsReadRefusal objects kind op object args (refused.Copies why) = why ≡ apply.NoMemory

@@ -1,18 +1,20 @@
 //! Entries and reads on copies of pools and flags.
 
 ghost use Rattle.std.specs.Prelude.{◌≡◌, ◌<◌, ◌^◌, ◌-◌, ◌↔◌, IfOk, IfErr, OnOk, OnErr, IsTrue};
+ghost use Rattle.bag_performer.specs.Fitting.{FitsArgs};
 ghost use Rattle.guard_queue.specs.Fitting.{OperationFits, kinds_of};
 ghost use Rattle.guard_queue.specs.Settles.{lines_of, tried_on};
 ghost use Rattle.object_manager.specs.After.{after, lines_after, opening_copies};
 ghost use Rattle.object_manager.specs.Applies.{Applies};
+ghost use Rattle.object_manager.specs.Viewed.{StatesFit};
 ghost use Rattle.bag_performer.specs.Bags.{bag_performs};
 ghost use Rattle.object_manager.specs.declared.copies.ApplyError.TheVariants.{NoMemory as Without};
 ghost use Rattle.bag_copies.specs.declared.entries.Refused.TheVariants.{Copies as OfCopies};
-ghost use Rattle.bag_copies.specs.Fits.{AnyArgs, FitsAll, HasObject, IsEntryRefusal, IsReadRefusal};
+ghost use Rattle.bag_copies.specs.Fits.{BagArgs, BagState, FitsAll, HasObject, IsEntryRefusal, IsReadRefusal};
 
 use bag_performer::Bags;
 use guard_queue::{Answered, Objects};
-use object_manager::{ApplyError, Copies, View};
+use object_manager::{ApplyError, Copies, View, copies_law};
 use orca_base::{CallNo, KindNo, NoMemory, ObjectId, OpNo, ProcessNo, TextNo};
 use std::alloc::Global;
 use value_core::{Action, Message, Parts, Tried, Value};
@@ -20,7 +22,7 @@ use value_core::{Action, Message, Parts, Tried, Value};
 /// Why an entry or a read wasn't done.
 #[derive(Clone, Copy, Debug, PartialEq, Eq)]
 pub enum Refused {
-    /// A call's object doesn't exist by this type, or a make's object exists.
+    /// A call's object doesn't exist by this type, or its arguments don't fit the operation, or a make's object exists.
     Object,
     /// No more entries can be counted.
     Entries,
@@ -51,6 +53,7 @@ pub fn opened(alloc: Global) -> Result<Copies, NoMemory>
     ensures copies { IfOk result (λ c. c ≡ opening_copies) }
     ensures fits { IfOk result FitsAll }
 {
+    copies_law(&Bags);
     Ok(Copies::opening(alloc)?)
 }
 
@@ -85,10 +88,11 @@ pub fn read(
     object: ObjectId,
     args: &Parts,
 ) -> Result<Tried, Refused>
+    requires { FitsAll copies.now }
     ensures tried { IfOk result (λ t. t ≡ tried_on bag_performs copies.now.objects kind op object args.now) }
-    ensures refused { IfErr result (IsReadRefusal copies.now.objects kind object) }
+    ensures refused { IfErr result (IsReadRefusal copies.now.objects kind op object args.now) }
 {
-    if !has(copies.objects(), kind, object) {
+    if !has(copies.objects(), kind, object) || !Bags::fits(kind, op, args) {
         return Err(Refused::Object);
     }
     Ok(copies.read(alloc, &Bags, kind, op, object, args)?)
@@ -103,10 +107,11 @@ pub fn read_view(
     object: ObjectId,
     args: &Parts,
 ) -> Result<Tried, Refused>
+    requires { StatesFit BagState view.now.objects }
     ensures tried { IfOk result (λ t. t ≡ tried_on bag_performs view.now.objects kind op object args.now) }
-    ensures refused { IfErr result (IsReadRefusal view.now.objects kind object) }
+    ensures refused { IfErr result (IsReadRefusal view.now.objects kind op object args.now) }
 {
-    if !has(view.objects(), kind, object) {
+    if !has(view.objects(), kind, object) || !Bags::fits(kind, op, args) {
         return Err(Refused::Object);
     }
     Ok(view.read(alloc, &Bags, kind, op, object, args)?)
@@ -168,19 +173,24 @@ pub fn fork(
     })
 }
 
-/// Whether an entry with this action may be applied.
+// Whether an entry with this action may be applied.
 fn applies(copies: &Copies, action: &Action) -> bool
-    ensures { IsTrue result ↔ Applies AnyArgs copies.now action.now }
+    ensures { IsTrue result ↔ Applies BagArgs copies.now action.now }
 {
     match action {
         Action::Make { object, .. } => copies.objects().get(*object).is_none(),
-        Action::Call { kind, object, .. } => has(copies.objects(), *kind, *object),
+        Action::Call {
+            kind,
+            op,
+            object,
+            args,
+        } => has(copies.objects(), *kind, *object) && Bags::fits(*kind, *op, args),
         Action::Fork { .. } | Action::Ended | Action::Faulted { .. } => true,
     }
 }
 
-/// Whether the object exists, by this type.
-pub(crate) fn has(objects: &Objects, kind: KindNo, object: ObjectId) -> bool
+// Whether the object exists, by this type.
+fn has(objects: &Objects, kind: KindNo, object: ObjectId) -> bool
     ensures { IsTrue result ↔ HasObject objects.now kind object }
 {
     match objects.get(object) {

@@ -57,8 +57,8 @@ pub fn wait_many(alloc: Global, copies: &mut Copies, count: u16, wanted: i64) ->
     Ok(())
 }
 
-/// Assigns to so many flags in turn, so many times in all. With `views` a snapshot is taken after each entry, and kept until
-/// the next one. The answer is how many lines ran.
+/// Assigns to so many flags in turn, from the second on, so many times in all. With `views` a snapshot is taken after each
+/// entry, and kept until the next one. The answer is how many lines ran.
 pub fn set_many(
     alloc: Global,
     copies: &mut Copies,
@@ -73,7 +73,7 @@ pub fn set_many(
     let mut lines = 0u64;
     let mut kept: Option<View> = None;
     for number in 0..count {
-        let id = object((number % flags).wrapping_add(1));
+        let id = object((number % flags).wrapping_add(2));
         let operation = (Bags::FLAG, Bags::SET);
         let message = call(
             alloc,
@@ -85,7 +85,7 @@ pub fn set_many(
         )?;
         lines = lines.wrapping_add(entry(alloc, copies, &message)?.len() as u64);
         if views {
-            kept = Some(copies.view()?);
+            kept = Some(copies.view(alloc)?);
         }
     }
     drop(kept);

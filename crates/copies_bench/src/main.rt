@@ -1,8 +1,8 @@
 //! Applies many entries to one member's copies, for `bench/copies`, which takes the time.
 //!
-//! The words are four numbers: how many entries assign in turn, over how many flags, whether a snapshot is taken at each (1) or
-//! none (0), and how many suspended calls wait while they run. It prints how many lines ran, how many calls are suspended then,
-//! and how many lines one more entry has, which lets them go on.
+//! The words are four numbers: how many entries assign in turn, among how many flags, whether a snapshot is taken at each (1) or
+//! none (0), and how many suspended calls wait while they run, all for the first flag, to which none of them assigns. It prints how
+//! many lines ran, how many calls are suspended then, and how many lines one more entry has, which lets them go on.
 #![tactic(auto)]
 
 use bag_copies::{Refused, make_flags, opened, release, set_many, wait_many};
@@ -58,7 +58,10 @@ fn run(rt: &HostRuntime, alloc: Global) -> Result<(), Failed> {
         return Err(Failed::Words);
     };
     let flags = number(flags)?;
-    if flags == 0 {
+    let Some(others) = flags.checked_sub(1) else {
+        return Err(Failed::Words);
+    };
+    if others == 0 {
         return Err(Failed::Words);
     }
     let waiting = u16::try_from(number(waiting)?).map_err(|_| Failed::Words)?;
@@ -69,7 +72,7 @@ fn run(rt: &HostRuntime, alloc: Global) -> Result<(), Failed> {
         alloc,
         &mut copies,
         number(entries)?,
-        flags,
+        others,
         number(views)? == 1,
     )?;
     let still = (0..waiting)

@@ -3,13 +3,15 @@ use Rattle.std.specs.Prelude.{◌≡◌, List, [], ◌∷◌, ◌++◌, Vec}
 use Rattle.std.specs.declared.alloc.Global.{Global}
 use Rattle.orca_base.specs.declared.ids.KindNo.{KindNo}
 use Rattle.orca_base.specs.declared.ids.OpNo.{OpNo}
+use Rattle.orca_base.specs.declared.ids.ObjectId.{ObjectId}
 use Rattle.value_core.specs.Datum.{Data}
+use Rattle.value_core.specs.declared.action.Instance.{Instance}
 use Rattle.value_core.specs.Fits.{Kinds}
 use Rattle.value_core.specs.Meaning.{Performs}
 use Rattle.value_core.specs.History.{Objects, with_object}
 use Rattle.value_core.specs.declared.meaning.Tried.TheVariants as tried
 use Rattle.guard_queue.specs.Fitting.{AllFit}
-use Rattle.guard_queue.specs.Settles.{Settling, behind, lines_of, settled, tried_in}
+use Rattle.guard_queue.specs.Settles.{Settling, behind, lines_of, settled, settled_from, stands, tried_in}
 use Rattle.guard_queue.specs.declared.settling.Answered.{Answered}
 use Rattle.guard_queue.specs.declared.queue.Suspended.{Suspended}
 use Rattle.guard_queue.specs.declared.change.Change.{Change}
@@ -38,5 +40,9 @@ JoinsBlocked p objects (change.Puts object kept) = Unit {0}
 JoinsBlocked p objects (change.Joins call) = tried_in p objects call ≡ tried.Blocked
 
 -- a change is made and the queue settles, with these lines in front
-abbrev pub settled_by : Performs → Objects → List Suspended → Change → Vec Answered Global → Settling
-settled_by p objects queue change lines = behind (lines_of lines.items) (settled p (objects_changed objects change) (queue_changed queue change))
+abbrev pub outcome : Performs → Objects → List Suspended → Change → Vec Answered Global → Settling
+outcome p objects queue change lines = behind (lines_of lines.items) (settled p (objects_changed objects change) (queue_changed queue change))
+
+-- an object is put in and the queue settles, with these lines in front
+abbrev pub after_put : Performs → Objects → ObjectId → Instance → List Suspended → Vec Answered Global → Settling
+after_put p objects object kept queue lines = settled_from p (stands (with_object objects object kept) queue lines)

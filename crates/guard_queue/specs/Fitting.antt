@@ -45,3 +45,7 @@ pub record CanTry (fits_state : Kinds → KindNo → Data → Type 0) (fits_args
   pub kinds : Kinds
   pub state : (kept : Instance) → object_at objects object ≡ Some kept → fits_state kinds kind kept.state
   pub args : fits_args kinds kind op given
+
+-- that, of a suspended call
+abbrev pub CanTryCall : (Kinds → KindNo → Data → Type 0) → (Kinds → KindNo → OpNo → Data → Type 0) → Objects → Suspended → Type 0
+CanTryCall fits_state fits_args objects call = CanTry fits_state fits_args objects call.kind call.op call.object call.args

@@ -1,5 +1,5 @@
 -- What objects show that are kept as a shared map and the writes since.
-use Rattle.std.specs.Prelude.{T, List, [], ◌∷◌, Option, None, Some, cond, map}
+use Rattle.std.specs.Prelude.{◌≡◌, IsTrue, is_some, T, List, [], ◌∷◌, Option, None, Some, cond, map}
 use Rattle.std.specs.Arc.{arc_value}
 use Rattle.std.specs.BTreeMap.{BTreeMap, is_at}
 use Rattle.std.specs.FinMap.Entries.{is_sorted}
@@ -7,12 +7,16 @@ use Rattle.std.specs.declared.alloc.Global.{Global}
 use Rattle.std.specs.declared.sync.Arc.{Arc}
 use Rattle.orca_base.specs.declared.ids.ObjectId.{ObjectId}
 use Rattle.value_core.specs.declared.action.Instance.{Instance}
-use Rattle.value_core.specs.History.{Objects, object_cmp, with_object}
+use Rattle.value_core.specs.History.{Objects, object_at, object_cmp, with_object}
 use Rattle.guard_queue.specs.declared.objects.Write.{Write}
 
 -- the ids rise, so that there is one object for an id
 abbrev pub Rises : Objects → Type 0
 Rises objects = T (is_sorted object_cmp objects)
+
+-- each object of the other's is the same in one
+abbrev pub HasAll : Objects → Objects → Type 0
+HasAll one other = (id : ObjectId) → IsTrue (is_some (object_at other id)) → object_at one id ≡ object_at other id
 
 -- the objects after writes, the first one first
 abbrev pub with_all : Objects → Objects → Objects

@@ -1,10 +1,10 @@
 //! Objects by their ids.
 
-ghost use Rattle.std.specs.Prelude.{◌≡◌, ◌<◌, ◌≤◌, ◌+◌, ◌↔◌, ◌++◌, ◌∷◌, [], IfOk, IfSome, IsTrue, OnOk, OnErr, false, if◌then◌else◌, is_some, length};
+ghost use Rattle.std.specs.Prelude.{◌≡◌, ◌<◌, ◌≤◌, ◌+◌, ◌↔◌, [], IfOk, IsTrue, OnOk, OnErr, false, if◌then◌else◌, is_some, length};
 ghost use Rattle.std.specs.Option.{option_copied};
 ghost use Rattle.std.specs.Arc.{arc_value};
 ghost use Rattle.value_core.specs.History.{object_at, with_object};
-ghost use Rattle.guard_queue.specs.Shown.{Rises, shown, shown_objects, written, written_at, written_objects};
+ghost use Rattle.guard_queue.specs.Shown.{HasAll, Rises, shown, shown_objects, written, written_at, written_objects};
 
 use orca_base::{NoMemory, ObjectId};
 use std::alloc::Global;
@@ -150,7 +150,7 @@ impl Objects {
 
     // Whether each object of the other's is the same here.
     fn has_all(&self, other: &Objects) -> bool
-        ensures yes { IsTrue result → (id : ObjectId) → IsTrue (is_some (object_at other.now id)) → object_at self.now id ≡ object_at other.now id }
+        ensures yes { IsTrue result → HasAll self.now other.now }
         ensures no { result ≡ false → self.now ≡ other.now → ⊥ }
     {
         for (object, _) in other.shared.iter() {

@@ -2,9 +2,10 @@
 
 ghost use Rattle.std.specs.Prelude.{◌≡◌, ◌<◌, ◌+◌, length, slice_get, IfOk, OnErr, OnOk, IsSome, option_map};
 ghost use Rattle.value_core.specs.History.{object_at, with_object};
-ghost use Rattle.guard_queue.specs.Changes.{ChangeFits, JoinsBlocked, settled_by};
-ghost use Rattle.guard_queue.specs.Fitting.{AllFit, CanTry};
-ghost use Rattle.guard_queue.specs.Settles.{AllBlocked, IsFound, answered, next_ready, objects_with, settled, settled_from, stands, taken, tried_in, tried_on, with_state};
+ghost use Rattle.guard_queue.specs.Changes.{ChangeFits, JoinsBlocked, outcome, after_put};
+ghost use Rattle.guard_queue.specs.Fitting.{AllFit, CanTry, CanTryCall};
+ghost use Rattle.guard_queue.specs.Settles.{AllBlocked, IsFound, answered, next_ready, objects_with, settled, settled_from};
+ghost use Rattle.guard_queue.specs.Settles.{stands, taken, tried_in, tried_on, with_state};
 ghost use Rattle.guard_queue.specs.Rounds.{IsTriedAt, OthersBlocked, settling_of};
 
 use crate::change::Change;
@@ -31,7 +32,7 @@ pub fn settle<P: Performer>(
     queue: &mut Queue,
 ) -> Result<Vec<Answered>, NoMemory>
     requires { AllFit (P.fits_state performer.now) (P.fits_args performer.now) objects.old queue.old }
-    ensures ok { IfOk result (λ all. stands objects.new queue.new all ≡ settled (P.performs performer.now) objects.old queue.old) }
+    ensures ok { IfOk result (λ a. stands objects.new queue.new a ≡ settled (P.performs performer.now) objects.old queue.old) }
     ensures blocked { OnOk result (AllBlocked (P.performs performer.now) objects.new queue.new) }
     ensures err { OnErr result ((objects.new ≡ objects.old) × (queue.new ≡ queue.old)) }
     ensures fits { AllFit (P.fits_state performer.now) (P.fits_args performer.now) objects.new queue.new }
@@ -63,7 +64,7 @@ pub fn settle_after<P: Performer>(
     requires changed { ChangeFits (P.fits_state performer.now) (P.fits_args performer.now) objects.old queue.old change }
     requires blocked { AllBlocked (P.performs performer.now) objects.old queue.old }
     requires joins { JoinsBlocked (P.performs performer.now) objects.old change }
-    ensures ok { IfOk result (λ all. stands objects.new queue.new all ≡ settled_by (P.performs performer.now) objects.old queue.old change lines) }
+    ensures ok { IfOk result (λ a. stands objects.new queue.new a ≡ outcome (P.performs performer.now) objects.old queue.old change lines) }
     ensures blocked { AllBlocked (P.performs performer.now) objects.new queue.new }
     ensures err { OnErr result ((objects.new ≡ objects.old) × (queue.new ≡ queue.old)) }
     ensures fits { AllFit (P.fits_state performer.now) (P.fits_args performer.now) objects.new queue.new }
@@ -106,7 +107,7 @@ pub fn try_call<P: Performer>(
     objects: &Objects,
     call: &Suspended,
 ) -> Result<Tried, NoMemory>
-    requires { CanTry (P.fits_state performer.now) (P.fits_args performer.now) objects.now call.now.kind call.now.op call.now.object call.now.args }
+    requires { CanTryCall (P.fits_state performer.now) (P.fits_args performer.now) objects.now call.now }
     ensures { IfOk result (λ t. t ≡ tried_in (P.performs performer.now) objects.now call.now) }
 {
     match objects.get(call.object) {
@@ -151,18 +152,18 @@ pub fn perform(objects: &Objects, call: Suspended, tried: Tried) -> (Line, Optio
 // An object is put in, and then the calls on it settle.
 fn settle_with<P: Performer>(
     alloc: Global,
-    performer: &P,
+    by: &P,
     objects: &mut Objects,
     queue: &mut Queue,
     object: ObjectId,
     kept: Instance,
     lines: Vec<Answered>,
 ) -> Result<Vec<Answered>, NoMemory>
-    requires fits { AllFit (P.fits_state performer.now) (P.fits_args performer.now) (with_object objects.old object kept) queue.old }
-    requires blocked { AllBlocked (P.performs performer.now) objects.old queue.old }
-    ensures ok { IfOk result (λ all. stands objects.new queue.new all ≡ settled_from (P.performs performer.now) (stands (with_object objects.old object kept) queue.old lines)) }
-    ensures blocked { OnOk result (AllBlocked (P.performs performer.now) objects.new queue.new) }
-    ensures fits { OnOk result (AllFit (P.fits_state performer.now) (P.fits_args performer.now) objects.new queue.new) }
+    requires fits { AllFit (P.fits_state by.now) (P.fits_args by.now) (with_object objects.old object kept) queue.old }
+    requires blocked { AllBlocked (P.performs by.now) objects.old queue.old }
+    ensures ok { IfOk result (λ a. stands objects.new queue.new a ≡ after_put (P.performs by.now) objects.old object kept queue.old lines) }
+    ensures blocked { OnOk result (AllBlocked (P.performs by.now) objects.new queue.new) }
+    ensures fits { OnOk result (AllFit (P.fits_state by.now) (P.fits_args by.now) objects.new queue.new) }
     ensures err { OnErr result ((objects.new ≡ objects.old) × (queue.new ≡ queue.old)) }
 {
     if !queue.has_on(object) {
@@ -176,7 +177,7 @@ fn settle_with<P: Performer>(
         lines,
     };
     rounds.objects.put(alloc, object, kept)?;
-    rounds.settle(alloc, performer, Some(object))?;
+    rounds.settle(alloc, by, Some(object))?;
     *objects = rounds.objects;
     *queue = rounds.queue;
     Ok(rounds.lines)

@@ -57,6 +57,14 @@ called c call (tried.Did guard state reply) =
 called c call (tried.Broke guard fault) =
     record { objects = objects_with c.objects call (tried.Broke guard fault); queue = c.queue; lines = answered call (tried.Broke guard fault) ∷ [] }
 
+-- a call that is tried
+abbrev pub called_by : Performs → Copied → Suspended → Settling
+called_by p c call = called c call (tried_in p c.objects call)
+
+-- the objects after a make
+abbrev pub after_made : Performs → Copied → KindNo → ObjectId → Objects
+after_made p c kind object = after_making c.objects kind object (p.made kind)
+
 -- what the message itself does: a make adds the object, or none where it faults; a call is tried
 abbrev pub acted_by : Performs → Copied → Message → Action → Settling
 acted_by p c message (action.Make kind object) =

@@ -36,6 +36,14 @@ IsTooMany p c (action.Call kind op object args) w number = ⊥
 IsTooMany p c action.Ended w number = ⊥
 IsTooMany p c (action.Faulted fault) w number = ⊥
 
+-- the message makes none too many
+abbrev pub IsWithin : Performs → Copied → Action → Type 0
+IsWithin p c action = (w : What) (number : ℕ) → IsTooMany p c action w number → ⊥
+
+-- one more process would be too many
+abbrev pub IsForkLimit : ℕ → What → ℕ → Type 0
+IsForkLimit processes w number = (most_processes ≤ processes) × (w ≡ what.Processes) × (number ≡ most_processes)
+
 -- Q of the limit, where that is why the message wasn't applied
 abbrev pub IfLimit : ApplyError → (What → ℕ → Type 0) → Type 0
 IfLimit (refused.Limit w number) Q = Q w number

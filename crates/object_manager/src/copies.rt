@@ -1,20 +1,19 @@
 //! One member's copies.
 
-ghost use Rattle.std.specs.Prelude.{◌≡◌, ◌<◌, ◌≤◌, ◌^◌, ◌-◌, ◌+◌, ◌↔◌, ◌∷◌, [], ℕ, List, IfOk, IfErr, OnOk, OnErr, IsTrue, None, Some, length};
+ghost use Rattle.std.specs.Prelude.{◌≡◌, ◌<◌, ◌≤◌, ◌^◌, ◌-◌, ◌+◌, ◌↔◌, ◌∷◌, [], List, IfOk, IfErr, OnOk, OnErr, IsTrue, None, Some, length};
 ghost use Rattle.value_core.specs.History.{Objects as Held, after_making, forked, object_at, output_kind, output_object};
-ghost use Rattle.guard_queue.specs.Changes.{ChangeFits, JoinsBlocked, objects_changed, queue_changed};
+ghost use Rattle.guard_queue.specs.Changes.{JoinsBlocked, objects_changed, queue_changed};
 ghost use Rattle.guard_queue.specs.Fitting.{CallFits, OperationFits, kind_at, kinds_of};
 ghost use Rattle.guard_queue.specs.declared.queue.Suspended.{Suspended};
 ghost use Rattle.guard_queue.specs.Settles.{AllBlocked, lines_of, tried_on, tried_in, with_state};
 ghost use Rattle.guard_queue.specs.Waits.{IsWaiting};
 ghost use Rattle.value_core.specs.Meaning.{Performs};
-ghost use Rattle.object_manager.specs.After.{acted, after, called, lines_after, making_reply, opening_copies};
+ghost use Rattle.object_manager.specs.After.{acted, after, after_made, called_by, lines_after, making_reply, opening_copies};
 ghost use Rattle.object_manager.specs.Viewed.{StatesFit};
-ghost use Rattle.object_manager.specs.Applies.{Applies, CopiesFit};
+ghost use Rattle.object_manager.specs.Applies.{ActFits, Applies, CopiesFit};
 ghost use Rattle.object_manager.specs.Acts.{acts};
-ghost use Rattle.object_manager.specs.Limits.{IfLimit, IsTooMany, MakesTooMany, most_objects, most_processes};
-ghost use Rattle.orca_base.specs.declared.what.What.{What};
-ghost use Rattle.orca_base.specs.declared.what.What.TheVariants.{Objects as TooManyObjects, Processes as TooManyProcesses};
+ghost use Rattle.object_manager.specs.Limits.{IfLimit, IsForkLimit, IsTooMany, IsWithin, MakesTooMany, most_objects, most_processes};
+ghost use Rattle.value_core.specs.declared.action.Action.TheVariants.{Make};
 ghost use Rattle.value_core.specs.declared.action.Reply.TheVariants.{Done};
 ghost use Rattle.object_manager.specs.declared.copies.ApplyError.TheVariants.{NoMemory as Without};
 
@@ -153,7 +152,7 @@ impl Copies {
         args: &Parts,
     ) -> Result<Tried, NoMemory>
         requires fits { StatesFit (P.fits_state performer.now) self.now.objects }
-        requires operation { OperationFits (P.fits_args performer.now) (kinds_of self.now.objects) self.now.objects kind op object args.now }
+        requires call { OperationFits (P.fits_args performer.now) (kinds_of self.now.objects) self.now.objects kind op object args.now }
         ensures { IfOk result (λ t. t ≡ tried_on (P.performs performer.now) self.now.objects kind op object args.now) }
     {
         try_on(alloc, performer, &self.objects, kind, op, object, args)
@@ -184,7 +183,7 @@ impl Copies {
         ensures after { OnOk result (self.new ≡ after (P.performs performer.now) self.old message.now) }
         ensures lines { IfOk result (λ all. lines_of all.items ≡ lines_after (P.performs performer.now) self.old message.now) }
         ensures blocked { AllBlocked (P.performs performer.now) self.new.objects self.new.queue }
-        ensures within { OnOk result ((what : What) (number : ℕ) → IsTooMany (P.performs performer.now) self.old message.now.action what number → ⊥) }
+        ensures within { OnOk result (IsWithin (P.performs performer.now) self.old message.now.action) }
         ensures limit { IfErr result (λ e. IfLimit e (IsTooMany (P.performs performer.now) self.old message.now.action)) }
         ensures err { OnErr result (self.new ≡ self.old) }
         ensures fits { CopiesFit (P.fits_state performer.now) (P.fits_args performer.now) self.new }
@@ -212,12 +211,12 @@ impl Copies {
     ) -> Result<Acted, ApplyError>
         requires fits { CopiesFit (P.fits_state performer.now) (P.fits_args performer.now) self.now }
         requires applies { Applies (P.fits_args performer.now) self.now message.now.action }
-        ensures acted { IfOk result (λ a. acts self.now a.change (lines_of a.lines.items) ≡ acted (P.performs performer.now) self.now message.now) }
+        ensures acted { IfOk result (λ a. acts self.now a.change a.lines ≡ acted (P.performs performer.now) self.now message.now) }
         ensures joins { IfOk result (λ a. JoinsBlocked (P.performs performer.now) self.now.objects a.change) }
         ensures forks { IfOk result (λ a. a.forks ≡ length (forked message.now.action)) }
-        ensures within { OnOk result ((what : What) (number : ℕ) → IsTooMany (P.performs performer.now) self.now message.now.action what number → ⊥) }
+        ensures within { OnOk result (IsWithin (P.performs performer.now) self.now message.now.action) }
         ensures limit { IfErr result (λ e. IfLimit e (IsTooMany (P.performs performer.now) self.now message.now.action)) }
-        ensures fits { IfOk result (λ a. ChangeFits (P.fits_state performer.now) (P.fits_args performer.now) self.now.objects self.now.queue a.change) }
+        ensures fits { IfOk result (λ a. ActFits (P.fits_state performer.now) (P.fits_args performer.now) self.now a.change) }
     {
         let (reply, change, forks) = match &message.action {
             Action::Make { kind, object } => {
@@ -271,12 +270,12 @@ impl Copies {
         requires fits { CopiesFit (P.fits_state performer.now) (P.fits_args performer.now) self.now }
         requires absent { object_at self.now.objects object ≡ None }
         ensures reply { IfOk result (λ r. r.0 ≡ making_reply ((P.performs performer.now).made kind)) }
-        ensures objects { IfOk result (λ r. objects_changed self.now.objects r.1 ≡ after_making self.now.objects kind object ((P.performs performer.now).made kind)) }
+        ensures put { IfOk result (λ r. objects_changed self.now.objects r.1 ≡ after_made (P.performs performer.now) self.now kind object) }
         ensures queue { IfOk result (λ r. queue_changed self.now.queue r.1 ≡ self.now.queue) }
         ensures joins { IfOk result (λ r. JoinsBlocked (P.performs performer.now) self.now.objects r.1) }
         ensures within { OnOk result (MakesTooMany self.now.objects ((P.performs performer.now).made kind) → ⊥) }
-        ensures limit { IfErr result (λ e. IfLimit e (λ what number. MakesTooMany self.now.objects ((P.performs performer.now).made kind) × (what ≡ TooManyObjects) × (number ≡ most_objects))) }
-        ensures fits { IfOk result (λ r. ChangeFits (P.fits_state performer.now) (P.fits_args performer.now) self.now.objects self.now.queue r.1) }
+        ensures limit { IfErr result (λ e. IfLimit e (IsTooMany (P.performs performer.now) self.now (Make kind object))) }
+        ensures fits { IfOk result (λ r. ActFits (P.fits_state performer.now) (P.fits_args performer.now) self.now r.1) }
     {
         match performer.make(alloc, kind)? {
             Making::Broke { fault } => Ok((Reply::Broke { fault }, Change::Nothing)),
@@ -296,7 +295,7 @@ impl Copies {
     /// Whether one more process may be there.
     fn can_fork(&self) -> Result<(), ApplyError>
         ensures within { OnOk result (self.now.processes < most_processes) }
-        ensures limit { IfErr result (λ e. IfLimit e (λ what number. (most_processes ≤ self.now.processes) × (what ≡ TooManyProcesses) × (number ≡ most_processes))) }
+        ensures limit { IfErr result (λ e. IfLimit e (IsForkLimit self.now.processes)) }
     {
         if u32::from(self.processes) >= PROCESSES {
             return Err(ApplyError::Limit {
@@ -316,10 +315,10 @@ impl Copies {
     ) -> Result<Acted, NoMemory>
         requires fits { CopiesFit (P.fits_state performer.now) (P.fits_args performer.now) self.now }
         requires operation { CallFits (P.fits_args performer.now) (kinds_of self.now.objects) self.now.objects call }
-        ensures acted { IfOk result (λ a. acts self.now a.change (lines_of a.lines.items) ≡ called self.now call (tried_in (P.performs performer.now) self.now.objects call)) }
+        ensures acted { IfOk result (λ a. acts self.now a.change a.lines ≡ called_by (P.performs performer.now) self.now call) }
         ensures joins { IfOk result (λ a. JoinsBlocked (P.performs performer.now) self.now.objects a.change) }
         ensures forks { IfOk result (λ a. a.forks ≡ 0) }
-        ensures fits { IfOk result (λ a. ChangeFits (P.fits_state performer.now) (P.fits_args performer.now) self.now.objects self.now.queue a.change) }
+        ensures fits { IfOk result (λ a. ActFits (P.fits_state performer.now) (P.fits_args performer.now) self.now a.change) }
     {
         match try_call(alloc, performer, &self.objects, &call)? {
             Tried::Blocked => Ok(Acted {

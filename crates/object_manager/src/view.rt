@@ -64,7 +64,7 @@ impl View {
         args: &Parts,
     ) -> Result<Tried, NoMemory>
         requires fits { StatesFit (P.fits_state performer.now) self.now.objects }
-        requires operation { OperationFits (P.fits_args performer.now) (kinds_of self.now.objects) self.now.objects kind op object args.now }
+        requires call { OperationFits (P.fits_args performer.now) (kinds_of self.now.objects) self.now.objects kind op object args.now }
         ensures { IfOk result (λ t. t ≡ tried_on (P.performs performer.now) self.now.objects kind op object args.now) }
     {
         try_on(alloc, performer, &self.objects, kind, op, object, args)

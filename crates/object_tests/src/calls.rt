@@ -1,11 +1,12 @@
-//! Each public call of the objects and the queue, called once.
+//! Calls of the objects and of the queue that no entry makes.
 
-use super::{Answer, args, line, object, outcome, reply_of, told_of};
-use crate::entries::{Refused, has};
+ghost use Rattle.bag_copies.specs.Fits.{FitsAll};
+
+use crate::entries::{Answer, Told, enter, line, start, told_of};
+use bag_copies::{Refused, make, object};
 use bag_performer::Bags;
-use guard_queue::{
-    Answered, Change, Objects, Queue, Suspended, perform, settle, settle_after, try_call, try_on,
-};
+use guard_queue::{Answered, Objects, Queue, Suspended, settle};
+use object_manager::Copies;
 use orca_base::{CallNo, NoMemory, ProcessNo};
 use std::alloc::Global;
 use std::test::Fail;
@@ -40,7 +41,7 @@ fn objects_by_their_ids(rt: HostRuntime) -> Result<(), Fail> {
     let alloc = rt.alloc();
     let mut objects = Objects::new(alloc)?;
     objects.put(alloc, object(1), flag(alloc, 3)?)?;
-    let twin = objects.copy()?;
+    let twin = objects.copy(alloc)?;
     assert!(rt; objects.is(&twin));
     objects.put(alloc, object(2), flag(alloc, 4)?)?;
     assert!(rt; !objects.is(&twin));
@@ -51,94 +52,67 @@ fn objects_by_their_ids(rt: HostRuntime) -> Result<(), Fail> {
 }
 
 #[test]
-fn queue_in_order(rt: HostRuntime) -> Result<(), Fail> {
+fn many_writes_beside_a_shared_map(rt: HostRuntime) -> Result<(), Fail> {
     let alloc = rt.alloc();
-    let mut queue = Queue::new(alloc);
-    assert!(rt; queue.is_empty());
-    queue.push(waits(alloc, 1, 9)?)?;
-    queue.push(waits(alloc, 2, 9)?.copy(alloc)?)?;
-    let twin = queue.copy(alloc)?;
-    assert_eq!(rt; queue.len(), 2);
-    let oldest = queue.take_out(0);
-    assert_eq!(rt; oldest.process, ProcessNo(1));
-    assert!(rt; !queue.has(ProcessNo(1)));
-    assert!(rt; queue.has(ProcessNo(2)));
-    assert_eq!(rt; twin.as_slice().len(), 2);
+    let mut alone = Objects::new(alloc)?;
+    let mut shared = Objects::new(alloc)?;
+    let mut before = Vec::new(alloc);
+    for number in 1..41u32 {
+        before.push(shared.copy(alloc)?)?;
+        shared.put(alloc, object(number), flag(alloc, i64::from(number))?)?;
+        alone.put(alloc, object(number), flag(alloc, i64::from(number))?)?;
+    }
+    assert_eq!(rt; shared.len(), 40);
+    assert_eq!(rt; before.get(10).map(|objects| objects.len()), Some(10));
+    assert!(rt; shared.is(&alone));
+    shared.put(alloc, object(7), flag(alloc, 0)?)?;
+    assert!(rt; !shared.is(&alone));
     Ok(())
 }
 
 #[test]
-fn tries_and_what_they_leave(rt: HostRuntime) -> Result<(), Fail> {
+fn queue_in_order(rt: HostRuntime) -> Result<(), Fail> {
     let alloc = rt.alloc();
-    let mut objects = Objects::new(alloc)?;
-    objects.put(alloc, object(1), flag(alloc, 9)?)?;
-    let one = args(alloc, Some(8))?;
-    let blocked = try_on(
-        alloc,
-        &Bags,
-        &objects,
-        Bags::FLAG,
-        Bags::AWAIT,
-        object(1),
-        &one,
-    )?;
-    assert_eq!(rt; outcome(&blocked), Answer::Blocked);
-    let waiting = waits(alloc, 1, 9)?;
-    let tried = try_call(alloc, &Bags, &objects, &waiting)?;
-    let (answered, state) = perform(&objects, waiting, tried);
-    assert_eq!(rt;
-        (answered.guard, reply_of(&answered.reply)),
-        (1, Answer::Done)
-    );
-    assert!(rt; state.is_some());
+    let mut queue = Queue::new(alloc);
+    assert!(rt; queue.is_empty());
+    queue.push(alloc, waits(alloc, 1, 9)?)?;
+    queue.push(alloc, waits(alloc, 2, 9)?.copy(alloc)?)?;
+    let twin = queue.copy(alloc)?;
+    assert_eq!(rt; queue.len(), 2);
+    assert_eq!(rt; queue.get(0).process, ProcessNo(1));
+    queue.take_out(0);
+    assert!(rt; !queue.has(ProcessNo(1)));
+    assert!(rt; queue.has(ProcessNo(2)));
+    assert_eq!(rt; twin.len(), 2);
     Ok(())
 }
 
-// What settles where this call alone waits.
-fn settle_alone(
-    alloc: Global,
-    objects: &mut Objects,
-    call: Suspended,
-) -> Result<Vec<Answered>, Refused> {
-    if !has(objects, call.kind, call.object) {
+// What settles on the copies' objects where this call alone waits.
+fn settle_alone(alloc: Global, copies: &Copies, call: Suspended) -> Result<Vec<Answered>, Refused>
+    requires { FitsAll copies.now }
+{
+    let mut objects = copies.objects().copy(alloc)?;
+    let mut queue = Queue::new(alloc);
+    let there = match objects.get(call.object) {
+        Some(kept) => kept.kind == call.kind,
+        None => false,
+    };
+    if !there || !Bags::fits(call.kind, call.op, &call.args) {
         return Err(Refused::Object);
     }
-    let mut queue = Queue::new(alloc);
-    queue.push(call)?;
-    Ok(settle(alloc, &Bags, objects, &mut queue)?)
+    queue.push(alloc, call)?;
+    Ok(settle(alloc, &Bags, &mut objects, &mut queue)?)
 }
 
 #[test]
 fn ready_call_settles(rt: HostRuntime) -> Result<(), Fail> {
     let alloc = rt.alloc();
-    let mut objects = Objects::new(alloc)?;
-    objects.put(alloc, object(1), flag(alloc, 9)?)?;
-    let none = settle_alone(alloc, &mut objects, waits(alloc, 1, 8)?)?;
+    let mut copies = start(alloc)?;
+    enter(alloc, &mut copies, &make(0, 0, Bags::FLAG, object(1)))?;
+    let none = settle_alone(alloc, &copies, waits(alloc, 1, 8)?)?;
     assert!(rt; none.is_empty());
-    let lines = settle_alone(alloc, &mut objects, waits(alloc, 1, 9)?)?;
+    let lines = settle_alone(alloc, &copies, waits(alloc, 1, 0)?)?;
     let awaited = line(1, 0, 1, Answer::Done);
     assert_eq!(rt; told_of(alloc, &lines)?.as_slice(), [awaited].as_slice());
-    Ok(())
-}
-
-#[test]
-fn change_is_made_before_the_queue_settles(rt: HostRuntime) -> Result<(), Fail> {
-    let alloc = rt.alloc();
-    let mut objects = Objects::new(alloc)?;
-    let mut queue = Queue::new(alloc);
-    let change = Change::Puts {
-        object: object(1),
-        kept: flag(alloc, 9)?,
-    };
-    let lines = settle_after(
-        alloc,
-        &Bags,
-        &mut objects,
-        &mut queue,
-        change,
-        Vec::new(alloc),
-    )?;
-    assert!(rt; lines.is_empty());
-    assert_eq!(rt; objects.len(), 1);
     Ok(())
 }

@@ -1,9 +1,10 @@
-//! Worked entries on copies of pools and flags, and each public call of the copies and of the queue called once.
+//! Worked entries on copies of pools and flags.
 
 ghost use Rattle.std.specs.Prelude.{IfOk};
-ghost use Rattle.bag_copies.specs.Fits.{FitsAll};
+ghost use Rattle.object_manager.specs.Viewed.{StatesFit};
+ghost use Rattle.bag_copies.specs.Fits.{BagState, FitsAll};
 
-use crate::{
+use bag_copies::{
     Refused, call, entry, fork, fork_many, make, make_flags, object, opened, read, read_view,
 };
 use bag_performer::Bags;
@@ -13,8 +14,6 @@ use orca_base::{FaultKind, KindNo, NoMemory, OpNo, ProcessNo, What};
 use std::alloc::Global;
 use std::test::Fail;
 use value_core::{Message, Parts, Reply, Tried, Value};
-
-mod calls;
 
 const PUT: (KindNo, OpNo) = (Bags::POOL, Bags::PUT);
 
@@ -28,9 +27,9 @@ const SPOIL: (KindNo, OpNo) = (Bags::FLAG, Bags::SPOIL);
 
 const STEP: (KindNo, OpNo) = (Bags::FLAG, Bags::STEP);
 
-/// What a line or a read answers.
+// What a line or a read answers.
 #[derive(Clone, Copy, Debug, PartialEq, Eq)]
-enum Answer {
+pub(crate) enum Answer {
     Done,
     Gave(i64),
     Broke(FaultKind),
@@ -38,9 +37,9 @@ enum Answer {
     Other,
 }
 
-/// A line, by its process, call and guard.
+// A line, by its process, call and guard.
 #[derive(Clone, Copy, Debug, PartialEq, Eq)]
-struct Told {
+pub(crate) struct Told {
     process: u16,
     call: u64,
     guard: u16,
@@ -66,7 +65,7 @@ fn outcome(tried: &Tried) -> Answer {
     }
 }
 
-fn told_of(alloc: Global, lines: &[Answered]) -> Result<Vec<Told>, NoMemory> {
+pub(crate) fn told_of(alloc: Global, lines: &[Answered]) -> Result<Vec<Told>, NoMemory> {
     let mut all = Vec::new(alloc);
     for one in lines {
         all.push(Told {
@@ -80,14 +79,18 @@ fn told_of(alloc: Global, lines: &[Answered]) -> Result<Vec<Told>, NoMemory> {
 }
 
 // Copies before the first entry.
-fn start(alloc: Global) -> Result<Copies, Refused>
+pub(crate) fn start(alloc: Global) -> Result<Copies, Refused>
     ensures { IfOk result FitsAll }
 {
     Ok(opened(alloc)?)
 }
 
 // One more entry is applied; its lines.
-fn enter(alloc: Global, copies: &mut Copies, message: &Message) -> Result<Vec<Told>, Refused>
+pub(crate) fn enter(
+    alloc: Global,
+    copies: &mut Copies,
+    message: &Message,
+) -> Result<Vec<Told>, Refused>
     requires { FitsAll copies.old }
     ensures { FitsAll copies.new }
 {
@@ -128,7 +131,7 @@ fn run(alloc: Global, row: &[Step]) -> Result<(Copies, Vec<Told>), Refused>
     Ok((copies, last))
 }
 
-fn line(process: u16, call: u64, guard: u16, answer: Answer) -> Told {
+pub(crate) fn line(process: u16, call: u64, guard: u16, answer: Answer) -> Told {
     Told {
         process,
         call,
@@ -152,13 +155,17 @@ fn reads(
     copies: &Copies,
     (kind, op): (KindNo, OpNo),
     number: Option<i64>,
-) -> Result<Answer, Refused> {
+) -> Result<Answer, Refused>
+    requires { FitsAll copies.now }
+{
     let tried = read(alloc, copies, kind, op, object(1), &args(alloc, number)?)?;
     Ok(outcome(&tried))
 }
 
 // What an await of this number gives on a snapshot.
-fn awaits(alloc: Global, view: &View, number: i64) -> Result<Answer, Refused> {
+fn awaits(alloc: Global, view: &View, number: i64) -> Result<Answer, Refused>
+    requires { StatesFit BagState view.now.objects }
+{
     let (kind, op) = AWAIT;
     let tried = read_view(
         alloc,
@@ -304,9 +311,9 @@ fn processes_up_to_their_limit(rt: HostRuntime) -> Result<(), Fail> {
 #[test]
 fn view_stays_as_it_is(rt: HostRuntime) -> Result<(), Fail> {
     let (mut copies, _) = run(rt.alloc(), &SPOILED[..1])?;
-    let before = copies.view()?;
+    let before = copies.view(rt.alloc())?;
     enter(rt.alloc(), &mut copies, &message(rt.alloc(), SPOILED[1])?)?;
-    let after = copies.view()?;
+    let after = copies.view(rt.alloc())?;
     assert_eq!(rt; before.place(), 1);
     assert_eq!(rt; awaits(rt.alloc(), &before, 0)?, Answer::Done);
     assert_eq!(rt; awaits(rt.alloc(), &after, 5)?, Answer::Done);
@@ -319,7 +326,7 @@ fn view_stays_as_it_is(rt: HostRuntime) -> Result<(), Fail> {
 fn copies_are_equal_and_apart(rt: HostRuntime) -> Result<(), Fail> {
     let (mut copies, _) = run(rt.alloc(), &SPOILED[..1])?;
     let twin = copies.copy(rt.alloc())?;
-    assert!(rt; twin.view()?.same(&copies.view()?));
+    assert!(rt; twin.view(rt.alloc())?.same(&copies.view(rt.alloc())?));
     enter(rt.alloc(), &mut copies, &message(rt.alloc(), SPOILED[1])?)?;
     assert_eq!(rt; reads(rt.alloc(), &twin, AWAIT, Some(0))?, Answer::Done);
     assert_eq!(rt;

@@ -10,7 +10,7 @@ use Rattle.guard_queue.proofs.settling.settle_with.Goals as goal
 
 pub returns-then-not-has_on-clause-ok : goal.returns-then-not-has_on-clause-ok
 returns-then-not-has_on-clause-ok g c =
-    let p = g.P.Performer.performs c.args.performer.now in
+    let p = g.P.Performer.performs c.args.by.now in
     let objects = c.args.objects.now in
     let queue = c.args.queue.now in
     let none : IsWaitingOn queue c.args.object → ⊥ = λ w. let there = c.has_on.ensures.1 w in let told = c.if-not-has_on.true in grind (arith, there, told) in
@@ -20,7 +20,7 @@ returns-then-not-has_on-clause-ok g c =
 
 pub returns-then-not-has_on-clause-blocked : goal.returns-then-not-has_on-clause-blocked
 returns-then-not-has_on-clause-blocked g c =
-    let p = g.P.Performer.performs c.args.performer.now in
+    let p = g.P.Performer.performs c.args.by.now in
     let objects = c.args.objects.now in
     let queue = c.args.queue.now in
     let none : IsWaitingOn queue c.args.object → ⊥ = λ w. let there = c.has_on.ensures.1 w in let told = c.if-not-has_on.true in grind (arith, there, told) in
@@ -30,7 +30,7 @@ returns-then-not-has_on-clause-blocked g c =
 
 pub settle-requires-clause-others : goal.settle-requires-clause-others
 settle-requires-clause-others g c =
-    let p = g.P.Performer.performs c.args.performer.now in
+    let p = g.P.Performer.performs c.args.by.now in
     let objects = c.args.objects.now in
     let queue = c.args.queue.now in
     let same : c.in_ok-copy.field-0 ≡ objects = c.in_ok-copy.ensures {u = tt} ∙ c.gather.ensures in

@@ -1,5 +1,5 @@
 use Rattle.bag_copies.specs.Fits.{FitsAll}
-use Rattle.bag_copies.proofs.tests.run.Given as goal
+use Rattle.object_tests.proofs.entries.run.Given as goal
 
 abbrev pub invariant-loop-step : goal.invariant-loop-step
 invariant-loop-step l = FitsAll l.copies

@@ -1,0 +1,11 @@
+//! Tests of the objects' floor: values, entries on copies of pools and flags, and the calls of the copies and of the queue.
+//!
+//! They stand here, so that the crates below have none. Nothing stands on it.
+#![tactic(auto)]
+
+#[cfg(test)]
+mod calls;
+#[cfg(test)]
+mod entries;
+#[cfg(test)]
+mod values;
