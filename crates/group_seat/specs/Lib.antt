@@ -1,2 +1,1 @@
 pub mod StandsFor
-pub mod LastCalls

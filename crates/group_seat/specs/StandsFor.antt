@@ -15,6 +15,10 @@ use Rattle.group_rules.specs.OnWire.{on_wire, on_join}
 abbrev pub group_of : {B : Type 0} → (B → MessageId) → (B → ℕ) → ℕ → ℕ → Group B
 group_of name bytes nodes resilience = record { nodes = nodes; resilience = resilience; process = λ x. (name x).process.0; call = λ x. (name x).call.0; bytes = bytes }
 
+-- the group, by the member's own numbers
+abbrev pub group_at : {B R : Type 0} → (B → MessageId) → (B → ℕ) → Seat B R → Group B
+group_at name bytes seat = group_of name bytes seat.nodes seat.resilience
+
 -- what was sent, in order
 abbrev pub sent_by : {B R : Type 0} → ℕ → List (Act B) → List (Send B R)
 sent_by N [] = []

@@ -16,7 +16,7 @@ ghost use Rattle.group_rules.specs.Receiver.{
 };
 ghost use Rattle.group_rules.specs.Reset.{keeps, told};
 ghost use Rattle.group_rules.specs.Sequencer.{accept_acknowledged, acknowledges, purge, take_ack};
-ghost use Rattle.group_seat.specs.StandsFor.{acknowledges_by, Does, group_of, is_in, IsSeat, least_by, length_of, others_below, SameSeat, stable_by, StandsFor, test_of};
+ghost use Rattle.group_seat.specs.StandsFor.{acknowledges_by, Does, group_at, is_in, IsSeat, least_by, length_of, others_below, SameSeat, stable_by, StandsFor, test_of};
 ghost use Rattle.group_rules.specs.Work.{becomes, idle, tell_others, when};
 ghost use Rattle.group_packets.specs.declared.packet.Packet.TheVariants as P;
 ghost use Rattle.std.specs.Prelude.{◌++◌, ◌%◌, ◌+◌, ◌<◌, ◌≡◌, ◌≤◌, ◌^◌, length, nat_lt, OnOk, IfOk, ℕ, List, Bool, All, drop, slice_index_or, true};
@@ -91,7 +91,7 @@ impl<B: Body> Seat<B> {
         requires seat { IsSeat self.old }
         requires entries { length_of self.old < 2 ^ 62 }
         requires nacked { self.old.nacked ≤ 2 ^ 62 }
-        ensures does { OnOk result (Does self.old self.new (take_entry (group_of B.id_of B.length_of self.old.nodes self.old.resilience) self.old.me number accepted stable message)) }
+        ensures does { OnOk result (Does self.old self.new (take_entry (group_at B.id_of B.length_of self.old) self.old.me number accepted stable message)) }
         ensures same { OnOk result (SameSeat self.old self.new) }
     {
         self.take_number(number, stable, message)?;
@@ -143,7 +143,7 @@ impl<B: Body> Seat<B> {
         requires seat { IsSeat self.old }
         requires entries { length_of self.old < 2 ^ 62 }
         requires nacked { self.old.nacked ≤ 2 ^ 62 }
-        ensures does { OnOk result (Does self.old self.new (take_number (group_of B.id_of B.length_of self.old.nodes self.old.resilience) self.old.me number stable message)) }
+        ensures does { OnOk result (Does self.old self.new (take_number (group_at B.id_of B.length_of self.old) self.old.me number stable message)) }
         ensures same { OnOk result (SameSeat self.old self.new) }
         ensures seat { OnOk result (IsSeat self.new) }
         ensures entries { OnOk result (length_of self.new < 2 ^ 63) }
@@ -165,7 +165,7 @@ impl<B: Body> Seat<B> {
         requires seat { IsSeat self.old }
         requires entries { length_of self.old < 2 ^ 63 }
         requires nacked { self.old.nacked ≤ 2 ^ 63 }
-        ensures does { OnOk result (Does self.old self.new (acknowledge (group_of B.id_of B.length_of self.old.nodes self.old.resilience) self.old.me number)) }
+        ensures does { OnOk result (Does self.old self.new (acknowledge (group_at B.id_of B.length_of self.old) self.old.me number)) }
         ensures same { OnOk result (SameSeat self.old self.new) }
         ensures seat { OnOk result (IsSeat self.new) }
         ensures entries { OnOk result (length_of self.new < 2 ^ 63) }
@@ -185,7 +185,7 @@ impl<B: Body> Seat<B> {
         requires seat { IsSeat self.old }
         requires entries { length_of self.old < 2 ^ 63 }
         requires nacked { self.old.nacked ≤ 2 ^ 63 }
-        ensures does { OnOk result (Does self.old self.new (take_accept (group_of B.id_of B.length_of self.old.nodes self.old.resilience) self.old.me accepted stable)) }
+        ensures does { OnOk result (Does self.old self.new (take_accept (group_at B.id_of B.length_of self.old) self.old.me accepted stable)) }
         ensures same { OnOk result (SameSeat self.old self.new) }
     {
         self.accept(accepted);
@@ -199,7 +199,7 @@ impl<B: Body> Seat<B> {
         requires seat { IsSeat self.old }
         requires entries { length_of self.old < 2 ^ 63 }
         requires nacked { self.old.nacked ≤ 2 ^ 63 }
-        ensures does { OnOk result (Does self.old self.new (λ v. when (nat_lt (length v.state.log) number) (nack (group_of B.id_of B.length_of self.old.nodes self.old.resilience) self.old.me) v)) }
+        ensures does { OnOk result (Does self.old self.new (λ v. when (nat_lt (length v.state.log) number) (nack (group_at B.id_of B.length_of self.old) self.old.me) v)) }
         ensures same { OnOk result (SameSeat self.old self.new) }
         ensures seat { OnOk result (IsSeat self.new) }
         ensures entries { OnOk result (length_of self.new ≡ length_of self.old) }
@@ -216,7 +216,7 @@ impl<B: Body> Seat<B> {
         requires seat { IsSeat self.old }
         requires entries { length_of self.old < 2 ^ 63 }
         requires nacked { self.old.nacked ≤ 2 ^ 63 }
-        ensures does { OnOk result (Does self.old self.new (nack (group_of B.id_of B.length_of self.old.nodes self.old.resilience) self.old.me)) }
+        ensures does { OnOk result (Does self.old self.new (nack (group_at B.id_of B.length_of self.old) self.old.me)) }
         ensures same { OnOk result (SameSeat self.old self.new) }
         ensures seat { OnOk result (IsSeat self.new) }
         ensures entries { OnOk result (length_of self.new ≡ length_of self.old) }
@@ -243,7 +243,7 @@ impl<B: Body> Seat<B> {
     fn send_ack(&mut self) -> Result<(), NoMemory>
         requires seat { IsSeat self.old }
         requires entries { length_of self.old < 2 ^ 63 }
-        ensures does { OnOk result (Does self.old self.new (send_ack (group_of B.id_of B.length_of self.old.nodes self.old.resilience) self.old.me)) }
+        ensures does { OnOk result (Does self.old self.new (send_ack (group_at B.id_of B.length_of self.old) self.old.me)) }
         ensures same { OnOk result (SameSeat self.old self.new) }
         ensures seat { OnOk result (IsSeat self.new) }
         ensures entries { OnOk result (length_of self.new ≡ length_of self.old) }
@@ -329,7 +329,7 @@ impl<B: Body> Seat<B> {
         requires seat { IsSeat self.old }
         requires entries { length_of self.old < 2 ^ 63 }
         requires member { from < self.old.nodes }
-        ensures does { OnOk result (Does self.old self.new (take_ack (group_of B.id_of B.length_of self.old.nodes self.old.resilience) self.old.me from count)) }
+        ensures does { OnOk result (Does self.old self.new (take_ack (group_at B.id_of B.length_of self.old) self.old.me from count)) }
         ensures same { OnOk result (SameSeat self.old self.new) }
     {
         if self.resilience == 0 {
@@ -343,7 +343,7 @@ impl<B: Body> Seat<B> {
     fn accept_acknowledged(&mut self) -> Result<(), NoMemory>
         requires seat { IsSeat self.old }
         requires entries { length_of self.old < 2 ^ 63 }
-        ensures does { OnOk result (Does self.old self.new (accept_acknowledged (group_of B.id_of B.length_of self.old.nodes self.old.resilience) self.old.me)) }
+        ensures does { OnOk result (Does self.old self.new (accept_acknowledged (group_at B.id_of B.length_of self.old) self.old.me)) }
         ensures same { OnOk result (SameSeat self.old self.new) }
     {
         let least = self.least_acknowledged();
@@ -394,7 +394,7 @@ impl<B: Body> Seat<B> {
     /// The others are told how much is accepted.
     fn tell_accepted(&mut self) -> Result<(), NoMemory>
         requires { IsSeat self.old }
-        ensures does { OnOk result (Does self.old self.new (λ v. tell_others (group_of B.id_of B.length_of self.old.nodes self.old.resilience) self.old.me v.state.installed (Accept v.state.accepted (stable_of (group_of B.id_of B.length_of self.old.nodes self.old.resilience) self.old.me v.state)) v)) }
+        ensures does { OnOk result (Does self.old self.new (λ v. tell_others (group_at B.id_of B.length_of self.old) self.old.me v.state.installed (Accept v.state.accepted (stable_of (group_at B.id_of B.length_of self.old) self.old.me v.state)) v)) }
         ensures same { OnOk result (SameSeat self.old self.new) }
     {
         let stable = self.stable();

@@ -6,6 +6,8 @@
 #![tactic(auto)]
 
 #[cfg(test)]
+mod members;
+#[cfg(test)]
 mod packets;
 #[cfg(test)]
 mod plain;

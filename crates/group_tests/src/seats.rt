@@ -1,8 +1,8 @@
-//! Calls of a seat, as an acknowledger of three members, and of the last calls.
+//! Calls of a seat, as an acknowledger of three members.
 
 use crate::plain::Plain;
 use group_packets::{News, packet_length};
-use group_seat::{LastCalls, Seat, Send};
+use group_seat::{Seat, Send};
 use orca_base::{Items, NoMemory};
 
 /// A message of 31 bytes.
@@ -36,14 +36,5 @@ fn acks_and_news_are_taken_in(rt: HostRuntime) -> Result<(), NoMemory> {
     };
     seat.install(alloc, news)?;
     assert_eq!(rt; seat.sends().len(), 0);
-    Ok(())
-}
-
-#[test]
-fn a_call_is_noted(rt: HostRuntime) -> Result<(), NoMemory> {
-    let mut calls = LastCalls::new(rt.alloc());
-    assert_eq!(rt; calls.is_repeat(&MESSAGE), false);
-    calls.note(&MESSAGE)?;
-    assert_eq!(rt; calls.is_repeat(&MESSAGE), true);
     Ok(())
 }

@@ -1,12 +1,12 @@
 //! A window over a list.
 
-ghost use Rattle.std.specs.Prelude.{◌≡◌, ◌+◌, ◌<◌, ◌≤◌, ◌^◌, ◌↔◌, [], length, take, IfOk, IfErr, OnOk, IsErr};
+ghost use Rattle.std.specs.Prelude.{◌≡◌, ◌+◌, ◌<◌, ◌≤◌, ◌^◌, ◌↔◌, [], length, slice_get, take, IfOk, IfErr, OnOk, IsErr};
 ghost use Rattle.circular_buffer.specs.Buffer.{buffer};
 ghost use Rattle.history_buffer.specs.Slots.{slot_at, slot_copied};
 ghost use Rattle.history_buffer.specs.Window.{last_number, opening_window, purged_to, pushed, window};
 
 use circular_buffer::HeapCircularBuffer;
-use orca_base::{Body, NoMemory, WINDOW};
+use orca_base::{Body, Items, NoMemory, WINDOW};
 use std::alloc::Global;
 use std::marker::Model;
 
@@ -139,6 +139,33 @@ impl<B: Body> History<B> {
             append_copy(alloc, &mut copied.kept, &self.kept, index)?;
         }
         Ok(copied)
+    }
+
+    /// The entries that are kept, each copied, as a packet carries them.
+    #[tactic(auto, using(crate::proofs::Entries::one_copied))]
+    pub fn messages(&self, alloc: Global) -> Result<Items<B>, NoMemory>
+        ensures { IfOk result (λ messages. messages ≡ self.now.items) }
+    {
+        let mut messages = Vec::with_capacity(alloc, self.kept.len())?;
+        'entries: for index in 0..self.kept.len() {
+            messages.push(copy_at(alloc, &self.kept, index)?)?;
+        }
+        Ok(Items::new(messages))
+    }
+}
+
+// A copy of the entry at this place.
+fn copy_at<B: Body>(
+    alloc: Global,
+    kept: &HeapCircularBuffer<B>,
+    index: usize,
+) -> Result<B, NoMemory>
+    requires { index < length kept.now.items }
+    ensures { IfOk result (λ body. slice_get kept.now.items index ≡ Some body) }
+{
+    match kept.get(index) {
+        Some(entry) => entry.copy(alloc),
+        None => unreachable!(),
     }
 }
 

@@ -1,9 +1,8 @@
 //! The last call of each process, kept as numbers beside a log.
 
-ghost use Rattle.group_seat.specs.LastCalls.{AreLastCalls};
-ghost use Rattle.group_rules.specs.Messages.{at_least, is_repeat};
-ghost use Rattle.group_seat.specs.StandsFor.{group_of};
-ghost use Rattle.std.specs.Prelude.{◌++◌, ◌<◌, ◌≡◌, ◌∷◌, [], length, List, OnOk, slice_index_or, ℕ};
+ghost use Rattle.group_member.specs.LastCalls.{HasPlace, NotesMessage, TellsRepeat};
+ghost use Rattle.group_rules.specs.Messages.{at_least};
+ghost use Rattle.std.specs.Prelude.{◌≡◌, [], IfOk, OnOk, slice_index_or};
 
 use orca_base::{Body, MessageId, NoMemory};
 use std::alloc::Global;
@@ -26,7 +25,7 @@ impl LastCalls {
 
     /// Whether the log has this call of the process already, or a later one.
     pub fn is_repeat<B: Body>(&self, message: &B) -> bool
-        ensures { (nodes resilience : ℕ) (log : List B) → AreLastCalls (group_of B.id_of B.length_of nodes resilience) self.now.calls.items log → result ≡ is_repeat (group_of B.id_of B.length_of nodes resilience) log message.now }
+        ensures { TellsRepeat B.id_of B.length_of self.now.calls.items message.now result }
     {
         let id = message.id();
         match self.calls.get(id.process.0 as usize) {
@@ -37,7 +36,7 @@ impl LastCalls {
 
     /// The message is appended to the log.
     pub fn note<B: Body>(&mut self, message: &B) -> Result<(), NoMemory>
-        ensures { OnOk result ((nodes resilience : ℕ) (log : List B) → AreLastCalls (group_of B.id_of B.length_of nodes resilience) self.old.calls.items log → AreLastCalls (group_of B.id_of B.length_of nodes resilience) self.new.calls.items (log ++ message.now ∷ [])) }
+        ensures { OnOk result (NotesMessage B.id_of B.length_of self.old.calls.items self.new.calls.items message.now) }
     {
         let MessageId { process, call } = message.id();
         let place = process.0 as usize;
@@ -47,7 +46,16 @@ impl LastCalls {
         Ok(())
     }
 
-    /// The last call of this process, where there is one.
+    /// The same numbers.
+    pub fn copy(&self, alloc: Global) -> Result<LastCalls, NoMemory>
+        ensures { IfOk result (λ copied. copied.calls.items ≡ self.now.calls.items) }
+    {
+        Ok(LastCalls {
+            calls: Vec::from_slice(alloc, self.calls.as_slice())?,
+        })
+    }
+
+    // The last call of this process, where there is one.
     fn last(&self, place: usize) -> Option<u64>
         ensures { result ≡ slice_index_or self.now.calls.items place None }
     {
@@ -57,9 +65,9 @@ impl LastCalls {
         }
     }
 
-    /// There is a place for this process.
+    // There is a place for this process.
     fn reach(&mut self, place: usize) -> Result<(), NoMemory>
-        ensures { OnOk result ((place < length self.new.calls.items) × ((i : ℕ) → slice_index_or self.new.calls.items i None ≡ slice_index_or self.old.calls.items i None)) }
+        ensures { OnOk result (HasPlace self.old.calls.items self.new.calls.items place) }
     {
         'places: while self.calls.len() <= place {
             self.calls.push(None)?;
@@ -68,7 +76,7 @@ impl LastCalls {
     }
 }
 
-/// The greater of a call and one that there may be.
+// The greater of a call and one that there may be.
 fn later(last: Option<u64>, call: u64) -> Option<u64>
     ensures { result ≡ at_least call last }
 {

@@ -1,0 +1,4 @@
+pub mod Growing
+pub mod OnLists
+pub mod Kept
+pub mod Standing

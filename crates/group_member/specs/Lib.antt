@@ -1,0 +1,2 @@
+pub mod LastCalls
+pub mod StandsFor
