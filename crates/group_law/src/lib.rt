@@ -12,6 +12,7 @@ ghost use Rattle.group_law.specs.Messages.{MessagesLaw};
 ghost use Rattle.group_law.specs.Numbers.{FewEventsLaw, NumbersLaw};
 ghost use Rattle.group_law.specs.Promise.{AgreementLaw, ConditionsLaw, KeptLaw, LastingLaw, ListsLaw};
 ghost use Rattle.group_law.specs.Sends.{RoutesLaw, SendsLaw};
+ghost use Rattle.group_law.specs.SoundPackets.{SoundLaw};
 ghost use Rattle.group_law.specs.Told.{PurgesLaw, StaysLaw, ToldLaw};
 ghost use Rattle.group_law.specs.WrongPurge.{OwnPurgeBreaksTheLaw};
 
@@ -53,6 +54,12 @@ pub fn agreement_law<M>()
     ensures few_events { FewEventsLaw M }
     ensures sends { SendsLaw M }
     ensures routes { RoutesLaw M }
+{}
+
+/// In a group of at most 16 members each packet that was sent is sound as it travels, for messages and replies of any
+/// types: each message in it was submitted by its process, its lists are short, and the members of a Result rise.
+pub fn packets_are_sound<M, R>()
+    ensures { SoundLaw M R }
 {}
 
 /// `purges_to_own_applied`: a sequencer that purges to its own applied number in place of the least that it heard breaks
