@@ -33,11 +33,11 @@ ghost use Rattle.group_law.specs.WrongPurge.{OwnPurgeBreaksTheLaw};
 /// - `purges`: no purge goes beyond what a member that answered for the incarnation has applied.
 /// - `stays`: a member is put outside only by a base beyond what it applied.
 /// - `numbers`: entry numbers are at most the number of submissions, incarnations at most 2 N for each tick or coordination.
-/// - `few_events`: so both stay below 2^62 in a run of at most 4,000,000 steps, each of which submits one message at most
-///   and is at most one tick or coordination of each member. Deliveries and notes don't count.
+/// - `few_events`: so all of them are below 2^62 in a run of at most 4,000,000 steps, each of which submits one message at
+///   most and is at most one tick or coordination of each member. Deliveries and notes don't count.
 /// - `sends`: what a row of a member sends goes from it to another member, and is of the kinds that the row may send.
 /// - `routes`: with n = k mod N, Order, Entry, Accept, Invite and Result of incarnation k come from member n, Request, Ack,
-///   Nack, Status and Join go to n, and a Body to all.
+///   Nack, Status and Join go to n. A Body may go to any member.
 pub fn agreement_law<M>()
     ensures worlds { AgreementLaw M }
     ensures lists { ListsLaw M }
