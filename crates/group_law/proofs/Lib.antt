@@ -29,5 +29,6 @@ pub mod Tally
 pub mod Small
 pub mod Sending
 pub mod Routing
+pub mod Travelling
 pub mod Inside
 pub mod OwnPurge

@@ -4,4 +4,5 @@ pub mod Messages
 pub mod Told
 pub mod Numbers
 pub mod Sends
+pub mod SoundPackets
 pub mod WrongPurge

@@ -1,5 +1,5 @@
 -- How great the numbers of a run are: docs/RUNTIME.md, Agreement.
-use Rattle.std.specs.Prelude.{ℕ, zero, suc, Some, List, [], ◌∷◌, ◌≡◌, ◌≤◌, ◌<◌, ◌*◌, ◌^◌, length}
+use Rattle.std.specs.Prelude.{ℕ, zero, suc, Some, List, [], ◌∷◌, ◌≡◌, ◌≤◌, ◌<◌, ◌-◌, ◌*◌, ◌^◌, length}
 use Rattle.orca_base.specs.declared.limits.TheConstants.{EVENTS}
 use Rattle.group_rules.specs.Messages.{Group}
 use Rattle.group_rules.specs.Member.{Report, Kind, Packet, Member}
@@ -71,8 +71,12 @@ pub record Numbers {M : Type 0} (w : GroupWorld M) (entries incarnations : ℕ) 
 abbrev pub NumbersLaw : Type 0 → Type 0
 NumbersLaw M = (g : Group M) → 2 * g.resilience < g.nodes → (events : List (Event M)) → Numbers (run g opening events) (submissions events) (2 * g.nodes * coordinations events)
 
--- so all of them are below 2^62 where members are numbered by 8 bits, and there are as many submissions, and at each member as many ticks and coordinations, as a run may have steps: a step submits one message at most, and is at most one tick or coordination of each member
+-- the greatest number of an entry and of an incarnation in a run; an entry that is lacked may have the next one
+abbrev pub MOST : ℕ
+MOST = 2 ^ 62 - 2
+
+-- all of them are below 2^62 where members are numbered by 8 bits, and there are as many submissions, and at each member as many ticks and coordinations, as a run may have steps: a step submits one message at most, and is at most one tick or coordination of each member
 abbrev pub FewEventsLaw : Type 0 → Type 0
 FewEventsLaw M =
     (g : Group M) → g.nodes ≤ 2 ^ 8 → (events : List (Event M)) → submissions events ≤ EVENTS → coordinations events ≤ g.nodes * EVENTS
-    → (suc (submissions events) < 2 ^ 62) × (2 * g.nodes * coordinations events < 2 ^ 62)
+    → (suc (submissions events) < 2 ^ 62) × (2 * g.nodes * coordinations events < 2 ^ 62) × (2 * g.resilience < g.nodes → Numbers (run g opening events) MOST MOST)

@@ -12,6 +12,7 @@ ghost use Rattle.group_law.specs.Messages.{MessagesLaw};
 ghost use Rattle.group_law.specs.Numbers.{FewEventsLaw, NumbersLaw};
 ghost use Rattle.group_law.specs.Promise.{AgreementLaw, ConditionsLaw, KeptLaw, LastingLaw, ListsLaw};
 ghost use Rattle.group_law.specs.Sends.{RoutesLaw, SendsLaw};
+ghost use Rattle.group_law.specs.SoundPackets.{SoundLaw};
 ghost use Rattle.group_law.specs.Told.{PurgesLaw, StaysLaw, ToldLaw};
 ghost use Rattle.group_law.specs.WrongPurge.{OwnPurgeBreaksTheLaw};
 
@@ -32,11 +33,11 @@ ghost use Rattle.group_law.specs.WrongPurge.{OwnPurgeBreaksTheLaw};
 /// - `purges`: no purge goes beyond what a member that answered for the incarnation has applied.
 /// - `stays`: a member is put outside only by a base beyond what it applied.
 /// - `numbers`: entry numbers are at most the number of submissions, incarnations at most 2 N for each tick or coordination.
-/// - `few_events`: so both stay below 2^62 in a run of at most 4,000,000 steps, each of which submits one message at most
-///   and is at most one tick or coordination of each member. Deliveries and notes don't count.
+/// - `few_events`: so all of them are below 2^62 in a run of at most 4,000,000 steps, each of which submits one message at
+///   most and is at most one tick or coordination of each member. Deliveries and notes don't count.
 /// - `sends`: what a row of a member sends goes from it to another member, and is of the kinds that the row may send.
 /// - `routes`: with n = k mod N, Order, Entry, Accept, Invite and Result of incarnation k come from member n, Request, Ack,
-///   Nack, Status and Join go to n, and a Body to all.
+///   Nack, Status and Join go to n. A Body may go to any member.
 pub fn agreement_law<M>()
     ensures worlds { AgreementLaw M }
     ensures lists { ListsLaw M }
@@ -53,6 +54,12 @@ pub fn agreement_law<M>()
     ensures few_events { FewEventsLaw M }
     ensures sends { SendsLaw M }
     ensures routes { RoutesLaw M }
+{}
+
+/// In a group of at most 16 members each packet that was sent is sound as it travels, for messages and replies of any
+/// types: each message in it was submitted by its process, its lists are short, and the members of a Result rise.
+pub fn packets_are_sound<M, R>()
+    ensures { SoundLaw M R }
 {}
 
 /// `purges_to_own_applied`: a sequencer that purges to its own applied number in place of the least that it heard breaks
