@@ -6,6 +6,7 @@ ghost use Rattle.orca_lexer.specs.Cursors.{IsAt};
 
 use crate::cursor::Cursor;
 
+// A space, a tab, a carriage return or a line feed.
 fn is_blank(byte: u8) -> bool
     ensures { result ≡ is_blank byte }
 {

@@ -40,6 +40,7 @@ fn content_len(quote: u8, text: &[u8]) -> Option<usize>
     None
 }
 
+// The character that a backslash and this byte stand for.
 fn escape_of(byte: u8) -> Option<u8>
     ensures { result ≡ escape_of byte }
 {
@@ -51,12 +52,14 @@ fn escape_of(byte: u8) -> Option<u8>
     }
 }
 
+// Whether a byte stands for itself between these quotes.
 fn is_plain(quote: u8, byte: u8) -> bool
     ensures { result ≡ is_plain quote byte }
 {
     matches!(byte, b' '..=b'~') && !(byte == b'\\' || byte == quote)
 }
 
+// Whether a byte goes on with a character of several bytes.
 fn is_continuation(byte: u8) -> bool
     ensures { result ≡ is_continuation byte }
 {

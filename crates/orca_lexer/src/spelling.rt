@@ -8,18 +8,21 @@ ghost use Rattle.orca_lexer.specs.Spelling.{keyword_text, symbol_text, character
 use crate::token::{KEYWORDS, Keyword, SYMBOLS, Symbol, TokenKind};
 use orca_base::NoMemory;
 
+// The text of a keyword.
 fn keyword_text(word: Keyword) -> &'static [u8]
     ensures { result.now ≡ keyword_text word }
 {
     KEYWORDS[word as usize].0
 }
 
+// The text of a symbol.
 fn symbol_text(symbol: Symbol) -> &'static [u8]
     ensures { result.now ≡ symbol_text symbol }
 {
     SYMBOLS[symbol as usize].0
 }
 
+// Puts bytes behind those that are there.
 fn put(out: &mut Vec<u8>, bytes: &[u8]) -> Result<(), NoMemory>
     ensures { OnOk result (out.new.items ≡ out.old.items ++ bytes.now) }
 {
@@ -39,6 +42,7 @@ fn put_character(out: &mut Vec<u8>, quote: u8, code: u8) -> Result<(), NoMemory>
     }
 }
 
+// Puts characters, each as it is written between these quotes.
 fn put_characters(out: &mut Vec<u8>, quote: u8, codes: &[u8]) -> Result<(), NoMemory>
     ensures { OnOk result (out.new.items ≡ out.old.items ++ flat_map (character_text quote) codes.now) }
 {
@@ -48,6 +52,7 @@ fn put_characters(out: &mut Vec<u8>, quote: u8, codes: &[u8]) -> Result<(), NoMe
     Ok(())
 }
 
+// Puts a char in its quotes.
 fn put_char(out: &mut Vec<u8>, code: u8) -> Result<(), NoMemory>
     ensures { OnOk result (out.new.items ≡ out.old.items ++ 39 ∷ (character_text 39 code ++ 39 ∷ [])) }
 {
@@ -56,6 +61,7 @@ fn put_char(out: &mut Vec<u8>, code: u8) -> Result<(), NoMemory>
     put(out, b"'")
 }
 
+// Puts a string in its quotes.
 fn put_string(out: &mut Vec<u8>, codes: &[u8]) -> Result<(), NoMemory>
     ensures { OnOk result (out.new.items ≡ out.old.items ++ 34 ∷ (flat_map (character_text 34) codes.now ++ 34 ∷ [])) }
 {
@@ -64,6 +70,7 @@ fn put_string(out: &mut Vec<u8>, codes: &[u8]) -> Result<(), NoMemory>
     put(out, b"\"")
 }
 
+// Puts a number in decimal.
 fn put_number(out: &mut Vec<u8>, value: i64) -> Result<(), NoMemory>
     ensures { OnOk result (out.new.items ≡ out.old.items ++ signed_decimal value) }
 {

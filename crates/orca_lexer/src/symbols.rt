@@ -10,6 +10,7 @@ use crate::parts::{Fault, Lexeme};
 use crate::table::entry;
 use crate::token::{SYMBOLS, Symbol, TokenKind};
 
+// The symbol that a text is.
 #[tactic(auto, unfolding(crate::specs::Tables::symbol_of))]
 fn symbol(word: &[u8]) -> Option<Symbol>
     ensures { result ≡ symbol_of word.now }

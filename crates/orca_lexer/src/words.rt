@@ -14,6 +14,7 @@ use crate::token::{KEYWORDS, Keyword, TokenKind};
 use orca_base::{NoMemory, Text};
 use std::alloc::Global;
 
+// A letter, a digit or `_`.
 fn is_name_byte(byte: u8) -> bool
     ensures { result ≡ is_name_byte byte }
 {
@@ -28,6 +29,7 @@ fn word_len(text: &[u8]) -> usize
     text.iter().take_while(|byte| is_name_byte(**byte)).count()
 }
 
+// The keyword that a word is.
 #[tactic(auto, unfolding(crate::specs::Tables::keyword_of))]
 fn keyword(word: &[u8]) -> Option<Keyword>
     ensures { result ≡ keyword_of word.now }

@@ -7,6 +7,7 @@ use crate::tree::{Bound, Expression, Statement, TypePhrase};
 use orca_base::Place;
 
 impl Bound {
+    /// Where its first word stands.
     pub fn place(&self) -> Place
         ensures { result ≡ bound_place self.now }
     {
@@ -18,6 +19,7 @@ impl Bound {
 }
 
 impl TypePhrase {
+    /// Where its first word stands.
     pub fn place(&self) -> Place
         ensures { result ≡ type_place self.now }
     {
@@ -59,6 +61,7 @@ impl Expression {
 }
 
 impl Statement {
+    /// Where its first word stands.
     pub fn place(&self) -> Place
         ensures { result ≡ statement_place self.now }
     {

@@ -23,6 +23,7 @@ pub fn print_tree(alloc: Global, unit: &Unit) -> Result<String, NoMemory>
     Ok(String::from_utf8_lossy(alloc, &bytes)?)
 }
 
+// The bytes of a unit's text.
 fn printed_bytes(alloc: Global, unit: &Unit) -> Result<Vec<u8>, NoMemory>
     ensures { IfOk result (λ bytes. bytes.items ≡ printed unit.now) }
 {

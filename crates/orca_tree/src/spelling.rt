@@ -43,6 +43,7 @@ impl Model for Speller {
 }
 
 impl Speller {
+    // The words of a unit.
     #[tactic(auto, using(crate::proofs::Spelled::spelling))]
     fn unit(&mut self, u: &Unit) -> Result<(), NoMemory>
         ensures { OnOk result (self.new ≡ self.old ++ spelled (unit_marks u.now)) }
@@ -52,6 +53,7 @@ impl Speller {
         self.declarations(&u.declarations)
     }
 
+    // The words of a module's line, if there is one.
     fn module_line(&mut self, line: &Option<Name>) -> Result<(), NoMemory>
         ensures { OnOk result (self.new ≡ self.old ++ spelled (module_line line.now)) }
     {
@@ -65,6 +67,7 @@ impl Speller {
         }
     }
 
+    // The words of imports.
     #[tactic(auto, using(crate::proofs::Spelled::spelling_steps))]
     fn imports(&mut self, all: &[Name]) -> Result<(), NoMemory>
         ensures { OnOk result (self.new ≡ self.old ++ spelled (flat_map import_line all.now)) }
@@ -77,6 +80,7 @@ impl Speller {
         Ok(())
     }
 
+    // The words of declarations.
     #[tactic(auto, using(crate::proofs::Spelled::spelling_steps))]
     fn declarations(&mut self, all: &[Declaration]) -> Result<(), NoMemory>
         ensures { OnOk result (self.new ≡ self.old ++ spelled (flat_map declaration all.now)) }
@@ -87,6 +91,7 @@ impl Speller {
         Ok(())
     }
 
+    // Puts a token behind those that are there.
     fn put(&mut self, kind: TokenKind) -> Result<(), NoMemory>
         ensures { OnOk result (self.new ≡ self.old ++ kind ∷ []) }
     {
@@ -94,12 +99,14 @@ impl Speller {
         Ok(())
     }
 
+    // Puts a keyword.
     fn key(&mut self, word: Keyword) -> Result<(), NoMemory>
         ensures { OnOk result (self.new ≡ self.old ++ TokenKind.Key word ∷ []) }
     {
         self.put(TokenKind::Key { word })
     }
 
+    // Puts a symbol.
     fn sign(&mut self, symbol: Symbol) -> Result<(), NoMemory>
         ensures { OnOk result (self.new ≡ self.old ++ TokenKind.Sign symbol ∷ []) }
     {
@@ -118,12 +125,14 @@ impl Speller {
         }
     }
 
+    // Puts a number.
     fn number(&mut self, value: i64) -> Result<(), NoMemory>
         ensures { OnOk result (self.new ≡ self.old ++ TokenKind.Number value ∷ []) }
     {
         self.put(TokenKind::Number { value })
     }
 
+    // Puts a string.
     fn text(&mut self, text: &Text) -> Result<(), NoMemory>
         ensures { OnOk result (self.new ≡ self.old ++ TokenKind.Text text.now ∷ []) }
     {
@@ -131,6 +140,7 @@ impl Speller {
         self.put(TokenKind::Text { text })
     }
 
+    // Puts a name.
     fn name(&mut self, name: &Name) -> Result<(), NoMemory>
         ensures { OnOk result (self.new ≡ self.old ++ spelled (name_mark name.now ∷ [])) }
     {
@@ -138,6 +148,7 @@ impl Speller {
         self.put(TokenKind::Name { name })
     }
 
+    // Puts `true` or `false`.
     fn truth(&mut self, value: bool) -> Result<(), NoMemory>
         ensures { OnOk result (self.new ≡ self.old ++ truth_token value ∷ []) }
     {
@@ -148,6 +159,7 @@ impl Speller {
         }
     }
 
+    // Puts an operator.
     fn operator(&mut self, operator: Operator) -> Result<(), NoMemory>
         ensures { OnOk result (self.new ≡ self.old ++ operator_token operator ∷ []) }
     {
@@ -170,6 +182,7 @@ impl Speller {
         }
     }
 
+    // The words of a bound.
     fn bound(&mut self, b: &Bound) -> Result<(), NoMemory>
         ensures { OnOk result (self.new ≡ self.old ++ spelled (bound b.now)) }
     {
@@ -183,6 +196,7 @@ impl Speller {
         }
     }
 
+    // The words of a type.
     #[tactic(auto, using(crate::proofs::Spelled::spelling))]
     fn type_phrase(&mut self, t: &TypePhrase) -> Result<(), NoMemory>
         ensures { OnOk result (self.new ≡ self.old ++ spelled (type_phrase t.now)) }

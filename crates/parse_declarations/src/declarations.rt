@@ -20,6 +20,7 @@ use parse_statements::statements;
 use parse_types::{bound, definition, parameters, result_type, variables};
 use std::alloc::Global;
 
+// A constant: its name and its value.
 #[tactic(auto, unfolding(orca_grammar::specs::Rules::constant_rest, orca_grammar::specs::Rules::bound))]
 fn constant(alloc: Global, tokens: &[Token]) -> Parsed<'_, Declaration>
     ensures { Parses marks.declaration result (read 0 (rules.key_at KeyConst ⨾ rules.constant_rest) tokens.now) }
@@ -32,6 +33,7 @@ fn constant(alloc: Global, tokens: &[Token]) -> Parsed<'_, Declaration>
     Ok((Declaration::Constant { at, name, value }, rest))
 }
 
+// A type: its name and its definition.
 #[tactic(auto, unfolding(orca_grammar::specs::Rules::type_rest))]
 fn type_declaration(alloc: Global, depth: u32, tokens: &[Token]) -> Parsed<'_, Declaration>
     ensures { Parses marks.declaration result (read depth (rules.key_at KeyType ⨾ rules.type_rest) tokens.now) }
@@ -103,6 +105,7 @@ fn implementation(alloc: Global, depth: u32, at: Place, tokens: &[Token]) -> Par
     ))
 }
 
+// A specification or an implementation of an object type.
 #[tactic(auto, unfolding(orca_grammar::specs::Rules::object_rest))]
 fn object(alloc: Global, depth: u32, tokens: &[Token]) -> Parsed<'_, Declaration>
     ensures { Parses marks.declaration result (read depth (rules.key_at KeyObject ⨾ rules.object_rest) tokens.now) }
@@ -114,6 +117,7 @@ fn object(alloc: Global, depth: u32, tokens: &[Token]) -> Parsed<'_, Declaration
     implementation(alloc, depth, at, rest)
 }
 
+// A function: its head and its block.
 #[tactic(auto, unfolding(orca_grammar::specs::Rules::function_rest))]
 fn function(alloc: Global, depth: u32, tokens: &[Token]) -> Parsed<'_, Declaration>
     ensures { Parses marks.declaration result (read depth (rules.key_at KeyFunction ⨾ rules.function_rest) tokens.now) }
@@ -138,6 +142,7 @@ fn function(alloc: Global, depth: u32, tokens: &[Token]) -> Parsed<'_, Declarati
     ))
 }
 
+// A process: its name, its parameters and its block.
 #[tactic(auto, unfolding(orca_grammar::specs::Rules::process_rest))]
 fn process(alloc: Global, depth: u32, tokens: &[Token]) -> Parsed<'_, Declaration>
     ensures { Parses marks.declaration result (read depth (rules.key_at KeyProcess ⨾ rules.process_rest) tokens.now) }

@@ -59,6 +59,7 @@ pub fn block(alloc: Global, depth: u32, tokens: &[Token]) -> Parsed<'_, Block>
     ))
 }
 
+// A guard: its test and its statements.
 #[tactic(auto, unfolding(orca_grammar::specs::Rules::guard))]
 fn guard(alloc: Global, depth: u32, tokens: &[Token]) -> Parsed<'_, Guard>
     ensures { Parses marks.guard result (read depth rules.guard tokens.now) }
@@ -86,6 +87,7 @@ fn guards(alloc: Global, depth: u32, tokens: &[Token]) -> Parsed<'_, Vec<Guard>>
     Ok((parts, rest))
 }
 
+// The guards of an operation, or its statements.
 #[tactic(auto, unfolding(orca_grammar::specs::Rules::operation_body, orca_grammar::specs::Rules::guards, orca_grammar::specs::Rules::guard))]
 fn operation_body(alloc: Global, depth: u32, tokens: &[Token]) -> Parsed<'_, OperationBody>
     ensures { Parses marks.operation_body result (read depth rules.operation_body tokens.now) }
@@ -99,6 +101,7 @@ fn operation_body(alloc: Global, depth: u32, tokens: &[Token]) -> Parsed<'_, Ope
     Ok((OperationBody::Plain { statements }, rest))
 }
 
+// An operation: its head, its variables and its body.
 #[tactic(auto, unfolding(orca_grammar::specs::Rules::operation))]
 fn operation(alloc: Global, depth: u32, tokens: &[Token]) -> Parsed<'_, Operation>
     ensures { Parses marks.operation result (read depth rules.operation tokens.now) }

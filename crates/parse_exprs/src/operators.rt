@@ -31,6 +31,7 @@ pub fn is_single(level: Level) -> bool
     matches!(level, Level::Relation)
 }
 
+// The operator between factors that a token is.
 #[tactic(auto, unfolding(orca_grammar::specs::Rules::operator))]
 fn term_operator(kind: &TokenKind) -> Option<Operator>
     ensures { IsOperator Term kind.now result }
@@ -46,6 +47,7 @@ fn term_operator(kind: &TokenKind) -> Option<Operator>
     }
 }
 
+// The operator between terms that a token is.
 #[tactic(auto, unfolding(orca_grammar::specs::Rules::operator))]
 fn sum_operator(kind: &TokenKind) -> Option<Operator>
     ensures { IsOperator Sum kind.now result }
@@ -61,6 +63,7 @@ fn sum_operator(kind: &TokenKind) -> Option<Operator>
     }
 }
 
+// The relation that a symbol is.
 #[tactic(auto, unfolding(orca_grammar::specs::Rules::operator))]
 fn relation_sign(symbol: Symbol) -> Option<Operator>
     ensures { IsOperator Relation (Sign symbol) result }
@@ -76,6 +79,7 @@ fn relation_sign(symbol: Symbol) -> Option<Operator>
     }
 }
 
+// The relation that a token is: a symbol, or `in`.
 #[tactic(auto, unfolding(orca_grammar::specs::Rules::operator))]
 fn relation(kind: &TokenKind) -> Option<Operator>
     ensures { IsOperator Relation kind.now result }
@@ -89,6 +93,7 @@ fn relation(kind: &TokenKind) -> Option<Operator>
     }
 }
 
+// `and`, if the token is it.
 #[tactic(auto, unfolding(orca_grammar::specs::Rules::operator))]
 fn conjunction(kind: &TokenKind) -> Option<Operator>
     ensures { IsOperator Conjunction kind.now result }
@@ -101,6 +106,7 @@ fn conjunction(kind: &TokenKind) -> Option<Operator>
     }
 }
 
+// `or`, if the token is it.
 #[tactic(auto, unfolding(orca_grammar::specs::Rules::operator))]
 fn disjunction(kind: &TokenKind) -> Option<Operator>
     ensures { IsOperator Disjunction kind.now result }

@@ -125,6 +125,7 @@ pub fn statements(alloc: Global, depth: u32, tokens: &[Token]) -> Parsed<'_, Vec
     Ok((lines, rest))
 }
 
+// `if` with its arms.
 #[cycle(statements)]
 #[tactic(auto, unfolding(orca_grammar::specs::Rules::if_rest))]
 fn if_statement(alloc: Global, depth: u32, tokens: &[Token]) -> Parsed<'_, Statement>
@@ -168,6 +169,7 @@ fn when_arms(alloc: Global, depth: u32, tokens: &[Token]) -> Parsed<'_, Vec<Arm>
     Ok((arms, rest))
 }
 
+// `elsif` and its arm.
 #[cycle(statements)]
 #[tactic(auto, unfolding(orca_grammar::specs::Rules::elsif_arm), using(orca_tree::proofs::Rows::when_is))]
 fn elsif_arm(alloc: Global, depth: u32, tokens: &[Token]) -> Parsed<'_, Arm>
@@ -190,6 +192,7 @@ fn when(alloc: Global, depth: u32, tokens: &[Token]) -> Parsed<'_, (Expression, 
     Ok(((test, body), rest))
 }
 
+// `else` and the statements behind it.
 #[cycle(statements)]
 #[tactic(auto, unfolding(orca_grammar::specs::Rules::otherwise), using(orca_tree::proofs::Rows::otherwise_is))]
 fn otherwise(alloc: Global, depth: u32, tokens: &[Token]) -> Parsed<'_, Arm>
@@ -200,6 +203,7 @@ fn otherwise(alloc: Global, depth: u32, tokens: &[Token]) -> Parsed<'_, Arm>
     Ok((Arm::Otherwise { body }, rest))
 }
 
+// `while` with its test and its body.
 #[cycle(statements)]
 #[tactic(auto, unfolding(orca_grammar::specs::Rules::while_rest))]
 fn while_statement(alloc: Global, depth: u32, tokens: &[Token]) -> Parsed<'_, Statement>
@@ -213,6 +217,7 @@ fn while_statement(alloc: Global, depth: u32, tokens: &[Token]) -> Parsed<'_, St
     Ok((while_loop(at, test, body), rest))
 }
 
+// `for` with its name, its bounds and its body.
 #[cycle(statements)]
 #[tactic(auto, unfolding(orca_grammar::specs::Rules::for_rest))]
 fn for_statement(alloc: Global, depth: u32, tokens: &[Token]) -> Parsed<'_, Statement>
@@ -230,6 +235,7 @@ fn for_statement(alloc: Global, depth: u32, tokens: &[Token]) -> Parsed<'_, Stat
     Ok((for_loop(at, name, Range { low, high }, body), rest))
 }
 
+// `repeat` with its body and its test.
 #[cycle(statements)]
 #[tactic(auto, unfolding(orca_grammar::specs::Rules::repeat_rest))]
 fn repeat_statement(alloc: Global, depth: u32, tokens: &[Token]) -> Parsed<'_, Statement>

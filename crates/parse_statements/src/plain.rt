@@ -32,6 +32,7 @@ fn returned(alloc: Global, depth: u32, tokens: &[Token]) -> Parsed<'_, Option<Ex
     Ok((Some(value), rest))
 }
 
+/// `return`, with a value or without.
 pub fn return_statement(alloc: Global, depth: u32, tokens: &[Token]) -> Parsed<'_, Statement>
     ensures { Parses marks.statement result (phrase StatementPhrase depth (rules.key_at KeyReturn ⨾ rules.return_rest) tokens.now) }
 {
@@ -53,6 +54,7 @@ fn on_member(alloc: Global, depth: u32, tokens: &[Token]) -> Parsed<'_, Option<E
     Ok((Some(member), rest))
 }
 
+/// `fork` with the process, its arguments, and the member if it is said.
 #[tactic(auto, unfolding(orca_grammar::specs::Rules::fork_rest))]
 pub fn fork_statement(alloc: Global, depth: u32, tokens: &[Token]) -> Parsed<'_, Statement>
     ensures { Parses marks.statement result (phrase StatementPhrase depth (rules.key_at KeyFork ⨾ rules.fork_rest) tokens.now) }
@@ -72,6 +74,7 @@ pub fn fork_statement(alloc: Global, depth: u32, tokens: &[Token]) -> Parsed<'_,
     ))
 }
 
+/// `WriteLine` with its arguments.
 pub fn write_line(alloc: Global, depth: u32, tokens: &[Token]) -> Parsed<'_, Statement>
     ensures { Parses marks.statement result (phrase StatementPhrase depth (rules.key_at KeyWriteLine ⨾ rules.argument_list) tokens.now) }
 {
@@ -97,6 +100,7 @@ fn element_and_designator(
     Ok(((element, whole), rest))
 }
 
+/// `insert` of an element into a set or bag.
 pub fn insert_statement(alloc: Global, depth: u32, tokens: &[Token]) -> Parsed<'_, Statement>
     ensures { Parses marks.statement result (phrase StatementPhrase depth (rules.key_at KeyInsert ⨾ rules.element_and_designator) tokens.now) }
 {
@@ -105,6 +109,7 @@ pub fn insert_statement(alloc: Global, depth: u32, tokens: &[Token]) -> Parsed<'
     Ok((Statement::Insert { at, element, into }, rest))
 }
 
+/// `delete` of an element from a set or bag.
 pub fn delete_statement(alloc: Global, depth: u32, tokens: &[Token]) -> Parsed<'_, Statement>
     ensures { Parses marks.statement result (phrase StatementPhrase depth (rules.key_at KeyDelete ⨾ rules.element_and_designator) tokens.now) }
 {

@@ -43,6 +43,7 @@ fn fields(alloc: Global, depth: u32, tokens: &[Token]) -> Parsed<'_, Vec<TypedNa
     Ok((parts, rest))
 }
 
+// A record and its fields.
 #[tactic(auto, unfolding(orca_grammar::specs::Rules::record_rest))]
 fn record_type(alloc: Global, depth: u32, tokens: &[Token]) -> Parsed<'_, Definition>
     ensures { Parses marks.definition result (read depth (rules.key_at KeyRecord ⨾ rules.record_rest) tokens.now) }
@@ -53,6 +54,7 @@ fn record_type(alloc: Global, depth: u32, tokens: &[Token]) -> Parsed<'_, Defini
     Ok((Definition::Record { at, fields }, rest))
 }
 
+// An enumeration and its names.
 #[tactic(auto, unfolding(orca_grammar::specs::Rules::enumeration_rest, orca_grammar::specs::Rules::names))]
 fn enumeration(alloc: Global, tokens: &[Token]) -> Parsed<'_, Definition>
     ensures { Parses marks.definition result (read 0 (rules.key_at KeyEnum ⨾ rules.enumeration_rest) tokens.now) }

@@ -52,6 +52,7 @@ fn mode(tokens: &[Token]) -> (Mode, &[Token])
     (Mode::Value, tokens)
 }
 
+// A parameter: its name, how it is passed, and its type.
 #[tactic(auto, unfolding(orca_grammar::specs::Rules::parameter, orca_grammar::specs::Rules::mode))]
 fn parameter(alloc: Global, depth: u32, tokens: &[Token]) -> Parsed<'_, Parameter>
     ensures { Parses marks.parameter result (read depth rules.parameter tokens.now) }

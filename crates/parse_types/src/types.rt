@@ -124,6 +124,7 @@ pub fn type_phrase(alloc: Global, depth: u32, tokens: &[Token]) -> Parsed<'_, Ty
     bag_type(alloc, depth - 1, tokens)
 }
 
+// An array: its bounds, and the type of its elements.
 #[cycle(types)]
 #[tactic(auto, unfolding(orca_grammar::specs::Rules::array_rest, orca_grammar::specs::Rules::bound))]
 fn array_type(alloc: Global, depth: u32, tokens: &[Token]) -> Parsed<'_, TypePhrase>
@@ -147,6 +148,7 @@ fn array_type(alloc: Global, depth: u32, tokens: &[Token]) -> Parsed<'_, TypePhr
     ))
 }
 
+// A set, and the type of its elements.
 #[cycle(types)]
 fn set_type(alloc: Global, depth: u32, tokens: &[Token]) -> Parsed<'_, TypePhrase>
     ensures { Parses marks.type_phrase result (in_brackets (Phrase forms.TypePhrase) (read depth (rules.key_at KeySet ⨾ rules.element_rest) tokens.now)) }
@@ -156,6 +158,7 @@ fn set_type(alloc: Global, depth: u32, tokens: &[Token]) -> Parsed<'_, TypePhras
     Ok((TypePhrase::Set { at, element }, rest))
 }
 
+// A bag, and the type of its elements.
 #[cycle(types)]
 fn bag_type(alloc: Global, depth: u32, tokens: &[Token]) -> Parsed<'_, TypePhrase>
     ensures { Parses marks.type_phrase result (in_brackets (Phrase forms.TypePhrase) (read depth (rules.key_at KeyBag ⨾ rules.element_rest) tokens.now)) }

@@ -63,6 +63,7 @@ impl Speller {
         }
     }
 
+    // The words of a constant.
     fn constant(&mut self, name: &Name, value: &Bound) -> Result<(), NoMemory>
         ensures { OnOk result (self.new ≡ self.old ++ Key Keyword.KeyConst ∷ spelled (name_mark name.now ∷ word (Sign Symbol.Equals) ∷ (bound value.now ++ word (Sign Semicolon) ∷ []))) }
     {
@@ -73,6 +74,7 @@ impl Speller {
         self.sign(Symbol::Semicolon)
     }
 
+    // The words of a type's declaration.
     fn type_declaration(&mut self, name: &Name, of: &Definition) -> Result<(), NoMemory>
         ensures { OnOk result (self.new ≡ self.old ++ Key Keyword.KeyType ∷ spelled (name_mark name.now ∷ word (Sign Symbol.Equals) ∷ (definition of.now ++ word (Sign Semicolon) ∷ []))) }
     {
@@ -83,6 +85,7 @@ impl Speller {
         self.sign(Symbol::Semicolon)
     }
 
+    // The words of a definition.
     fn definition(&mut self, d: &Definition) -> Result<(), NoMemory>
         ensures { OnOk result (self.new ≡ self.old ++ spelled (definition d.now)) }
     {
@@ -102,6 +105,7 @@ impl Speller {
         }
     }
 
+    // The words of fields.
     #[tactic(auto, using(crate::proofs::Spelled::spelling_steps))]
     fn fields(&mut self, all: &[TypedName]) -> Result<(), NoMemory>
         ensures { OnOk result (self.new ≡ self.old ++ spelled (flat_map (λ f. typed_name f ++ word (Sign Semicolon) ∷ []) all.now)) }
@@ -113,6 +117,7 @@ impl Speller {
         Ok(())
     }
 
+    // The words of a specification.
     fn specification(&mut self, name: &Name, all: &[Head]) -> Result<(), NoMemory>
         ensures { OnOk result (self.new ≡ self.old ++ Key Keyword.KeyObject ∷ Key Keyword.KeySpecification ∷ spelled (name_mark name.now ∷ word (Sign Semicolon) ∷ ended (heads all.now))) }
     {
@@ -124,6 +129,7 @@ impl Speller {
         self.end()
     }
 
+    // Heads, each with a semicolon behind it.
     #[tactic(auto, using(crate::proofs::Spelled::spelling_steps))]
     fn heads(&mut self, all: &[Head]) -> Result<(), NoMemory>
         ensures { OnOk result (self.new ≡ self.old ++ spelled (heads all.now)) }
@@ -135,6 +141,7 @@ impl Speller {
         Ok(())
     }
 
+    // The words of an operation's head.
     fn head(&mut self, h: &Head) -> Result<(), NoMemory>
         ensures { OnOk result (self.new ≡ self.old ++ spelled (head h.now)) }
     {
@@ -146,6 +153,7 @@ impl Speller {
         self.result(&h.result)
     }
 
+    // The words of an implementation.
     fn implementation(
         &mut self,
         name: &Name,
@@ -166,6 +174,7 @@ impl Speller {
         self.end()
     }
 
+    // The statements that open an object, if there are such.
     fn opening(&mut self, begins: &Option<Vec<Statement>>) -> Result<(), NoMemory>
         ensures { OnOk result (self.new ≡ self.old ++ spelled (if_any (λ ss. opening ss.items) begins.now)) }
     {
@@ -178,6 +187,7 @@ impl Speller {
         }
     }
 
+    // The words of operations.
     #[tactic(auto, using(crate::proofs::Spelled::spelling_steps))]
     fn operations(&mut self, all: &[Operation]) -> Result<(), NoMemory>
         ensures { OnOk result (self.new ≡ self.old ++ spelled (flat_map operation all.now)) }
@@ -188,6 +198,7 @@ impl Speller {
         Ok(())
     }
 
+    // The words of an operation.
     fn operation(&mut self, o: &Operation) -> Result<(), NoMemory>
         ensures { OnOk result (self.new ≡ self.old ++ spelled (operation o.now)) }
     {
@@ -199,6 +210,7 @@ impl Speller {
         self.end()
     }
 
+    // The guards of an operation, or its statements.
     fn operation_body(&mut self, body: &OperationBody) -> Result<(), NoMemory>
         ensures { OnOk result (self.new ≡ self.old ++ spelled (operation_body body.now)) }
     {
@@ -211,6 +223,7 @@ impl Speller {
         }
     }
 
+    // The words of guards.
     #[tactic(auto, using(crate::proofs::Spelled::spelling_steps))]
     fn guards(&mut self, all: &[Guard]) -> Result<(), NoMemory>
         ensures { OnOk result (self.new ≡ self.old ++ spelled (flat_map guard all.now)) }
@@ -221,6 +234,7 @@ impl Speller {
         Ok(())
     }
 
+    // The words of a guard.
     fn guard(&mut self, g: &Guard) -> Result<(), NoMemory>
         ensures { OnOk result (self.new ≡ self.old ++ spelled (guard g.now)) }
     {
@@ -230,6 +244,7 @@ impl Speller {
         self.sign(Symbol::Semicolon)
     }
 
+    // The words of a block.
     fn block(&mut self, b: &Block) -> Result<(), NoMemory>
         ensures { OnOk result (self.new ≡ self.old ++ spelled (block b.now)) }
     {
@@ -257,6 +272,7 @@ impl Speller {
         self.sign(Symbol::Closes)
     }
 
+    // Parameters with semicolons between them.
     #[tactic(auto, using(crate::proofs::Spelled::spelling_steps))]
     fn parameters(&mut self, all: &[Parameter]) -> Result<(), NoMemory>
         ensures { OnOk result (self.new ≡ self.old ++ spelled (parameters all.now)) }
@@ -268,6 +284,7 @@ impl Speller {
         Ok(())
     }
 
+    // The words of a parameter.
     fn parameter(&mut self, p: &Parameter) -> Result<(), NoMemory>
         ensures { OnOk result (self.new ≡ self.old ++ spelled (parameter p.now)) }
     {
@@ -277,6 +294,7 @@ impl Speller {
         self.type_phrase(&p.kind)
     }
 
+    // How a parameter is passed.
     fn mode(&mut self, m: Mode) -> Result<(), NoMemory>
         ensures { OnOk result (self.new ≡ self.old ++ spelled (mode m)) }
     {
@@ -300,6 +318,7 @@ impl Speller {
         }
     }
 
+    // The words of variables.
     #[tactic(auto, using(crate::proofs::Spelled::spelling_steps))]
     fn variables(&mut self, all: &[Variables]) -> Result<(), NoMemory>
         ensures { OnOk result (self.new ≡ self.old ++ spelled (all_variables all.now)) }
@@ -310,6 +329,7 @@ impl Speller {
         Ok(())
     }
 
+    // The words of variables of one type.
     fn variables_of_type(&mut self, v: &Variables) -> Result<(), NoMemory>
         ensures { OnOk result (self.new ≡ self.old ++ spelled (variables v.now)) }
     {
@@ -319,6 +339,7 @@ impl Speller {
         self.sign(Symbol::Semicolon)
     }
 
+    // Names with commas between them.
     #[tactic(auto, using(crate::proofs::Spelled::spelling_steps))]
     fn names(&mut self, all: &[Name]) -> Result<(), NoMemory>
         ensures { OnOk result (self.new ≡ self.old ++ spelled (names all.now)) }
@@ -330,6 +351,7 @@ impl Speller {
         Ok(())
     }
 
+    // Names with their types, with semicolons between them.
     #[tactic(auto, using(crate::proofs::Spelled::spelling_steps))]
     fn typed_names(&mut self, all: &[TypedName]) -> Result<(), NoMemory>
         ensures { OnOk result (self.new ≡ self.old ++ spelled (typed_names all.now)) }
@@ -341,6 +363,7 @@ impl Speller {
         Ok(())
     }
 
+    // A name with its type.
     fn typed_name(&mut self, t: &TypedName) -> Result<(), NoMemory>
         ensures { OnOk result (self.new ≡ self.old ++ spelled (typed_name t.now)) }
     {

@@ -58,6 +58,7 @@ impl Speller {
         }
     }
 
+    // An expression in parentheses.
     #[cycle(spell_expressions)]
     fn in_parentheses(&mut self, e: &Expression) -> Result<(), NoMemory>
         ensures { OnOk result (self.new ≡ self.old ++ spelled (enclosed (expression e.now))) }
@@ -67,6 +68,7 @@ impl Speller {
         self.sign(Symbol::Closes)
     }
 
+    // The words of links: each operator with its right operand.
     #[cycle(spell_expressions)]
     #[tactic(auto, using(crate::proofs::Spelled::spelling_steps))]
     fn links(&mut self, links: &[Link]) -> Result<(), NoMemory>
@@ -79,6 +81,7 @@ impl Speller {
         Ok(())
     }
 
+    // The words of a `from`.
     #[cycle(spell_expressions)]
     fn from(&mut self, source: &Designator) -> Result<(), NoMemory>
         ensures { OnOk result (self.new ≡ self.old ++ TokenKind.Key Keyword.KeyFrom ∷ spelled (enclosed (designator source.now))) }
@@ -97,6 +100,7 @@ impl Speller {
         self.path(&d.path)
     }
 
+    // The words of selectors.
     #[cycle(spell_expressions)]
     #[tactic(auto, using(crate::proofs::Spelled::spelling_steps))]
     fn path(&mut self, path: &[Selector]) -> Result<(), NoMemory>
@@ -108,6 +112,7 @@ impl Speller {
         Ok(())
     }
 
+    // The words of a selector.
     #[cycle(spell_expressions)]
     fn selector(&mut self, step: &Selector) -> Result<(), NoMemory>
         ensures { OnOk result (self.new ≡ self.old ++ spelled (selector step.now)) }
@@ -158,6 +163,7 @@ impl Speller {
         self.sign(Symbol::Closes)
     }
 
+    // Arguments with commas between them.
     #[cycle(spell_expressions)]
     #[tactic(auto, using(crate::proofs::Spelled::spelling_steps))]
     fn arguments(&mut self, given: &[Expression]) -> Result<(), NoMemory>

@@ -79,6 +79,7 @@ impl Speller {
         Ok(())
     }
 
+    // The arms of an `if`, and its `fi`.
     #[cycle(spell_statements)]
     fn choice(&mut self, all: &[Arm]) -> Result<(), NoMemory>
         ensures { OnOk result (self.new ≡ self.old ++ Key Keyword.KeyIf ∷ spelled (arms all.now ++ word (Key KeyFi) ∷ [])) }
@@ -88,6 +89,7 @@ impl Speller {
         self.key(Keyword::KeyFi)
     }
 
+    // The words of arms, each but the first behind its keyword.
     #[cycle(spell_statements)]
     #[tactic(auto, using(crate::proofs::Spelled::spelling_steps))]
     fn arms(&mut self, all: &[Arm]) -> Result<(), NoMemory>
@@ -100,6 +102,7 @@ impl Speller {
         Ok(())
     }
 
+    // The words of an arm, behind its keyword.
     #[cycle(spell_statements)]
     fn arm(&mut self, a: &Arm) -> Result<(), NoMemory>
         ensures { OnOk result (self.new ≡ self.old ++ spelled (arm a.now)) }
@@ -110,6 +113,7 @@ impl Speller {
         }
     }
 
+    // A test, `then`, and the statements behind it.
     #[cycle(spell_statements)]
     fn when(&mut self, body: &[Statement], test: &Expression) -> Result<(), NoMemory>
         ensures { OnOk result (self.new ≡ self.old ++ spelled (expression test.now ++ word (Key Keyword.KeyThen) ∷ statements body.now)) }
@@ -119,6 +123,7 @@ impl Speller {
         self.statements(body)
     }
 
+    // The words of a `while`.
     #[cycle(spell_statements)]
     fn while_loop(&mut self, body: &[Statement], test: &Expression) -> Result<(), NoMemory>
         ensures { OnOk result (self.new ≡ self.old ++ Key Keyword.KeyWhile ∷ spelled (expression test.now ++ word (Key KeyDo) ∷ (statements body.now ++ word (Key KeyOd) ∷ []))) }
@@ -128,6 +133,7 @@ impl Speller {
         self.body(body)
     }
 
+    // The words of a `for`.
     #[cycle(spell_statements)]
     fn for_loop(&mut self, name: &Name, range: &Range, body: &[Statement]) -> Result<(), NoMemory>
         ensures { OnOk result (self.new ≡ self.old ++ Key Keyword.KeyFor ∷ TokenKind.Name name.now.text ∷ Key Keyword.KeyIn ∷ spelled (expression range.now.low ++ word (Sign Symbol.Range) ∷ (expression range.now.high ++ word (Key KeyDo) ∷ (statements body.now ++ word (Key KeyOd) ∷ [])))) }
@@ -149,6 +155,7 @@ impl Speller {
         self.key(Keyword::KeyOd)
     }
 
+    // The words of a `repeat`.
     #[cycle(spell_statements)]
     fn repeat_loop(&mut self, body: &[Statement], test: &Expression) -> Result<(), NoMemory>
         ensures { OnOk result (self.new ≡ self.old ++ Key Keyword.KeyRepeat ∷ spelled (statements body.now ++ word (Key KeyUntil) ∷ expression test.now)) }
@@ -172,6 +179,7 @@ impl Speller {
         }
     }
 
+    // The words of a range.
     fn range(&mut self, r: &Range) -> Result<(), NoMemory>
         ensures { OnOk result (self.new ≡ self.old ++ spelled (expression r.now.low ++ word (Sign Symbol.Range) ∷ expression r.now.high)) }
     {
@@ -180,6 +188,7 @@ impl Speller {
         self.expression(&r.high)
     }
 
+    // The words of a `return`.
     fn return_with(&mut self, value: &Option<Expression>) -> Result<(), NoMemory>
         ensures { OnOk result (self.new ≡ self.old ++ Key Keyword.KeyReturn ∷ spelled (if_any expression value.now)) }
     {
@@ -190,6 +199,7 @@ impl Speller {
         }
     }
 
+    // The words of a `fork`.
     fn fork(
         &mut self,
         process: &Name,
@@ -209,6 +219,7 @@ impl Speller {
         }
     }
 
+    // An element, and the set or bag that it is put into or taken from.
     fn element_and_designator(
         &mut self,
         element: &Expression,
