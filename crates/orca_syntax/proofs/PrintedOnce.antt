@@ -1,5 +1,5 @@
 -- What is read back from a printed unit is its syntax, places aside.
-use Rattle.std.proofs.Common.{◌≡◌, ℕ, true, false, List, [], ◌∷◌, ◌++◌, refl, sym, ap, ◌∙◌, subst, append-nil}
+use Rattle.std.proofs.Common.{◌≡◌, ℕ, true, false, List, [], ◌∷◌, ◌++◌, None, refl, sym, ap, ◌∙◌, subst, append-nil}
 use Rattle.std.specs.Prelude.{map}
 use Rattle.std.specs.List.{AllByRecursion}
 use Rattle.orca_lexer.specs.declared.token.Token.{Token}
@@ -8,7 +8,7 @@ use Rattle.orca_lexer.specs.Spelling.{IsSound}
 use Rattle.orca_lexer.proofs.Once.{tokens_once}
 use Rattle.orca_lexer.proofs.ReadsBack.{IsReadBack, reads_back}
 use Rattle.orca_lexer.proofs.Sound.{tokens_sound}
-use Rattle.orca_grammar.specs.Forms.{Form, ◌⨾◌, Many, Chained, Nested, Bracket, Phrase, Chain, Mark, Spelled, Begin, End, bracketed, spelled, Derives, nothing, word, both, one, other, none as no_more, more, links, nested}
+use Rattle.orca_grammar.specs.Forms.{Form, ◌⨾◌, Many, Chained, Nested, Bracket, Phrase, Chain, Mark, Spelled, Begin, End, bracketed, spelled, unplaced, Derives, nothing, word, both, one, other, none as no_more, more, links, nested}
 use Rattle.orca_grammar.specs.Grammar.{IsText}
 use Rattle.orca_grammar.specs.Rules.{rule, unit as unit_form}
 use Rattle.orca_grammar.proofs.Placed.{derived_again, kinds, text_kinds}
@@ -19,7 +19,7 @@ use Rattle.orca_syntax.specs.Syntax.{Syntax}
 use Rattle.orca_syntax.specs.Shown.{syntax_of}
 use Rattle.orca_syntax.specs.Forest.{Forest, none, token, group, flat}
 use Rattle.orca_syntax.specs.Derivation.{unit, syntax_marks}
-use Rattle.orca_syntax.specs.TextSyntax.{HasSyntax, IsReadBack as ReadsBack}
+use Rattle.orca_syntax.specs.TextSyntax.{HasSyntax, IsReadBack as ReadsBack, LosesPlaces}
 use Rattle.orca_syntax.specs.Bare.{nowhere, bare}
 use Rattle.orca_syntax.proofs.MarksOfDeclarations.{unit_shown}
 use Rattle.orca_syntax.proofs.Complete.{some_syntax}
@@ -74,6 +74,15 @@ blanked_derives (nested {n = n} {a = a} {ts = ts} {rest = rest} p) =
 
 bare_marks : (s : Syntax) → blanked (syntax_marks s) ≡ syntax_marks (bare s)
 bare_marks s = blanked_flat (unit s) ∙ ap flat (unit_blank s)
+
+unplaced_blanked : (ms : List Mark) → unplaced (blanked ms) ≡ unplaced ms
+unplaced_blanked [] = refl
+unplaced_blanked (Spelled p k ∷ ms) = ap (λ (xs : List Mark). Spelled None k ∷ xs) (unplaced_blanked ms)
+unplaced_blanked (Begin b ∷ ms) = ap (λ (xs : List Mark). Begin b ∷ xs) (unplaced_blanked ms)
+unplaced_blanked (End b ∷ ms) = ap (λ (xs : List Mark). End b ∷ xs) (unplaced_blanked ms)
+
+pub loses_places : (s : Syntax) → LosesPlaces s
+loses_places s = ap unplaced (sym (bare_marks s)) ∙ unplaced_blanked (syntax_marks s)
 
 bare_derived : (s : Syntax) (tokens : List Token) → IsText (syntax_marks s) tokens → IsText (syntax_marks (bare s)) (map blank_token tokens)
 bare_derived s tokens text = subst (λ (ms : List Mark). IsText ms (map blank_token tokens)) (bare_marks s) (blanked_derives text)

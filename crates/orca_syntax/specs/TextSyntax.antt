@@ -2,7 +2,7 @@
 use Rattle.std.specs.Prelude.{◌≡◌, ℕ, List}
 use Rattle.orca_lexer.specs.declared.token.Token.{Token}
 use Rattle.orca_lexer.specs.Tokens.{Tokens}
-use Rattle.orca_grammar.specs.Forms.{Mark}
+use Rattle.orca_grammar.specs.Forms.{Mark, unplaced}
 use Rattle.orca_grammar.specs.Grammar.{IsText}
 use Rattle.orca_tree.specs.declared.tree.Unit.{Unit as UnitTree}
 use Rattle.orca_tree.specs.Marks.{unit as unit_marks}
@@ -12,20 +12,28 @@ use Rattle.orca_syntax.specs.Shown.{syntax_of}
 use Rattle.orca_syntax.specs.Bare.{bare}
 use Rattle.orca_syntax.specs.Derivation.{syntax_marks}
 
--- the text's tokens are derived by the grammar, with the marks of this syntax
+-- these tokens are derived by the grammar, with the marks of this syntax
+abbrev pub Reads : List Token → Syntax → Type 0
+Reads tokens s = IsText (syntax_marks s) tokens
+
+-- the text has tokens, and they are read so
 pub record HasSyntax (text : List ℕ) (s : Syntax) : Type 0 where
   pub tokens : List Token
   pub are : Tokens text tokens
-  pub derived : IsText (syntax_marks s) tokens
+  pub derived : Reads tokens s
 
 -- what a tree shows is the syntax of each text that has the tree's marks
 abbrev pub IsShown : UnitTree → Type 0
 IsShown u = (text : List ℕ) (tokens : List Token) → Tokens text tokens → IsText (unit_marks u) tokens → HasSyntax text (syntax_of u)
 
--- where a tree is that of a text, the text that it is printed as has a syntax, which is the same, places aside
-abbrev pub IsReadBack : UnitTree → Type 0
-IsReadBack u = (text : List ℕ) → HasSyntax text (syntax_of u) → (s : Syntax) × HasSyntax (printed u) s × (bare s ≡ bare (syntax_of u))
-
 -- marks that are derived by the grammar are those of a syntax
 abbrev pub IsOfSyntax : List Mark → Type 0
 IsOfSyntax ms = (s : Syntax) × (syntax_marks s ≡ ms)
+
+-- the marks of the syntax without its places are its marks, places aside
+abbrev pub LosesPlaces : Syntax → Type 0
+LosesPlaces s = unplaced (syntax_marks (bare s)) ≡ unplaced (syntax_marks s)
+
+-- where a tree is that of a text, the text that it is printed as has a syntax, which is the same, places aside
+abbrev pub IsReadBack : UnitTree → Type 0
+IsReadBack u = (text : List ℕ) → HasSyntax text (syntax_of u) → (s : Syntax) × HasSyntax (printed u) s × (bare s ≡ bare (syntax_of u))

@@ -9,7 +9,7 @@ ghost use Rattle.orca_tree.specs.Marks.{unit as unit_marks};
 ghost use Rattle.orca_syntax.specs.Syntax.{Syntax};
 ghost use Rattle.orca_syntax.specs.Shown.{syntax_of};
 ghost use Rattle.orca_syntax.specs.Derivation.{syntax_marks};
-ghost use Rattle.orca_syntax.specs.TextSyntax.{HasSyntax, IsOfSyntax, IsReadBack, IsShown};
+ghost use Rattle.orca_syntax.specs.TextSyntax.{HasSyntax, IsOfSyntax, IsReadBack, IsShown, LosesPlaces, Reads};
 
 /// The law of the syntax. What the grammar derives is derived with the marks of a syntax, and no list of tokens has two: so a text whose
 /// tokens are a unit has one syntax, and each other text none. A tree has the marks of the syntax that it shows: where a text has
@@ -17,9 +17,10 @@ ghost use Rattle.orca_syntax.specs.TextSyntax.{HasSyntax, IsOfSyntax, IsReadBack
 /// same syntax, places aside.
 pub fn syntax_law()
     ensures some { (ms : List Mark) (tokens : List Token) → IsText ms tokens → IsOfSyntax ms }
-    ensures derived { (s t : Syntax) (tokens : List Token) → IsText (syntax_marks s) tokens → IsText (syntax_marks t) tokens → s ≡ t }
+    ensures one { (tokens : List Token) (s t : Syntax) → Reads tokens s → Reads tokens t → s ≡ t }
     ensures once { (text : List ℕ) (s t : Syntax) → HasSyntax text s → HasSyntax text t → s ≡ t }
     ensures marks { (u : UnitTree) → unit_marks u ≡ syntax_marks (syntax_of u) }
     ensures shown { (u : UnitTree) → IsShown u }
+    ensures bare { (s : Syntax) → LosesPlaces s }
     ensures printed { (u : UnitTree) → IsReadBack u }
 {}

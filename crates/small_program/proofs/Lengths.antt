@@ -24,6 +24,7 @@ use Rattle.orca_grammar.specs.Forms.{spelled}
 use Rattle.std.proofs.lemmas.List.{length-map}
 use Rattle.small_program.specs.Small.{argument_tokens, assignment_tokens, call_tokens, head_tokens, kind_tokens, field_tokens, operation_tokens, opening_tokens, body_tokens, end_tokens, specification_tokens, implementation_tokens, process_tokens, program_tokens}
 use Rattle.small_program.specs.Scope.{IsSmall}
+use Rattle.small_program.proofs.Programs.{small_tokens}
 
 least_bytes-append : (ts us : List TokenKind) → least_bytes (ts ++ us) ≡ least_bytes ts + least_bytes us
 least_bytes-append [] us = omega arith
@@ -86,7 +87,7 @@ program_long p =
 pub operations_long : (u : UnitTree) (p : SmallProgram) → IsSmall u p → 35 * length p.operations ≤ least_bytes (spelled (unit u))
 operations_long u p small =
     let heads : length p.heads ≡ length p.operations = ap length small.scope.heads ∙ length-map p.operations (λ (o : Operation). o.head) in
-    together (length p.heads) (length p.operations) (least_bytes (program_tokens p)) (least_bytes (spelled (unit u))) heads (program_long p) (ap least_bytes (sym small.tokens))
+    together (length p.heads) (length p.operations) (least_bytes (program_tokens p)) (least_bytes (spelled (unit u))) heads (program_long p) (ap least_bytes (sym (small_tokens u p small)))
   where
     together : (a b m n : ℕ) → a ≡ b → 13 * a + 22 * b ≤ m → m ≡ n → 35 * b ≤ n
     together a b m n e p q = omega arith
@@ -108,7 +109,7 @@ fields_long u p small =
     let impl = implementation_tokens p.kind p.fields p.operations p.opening in
     let process = process_tokens p.kind p.variable p.calls in
     let whole : least_bytes (program_tokens p) ≡ (least_bytes spec + least_bytes impl) + least_bytes process = least_bytes-append (spec ++ impl) process ∙ ap (λ (n : ℕ). n + least_bytes process) (least_bytes-append spec impl) in
-    together (4 * length p.fields) (least_bytes spec) (least_bytes impl) (least_bytes process) (least_bytes (program_tokens p)) (least_bytes (spelled (unit u))) whole (fields_in p.kind p.fields p.operations p.opening) (ap least_bytes (sym small.tokens))
+    together (4 * length p.fields) (least_bytes spec) (least_bytes impl) (least_bytes process) (least_bytes (program_tokens p)) (least_bytes (spelled (unit u))) whole (fields_in p.kind p.fields p.operations p.opening) (ap least_bytes (sym (small_tokens u p small)))
   where
     together : (a x y z m n : ℕ) → m ≡ (x + y) + z → a ≤ y → m ≡ n → a ≤ n
     together a x y z m n e p q = omega arith
@@ -132,7 +133,7 @@ calls_long u p small =
     let front = specification_tokens p.kind p.heads ++ implementation_tokens p.kind p.fields p.operations p.opening in
     let process = process_tokens p.kind p.variable p.calls in
     let whole : least_bytes (program_tokens p) ≡ least_bytes front + least_bytes process = least_bytes-append front process in
-    together (5 * length p.calls) (least_bytes front) (least_bytes process) (least_bytes (program_tokens p)) (least_bytes (spelled (unit u))) whole (process_long p.kind p.variable p.calls) (ap least_bytes (sym small.tokens))
+    together (5 * length p.calls) (least_bytes front) (least_bytes process) (least_bytes (program_tokens p)) (least_bytes (spelled (unit u))) whole (process_long p.kind p.variable p.calls) (ap least_bytes (sym (small_tokens u p small)))
   where
     together : (a b c m n : ℕ) → m ≡ b + c → a ≤ c → m ≡ n → a ≤ n
     together a b c m n e p q = omega arith

@@ -18,6 +18,7 @@ use Rattle.small_program.specs.Reading.{operation_next, name_next, call_next}
 use Rattle.orca_tree.specs.declared.tree.Unit.{Unit as UnitTree}
 use Rattle.orca_tree.specs.Marks.{unit}
 use Rattle.orca_grammar.specs.Forms.{spelled}
+use Rattle.orca_syntax.proofs.MarksOfDeclarations.{unit_shown}
 use Rattle.small_program.specs.Scope.{IsSmall, IsScoped}
 use Rattle.small_program.proofs.Sections.{IsPart, list_once}
 use Rattle.small_program.proofs.Grammar as grammar
@@ -157,17 +158,21 @@ program_once p q r s e =
     let three = process_once p.kind q.kind p.variable q.variable p.calls q.calls r s two.rest in
     ((λ i. record { kind = one.name i; heads = one.parts i; fields = two.fields_are i; operations = two.operations_are i; opening = two.opening_is i; variable = three.name i; calls = three.parts i }), three.rest)
 
+-- the tokens of a unit whose syntax is that of a small program
+pub small_tokens : (u : UnitTree) (p : SmallProgram) → IsSmall u p → spelled (unit u) ≡ program_tokens p
+small_tokens u p small = ap spelled (unit_shown u) ∙ small.tokens
+
 -- what is left behind the program that was read, where the unit is a small program
 pub same_program : (u : UnitTree) (tokens : List TokenKind) (p : SmallProgram) (rest : List TokenKind) → tokens ≡ spelled (unit u) → tokens ≡ program_tokens p ++ rest → (q : SmallProgram) → IsSmall u q → (p ≡ q) × (rest ≡ [])
 same_program u tokens p rest words is q small =
-    program_once p q rest [] (sym is ∙ words ∙ small.tokens ∙ sym (append-nil (program_tokens q)))
+    program_once p q rest [] (sym is ∙ words ∙ small_tokens u q small ∙ sym (append-nil (program_tokens q)))
 
 pub reads_it : (u : UnitTree) (tokens : List TokenKind) (p : SmallProgram) (rest : List TokenKind) → tokens ≡ spelled (unit u) → tokens ≡ program_tokens p ++ rest → rest ≡ [] → IsScoped p → IsSmall u p
 reads_it u tokens p rest words is none scoped = record {
-  tokens = sym words ∙ is ∙ ap (λ (l : List TokenKind). program_tokens p ++ l) none ∙ append-nil (program_tokens p);
+  tokens = ap spelled (sym (unit_shown u)) ∙ sym words ∙ is ∙ ap (λ (l : List TokenKind). program_tokens p ++ l) none ∙ append-nil (program_tokens p);
   scope = scoped;
 }
 
 -- where nothing is the front of the tokens, the unit is no small program
 pub not_small : (u : UnitTree) (tokens : List TokenKind) → tokens ≡ spelled (unit u) → ((p : SmallProgram) (rest : List TokenKind) → tokens ≡ program_tokens p ++ rest → ⊥) → (q : SmallProgram) → IsSmall u q → ⊥
-not_small u tokens words none q small = none q [] (words ∙ small.tokens ∙ sym (append-nil (program_tokens q)))
+not_small u tokens words none q small = none q [] (words ∙ small_tokens u q small ∙ sym (append-nil (program_tokens q)))

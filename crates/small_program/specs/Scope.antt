@@ -18,7 +18,9 @@ use Rattle.small_program.specs.declared.tree.Call.TheVariants.{Invokes, Passes, 
 use Rattle.small_program.specs.declared.tree.SmallProgram.{SmallProgram}
 use Rattle.orca_grammar.specs.Forms.{spelled}
 use Rattle.orca_tree.specs.declared.tree.Unit.{Unit as UnitTree}
-use Rattle.orca_tree.specs.Marks.{unit}
+use Rattle.orca_syntax.specs.Syntax.{Syntax}
+use Rattle.orca_syntax.specs.Shown.{syntax_of}
+use Rattle.orca_syntax.specs.Derivation.{syntax_marks}
 use Rattle.small_program.specs.Small.{program_tokens}
 
 -- every name that the program declares, but for the operations' parameters
@@ -81,7 +83,11 @@ pub record IsScoped (p : SmallProgram) : Type 0 where
   pub opening : IsOpening p.fields p.opening
   pub calls : All (IsCall p.operations) p.calls
 
--- the unit is this small program: its tokens are the program's, and its names are used as what they are
-pub record IsSmall (u : UnitTree) (p : SmallProgram) : Type 0 where
-  pub tokens : spelled (unit u) ≡ program_tokens p
+-- the syntax is that of this small program: its tokens are the program's, and its names are used as what they are
+pub record IsSmallSyntax (s : Syntax) (p : SmallProgram) : Type 0 where
+  pub tokens : spelled (syntax_marks s) ≡ program_tokens p
   pub scope : IsScoped p
+
+-- the syntax that the unit shows is that of this small program
+abbrev pub IsSmall : UnitTree → SmallProgram → Type 0
+IsSmall u p = IsSmallSyntax (syntax_of u) p

@@ -1,14 +1,14 @@
 use Rattle.orca_syntax.proofs.Complete.{some_syntax}
 use Rattle.orca_syntax.proofs.MarksOfDeclarations.{unit_shown}
-use Rattle.orca_syntax.proofs.PrintedOnce.{read_back}
+use Rattle.orca_syntax.proofs.PrintedOnce.{loses_places, read_back}
 use Rattle.orca_syntax.proofs.TextOnce.{derived_once, text_once, text_syntax}
 use Rattle.orca_syntax.proofs.law.syntax_law.Goals as goal
 
 pub returns-clause-some : goal.returns-clause-some
 returns-clause-some c = some_syntax
 
-pub returns-clause-derived : goal.returns-clause-derived
-returns-clause-derived c = derived_once
+pub returns-clause-one : goal.returns-clause-one
+returns-clause-one c = λ tokens s t p q. derived_once s t tokens p q
 
 pub returns-clause-once : goal.returns-clause-once
 returns-clause-once c = text_once
@@ -18,6 +18,9 @@ returns-clause-marks c = unit_shown
 
 pub returns-clause-shown : goal.returns-clause-shown
 returns-clause-shown c = text_syntax
+
+pub returns-clause-bare : goal.returns-clause-bare
+returns-clause-bare c = loses_places
 
 pub returns-clause-printed : goal.returns-clause-printed
 returns-clause-printed c = read_back
