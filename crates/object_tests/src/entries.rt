@@ -153,11 +153,12 @@ fn args(alloc: Global, number: Option<i64>) -> Result<Parts, Refused> {
 fn reads(
     alloc: Global,
     copies: &Copies,
-    (kind, op): (KindNo, OpNo),
+    operation: (KindNo, OpNo),
     number: Option<i64>,
 ) -> Result<Answer, Refused>
     requires { FitsAll copies.now }
 {
+    let (kind, op) = operation;
     let tried = read(alloc, copies, kind, op, object(1), &args(alloc, number)?)?;
     Ok(outcome(&tried))
 }
