@@ -1,7 +1,16 @@
 -- The shelf and the sink in memory, whose calls with given numbers fail.
-use Rattle.std.specs.Prelude.{ℕ, List}
+use Rattle.std.specs.Prelude.{ℕ, List, Option, Some}
+use Rattle.orca_io.specs.Files.{File, files_of}
 use Rattle.orca_io.specs.declared.shelf.MemoryShelf.{MemoryShelf}
 use Rattle.orca_io.specs.declared.sink.MemorySink.{MemorySink}
+
+-- the files, all of which are told
+abbrev pub told_files : MemoryShelf → Option (List File)
+told_files shelf = Some (files_of shelf.files.items)
+
+-- how many reads have failed
+abbrev pub failed_reads : MemoryShelf → ℕ
+failed_reads shelf = shelf.faults
 
 -- the numbers of the calls that fail, counted from 1
 abbrev pub failing_reads : MemoryShelf → List ℕ
@@ -10,6 +19,14 @@ failing_reads shelf = shelf.failing.items
 -- how many calls there were
 abbrev pub reads_so_far : MemoryShelf → ℕ
 reads_so_far shelf = shelf.calls
+
+-- the bytes so far, all of which are told
+abbrev pub told_bytes : MemorySink → Option (List ℕ)
+told_bytes sink = Some sink.bytes.items
+
+-- how many writes have failed
+abbrev pub failed_writes : MemorySink → ℕ
+failed_writes sink = sink.faults
 
 -- the numbers of the calls that fail, counted from 1
 abbrev pub failing_writes : MemorySink → List ℕ

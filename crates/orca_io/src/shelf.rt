@@ -1,9 +1,10 @@
 //! Files that are read whole.
 
-ghost use Rattle.std.specs.Prelude.{◌≡◌, ◌≤◌, ◌↔◌, ℕ, List, [], Option, None, Some, Contains, IfOk, IfSome, IsErrOf, vec_len, map, string_bytes};
+ghost use Rattle.std.specs.Prelude.{◌≡◌, ◌≤◌, ◌↔◌, ℕ, List, [], Option, None, Some, Contains};
+ghost use Rattle.std.specs.Prelude.{IfOk, IfSome, IsErrOf, OnOk, vec_len, map, string_bytes};
 ghost use Rattle.orca_io.specs.declared.shelf.ShelfFault.TheVariants.{NoMemory as Without};
 ghost use Rattle.orca_io.specs.Causes.{Rose, counted};
-ghost use Rattle.orca_io.specs.Files.{File, content_of, Reads};
+ghost use Rattle.orca_io.specs.Files.{File, content_of, files_of, Reads};
 
 use std::alloc::{AllocError, AllocFailed, Global};
 use std::io::{ErrorKind, Read};
@@ -62,12 +63,14 @@ pub trait Shelf {
 
     /// All of a file's bytes, if there are at most `limit`.
     ///
-    /// Of two files of one name the first is read. `Failed` comes only where the count of faults rose in this call.
+    /// Of two files of one name the first is read. `Failed` comes only where the count of faults rose in this call, and the
+    /// count stays where the bytes were read.
     fn read_all(&mut self, alloc: Global, name: &str, limit: u32) -> Result<Vec<u8>, ShelfFault>
         ensures reads { IfSome (told self.old) (λ files. Reads (λ v. v.items) (content_of files name.now) limit result) }
         ensures same { told self.new ≡ told self.old }
         ensures later { faults self.old ≤ faults self.new }
         ensures failed { IsErrOf result ShelfFault.Failed → Rose (faults self.old) (faults self.new) }
+        ensures quiet { OnOk result (faults self.new ≡ faults self.old) }
 
         // A shelf that tells nothing keeps to the limit too.
         ensures within { IfOk result (λ v. vec_len v ≤ limit) };
@@ -87,7 +90,7 @@ impl MemoryShelf {
 
     /// These files, by name and bytes. `failing` has the numbers of the calls that fail, counted from 1.
     pub fn new(files: Vec<(String, Vec<u8>)>, failing: Vec<u64>) -> MemoryShelf
-        ensures told { ⟦<MemoryShelf as Shelf>⟧.told result ≡ Some (map (λ f. (string_bytes f.0, f.1.items)) files.items) }
+        ensures told { ⟦<MemoryShelf as Shelf>⟧.told result ≡ Some (files_of files.items) }
         ensures faults { ⟦<MemoryShelf as Shelf>⟧.faults result ≡ 0 }
         ensures failing { failing_reads result ≡ failing.items }
         ensures unread { reads_so_far result ≡ 0 }
@@ -108,7 +111,7 @@ fn copy_of(
     name: &str,
     limit: u32,
 ) -> Result<Vec<u8>, ShelfFault>
-    ensures reads { Reads (λ v. v.items) (content_of (map (λ f. (string_bytes f.0, f.1.items)) files.now) name.now) limit result }
+    ensures reads { Reads (λ v. v.items) (content_of (files_of files.now) name.now) limit result }
     ensures never { IsErrOf result ShelfFault.Failed → ⊥ }
 {
     for file in files {
@@ -123,17 +126,18 @@ fn copy_of(
 }
 
 impl Shelf for MemoryShelf {
-    ghost use Rattle.orca_io.specs.Failing.{failing_reads, reads_so_far};
+    ghost use Rattle.orca_io.specs.Failing.{failed_reads, failing_reads, reads_so_far, told_files};
 
-    ghost told = { λ s. Some (map (λ f. (string_bytes f.0, f.1.items)) s.files.items) };
+    ghost told = { told_files };
 
-    ghost faults = { λ s. s.faults };
+    ghost faults = { failed_reads };
 
     fn read_all(&mut self, alloc: Global, name: &str, limit: u32) -> Result<Vec<u8>, ShelfFault>
-        ensures reads { IfSome (⟦<MemoryShelf as Shelf>⟧.told self.old) (λ files. Reads (λ v. v.items) (content_of files name.now) limit result) }
-        ensures same { ⟦<MemoryShelf as Shelf>⟧.told self.new ≡ ⟦<MemoryShelf as Shelf>⟧.told self.old }
-        ensures later { ⟦<MemoryShelf as Shelf>⟧.faults self.old ≤ ⟦<MemoryShelf as Shelf>⟧.faults self.new }
-        ensures failed { IsErrOf result ShelfFault.Failed → Rose (⟦<MemoryShelf as Shelf>⟧.faults self.old) (⟦<MemoryShelf as Shelf>⟧.faults self.new) }
+        ensures reads { IfSome (told_files self.old) (λ files. Reads (λ v. v.items) (content_of files name.now) limit result) }
+        ensures same { told_files self.new ≡ told_files self.old }
+        ensures later { failed_reads self.old ≤ failed_reads self.new }
+        ensures failed { IsErrOf result ShelfFault.Failed → Rose (failed_reads self.old) (failed_reads self.new) }
+        ensures quiet { OnOk result (failed_reads self.new ≡ failed_reads self.old) }
         ensures within { IfOk result (λ v. vec_len v ≤ limit) }
 
         // Exactly the calls with the given numbers fail.
@@ -159,14 +163,14 @@ pub struct SureShelf {
 impl SureShelf {
     /// These files, by name and bytes.
     pub fn new(files: Vec<(String, Vec<u8>)>) -> SureShelf
-        ensures { ⟦<SureShelf as Shelf>⟧.told result ≡ Some (map (λ f. (string_bytes f.0, f.1.items)) files.items) }
+        ensures { ⟦<SureShelf as Shelf>⟧.told result ≡ Some (files_of files.items) }
     {
         SureShelf { files }
     }
 }
 
 impl Shelf for SureShelf {
-    ghost told = { λ s. Some (map (λ f. (string_bytes f.0, f.1.items)) s.files.items) };
+    ghost told = { λ s. Some (files_of s.files.items) };
 
     ghost faults = { λ _. 0 };
 
@@ -221,93 +225,4 @@ fn read_file<R: Files>(rt: &R, alloc: Global, name: &str, limit: u32) -> io::Res
     let mut bytes = Vec::new(alloc);
     file.take(u64::from(limit) + 1).read_to_end(&mut bytes)?;
     Ok(bytes)
-}
-
-#[cfg(test)]
-mod tests {
-    use super::*;
-    use std::test::Fail;
-
-    /// `a.orca` with the bytes 1, 2, 3, an empty `b.orca`, and another `a.orca`.
-    fn files(alloc: Global) -> Result<Vec<(String, Vec<u8>)>, AllocError> {
-        let mut files = Vec::new(alloc);
-        files.push((String::from_str(alloc, "a.orca")?, [1, 2, 3].to_vec(alloc)?))?;
-        files.push((String::from_str(alloc, "b.orca")?, Vec::new(alloc)))?;
-        files.push((String::from_str(alloc, "a.orca")?, [4].to_vec(alloc)?))?;
-        Ok(files)
-    }
-
-    /// Reads through the trait.
-    fn read<F: Shelf>(
-        shelf: &mut F,
-        alloc: Global,
-        name: &str,
-        limit: u32,
-    ) -> Result<Vec<u8>, ShelfFault> {
-        shelf.read_all(alloc, name, limit)
-    }
-
-    #[test]
-    fn memory_shelf_fails_by_number(rt: HostRuntime) -> Result<(), Fail> {
-        let failing = [2, 4].to_vec(rt.alloc())?;
-        let mut shelf = MemoryShelf::new(files(rt.alloc())?, failing);
-        let first = read(&mut shelf, rt.alloc(), "a.orca", 3)?;
-        assert_eq!(rt; first.as_slice(), [1, 2, 3].as_slice());
-        assert_eq!(rt;
-            read(&mut shelf, rt.alloc(), "a.orca", 3).err(),
-            Some(ShelfFault::Failed)
-        );
-        assert_eq!(rt;
-            read(&mut shelf, rt.alloc(), "a.orca", 2).err(),
-            Some(ShelfFault::TooLong)
-        );
-        assert_eq!(rt;
-            read(&mut shelf, rt.alloc(), "gone.orca", 2).err(),
-            Some(ShelfFault::Failed)
-        );
-        assert_eq!(rt;
-            read(&mut shelf, rt.alloc(), "gone.orca", 2).err(),
-            Some(ShelfFault::Absent)
-        );
-        assert_eq!(rt; read(&mut shelf, rt.alloc(), "b.orca", 0)?.len(), 0);
-        Ok(())
-    }
-
-    #[test]
-    fn sure_shelf_reads(rt: HostRuntime) -> Result<(), Fail> {
-        let mut shelf = SureShelf::new(files(rt.alloc())?);
-        let first = read(&mut shelf, rt.alloc(), "a.orca", 1_000_000)?;
-        assert_eq!(rt; first.as_slice(), [1, 2, 3].as_slice());
-        assert_eq!(rt;
-            read(&mut shelf, rt.alloc(), "", 9).err(),
-            Some(ShelfFault::Absent)
-        );
-        Ok(())
-    }
-
-    #[test]
-    fn file_shelf_reads_files(rt: HostRuntime) -> Result<(), Fail> {
-        fs::create_dir_all(&rt, "shelf_test/drawer")?;
-        fs::write(&rt, "shelf_test/greeting.txt", "good morning\n")?;
-        let mut shelf = FileShelf::new(&rt);
-        let greeting = read(&mut shelf, rt.alloc(), "shelf_test/greeting.txt", 13)?;
-        for (name, limit, want) in [
-            ("shelf_test/gone.txt", 13, ShelfFault::Absent),
-            ("gone/greeting.txt", 13, ShelfFault::Absent),
-            ("", 13, ShelfFault::Absent),
-            ("shelf_test/greeting.txt", 12, ShelfFault::TooLong),
-            ("shelf_test/greeting.txt", 0, ShelfFault::TooLong),
-            ("shelf_test/drawer", 13, ShelfFault::Failed),
-            ("shelf_test/greeting.txt/under", 13, ShelfFault::Failed),
-        ] {
-            assert_eq!(rt;
-                read(&mut shelf, rt.alloc(), name, limit).err(),
-                Some(want),
-                "{name} {limit}"
-            );
-        }
-        fs::remove_dir_all(&rt, "shelf_test")?;
-        assert_eq!(rt; greeting.as_slice(), b"good morning\n".as_slice());
-        Ok(())
-    }
 }

@@ -1,6 +1,7 @@
 //! A place to write to.
 
-ghost use Rattle.std.specs.Prelude.{◌≡◌, ◌≤◌, ◌↔◌, ℕ, List, [], Option, None, Some, Contains, IsErrOf, OnOk, OnErr, ◌++◌};
+ghost use Rattle.std.specs.Prelude.{◌≡◌, ◌≤◌, ◌↔◌, ◌++◌, ℕ, List, [], Option, None, Some, Contains};
+ghost use Rattle.std.specs.Prelude.{IsErrOf, OnOk, OnErr};
 ghost use Rattle.orca_io.specs.declared.sink.SinkFault.TheVariants.{NoMemory as Without};
 ghost use Rattle.orca_io.specs.Causes.{Rose, counted};
 ghost use Rattle.orca_io.specs.Sinks.{Puts};
@@ -55,11 +56,12 @@ pub trait Sink {
     /// Puts a piece at the end.
     ///
     /// After `Failed` a prefix of the piece was put, and after `NoMemory` nothing. `Failed` comes only where the count of
-    /// faults rose in this call.
+    /// faults rose in this call, and it stays where the piece was put.
     fn put(&mut self, piece: &[u8]) -> Result<(), SinkFault>
         ensures puts { Puts (told self.old) (told self.new) piece.now result }
         ensures later { faults self.old ≤ faults self.new }
-        ensures failed { IsErrOf result SinkFault.Failed → Rose (faults self.old) (faults self.new) };
+        ensures failed { IsErrOf result SinkFault.Failed → Rose (faults self.old) (faults self.new) }
+        ensures quiet { OnOk result (faults self.new ≡ faults self.old) };
 }
 
 /// A sink in memory. The calls of `put` that have the given numbers fail before they put anything.
@@ -108,22 +110,23 @@ fn append(bytes: &mut Vec<u8>, piece: &[u8]) -> Result<(), SinkFault>
 }
 
 impl Sink for MemorySink {
-    ghost use Rattle.orca_io.specs.Failing.{failing_writes, writes_so_far};
+    ghost use Rattle.orca_io.specs.Failing.{failed_writes, failing_writes, told_bytes, writes_so_far};
 
-    ghost told = { λ s. Some s.bytes.items };
+    ghost told = { told_bytes };
 
-    ghost faults = { λ s. s.faults };
+    ghost faults = { failed_writes };
 
     fn put(&mut self, piece: &[u8]) -> Result<(), SinkFault>
-        ensures puts { Puts (⟦<MemorySink as Sink>⟧.told self.old) (⟦<MemorySink as Sink>⟧.told self.new) piece.now result }
-        ensures later { ⟦<MemorySink as Sink>⟧.faults self.old ≤ ⟦<MemorySink as Sink>⟧.faults self.new }
-        ensures failed { IsErrOf result SinkFault.Failed → Rose (⟦<MemorySink as Sink>⟧.faults self.old) (⟦<MemorySink as Sink>⟧.faults self.new) }
+        ensures puts { Puts (told_bytes self.old) (told_bytes self.new) piece.now result }
+        ensures later { failed_writes self.old ≤ failed_writes self.new }
+        ensures failed { IsErrOf result SinkFault.Failed → Rose (failed_writes self.old) (failed_writes self.new) }
+        ensures quiet { OnOk result (failed_writes self.new ≡ failed_writes self.old) }
 
         // Exactly the calls with the given numbers fail, and put nothing.
         ensures fails { IsErrOf result SinkFault.Failed ↔ Contains (failing_writes self.old) (writes_so_far self.new) }
         ensures counts { writes_so_far self.new ≡ counted (writes_so_far self.old) }
         ensures failing { failing_writes self.new ≡ failing_writes self.old }
-        ensures nothing { OnErr result (⟦<MemorySink as Sink>⟧.told self.new ≡ ⟦<MemorySink as Sink>⟧.told self.old) }
+        ensures nothing { OnErr result (told_bytes self.new ≡ told_bytes self.old) }
     {
         self.calls = self.calls.saturating_add(1);
         if self.failing.contains(&self.calls) {
@@ -191,16 +194,17 @@ impl<W: Write> WriterSink<W> {
 
 impl<W: Write> Sink for WriterSink<W> {
     ghost use Rattle.std.specs.Io.KnownBytes.{Appends};
-    ghost use Rattle.orca_io.specs.Writer.{writer_of};
+    ghost use Rattle.orca_io.specs.Writer.{faults_of, writer_of};
 
     ghost told = { λ _. None };
 
-    ghost faults = { λ s. s.faults };
+    ghost faults = { faults_of };
 
     fn put(&mut self, piece: &[u8]) -> Result<(), SinkFault>
-        ensures puts { Puts (⟦<WriterSink<W> as Sink>⟧.told self.old) (⟦<WriterSink<W> as Sink>⟧.told self.new) piece.now result }
-        ensures later { ⟦<WriterSink<W> as Sink>⟧.faults self.old ≤ ⟦<WriterSink<W> as Sink>⟧.faults self.new }
-        ensures failed { IsErrOf result SinkFault.Failed → Rose (⟦<WriterSink<W> as Sink>⟧.faults self.old) (⟦<WriterSink<W> as Sink>⟧.faults self.new) }
+        ensures puts { Puts None None piece.now result }
+        ensures later { faults_of self.old ≤ faults_of self.new }
+        ensures failed { IsErrOf result SinkFault.Failed → Rose (faults_of self.old) (faults_of self.new) }
+        ensures quiet { OnOk result (faults_of self.new ≡ faults_of self.old) }
 
         // What the writer says that it holds grows by the piece.
         ensures written { OnOk result (Appends (W.contents (writer_of self.old)) (W.contents (writer_of self.new)) piece.now) }
@@ -212,79 +216,6 @@ impl<W: Write> Sink for WriterSink<W> {
                 self.faults = self.faults.saturating_add(1);
                 Err(SinkFault::Failed)
             }
-        }
-    }
-}
-
-#[cfg(test)]
-mod tests {
-    use super::*;
-    use std::io;
-    use std::test::Fail;
-
-    /// Puts through the trait.
-    fn put<K: Sink>(sink: &mut K, piece: &[u8]) -> Result<(), SinkFault> {
-        sink.put(piece)
-    }
-
-    #[test]
-    fn memory_sink_fails_by_number(rt: HostRuntime) -> Result<(), Fail> {
-        let failing = [2, 3].to_vec(rt.alloc())?;
-        let mut sink = MemorySink::new(rt.alloc(), failing);
-        put(&mut sink, b"ab")?;
-        assert_eq!(rt; put(&mut sink, b"c").err(), Some(SinkFault::Failed));
-        assert_eq!(rt; put(&mut sink, b"d").err(), Some(SinkFault::Failed));
-        put(&mut sink, b"e")?;
-        assert_eq!(rt; sink.bytes(), b"abe".as_slice());
-        Ok(())
-    }
-
-    #[test]
-    fn sure_sink_keeps_all(rt: HostRuntime) -> Result<(), Fail> {
-        let mut sink = SureSink::new(rt.alloc());
-        for piece in ["6", "", "\n"] {
-            put(&mut sink, piece.as_bytes())?;
-        }
-        assert_eq!(rt; sink.bytes(), b"6\n".as_slice());
-        Ok(())
-    }
-
-    #[test]
-    fn writer_sink_writes(rt: HostRuntime) -> Result<(), Fail> {
-        let mut bytes = Vec::new(rt.alloc());
-        {
-            let mut sink = WriterSink::new(&mut bytes);
-            put(&mut sink, b"6")?;
-            put(&mut sink, b"\n")?;
-        }
-        assert_eq!(rt; bytes.as_slice(), b"6\n".as_slice());
-        Ok(())
-    }
-
-    /// A writer that takes no byte, as at a full disk or for want of memory.
-    #[derive(Drop)]
-    struct Broken(ErrorKind);
-
-    impl Write for Broken {
-        fn write(&mut self, _bytes: &[u8]) -> io::Result<usize> {
-            Err(io::Error::from(self.0))
-        }
-
-        fn flush(&mut self) -> io::Result<()> {
-            Ok(())
-        }
-    }
-
-    #[test]
-    fn writer_sink_tells_faults(rt: HostRuntime) {
-        for (kind, want) in [
-            (ErrorKind::StorageFull, SinkFault::Failed),
-            (ErrorKind::BrokenPipe, SinkFault::Failed),
-            (ErrorKind::OutOfMemory, SinkFault::NoMemory),
-        ] {
-            let mut sink = WriterSink::new(Broken(kind));
-            assert_eq!(rt; put(&mut sink, b"6").err(), Some(want));
-            assert_eq!(rt; put(&mut sink, b"").err(), None);
         }
     }
 }

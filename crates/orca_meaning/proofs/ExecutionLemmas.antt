@@ -15,7 +15,7 @@ use Rattle.small_program.specs.declared.tree.OperationBody.TheVariants.{Returns,
 use Rattle.small_program.specs.declared.tree.SmallProgram.{SmallProgram}
 use Rattle.value_core.specs.Datum.{Datum, Data, list_of}
 use Rattle.value_core.specs.Datum as datum
-use Rattle.value_core.specs.History.{Answers, Configuration, IsStep, Performed, after_line, after_try, forked, objects_after, opening, output_kind, output_object, Process, replies_in, replies_of}
+use Rattle.value_core.specs.History.{Answers, Configuration, IsStep, Performed, after_line, after_try, forked, objects_after, opening, output_kind, output_object, Process}
 use Rattle.value_core.specs.declared.action.Action.{Action}
 use Rattle.value_core.specs.declared.action.Action.TheVariants as action
 use Rattle.value_core.specs.declared.action.Line.{Line}
@@ -25,7 +25,7 @@ use Rattle.value_core.specs.declared.meaning.Tried.TheVariants as tried
 use Rattle.value_core.specs.declared.meaning.Doing.{Doing}
 use Rattle.value_core.specs.declared.meaning.Doing.TheVariants as doing
 use Rattle.value_core.specs.Fits.{KeepsState, RepliesWell}
-use Rattle.value_core.specs.Goes.{Goes, HaltedAtReplied}
+use Rattle.value_core.specs.Goes.{Goes}
 use Rattle.value_core.specs.declared.processor.Halt.{Halt}
 use Rattle.value_core.specs.declared.processor.Halt.TheVariants as halt
 use Rattle.value_core.specs.Lawful.{FitsAction, RepliesFit}
@@ -36,6 +36,7 @@ use Rattle.orca_meaning.specs.Program.{performs_of, computes_of}
 use Rattle.orca_meaning.specs.Known.{IsKnown, IsKnownDoing}
 use Rattle.orca_meaning.specs.Stages.{Stands}
 use Rattle.orca_meaning.specs.Fitting.{FitsArgs, FitsReply, FitsState}
+use Rattle.orca_meaning.specs.Ranges.{AreInRange}
 use Rattle.orca_meaning.specs.FitLaws.{made_fit, tries_keep, tries_reply}
 use Rattle.orca_meaning.specs.HeadLaws.{BodiesFit, CallsFit}
 use Rattle.orca_meaning.specs.Executions.{Follows, HasEnded, HasFitting, IsFaultless, configuration_with, main_process, objects_with, outcome_of, state_or, tried_outcome}
@@ -61,56 +62,56 @@ IsOutcome program object act None = (act ≡ action.Ended) ⊎ ((fault : _) × (
 IsOutcome program object act (Some o) = IsRight program object act o
 
 -- a call that did something
-did_right : (program : SmallProgram) (op : OpNo) (args state after : Data) (guard : ℕ) (reply : Reply) → BodiesFit program → FitsState program small_kind state → FitsArgs program small_kind op args →
+did_right : (program : SmallProgram) (op : OpNo) (args state after : Data) (guard : ℕ) (reply : Reply) → AreInRange program → BodiesFit program → FitsState program small_kind state → FitsArgs program small_kind op args →
     tries_of program small_kind op state args ≡ tried.Did guard after reply → IsFaultless reply →
     IsRight program (Some state) (action.Call small_kind op (first_object main_process) args) (record { guard = guard; reply = reply; state = Some after })
-did_right program op args state after guard reply bodies fits given is fine = record {
+did_right program op args state after guard reply small bodies fits given is fine = record {
   performed = (record { kind = small_kind; state = state }, refl, subst (λ (t : Tried). Answers t guard reply) (sym is) (refl, refl));
   objects = ap (λ (t : Tried). after_try (objects_with (Some state)) (first_object main_process) (record { kind = small_kind; state = state }) t) is;
   alone = refl;
   faultless = fine;
   made = inr (after, refl);
-  state = subst (λ (t : Tried). KeepsState t (FitsState program small_kind)) is (tries_keep program args state small_kind op fits given);
+  state = subst (λ (t : Tried). KeepsState t (FitsState program small_kind)) is (tries_keep program args state small small_kind op fits given);
   reply = subst (λ (t : Tried). RepliesWell t (FitsReply program small_kind op)) is (tries_reply program args state small_kind op bodies fits);
 }
 
-body_outcome : (program : SmallProgram) (op : OpNo) (args state : Data) (parameters : List Name) (body : OperationBody) → BodiesFit program → FitsState program small_kind state → FitsArgs program small_kind op args →
+body_outcome : (program : SmallProgram) (op : OpNo) (args state : Data) (parameters : List Name) (body : OperationBody) → AreInRange program → BodiesFit program → FitsState program small_kind state → FitsArgs program small_kind op args →
     tries_of program small_kind op state args ≡ body_tried program.fields parameters (list_of args) (list_of state) body →
     IsOutcome program (Some state) (action.Call small_kind op (first_object main_process) args) (tried_outcome (tries_of program small_kind op state args))
-body_outcome program op args state parameters (Returns field) bodies fits given is =
-    subst (λ (t : Tried). IsOutcome program (Some state) (action.Call small_kind op (first_object main_process) args) (tried_outcome t)) (sym is) (did_right program op args state _ _ _ bodies fits given is tt)
-body_outcome program op args state parameters (Assigns assignments) bodies fits given is =
-    subst (λ (t : Tried). IsOutcome program (Some state) (action.Call small_kind op (first_object main_process) args) (tried_outcome t)) (sym is) (did_right program op args state _ _ _ bodies fits given is tt)
+body_outcome program op args state parameters (Returns field) small bodies fits given is =
+    subst (λ (t : Tried). IsOutcome program (Some state) (action.Call small_kind op (first_object main_process) args) (tried_outcome t)) (sym is) (did_right program op args state _ _ _ small bodies fits given is tt)
+body_outcome program op args state parameters (Assigns assignments) small bodies fits given is =
+    subst (λ (t : Tried). IsOutcome program (Some state) (action.Call small_kind op (first_object main_process) args) (tried_outcome t)) (sym is) (did_right program op args state _ _ _ small bodies fits given is tt)
 
-call_outcome : (program : SmallProgram) (op : OpNo) (args state : Data) → BodiesFit program → FitsState program small_kind state → FitsArgs program small_kind op args → op.0 < length program.operations →
+call_outcome : (program : SmallProgram) (op : OpNo) (args state : Data) → AreInRange program → BodiesFit program → FitsState program small_kind state → FitsArgs program small_kind op args → op.0 < length program.operations →
     IsOutcome program (Some state) (action.Call small_kind op (first_object main_process) args) (outcome_of program (Some state) (action.Call small_kind op (first_object main_process) args))
-call_outcome program op args state bodies fits given inside =
+call_outcome program op args state small bodies fits given inside =
     elim (slice_get_cases program.operations op.0).1 [
-      | inl found ↦ body_outcome program op args state (parameters_of found.0.head.kind) found.0.body bodies fits given
+      | inl found ↦ body_outcome program op args state (parameters_of found.0.head.kind) found.0.body small bodies fits given
           (ap (λ (o : Option Operation). operation_tried program.fields (list_of args) (list_of state) o) found.2)
       | inr past ↦ absurd (omega (arith, past.0))
     ]
 
 -- a making of the object, at whatever was there
-making_right : (program : SmallProgram) (object : Option Data) → IsOutcome program object (action.Make small_kind (first_object main_process)) (outcome_of program object (action.Make small_kind (first_object main_process)))
-making_right program None = record { performed = (refl, refl); objects = refl; alone = refl; faultless = tt; made = inr (_, refl); state = made_fit program small_kind; reply = tt }
-making_right program (Some state) = record { performed = (refl, refl); objects = refl; alone = refl; faultless = tt; made = inr (_, refl); state = made_fit program small_kind; reply = tt }
+making_right : (program : SmallProgram) (object : Option Data) → AreInRange program → IsOutcome program object (action.Make small_kind (first_object main_process)) (outcome_of program object (action.Make small_kind (first_object main_process)))
+making_right program None small = record { performed = (refl, refl); objects = refl; alone = refl; faultless = tt; made = inr (_, refl); state = made_fit program small small_kind; reply = tt }
+making_right program (Some state) small = record { performed = (refl, refl); objects = refl; alone = refl; faultless = tt; made = inr (_, refl); state = made_fit program small small_kind; reply = tt }
 
 writing_right : (program : SmallProgram) (object : Option Data) (op : OpNo) (args : Data) → ((object ≡ None) → ⊥) → IsOutcome program object (action.Call output_kind op output_object args) (outcome_of program object (action.Call output_kind op output_object args))
 writing_right program None op args some = absurd (some refl)
 writing_right program (Some state) op args some = record { performed = (_, refl, (refl, refl)); objects = refl; alone = refl; faultless = tt; made = inl some; state = tt; reply = refl }
 
 -- a known action with fitting arguments has its outcome, once the object is made
-outcome_right : (program : SmallProgram) (object : Option Data) (act : Action) → BodiesFit program → IfSome object (FitsState program small_kind) → HasFitting program act → IsKnown program main_process act →
+outcome_right : (program : SmallProgram) (object : Option Data) (act : Action) → AreInRange program → BodiesFit program → IfSome object (FitsState program small_kind) → HasFitting program act → IsKnown program main_process act →
     ((object ≡ None → ⊥) ⊎ ((kind : KindNo) × (id : ObjectId) × (act ≡ action.Make kind id))) → IsOutcome program object act (outcome_of program object act)
-outcome_right program object (action.Make kind id) bodies fits given known made =
+outcome_right program object (action.Make kind id) small bodies fits given known made =
     subst (λ (k : KindNo). IsOutcome program object (action.Make k id) (outcome_of program object (action.Make k id))) (sym known.0)
-    (subst (λ (i : ObjectId). IsOutcome program object (action.Make small_kind i) (outcome_of program object (action.Make small_kind i))) (sym known.1) (making_right program object))
-outcome_right program object (action.Call kind op id args) bodies fits given (inl w) made =
+    (subst (λ (i : ObjectId). IsOutcome program object (action.Make small_kind i) (outcome_of program object (action.Make small_kind i))) (sym known.1) (making_right program object small))
+outcome_right program object (action.Call kind op id args) small bodies fits given (inl w) made =
     subst (λ (k : KindNo). IsOutcome program object (action.Call k op id args) (outcome_of program object (action.Call k op id args))) (sym w.kind_is)
     (subst (λ (i : ObjectId). IsOutcome program object (action.Call output_kind op i args) (outcome_of program object (action.Call output_kind op i args))) (sym w.object_is)
     (writing_right program object op args (elim made [ inl some ↦ some | inr make ↦ cc ])))
-outcome_right program object (action.Call kind op id args) bodies fits given (inr i) made =
+outcome_right program object (action.Call kind op id args) small bodies fits given (inr i) made =
     subst (λ (k : KindNo). IsOutcome program object (action.Call k op id args) (outcome_of program object (action.Call k op id args))) (sym i.kind_is)
     (subst (λ (o : ObjectId). IsOutcome program object (action.Call small_kind op o args) (outcome_of program object (action.Call small_kind op o args))) (sym i.object_is)
     (by_object object fits (subst (λ (k : KindNo). FitsArgs program k op args) i.kind_is given) made))
@@ -118,18 +119,10 @@ outcome_right program object (action.Call kind op id args) bodies fits given (in
     by_object : (o : Option Data) → IfSome o (FitsState program small_kind) → FitsArgs program small_kind op args → ((o ≡ None → ⊥) ⊎ ((k : KindNo) × (d : ObjectId) × (action.Call kind op id args ≡ action.Make k d))) →
         IsOutcome program o (action.Call small_kind op (first_object main_process) args) (outcome_of program o (action.Call small_kind op (first_object main_process) args))
     by_object None state takes m = elim m [ inl some ↦ absurd (some refl) | inr make ↦ cc ]
-    by_object (Some s) state takes m = call_outcome program op args s bodies state takes i.op_is
-outcome_right program object (action.Fork process args place_on) bodies fits given known made = absurd known
-outcome_right program object action.Ended bodies fits given known made = inl refl
-outcome_right program object (action.Faulted fault) bodies fits given known made = inr (fault, refl)
-
--- an action with an outcome is one that is replied
-pub is_replied : (program : SmallProgram) (object : Option Data) (act : Action) (o : Outcome) → Some o ≡ outcome_of program object act → HaltedAtReplied (doing.At act)
-is_replied program object (action.Make kind id) o is = tt
-is_replied program object (action.Call kind op id args) o is = tt
-is_replied program object (action.Fork process args place_on) o is = tt
-is_replied program object action.Ended o is = none-some o (sym is)
-is_replied program object (action.Faulted fault) o is = none-some o (sym is)
+    by_object (Some s) state takes m = call_outcome program op args s small bodies state takes i.op_is
+outcome_right program object (action.Fork process args place_on) small bodies fits given known made = absurd known
+outcome_right program object action.Ended small bodies fits given known made = inl refl
+outcome_right program object (action.Faulted fault) small bodies fits given known made = inr (fault, refl)
 
 -- where a process comes to from here, with a budget of one turn
 abbrev pub GoesFrom : SmallProgram → SmallProcess → SmallProcess → Halt → Type 0
@@ -182,7 +175,7 @@ state_fits program (Some state) old fits before = fits
 abbrev pub line_of : Action → ℕ → Outcome → Line
 line_of act call o = record { process = main_process; call = record { 0 = call }; action = act; guard = o.guard; reply = o.reply }
 
-module _ (program : SmallProgram) (calls : CallsFit program) (bodies : BodiesFit program) (old new : Execution) (lines : List Line) (so_far : Follows program old lines) (act : Action) (next : doing_of program main_process old.replies.items ≡ doing.At act) where
+module _ (program : SmallProgram) (small : AreInRange program) (calls : CallsFit program) (bodies : BodiesFit program) (old new : Execution) (lines : List Line) (so_far : Follows program old lines) (act : Action) (next : doing_of program main_process old.replies.items ≡ doing.At act) where
   known : IsKnown program main_process act
   known = subst (λ (d : Doing). IsKnownDoing program main_process d) next (doing_known program main_process calls (record { 0 = 0 }) datum.none old.replies.items so_far.replies)
 
@@ -199,7 +192,11 @@ module _ (program : SmallProgram) (calls : CallsFit program) (bodies : BodiesFit
   ]
 
   outcome : IsOutcome program old.object act (outcome_of program old.object act)
-  outcome = outcome_right program old.object act bodies so_far.state fitting known object_made
+  outcome = outcome_right program old.object act small bodies so_far.state fitting known object_made
+
+  -- the reply of the outcome is one that the action can get
+  pub reply_fits : (o : Outcome) → Some o ≡ outcome_of program old.object act → FitsAction (FitsReply program) (doing.At act) o.reply
+  reply_fits o is = (subst (λ (x : Option Outcome). IsOutcome program old.object act x) (sym is) outcome).reply
 
   pub follows_more : (o : Outcome) → Some o ≡ outcome_of program old.object act → new.replies.items ≡ old.replies.items ++ o.reply ∷ [] → Stands program main_process new.process (old.replies.items ++ o.reply ∷ []) → new.object ≡ state_or o.state old.object →
       Follows program new (lines ++ line_of act (length old.replies.items) o ∷ [])
@@ -253,11 +250,11 @@ module _ (program : SmallProgram) (calls : CallsFit program) (bodies : BodiesFit
   pub ends : None ≡ outcome_of program old.object act → HasEnded program lines
   ends is =
       let over : (act ≡ action.Ended) ⊎ ((fault : _) × (act ≡ action.Faulted fault)) = subst (λ (x : Option Outcome). IsOutcome program old.object act x) (sym is) outcome in
-      let so : HasDone act = ap (λ (c : Configuration). doing_of program main_process (replies_in (slice_get c.processes 0))) so_far.configuration ∙ next in
       elim over [
-        | inl ended ↦ so ∙ ap doing.At ended
+        | inl ended ↦ record {
+          process = record { text = record { 0 = 0 }; args = datum.none; replies = old.replies.items };
+          exists = ap (λ (c : Configuration). slice_get c.processes 0) so_far.configuration;
+          ended = next ∙ ap doing.At ended;
+        }
         | inr fault ↦ absurd (subst (λ (d : Doing). IsFine d) (next ∙ ap doing.At fault.1) (doing_fine program main_process old.replies.items so_far.faultless))
       ]
-    where
-      HasDone : Action → Type 0
-      HasDone a = doing_of program main_process (replies_of (performs_of program) (computes_of program) lines 0) ≡ doing.At a

@@ -1,5 +1,5 @@
--- What fits in a small program (docs/LANGUAGE.md, Small programs): its fields, parameters and results are integers, and
--- `WriteLine` takes a string.
+-- What fits in a small program (docs/LANGUAGE.md, Small programs): its fields, parameters and results are integers of 64
+-- bits, and `WriteLine` takes a sound string.
 use Rattle.std.specs.Prelude.{◌≡◌, ◌==◌, ℕ, ℤ, Bool, true, false, List, [], ◌∷◌, Option, None, Some, length, slice_get, MatchBool}
 use Rattle.std.specs.List.{All}
 use Rattle.orca_base.specs.declared.ids.KindNo.{KindNo}
@@ -14,11 +14,13 @@ use Rattle.value_core.specs.Datum as datum
 use Rattle.value_core.specs.View.{datum_of}
 use Rattle.value_core.specs.declared.action.Reply.{Reply}
 use Rattle.value_core.specs.declared.action.Reply.TheVariants as answer
+use Rattle.value_core.specs.Sound.{IsCode, IsShort}
 use Rattle.orca_meaning.specs.Operations.{Name}
+use Rattle.orca_meaning.specs.Ranges.{IsWord}
 
--- an integer
+-- an integer of 64 bits
 abbrev pub IsInteger : Datum → Type 0
-IsInteger value = (n : ℤ) × (value ≡ datum.int n)
+IsInteger value = (n : ℤ) × IsWord n × (value ≡ datum.int n)
 
 -- an integer for each field
 abbrev pub AreFields : List Name → List Datum → Type 0
@@ -32,7 +34,7 @@ FitsState program kind state = MatchBool (kind.0 == 0) (state ≡ datum.none) (A
 abbrev pub FitsHead : HeadKind → List Datum → Type 0
 FitsHead Plain args = args ≡ []
 FitsHead Gives args = args ≡ []
-FitsHead (Takes parameter) args = (n : ℤ) × (args ≡ datum.int n ∷ [])
+FitsHead (Takes parameter) args = (n : ℤ) × IsWord n × (args ≡ datum.int n ∷ [])
 
 abbrev pub FitsOperation : Option Operation → List Datum → Type 0
 FitsOperation None args = ⊥
@@ -40,7 +42,7 @@ FitsOperation (Some operation) args = FitsHead operation.head.kind args
 
 -- one string
 abbrev pub FitsWriting : List Datum → Type 0
-FitsWriting args = (codes : List ℕ) × (args ≡ datum.text codes ∷ [])
+FitsWriting args = (codes : List ℕ) × All IsCode codes × IsShort codes × (args ≡ datum.text codes ∷ [])
 
 -- the arguments of an operation: the output object has one, `WriteLine`
 abbrev pub FitsArgs : SmallProgram → KindNo → OpNo → Data → Type 0

@@ -1,7 +1,7 @@
 -- In a scoped program the operation of a name is the one with its head, and a head and its body fit each other.
 use Rattle.std.proofs.Common.{◌≡◌, ℕ, ◌<◌, ◌+◌, Bool, true, false, cond, List, ◌++◌, length, map, Option, Some, None, refl, sym, ap, ◌∙◌, subst, suc, arith}
 use Rattle.std.specs.Prelude.{◌≢◌, nat_lt, unwrap_or, slice_get, slice_index_or}
-use Rattle.std.specs.List.{position_or_len}
+use Rattle.std.specs.List.{All, position_or_len}
 use Rattle.std.specs.Str.{bytes_eq}
 use Rattle.std.proofs.lemmas.Bool.Decides.{nat_tests}
 use Rattle.std.proofs.Math.Bool.{Bool-set}
@@ -23,6 +23,7 @@ use Rattle.small_program.specs.declared.tree.OperationBody.TheVariants.{Returns,
 use Rattle.small_program.specs.declared.tree.SmallProgram.{SmallProgram}
 use Rattle.orca_meaning.specs.Processes.{number_in}
 use Rattle.orca_meaning.specs.Fitting.{has_result}
+use Rattle.orca_meaning.specs.Ranges.{ArgumentInRange, ArgumentInRange-prop, CallInRange, IsWord}
 
 -- whether a body returns a field
 abbrev pub returns : OperationBody → Bool
@@ -49,7 +50,7 @@ head_passes operations name test = passes test (slice_get operations (number_in 
 
 -- what the use of a name in a statement asks of the operation that it finds
 abbrev pub ArgumentFits : List Operation → Argument → Type 0
-ArgumentFits operations (argument.Number n) = Unit {0}
+ArgumentFits operations (argument.Number n) = IsWord n
 ArgumentFits operations (argument.Result operation) = head_passes operations operation has_result ≡ true
 
 abbrev pub CallFits : List Operation → Call → Type 0
@@ -65,7 +66,7 @@ BodiesFit program = (at : ℕ) (o : Operation) → slice_get program.operations 
 
 -- each of these facts has one proof
 ArgumentFits-prop : (operations : List Operation) (a : Argument) → IsProp (ArgumentFits operations a)
-ArgumentFits-prop operations (argument.Number n) = hlevel
+ArgumentFits-prop operations (argument.Number n) = ArgumentInRange-prop (argument.Number n)
 ArgumentFits-prop operations (argument.Result operation) = hlevel Bool-set
 
 CallFits-prop : (operations : List Operation) (c : Call) → IsProp (CallFits operations c)
@@ -120,17 +121,19 @@ module _ (program : SmallProgram) (scoped : IsScoped program) where
   passes_test name P test so has =
       ap (passes test) (found name has.0 has.1 has.2 has.3 has.4.0) ∙ so has.1.head.kind has.4.1
 
-  argument_fits : (a : Argument) → IsArgument program.operations a → ArgumentFits program.operations a
-  argument_fits (argument.Number n) fits = tt
-  argument_fits (argument.Result operation) fits = passes_test operation _ has_result (λ kind is. ap has_result is) fits
+  argument_fits : (a : Argument) → ArgumentInRange a → IsArgument program.operations a → ArgumentFits program.operations a
+  argument_fits (argument.Number n) small fits = small
+  argument_fits (argument.Result operation) small fits = passes_test operation _ has_result (λ kind is. ap has_result is) fits
 
-  call_fits : (c : Call) → IsCall program.operations c → CallFits program.operations c
-  call_fits (call.Invokes operation) fits = passes_test operation _ is_plain (λ kind is. ap is_plain is) fits
-  call_fits (call.Passes operation value) fits = (passes_test operation _ takes (λ kind is. ap takes is.1) fits.0, argument_fits value fits.1)
-  call_fits (call.Writes value) fits = argument_fits value fits
+  call_fits : (c : Call) → CallInRange c → IsCall program.operations c → CallFits program.operations c
+  call_fits (call.Invokes operation) small fits = passes_test operation _ is_plain (λ kind is. ap is_plain is) fits
+  call_fits (call.Passes operation value) small fits = (passes_test operation _ takes (λ kind is. ap takes is.1) fits.0, argument_fits value small fits.1)
+  call_fits (call.Writes value) small fits = argument_fits value small fits
 
-  pub calls_fit : CallsFit program
-  calls_fit at c is = call_fits c (subst (IsCall program.operations) (get_or_from_slice_get program.calls at c c is) (scoped.calls at c (slice_get_within program.calls at c is)))
+  pub calls_fit : All CallInRange program.calls → CallsFit program
+  calls_fit small at c is =
+      call_fits c (subst CallInRange (get_or_from_slice_get program.calls at c c is) (small at c (slice_get_within program.calls at c is)))
+      (subst (IsCall program.operations) (get_or_from_slice_get program.calls at c c is) (scoped.calls at c (slice_get_within program.calls at c is)))
 
   body_fits : (kind : HeadKind) (body : OperationBody) → IsBody program.fields kind body → has_result kind ≡ returns body
   body_fits kind (Returns field) fits = ap has_result fits.0

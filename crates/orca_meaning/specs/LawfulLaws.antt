@@ -28,6 +28,8 @@ use Rattle.orca_meaning.specs.Processes.{all_stating, doing_of, first_object, in
 use Rattle.orca_meaning.specs.Program.{computes_of}
 use Rattle.orca_meaning.specs.Fitting.{FitsArgs, FitsHead, FitsOperation, FitsReply, FitsResultOf, FitsText, IsInteger, has_result}
 use Rattle.orca_meaning.specs.HeadLaws.{CallFits, CallsFit, head_passes, is_plain, passes, takes}
+use Rattle.orca_meaning.specs.Ranges.{zero_in_range}
+use Rattle.orca_meaning.specs.SoundLaws.{text_codes, text_short}
 use Rattle.orca_meaning.specs.Stages.{StandsFor, first_doing, last_doing, resumed, stage_after, stage_behind, stage_called, stage_held, stage_passed}
 use Rattle.orca_meaning.specs.StageLaws.{first_of_calls, last_of_calls, stands_after}
 use Rattle.orca_meaning.specs.declared.process.Stage.{Stage}
@@ -78,7 +80,7 @@ result_fits (head.Takes parameter) is = absurd cc
 taken_fits : (v : Datum) → IsInteger v → (kind : HeadKind) → takes kind ≡ true → FitsHead kind (v ∷ [])
 taken_fits v integer head.Plain is = absurd cc
 taken_fits v integer head.Gives is = absurd cc
-taken_fits v integer (head.Takes parameter) is = (integer.0, ap (λ (d : Datum). d ∷ []) integer.1)
+taken_fits v integer (head.Takes parameter) is = (integer.0, integer.1, ap (λ (d : Datum). d ∷ []) integer.2)
 
 -- the result that an operation gives is an integer
 gave_integer : (o : Option Operation) (value : _) → FitsResultOf o (answer.Gave value) → IsInteger (datum_of value)
@@ -89,22 +91,22 @@ module _ (program : SmallProgram) (number : ProcessNo) where
   invokes : (name : List ℕ) (args : Data) (test : HeadKind → Bool) → ((kind : HeadKind) → test kind ≡ true → FitsHead kind (list_of args)) → head_passes program.operations name test ≡ true → IsFitDoing program number (doing.At (invocation program number name args))
   invokes name args test so passed = (inr (refl, refl), head_fits test (list_of args) so (slice_get program.operations (number_in program.operations name)) passed)
 
-  writes : (v : Datum) → IsFitDoing program number (doing.At (writing (text_of v)))
-  writes v = (inl (refl, refl), (refl, (text_of v, refl)))
+  writes : (v : Datum) → IsInteger v → IsFitDoing program number (doing.At (writing (text_of v)))
+  writes v integer = (inl (refl, refl), (refl, (text_of v, text_codes v integer, text_short v integer, refl)))
 
   first_fits : (c : Option Call) (next : List Reply → Doing) → ((x : Call) → c ≡ Some x → CallFits program.operations x) → IsFitDoing program number (first_doing program number c [] next)
   first_fits None next fits = tt
   first_fits (Some (call.Invokes o)) next fits = invokes o datum.none is_plain plain_fits (fits _ refl)
-  first_fits (Some (call.Passes o (argument.Number n))) next fits = invokes o (datum.more (datum.int n) datum.none) takes (taken_fits (datum.int n) (n, refl)) (fits _ refl).0
+  first_fits (Some (call.Passes o (argument.Number n))) next fits = invokes o (datum.more (datum.int n) datum.none) takes (taken_fits (datum.int n) (n, (fits _ refl).1, refl)) (fits _ refl).0
   first_fits (Some (call.Passes o (argument.Result q))) next fits = invokes q datum.none has_result result_fits (fits _ refl).1
-  first_fits (Some (call.Writes (argument.Number n))) next fits = writes (datum.int n)
+  first_fits (Some (call.Writes (argument.Number n))) next fits = writes (datum.int n) (n, fits _ refl, refl)
   first_fits (Some (call.Writes (argument.Result q))) next fits = invokes q datum.none has_result result_fits (fits _ refl)
 
   last_fits : (c : Option Call) (v : Datum) (next : List Reply → Doing) → IsInteger v → ((x : Call) → c ≡ Some x → CallFits program.operations x) → IsFitDoing program number (last_doing program number c v [] next)
   last_fits None v next integer fits = tt
   last_fits (Some (call.Invokes o)) v next integer fits = invokes o datum.none is_plain plain_fits (fits _ refl)
   last_fits (Some (call.Passes o a)) v next integer fits = invokes o (datum.more v datum.none) takes (taken_fits v integer) (fits _ refl).0
-  last_fits (Some (call.Writes a)) v next integer fits = writes v
+  last_fits (Some (call.Writes a)) v next integer fits = writes v integer
 
   -- what the process does at a stage
   stage_fits : CallsFit program → (stage : Stage) → HasMade stage → StageFits stage → IsFitDoing program number (resumed program number stage [])
@@ -128,7 +130,7 @@ module _ (program : SmallProgram) (number : ProcessNo) where
   behind_made next (answer.Broke fault) = tt
 
   held_fits : (at : ℕ) (name : List ℕ) (reply : Reply) → FitsAction (FitsReply program) (doing.At (invocation program number name datum.none)) reply → StageFits (stage_held at reply)
-  held_fits at name answer.Done fits = (pos 0, refl)
+  held_fits at name answer.Done fits = (pos 0, zero_in_range, refl)
   held_fits at name (answer.Gave value) fits = gave_integer (slice_get program.operations (number_in program.operations name)) value fits
   held_fits at name (answer.Broke fault) fits = tt
 

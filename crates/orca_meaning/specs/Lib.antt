@@ -2,11 +2,13 @@ pub mod Operations
 pub mod Processes
 pub mod Program
 pub mod Stages
+pub mod Ranges
 pub mod Known
 pub mod StageLaws
 pub mod Fitting
 pub mod HeadLaws
 pub mod ClassLaws
 pub mod FitLaws
+pub mod SoundLaws
 pub mod LawfulLaws
 pub mod Executions

@@ -17,6 +17,8 @@ use Rattle.small_program.specs.declared.tree.SmallProgram.{SmallProgram}
 use Rattle.value_core.specs.Datum.{Datum, Data, list_of, data_of}
 use Rattle.value_core.specs.Datum as datum
 use Rattle.value_core.specs.View.{value_of}
+use Rattle.value_core.specs.declared.action.Class.{Class}
+use Rattle.value_core.specs.declared.action.Class.TheVariants.{Reads, Writes}
 use Rattle.value_core.specs.declared.action.Reply.TheVariants as answer
 use Rattle.value_core.specs.declared.meaning.Making.{Making}
 use Rattle.value_core.specs.declared.meaning.Making.TheVariants as making
@@ -80,6 +82,18 @@ abbrev pub tries_of : SmallProgram → KindNo → OpNo → Data → Data → Tri
 tries_of program kind op state args =
     if kind.0 == 0 then tried.Did 0 state answer.Done
     else operation_tried program.fields (list_of args) (list_of state) (slice_get program.operations op.0)
+
+-- an operation that returns a field is a read; `WriteLine` is a write, and so is one that the program doesn't have
+abbrev pub class_in : OperationBody → Class
+class_in (Returns field) = Reads
+class_in (Assigns assignments) = Writes
+
+abbrev pub class_at : Option Operation → Class
+class_at None = Writes
+class_at (Some operation) = class_in operation.body
+
+abbrev pub class_of : SmallProgram → KindNo → OpNo → Class
+class_of program kind op = if kind.0 == 0 then Writes else class_at (slice_get program.operations op.0)
 
 -- the assignments of the opening part
 abbrev pub opening_assignments : Opening → List Assignment

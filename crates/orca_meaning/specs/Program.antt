@@ -1,14 +1,12 @@
 -- The meanings of a small program.
-use Rattle.value_core.specs.declared.action.Class.TheVariants.{Writes}
 use Rattle.value_core.specs.Meaning.{Performs, Computes}
 use Rattle.small_program.specs.declared.tree.SmallProgram.{SmallProgram}
-use Rattle.orca_meaning.specs.Operations.{tries_of, making_of}
+use Rattle.orca_meaning.specs.Operations.{class_of, tries_of, making_of}
 use Rattle.orca_meaning.specs.Processes.{doing_of}
 
--- each operation is taken as one that may change its object
 abbrev pub performs_of : SmallProgram → Performs
 performs_of program = record {
-  class_of = λ kind op. Writes;
+  class_of = class_of program;
   made = making_of program;
   tries = tries_of program;
 }

@@ -4,7 +4,7 @@ ghost use Rattle.std.specs.Prelude.{◌≡◌, ◌<◌, ◌+◌, ◌*◌, ◌∷
 ghost use Rattle.value_core.specs.History.{replies_of};
 ghost use Rattle.value_core.specs.declared.action.Line.{Line};
 ghost use Rattle.small_program.specs.declared.tree.SmallProgram.{SmallProgram};
-ghost use Rattle.orca_meaning.specs.Executions.{Follows, HasEnded, HasFitting, making_outcome, object_outcome, outcome_of, state_or, tried_outcome};
+ghost use Rattle.orca_meaning.specs.Executions.{Follows, HasEnded, HasFitting, IsAt, making_outcome, object_outcome, outcome_of, state_or, tried_outcome};
 ghost use Rattle.orca_meaning.specs.Fitting.{FitsArgs, FitsState};
 ghost use Rattle.orca_meaning.specs.Processes.{small_kind};
 ghost use Rattle.orca_meaning.specs.Program.{computes_of, performs_of};
@@ -161,6 +161,13 @@ impl Execution {
             guard: outcome.guard,
             reply: outcome.reply,
         }))
+    }
+
+    /// The action at which the process is behind the lines that were followed. It was not performed.
+    pub fn next(&self, alloc: Global, machine: &TreeMachine) -> Result<Action, NoMemory>
+        ensures { IfOk result (λ act. (lines : List Line) → Follows machine.now.program self.now lines → IsAt machine.now.program lines act) }
+    {
+        self.process.next(alloc, &machine.program)
     }
 
     /// The replies that the process received, in order, and no more of the execution.

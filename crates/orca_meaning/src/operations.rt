@@ -4,7 +4,7 @@ ghost use Rattle.std.specs.Prelude.{◌≡◌, List, map, IfOk, Some, option_map
 ghost use Rattle.std.specs.Option.{option_copied};
 ghost use Rattle.value_core.specs.Datum.{list_of, data_of};
 ghost use Rattle.value_core.specs.View.{datum_of, value_of};
-ghost use Rattle.orca_meaning.specs.Operations.{after_assignments, making_of, place_in, value_at, opening_assignments, opening_value, opening_values, operand_value, operation_tried, parameters_of, tries_of, value_or, with_value};
+ghost use Rattle.orca_meaning.specs.Operations.{after_assignments, class_in, class_of, making_of, place_in, value_at, opening_assignments, opening_value, opening_values, operand_value, operation_tried, parameters_of, tries_of, value_or, with_value};
 
 use crate::process::no_values;
 use orca_base::{KindNo, NoMemory, OpNo, Text};
@@ -12,7 +12,7 @@ use small_program::{
     Assignment, HeadKind, Opening, Operand, Operation, OperationBody, SmallProgram,
 };
 use std::alloc::Global;
-use value_core::{Making, ObjectState, Parts, Reply, Tried, Value};
+use value_core::{Class, Making, ObjectState, Parts, Reply, Tried, Value};
 
 // The place of a name among names.
 fn place(names: &[Text], name: &Text) -> Option<usize>
@@ -115,6 +115,29 @@ pub fn perform(
     match program.operations.as_slice().get(usize::from(op.0)) {
         None => Ok(Tried::Blocked),
         Some(operation) => operation_done(alloc, program.fields.as_slice(), operation, state, args),
+    }
+}
+
+/// Whether an operation may change its object: one that returns a field may not (specs/Operations.antt).
+pub fn class(program: &SmallProgram, kind: KindNo, op: OpNo) -> Class
+    ensures { result ≡ class_of program.now kind op }
+{
+    if kind == KindNo::OUTPUT {
+        return Class::Writes;
+    }
+    match program.operations.as_slice().get(usize::from(op.0)) {
+        None => Class::Writes,
+        Some(operation) => class_in(&operation.body),
+    }
+}
+
+// Whether an operation with this body may change its object.
+fn class_in(body: &OperationBody) -> Class
+    ensures { result ≡ class_in body.now }
+{
+    match body {
+        OperationBody::Returns { .. } => Class::Reads,
+        OperationBody::Assigns { .. } => Class::Writes,
     }
 }
 

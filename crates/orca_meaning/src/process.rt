@@ -179,7 +179,8 @@ impl SmallProcess {
     /// What the process does next. Its operations are at most 65,535, so that their numbers fit.
     pub fn next(&self, alloc: Global, program: &SmallProgram) -> Result<Action, NoMemory>
         requires { length program.now.operations < 2 ^ 16 }
-        ensures { IfOk result (λ act. (replies : List Reply) → Stands program.now self.now.number self.now replies → doing_of program.now self.now.number replies ≡ At act) }
+        ensures stage { IfOk result (λ act. resumed program.now self.now.number self.now.stage [] ≡ At act) }
+        ensures doing { IfOk result (λ act. (replies : List Reply) → Stands program.now self.now.number self.now replies → doing_of program.now self.now.number replies ≡ At act) }
     {
         next_action(alloc, program, self.number, &self.stage)
     }

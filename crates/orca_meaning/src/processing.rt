@@ -7,12 +7,13 @@ use std::alloc::Global;
 use value_core::{Halt, Parts, Processor, Reply};
 
 impl Processor for TreeMachine {
-    ghost use Rattle.std.specs.Prelude.{◌≡◌, refl};
+    ghost use Rattle.std.specs.Prelude.{◌≡◌, [], refl};
     ghost use Rattle.std.proofs.Math.Logic.{∥∥₁_elim};
     ghost use Rattle.orca_meaning.specs.HeadLaws.{CallsFit-prop, calls_fit};
     ghost use Rattle.orca_meaning.specs.LawfulLaws.{lawful_of};
     ghost use Rattle.orca_meaning.specs.Program.{computes_of};
-    ghost use Rattle.orca_meaning.specs.Stages.{Stands};
+    ghost use Rattle.orca_meaning.specs.Stages.{Stands, resumed};
+    ghost use Rattle.value_core.specs.declared.meaning.Doing.TheVariants.{At};
 
     type State = SmallProcess;
 
@@ -20,11 +21,13 @@ impl Processor for TreeMachine {
 
     ghost stands = { λ m s text number args replies turns. Stands m.program number s replies × (turns ≡ 0) };
 
+    ghost halted = { λ m s act. resumed m.program s.number s.stage [] ≡ At act };
+
     ghost main_fits = { λ m kinds. (refl, refl) };
 
     ghost settled = { λ m text number args replies n k apart. refl };
 
-    ghost lawful = { λ m kinds text number args replies given got. lawful_of m.program number kinds text args replies (∥∥₁_elim m.scoped (CallsFit-prop m.program) (calls_fit m.program)) got };
+    ghost lawful = { λ m kinds text number args replies given got. lawful_of m.program number kinds text args replies (∥∥₁_elim m.scoped (CallsFit-prop m.program) (λ scoped. calls_fit m.program scoped m.ranged.2)) got };
 
     fn main_text(&self) -> TextNo {
         TextNo(0)

@@ -8,8 +8,8 @@ use Rattle.orca_meaning.specs.Stages.{Stands, resumed}
 use Rattle.orca_meaning.specs.StageLaws.{stands_next}
 use Rattle.orca_meaning.proofs.process.SmallProcess.next.Goals as goal
 
-pub returns : goal.returns
-returns c =
+pub returns-clause-doing : goal.returns-clause-doing
+returns-clause-doing c =
     let program = c.args.program.now in
     let self = c.args.self.now in
     IfOk-weaker c.next_action.result (λ (act : Action). resumed program self.number self.stage [] ≡ At act)
