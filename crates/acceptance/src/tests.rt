@@ -219,7 +219,7 @@ fn refusals(rt: HostRuntime) -> Result<(), Fail> {
         (&["run", "e.orca", "e.orca"], 2, USAGE),
         (&["check", "e.orca"], 2, USAGE),
         (&["run", "gone.orca"], 9, "orca: no file gone.orca\n"),
-        (&["run", "--nodes"], 9, "orca: no file --nodes\n"),
+        (&["run", "--nodes"], 2, USAGE),
         (&["run", ""], 9, "orca: no file \n"),
         (&["run", "e.orca"], 15, "orca: e.orca: not yet\n"),
     ];

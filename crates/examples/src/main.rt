@@ -3,6 +3,7 @@
 //! It is a program and not a test, since the gate lays files where a program runs. It prints a line for each example.
 #![tactic(auto)]
 
+use orca_base::SOURCE_BYTES;
 use orca_cli::{FINISHED, orca_main};
 use orca_io::{FileShelf, MemorySink, Shelf, ShelfFault};
 use std::alloc::{AllocError, Global};
@@ -22,7 +23,7 @@ fn prints_its_output<F: Shelf>(
     let mut out = MemorySink::new(alloc, Vec::new(alloc));
     let ended = orca_main(alloc, &words, shelf, &mut out);
     let expected = format!(in alloc; "{name}.out")?;
-    match shelf.read_all(alloc, expected.as_str(), 1_000_000) {
+    match shelf.read_all(alloc, expected.as_str(), SOURCE_BYTES) {
         Ok(expected) => Ok(ended.status == FINISHED && out.bytes() == expected.as_slice()),
         Err(ShelfFault::NoMemory) => Err(AllocError),
         Err(_) => Ok(false),

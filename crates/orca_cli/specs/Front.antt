@@ -1,6 +1,9 @@
 -- What the front end says of a text: the small program that it is, or why it is none (docs/FORMATS.md, Refusals).
-use Rattle.std.specs.Prelude.{ℕ, List, [], ◌∷◌, ◌++◌, Result, Ok, Err, slice_range, codes}
+use Rattle.std.specs.Prelude.{ℕ, ◌≤◌, List, [], ◌∷◌, ◌++◌, length, Result, Ok, Err, slice_range, codes}
+use Rattle.orca_base.specs.declared.limits.TheConstants.{SOURCE_BYTES}
 use Rattle.orca_base.specs.declared.place.Place.{Place}
+use Rattle.orca_base.specs.declared.refusal.Refusal.{Refusal}
+use Rattle.orca_base.specs.declared.refusal.Refusal.TheVariants.{Because, NoMemory}
 use Rattle.orca_lexer.specs.declared.error.LexError.{LexError}
 use Rattle.orca_lexer.specs.declared.token.Token.{Token}
 use Rattle.orca_lexer.specs.Refusal as lexer
@@ -14,7 +17,7 @@ use Rattle.parse_units.specs.Refused.{end_of_text, IsRefusal}
 use Rattle.small_program.specs.declared.tree.SmallProgram.{SmallProgram}
 use Rattle.small_program.specs.Scope.{IsSmall}
 use Rattle.orca_cli.specs.declared.front.FrontFault.{FrontFault}
-use Rattle.orca_cli.specs.declared.front.FrontFault.TheVariants.{Refused, TooNested, NotYet, NoMemory}
+use Rattle.orca_cli.specs.declared.front.FrontFault.TheVariants.{Refused, TooNested, NotYet}
 
 -- the text is that of this small program: its tokens are a unit, and that is the program
 pub record IsProgram (text : List ℕ) (p : SmallProgram) : Type 0 where
@@ -33,7 +36,7 @@ pub data IsRefused (text : List ℕ) : Place → List ℕ → Type 0 where
   -- the text's end, where no unit ends
   end : (tokens front : List Token) → Tokens text tokens → IsUnexpected tokens front [] → IsRefused text (end_of_text tokens) (codes "unexpected end of text")
 
--- a token of the text stands in more than 64 nested phrases
+-- a token of the text stands in more than NESTING nested phrases
 pub record IsTooDeep (text : List ℕ) : Type 0 where
   pub tokens : List Token
   pub front : List Token
@@ -41,6 +44,11 @@ pub record IsTooDeep (text : List ℕ) : Type 0 where
   pub rest : List Token
   pub has : Tokens text tokens
   pub nested : IsTooNested tokens front token rest
+
+-- the text is as long, and nests as deep, as a text may
+pub record IsInLimits (text : List ℕ) : Type 0 where
+  pub bytes : length text ≤ SOURCE_BYTES
+  pub shallow : IsTooDeep text → ⊥
 
 -- the text is a unit, and no small program
 pub record IsNotSmall (text : List ℕ) : Type 0 where
@@ -51,11 +59,11 @@ pub record IsNotSmall (text : List ℕ) : Type 0 where
   pub none : (p : SmallProgram) → IsSmall unit p → ⊥
 
 -- what was read of a text, or why nothing was
-abbrev pub Reads : List ℕ → Result SmallProgram FrontFault → Type 0
-Reads text (Ok p) = IsProgram text p
-Reads text (Err (Refused at words)) = IsRefused text at words.items
-Reads text (Err TooNested) = IsTooDeep text
-Reads text (Err NotYet) = IsNotSmall text
+abbrev pub Reads : List ℕ → Result SmallProgram (Refusal FrontFault) → Type 0
+Reads text (Ok p) = IsProgram text p × (IsTooDeep text → ⊥)
+Reads text (Err (Because (Refused at words))) = IsRefused text at words.items × (IsTooDeep text → ⊥)
+Reads text (Err (Because TooNested)) = IsTooDeep text
+Reads text (Err (Because NotYet)) = IsNotSmall text × (IsTooDeep text → ⊥)
 Reads text (Err NoMemory) = Unit {0}
 
 -- the text has tokens, and they are no unit for this reason

@@ -1,7 +1,7 @@
-pub mod Words
+pub mod Job
+pub mod Lines
 pub mod Printed
 pub mod Front
-pub mod Refused
-pub mod Headline
 pub mod Loaded
-pub mod Lines
+pub mod Endings
+pub mod Headline

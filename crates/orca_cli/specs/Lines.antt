@@ -1,7 +1,34 @@
--- A line that is written.
-use Rattle.std.specs.Prelude.{ℕ, List, [], ◌∷◌, ◌++◌}
+-- The lines that the program says where it ends, and the line that an action writes (docs/FORMATS.md, The program).
+use Rattle.std.specs.Prelude.{ℕ, List, [], ◌∷◌, ◌++◌, codes}
+use Rattle.std.specs.Fmt.{decimal}
+use Rattle.orca_base.specs.declared.limits.TheConstants.{NESTING, SOURCE_BYTES}
+use Rattle.orca_base.specs.declared.place.Place.{Place}
 use Rattle.value_core.specs.Datum.{Data}
 use Rattle.value_core.specs.History.{string_first}
+
+abbrev pub usage_line : List ℕ
+usage_line =
+    codes "usage: orca check FILE... | run [OPTIONS] FILE... | code FILE... | choice [--nodes N] FILE... | replay HISTORY FILE... | make [OPTIONS] NUMBER" ++ 10 ∷ []
+
+abbrev pub absent_line : List ℕ → List ℕ
+absent_line file = codes "orca: no file " ++ file ++ 10 ∷ []
+
+abbrev pub unread_line : List ℕ → List ℕ
+unread_line file = codes "orca: cannot read " ++ file ++ 10 ∷ []
+
+abbrev pub not_yet_line : List ℕ → List ℕ
+not_yet_line file = codes "orca: " ++ file ++ (codes ": not yet" ++ 10 ∷ [])
+
+-- a text that is refused, at this place, for what is said of it
+abbrev pub refused_line : List ℕ → Place → List ℕ → List ℕ
+refused_line file at text =
+    codes "orca: " ++ file ++ (codes ":" ++ decimal at.line ++ (codes ":" ++ decimal at.column ++ (codes ": " ++ (text ++ 10 ∷ []))))
+
+abbrev pub too_long_line : List ℕ
+too_long_line = codes "orca: limit of source bytes: " ++ decimal SOURCE_BYTES ++ 10 ∷ []
+
+abbrev pub too_nested_line : List ℕ
+too_nested_line = codes "orca: limit of nesting: " ++ decimal NESTING ++ 10 ∷ []
 
 -- the string that is the first argument, and a line feed
 abbrev pub line_with : Data → List ℕ

@@ -1,14 +1,21 @@
-//! The lines that end a refusal.
+//! The lines that the program says where it ends, and texts that it says as they are.
 
 ghost use Rattle.std.specs.Prelude.{◌≡◌, IfOk};
-ghost use Rattle.orca_cli.specs.Words as words;
+ghost use Rattle.orca_cli.specs.Lines as lines;
 
-use orca_base::{NoMemory, Place};
+use orca_base::{NESTING, NoMemory, Place, SOURCE_BYTES};
 use std::alloc::Global;
+
+/// The bytes of a text.
+pub fn whole(alloc: Global, text: &str) -> Result<Vec<u8>, NoMemory>
+    ensures { IfOk result (λ v. v.items ≡ text.now) }
+{
+    Ok(Vec::from_slice(alloc, text.as_bytes())?)
+}
 
 /// The usage line.
 pub fn usage_line(alloc: Global) -> Result<Vec<u8>, NoMemory>
-    ensures { IfOk result (λ line. line.items ≡ words.usage_line) }
+    ensures { IfOk result (λ line. line.items ≡ lines.usage_line) }
 {
     let line = format!(in alloc;
         "usage: orca check FILE... | run [OPTIONS] FILE... | code FILE... | choice [--nodes N] FILE... | replay HISTORY FILE... | make [OPTIONS] NUMBER\n"
@@ -18,7 +25,7 @@ pub fn usage_line(alloc: Global) -> Result<Vec<u8>, NoMemory>
 
 /// There is no such file.
 pub fn absent_line(alloc: Global, file: &str) -> Result<Vec<u8>, NoMemory>
-    ensures { IfOk result (λ line. line.items ≡ words.absent_line file.now) }
+    ensures { IfOk result (λ line. line.items ≡ lines.absent_line file.now) }
 {
     let line = format!(in alloc; "orca: no file {file}\n")?;
     Ok(line.into_bytes())
@@ -26,7 +33,7 @@ pub fn absent_line(alloc: Global, file: &str) -> Result<Vec<u8>, NoMemory>
 
 /// The file can't be read.
 pub fn unread_line(alloc: Global, file: &str) -> Result<Vec<u8>, NoMemory>
-    ensures { IfOk result (λ line. line.items ≡ words.unread_line file.now) }
+    ensures { IfOk result (λ line. line.items ≡ lines.unread_line file.now) }
 {
     let line = format!(in alloc; "orca: cannot read {file}\n")?;
     Ok(line.into_bytes())
@@ -34,7 +41,7 @@ pub fn unread_line(alloc: Global, file: &str) -> Result<Vec<u8>, NoMemory>
 
 /// The file's text can't be run yet.
 pub fn not_yet_line(alloc: Global, file: &str) -> Result<Vec<u8>, NoMemory>
-    ensures { IfOk result (λ line. line.items ≡ words.not_yet_line file.now) }
+    ensures { IfOk result (λ line. line.items ≡ lines.not_yet_line file.now) }
 {
     let line = format!(in alloc; "orca: {file}: not yet\n")?;
     Ok(line.into_bytes())
@@ -42,23 +49,23 @@ pub fn not_yet_line(alloc: Global, file: &str) -> Result<Vec<u8>, NoMemory>
 
 /// The file is too long.
 pub fn too_long_line(alloc: Global) -> Result<Vec<u8>, NoMemory>
-    ensures { IfOk result (λ line. line.items ≡ words.too_long_line) }
+    ensures { IfOk result (λ line. line.items ≡ lines.too_long_line) }
 {
-    let line = format!(in alloc; "orca: limit of source bytes: 1000000\n")?;
+    let line = format!(in alloc; "orca: limit of source bytes: {SOURCE_BYTES}\n")?;
     Ok(line.into_bytes())
 }
 
 /// The file's text nests too deep.
 pub fn too_nested_line(alloc: Global) -> Result<Vec<u8>, NoMemory>
-    ensures { IfOk result (λ line. line.items ≡ words.too_nested_line) }
+    ensures { IfOk result (λ line. line.items ≡ lines.too_nested_line) }
 {
-    let line = format!(in alloc; "orca: limit of nesting: 64\n")?;
+    let line = format!(in alloc; "orca: limit of nesting: {NESTING}\n")?;
     Ok(line.into_bytes())
 }
 
 /// The file's text is refused, at this place, for what is said.
 pub fn refused_line(alloc: Global, file: &str, at: Place, said: &[u8]) -> Result<Vec<u8>, NoMemory>
-    ensures { IfOk result (λ line. line.items ≡ words.refused_line file.now at said.now) }
+    ensures { IfOk result (λ line. line.items ≡ lines.refused_line file.now at said.now) }
 {
     let mut line = format!(in alloc; "orca: {file}:{}:{}: ", at.line, at.column)?.into_bytes();
     line.extend_from_slice(said)?;

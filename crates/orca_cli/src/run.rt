@@ -5,14 +5,15 @@ ghost use Rattle.orca_io.specs.Causes.{Rose};
 ghost use Rattle.orca_io.specs.Sinks.{Puts};
 ghost use Rattle.value_core.specs.History.{output_by, output_of};
 ghost use Rattle.orca_meaning.specs.Executions.{Follows, HasEnded};
-ghost use Rattle.orca_cli.specs.Headline.{IsRun, IsRunEnd};
-ghost use Rattle.orca_cli.specs.Printed.{Grew, WroteOf};
+ghost use Rattle.orca_cli.specs.Headline.{IsRun, IsRunEnd, standing_at};
+ghost use Rattle.orca_cli.specs.Printed.{Grew, HasStopped, WroteOf};
 ghost use Rattle.orca_cli.specs.Lines.{line_with};
 
+use crate::ending::nothing;
 use crate::kept::{Ended, Kept, ProcessEnd, ProcessStanding};
 use crate::room::add;
-use crate::top::{FINISHED, NO_MEMORY, WRITE_FAULT};
-use orca_base::NoMemory;
+use crate::statuses::{FINISHED, NO_MEMORY, WRITE_FAULT};
+use orca_base::{KindNo, NoMemory};
 use orca_io::{Sink, SinkFault};
 use orca_meaning::{Execution, TreeMachine};
 use std::alloc::Global;
@@ -23,7 +24,9 @@ fn output(alloc: Global, action: &Action) -> Result<Vec<u8>, NoMemory>
     ensures { IfOk result (λ bytes. bytes.items ≡ output_by action.now) }
 {
     match action {
-        Action::Call { kind, op, args, .. } if kind.0 == 0 && op.0 == 0 => line(alloc, args),
+        Action::Call { kind, op, args, .. } if *kind == KindNo::OUTPUT && op.0 == 0 => line(
+            alloc, args,
+        ),
         _ => Ok(Vec::new(alloc)),
     }
 }
@@ -45,6 +48,7 @@ fn put_some<K: Sink>(out: &mut K, text: &[u8]) -> Result<(), SinkFault>
     ensures puts { Puts (K.told out.old) (K.told out.new) text.now result }
     ensures later { K.faults out.old ≤ K.faults out.new }
     ensures failed { IsErrOf result SinkFault.Failed → Rose (K.faults out.old) (K.faults out.new) }
+    ensures quiet { OnOk result (K.faults out.new ≡ K.faults out.old) }
 {
     if text.is_empty() {
         return Ok(());
@@ -68,6 +72,7 @@ fn run<K: Sink>(
     ensures wrote { Grew (K.told out.old) (K.told out.new) (WroteOf result (output_of book.new.items)) }
     ensures later { K.faults out.old ≤ K.faults out.new }
     ensures failed { IsErrOf result SinkFault.Failed → Rose (K.faults out.old) (K.faults out.new) }
+    ensures quiet { OnOk result (K.faults out.new ≡ K.faults out.old) }
 {
     'lines: loop {
         book.reserve(1)?;
@@ -80,38 +85,76 @@ fn run<K: Sink>(
     }
 }
 
+// Where a process stands that has come to an action.
+fn standing_at(action: Action) -> ProcessStanding
+    ensures { result ≡ standing_at action }
+{
+    match action {
+        Action::Ended => ProcessStanding::Ended,
+        Action::Faulted { fault } => ProcessStanding::Faulted { fault },
+        Action::Make { .. } | Action::Call { .. } | Action::Fork { .. } => {
+            ProcessStanding::Waits { action }
+        }
+    }
+}
+
+// The status of a run that stopped, and where its process then stands. Where memory lacks for its next action, that is all that is
+// said.
+fn stopped(
+    alloc: Global,
+    machine: &TreeMachine,
+    execution: &Execution,
+    fault: SinkFault,
+) -> (u8, ProcessStanding)
+    ensures { (lines : List Line) → Follows machine.now.program execution.now lines
+        → IsRunEnd machine.now.program lines (Err fault) result.0 result.1 }
+{
+    let next = execution.next(alloc, machine);
+    match fault {
+        SinkFault::Failed => match next {
+            Ok(action) => (WRITE_FAULT, standing_at(action)),
+            Err(_) => (NO_MEMORY, ProcessStanding::Busy),
+        },
+        SinkFault::NoMemory => match next {
+            Ok(action) => (NO_MEMORY, standing_at(action)),
+            Err(_) => (NO_MEMORY, ProcessStanding::Busy),
+        },
+    }
+}
+
 // The status of a run, and where its process then stands.
-fn ended(run: Result<(), SinkFault>) -> (u8, ProcessStanding)
-    ensures { IsRunEnd run result.0 result.1 }
+fn ended(
+    alloc: Global,
+    machine: &TreeMachine,
+    execution: &Execution,
+    run: Result<(), SinkFault>,
+) -> (u8, ProcessStanding)
+    ensures { (lines : List Line) → Follows machine.now.program execution.now lines
+        → IsRunEnd machine.now.program lines run result.0 result.1 }
 {
     match run {
         Ok(()) => (FINISHED, ProcessStanding::Ended),
-        Err(SinkFault::Failed) => (WRITE_FAULT, ProcessStanding::Busy),
-        Err(SinkFault::NoMemory) => (NO_MEMORY, ProcessStanding::Busy),
+        Err(fault) => stopped(alloc, machine, execution, fault),
     }
 }
 
 /// Runs a program, and keeps its book and its process. Nothing is kept where there is no memory for the list of processes
 /// or for the first of them, before the run begins.
 pub fn run_kept<K: Sink>(alloc: Global, machine: &TreeMachine, out: &mut K) -> Ended
-    ensures kept { MatchOption result.kept ((result.status ≡ 12) × (K.told out.new ≡ K.told out.old)) (λ k. IsRun machine.now.program k result.status (K.told out.old) (K.told out.new)) }
+    ensures kept { MatchOption result.kept ((result.status ≡ NO_MEMORY) × (K.told out.new ≡ K.told out.old))
+        (λ k. IsRun machine.now.program k result.status (K.told out.old) (K.told out.new)) }
     ensures failed { result.status ≡ WRITE_FAULT → Rose (K.faults out.old) (K.faults out.new) }
+    ensures stopped { K.faults out.old < K.faults out.new → HasStopped result.status }
 {
     let Ok(mut processes) = Vec::with_capacity(alloc, 1) else {
-        return Ended {
-            status: NO_MEMORY,
-            kept: None,
-        };
+        return nothing();
     };
     let Ok(mut execution) = Execution::start(alloc, machine) else {
-        return Ended {
-            status: NO_MEMORY,
-            kept: None,
-        };
+        return nothing();
     };
     let mut book = Vec::new(alloc);
     let run = run(alloc, machine, out, &mut execution, &mut book);
-    let (status, standing) = ended(run);
+    let (status, standing) = ended(alloc, machine, &execution, run);
     let main = ProcessEnd {
         node: 0,
         replies: execution.into_replies(),

@@ -1,114 +1,90 @@
 //! The top call.
 
-ghost use Rattle.std.specs.Prelude.{◌≡◌, ◌⊎◌, ℕ, List, Option, Some, None, Result, Err, map, IfSome, IfNone, string_bytes};
+ghost use Rattle.std.specs.Prelude.{◌≡◌, ◌<◌, ◌≤◌, ℕ, List, None, Option, Err, length, map, IfNone, IfSome, string_bytes};
+ghost use Rattle.orca_base.specs.declared.refusal.Refusal.TheVariants.{Because};
 ghost use Rattle.orca_io.specs.Causes.{Rose};
-ghost use Rattle.small_program.specs.declared.tree.SmallProgram.{SmallProgram};
-ghost use Rattle.orca_cli.specs.Headline.{IsNamed, IsRun};
 ghost use Rattle.orca_io.specs.Files.{File};
-ghost use Rattle.orca_cli.specs.Words.{command_of};
+ghost use Rattle.small_program.specs.declared.tree.SmallProgram.{SmallProgram};
+ghost use Rattle.orca_cli.specs.Endings.{IsAnswer, Runs};
 ghost use Rattle.orca_cli.specs.Front.{Reads};
-ghost use Rattle.orca_cli.specs.Refused.{Holds, IsAnswer};
+ghost use Rattle.orca_cli.specs.Headline.{IsNamed, IsRun};
+ghost use Rattle.orca_cli.specs.Printed.{HasStopped};
 
+use crate::ending::{nothing, said};
 use crate::front::FrontFault;
+use crate::job::{Job, job_of};
 use crate::kept::Ended;
 use crate::lines::{
     absent_line, not_yet_line, refused_line, too_long_line, too_nested_line, unread_line,
-    usage_line,
+    usage_line, whole,
 };
 use crate::load::{LoadFault, load};
-use crate::refusal::refused;
 use crate::run::run_kept;
-use crate::words::command;
+use crate::statuses::{ABSENT, FINISHED, LIMIT, NOT_YET, READ_FAULT, REFUSED, USAGE, WRITE_FAULT};
+use orca_base::{Refusal, SOURCE_BYTES};
 use orca_io::{Shelf, Sink};
 use orca_meaning::TreeMachine;
 use std::alloc::Global;
 
-/// The program ran to its end.
-pub const FINISHED: u8 = 0;
-
-/// The text has no tokens, or is no unit.
-pub const REFUSED: u8 = 1;
-
-/// The words are no command.
-pub const USAGE: u8 = 2;
-
-/// A file can't be read.
-pub const READ_FAULT: u8 = 8;
-
-/// There is no such file.
-pub const ABSENT: u8 = 9;
-
-/// A write failed.
-pub const WRITE_FAULT: u8 = 10;
-
-/// The text is longer, or nests deeper, than a text may.
-pub const LIMIT: u8 = 11;
-
-/// There was no memory.
-pub const NO_MEMORY: u8 = 12;
-
-/// The text can't be run yet.
-pub const NOT_YET: u8 = 15;
-
-/// Does what the words ask for: `run FILE` runs the small program in the file on one member.
+/// Does what the words ask for: `run FILE` runs the small program in the file on one member, `--help` and `--version` say what they
+/// name.
 ///
-/// `words` leaves out the program's name. The status is 0 where the run finished, 2 where the words are no command, 8 and 9
-/// where the file can't be read or isn't there, 11 where it is longer than 1,000,000 bytes or nests beyond 64 levels, 1 where its text
-/// has no tokens or is no unit, 15 where it can't be run yet, 10 where a write failed and 12 where memory lacked. Each refusal
-/// prints its line; a run prints what its history writes.
+/// `words` leaves out the program's name. The status is `FINISHED` where the run finished or the help was said, `USAGE` where the words
+/// are no command or ask for what is not built, `READ_FAULT` and `ABSENT` where the file can't be read or isn't there, `LIMIT` exactly where
+/// it is longer than `SOURCE_BYTES` or nests beyond `NESTING` levels, `REFUSED` where its text has no tokens or is no unit, `NOT_YET` where it
+/// can't be run yet, `WRITE_FAULT` where a write failed and `NO_MEMORY` where memory lacked. Each refusal prints its line; a run prints what
+/// its history writes.
 pub fn orca_main<F: Shelf, K: Sink>(
     alloc: Global,
     words: &[String],
     shelf: &mut F,
     out: &mut K,
 ) -> Ended
-    // Nothing was run: a refusal by its cause, with its line, or want of memory.
-    ensures refused { IfNone result.kept (IsAnswer (map (λ w. string_bytes w) words.now) (F.told shelf.old) (Rose (F.faults shelf.old) (F.faults shelf.new)) (K.told out.old) (K.told out.new) result.status) }
+    // Nothing was run: an ending by its cause, with its line, or want of memory.
+    ensures refused { IfNone result.kept (IsAnswer (map string_bytes words.now) (F.told shelf.old)
+        (Rose (F.faults shelf.old) (F.faults shelf.new)) (K.told out.old) (K.told out.new) result.status) }
 
     // A kept run is one of the program in the file, a history of it in the source's meaning, and what it writes was printed.
-    ensures headline { IfSome result.kept (λ k. (p : SmallProgram) × IsNamed (map (λ w. string_bytes w) words.now) (F.told shelf.old) p × IsRun p k result.status (K.told out.old) (K.told out.new)) }
+    ensures headline { IfSome result.kept (λ k. (p : SmallProgram) × IsNamed (map string_bytes words.now) (F.told shelf.old) p
+        × IsRun p k result.status (K.told out.old) (K.told out.new)) }
 
-    // A write fault is told only where the sink's count of faults rose.
+    // A write fault is told only where the sink's count of faults rose; and where it rose, that or want of memory is told.
     ensures write_fault { result.status ≡ WRITE_FAULT → Rose (K.faults out.old) (K.faults out.new) }
+    ensures stopped { K.faults out.old < K.faults out.new → HasStopped result.status }
     ensures same { F.told shelf.new ≡ F.told shelf.old }
 {
-    let Some(file) = command(words) else {
-        return refused(out, usage_line(alloc), USAGE);
+    let file = match job_of(alloc, words) {
+        Ok(Some(Job::Runs { file })) => file,
+        Ok(Some(Job::Says { text })) => return said(out, whole(alloc, text), FINISHED),
+        Ok(None) => return said(out, usage_line(alloc), USAGE),
+        Err(_) => return nothing(),
     };
     match load(alloc, shelf, file) {
         Ok(program) => run_kept(alloc, &TreeMachine::new(program), out),
-        Err(LoadFault::Absent) => refused(out, absent_line(alloc, file), ABSENT),
-        Err(LoadFault::Failed) => refused(out, unread_line(alloc, file), READ_FAULT),
-        Err(LoadFault::TooLong) => refused(out, too_long_line(alloc), LIMIT),
-        Err(LoadFault::Text { fault }) => refused_text(alloc, file, out, fault),
-        Err(LoadFault::NoMemory) => nothing(),
-    }
-}
-
-// The end for want of memory before anything was run.
-fn nothing() -> Ended
-    ensures kept { result.kept ≡ None }
-    ensures status { result.status ≡ NO_MEMORY }
-{
-    Ended {
-        status: NO_MEMORY,
-        kept: None,
+        Err(Refusal::Because { cause }) => match cause {
+            LoadFault::Absent => said(out, absent_line(alloc, file), ABSENT),
+            LoadFault::Failed => said(out, unread_line(alloc, file), READ_FAULT),
+            LoadFault::TooLong => said(out, too_long_line(alloc), LIMIT),
+            LoadFault::Text { fault } => refused_text(alloc, file, out, fault),
+        },
+        Err(Refusal::NoMemory) => nothing(),
     }
 }
 
 // Prints why a text gave no program.
 fn refused_text<K: Sink>(alloc: Global, file: &str, out: &mut K, fault: FrontFault) -> Ended
     ensures none { result.kept ≡ None }
-    ensures said { (words : List (List ℕ)) (told : Option (List File)) → command_of words ≡ Some file.now → Holds told file.now (λ text. Reads text (Err fault))
+    ensures said { (words : List (List ℕ)) (told : Option (List File))
+        → Runs words told file.now (λ text. (length text ≤ SOURCE_BYTES) × Reads text (Err (Because fault)))
         → IsAnswer words told ⊥ (K.told out.old) (K.told out.new) result.status }
     ensures failed { result.status ≡ WRITE_FAULT → Rose (K.faults out.old) (K.faults out.new) }
+    ensures stopped { K.faults out.old < K.faults out.new → HasStopped result.status }
 {
     match fault {
         FrontFault::Refused { at, text } => {
-            refused(out, refused_line(alloc, file, at, &text), REFUSED)
+            said(out, refused_line(alloc, file, at, &text), REFUSED)
         }
-        FrontFault::TooNested => refused(out, too_nested_line(alloc), LIMIT),
-        FrontFault::NotYet => refused(out, not_yet_line(alloc, file), NOT_YET),
-        FrontFault::NoMemory => nothing(),
+        FrontFault::TooNested => said(out, too_nested_line(alloc), LIMIT),
+        FrontFault::NotYet => said(out, not_yet_line(alloc, file), NOT_YET),
     }
 }

@@ -1,27 +1,40 @@
-use Rattle.orca_cli.proofs.FrontLemmas.{tokens_room, few}
+use Rattle.orca_cli.proofs.FrontLemmas.{long_enough, tokens_room, unit_shallow}
 use Rattle.orca_cli.proofs.front.program_of.Goals as goal
 
 pub parse-requires : goal.parse-requires
 parse-requires c = rw c.deref.ensures.value (tokens_room c.args.text.now c.in-Ok.found.items c.requires c.in-Ok.ensures.tokens)
 
 pub returns-in-Some-clause-reads : goal.returns-in-Some-clause-reads
-returns-in-Some-clause-reads c = record {
-  tokens = c.in-Ok.found.items;
-  unit = c.in-Ok-parse.unit;
-  has = c.in-Ok.ensures.tokens;
-  parsed = rw c.deref.ensures.value at c.in-Ok-parse.ensures.found;
-  small = rw c.in-Some.is at c.in_ok-program.ensures.found;
-}
+returns-in-Some-clause-reads c =
+    let parsed = rw c.deref.ensures.value at c.in-Ok-parse.ensures.found in (
+      record {
+        tokens = c.in-Ok.found.items;
+        unit = c.in-Ok-parse.unit;
+        has = c.in-Ok.ensures.tokens;
+        parsed = parsed;
+        small = rw c.in-Some.is at c.in_ok-program.ensures.found;
+      },
+      unit_shallow c.args.text.now c.in-Ok.found.items _ c.in-Ok.ensures.tokens parsed c.in-Ok-parse.ensures.nests,
+    )
 
-pub returns-in-Some-clause-numbered : goal.returns-in-Some-clause-numbered
-returns-in-Some-clause-numbered c =
-    few c.args.text.now c.in-Ok.found.items c.in-Ok-parse.unit _ c.requires c.in-Ok.ensures.tokens (rw c.deref.ensures.value at c.in-Ok-parse.ensures.found) (rw c.in-Some.is at c.in_ok-program.ensures.few)
+pub returns-in-Some-clause-operations : goal.returns-in-Some-clause-operations
+returns-in-Some-clause-operations c =
+    long_enough c.args.text.now c.in-Ok.found.items c.in-Ok-parse.unit _ c.in-Ok.ensures.tokens (rw c.deref.ensures.value at c.in-Ok-parse.ensures.found) (rw c.in-Some.is at c.in_ok-program.ensures.few)
+
+pub returns-in-Some-clause-fields : goal.returns-in-Some-clause-fields
+returns-in-Some-clause-fields c =
+    long_enough c.args.text.now c.in-Ok.found.items c.in-Ok-parse.unit _ c.in-Ok.ensures.tokens (rw c.deref.ensures.value at c.in-Ok-parse.ensures.found) (rw c.in-Some.is at c.in_ok-program.ensures.fields)
 
 pub returns-clause-reads : goal.returns-clause-reads
-returns-clause-reads c = record {
-  tokens = c.in-Ok.found.items;
-  unit = c.in-Ok-parse.unit;
-  has = c.in-Ok.ensures.tokens;
-  parsed = rw c.deref.ensures.value at c.in-Ok-parse.ensures.found;
-  none = rw c.in-None.is at c.in_ok-program.ensures.none;
-}
+returns-clause-reads c =
+    let parsed = rw c.deref.ensures.value at c.in-Ok-parse.ensures.found in
+    rw c.refuse.ensures (
+      record {
+        tokens = c.in-Ok.found.items;
+        unit = c.in-Ok-parse.unit;
+        has = c.in-Ok.ensures.tokens;
+        parsed = parsed;
+        none = rw c.in-None.is at c.in_ok-program.ensures.none;
+      },
+      unit_shallow c.args.text.now c.in-Ok.found.items _ c.in-Ok.ensures.tokens parsed c.in-Ok-parse.ensures.nests,
+    )

@@ -1,4 +1,4 @@
-use Rattle.orca_cli.proofs.FrontLemmas.{said_reads, of_token, of_end, syntactic_slice}
+use Rattle.orca_cli.proofs.FrontLemmas.{end_shallow, of_end, of_token, said_reads, syntactic_slice, token_shallow}
 use Rattle.orca_cli.proofs.front.syntactic.Goals as goal
 
 pub unexpected-words-requires-clause-start : goal.unexpected-words-requires-clause-start
@@ -11,8 +11,10 @@ unexpected-words-requires-clause-end c =
 
 pub returns-in-Syntax-default-Token : goal.returns-in-Syntax-default-Token
 returns-in-Syntax-default-Token c =
-    said_reads c.args.text.now _ _ c.unexpected-words.result _ (of_token c.args.text.now _ _ (rw (c.in-Syntax-default-Token.is, c.in-Syntax-default-Token.found-is) at c.requires)) c.unexpected-words.ensures c.said.ensures.said c.said.ensures.lacking
+    let refused = rw (c.in-Syntax-default-Token.is, c.in-Syntax-default-Token.found-is) at c.requires in
+    said_reads c.args.text.now _ _ c.unexpected-words.result _ (of_token c.args.text.now _ _ refused) (token_shallow c.args.text.now _ _ refused) c.unexpected-words.ensures c.said.ensures.said c.said.ensures.lacking
 
 pub returns-in-Syntax-default-End : goal.returns-in-Syntax-default-End
 returns-in-Syntax-default-End c =
-    said_reads c.args.text.now _ _ c.message-words.result _ (of_end c.args.text.now _ (rw (c.in-Syntax-default-End.is, c.in-Syntax-default-End.found-is) at c.requires)) c.message-words.ensures c.said-in-Syntax-default-End.ensures.said c.said-in-Syntax-default-End.ensures.lacking
+    let refused = rw (c.in-Syntax-default-End.is, c.in-Syntax-default-End.found-is) at c.requires in
+    said_reads c.args.text.now _ _ c.whole-words.result _ (of_end c.args.text.now _ refused) (end_shallow c.args.text.now _ refused) c.whole-words.ensures c.said-in-Syntax-default-End.ensures.said c.said-in-Syntax-default-End.ensures.lacking

@@ -18,5 +18,5 @@ lines-preserved g c =
     record {
       followed = subst (λ (lines : List Line). Follows c.args.machine.now.program c.step.new.self lines) (sym more) (rw c.in-Some.is at says);
       told = grew_line _ _ _ _ _ _ _ _ c.lines.invariant.told more (c.deref.ensures.value ∙ c.in_ok-text.ensures) c.in_ok-put_some.ensures.puts;
-      later = omega arith;
+      quiet = c.in_ok-put_some.ensures.quiet ∙ c.lines.invariant.quiet;
     }

@@ -1,4 +1,4 @@
-use Rattle.std.proofs.Common.{◌≤◌, ◌-◌, ◌+◌, ◌*◌, length}
+use Rattle.std.proofs.Common.{◌≡◌, ◌-◌, ◌+◌, ◌*◌, length}
 use Rattle.value_core.specs.History.{output_of}
 use Rattle.orca_meaning.specs.Executions.{Follows}
 use Rattle.orca_cli.proofs.CliLemmas.{GrewBy}
@@ -8,7 +8,7 @@ abbrev pub invariant-lines : goal.invariant-lines
 invariant-lines g l = record {
   followed : Follows l.machine.program l.execution l.book.items;
   told : GrewBy (g.K.Sink.told l.initial.out) (g.K.Sink.told l.out) (output_of l.book.items);
-  later : g.K.Sink.faults l.initial.out ≤ g.K.Sink.faults l.out;
+  quiet : g.K.Sink.faults l.out ≡ g.K.Sink.faults l.initial.out;
 }
 
 abbrev pub decreases-lines : goal.decreases-lines

@@ -1,29 +1,38 @@
 use Rattle.std.proofs.Common.{refl}
-use Rattle.orca_cli.specs.Words as words
-use Rattle.orca_cli.specs.Refused as because
-use Rattle.orca_cli.proofs.CliLemmas.{answer_of, answer_anyway, if_none}
+use Rattle.orca_cli.specs.Endings as because
+use Rattle.orca_cli.specs.Headline.{IsRun}
+use Rattle.orca_cli.specs.Lines as lines
+use Rattle.orca_cli.proofs.CliLemmas.{answer_anyway, answer_of, deed_is, deed_none, if_none, kept_named, named}
 use Rattle.orca_cli.proofs.top.orca_main.Goals as goal
 
-pub returns-in_default-clause-refused : goal.returns-in_default-clause-refused
-returns-in_default-clause-refused g c =
-    if_none _ _ (answer_of (λ l. l.items) c.usage_line.result _ _ _ _ _ 2 _ words.usage_line c.usage_line.ensures c.refused.ensures.printed c.refused.ensures.silent c.refused.ensures.status (because.usage c.in_default.ensures))
+pub returns-in-Ok-Some-Says-clause-refused : goal.returns-in-Ok-Some-Says-clause-refused
+returns-in-Ok-Some-Says-clause-refused g c =
+    if_none _ _ (answer_of (λ l. l.items) c.whole.result _ _ _ _ _ 0 _ c.in-Ok-Some-Says.text.now c.whole.ensures c.said.ensures.printed c.said.ensures.silent c.said.ensures.status (because.said c.in-Ok-Some-Says.text.now (deed_is _ _ _ _ c.in-Ok-Some-Says.ensures c.in-Ok-Some-Says.field-0-is c.in-Ok-Some-Says.field-0-0-is)))
 
-pub returns-in-Err-Absent-clause-refused : goal.returns-in-Err-Absent-clause-refused
-returns-in-Err-Absent-clause-refused g c =
-    let loads = rw c.in-Err-Absent.field-0-is at c.in-Err-Absent.ensures.loads in
-    if_none _ _ (answer_of (λ l. l.items) c.absent_line.result _ _ _ _ _ 9 _ (words.absent_line c.in-Some.file.now) c.absent_line.ensures c.refused-in-Err-Absent.ensures.printed c.refused-in-Err-Absent.ensures.silent c.refused-in-Err-Absent.ensures.status (because.absent c.in-Some.file.now c.in-Some.ensures loads))
+pub returns-in-Ok-None-clause-refused : goal.returns-in-Ok-None-clause-refused
+returns-in-Ok-None-clause-refused g c =
+    if_none _ _ (answer_of (λ l. l.items) c.usage_line.result _ _ _ _ _ 2 _ lines.usage_line c.usage_line.ensures c.said-in-Ok-None.ensures.printed c.said-in-Ok-None.ensures.silent c.said-in-Ok-None.ensures.status (because.usage (deed_none _ _ c.in-Ok-None.ensures c.in-Ok-None.field-0-is)))
 
-pub returns-in-Err-TooLong-clause-refused : goal.returns-in-Err-TooLong-clause-refused
-returns-in-Err-TooLong-clause-refused g c =
-    let loads = rw c.in-Err-TooLong.field-0-is at c.in-Err-TooLong.ensures.loads in
-    if_none _ _ (answer_of (λ l. l.items) c.too_long_line.result _ _ _ _ _ 11 _ words.too_long_line c.too_long_line.ensures c.refused-in-Err-TooLong.ensures.printed c.refused-in-Err-TooLong.ensures.silent c.refused-in-Err-TooLong.ensures.status (because.too_long c.in-Some.file.now c.in-Some.ensures loads))
+pub returns-in-Ok-clause-headline : goal.returns-in-Ok-clause-headline
+returns-in-Ok-clause-headline g c =
+    kept_named _ _ c.in-Ok.program c.new.result.program c.run_kept.result.kept _ (λ x k. IsRun x k c.run_kept.result.status (g.K.Sink.told c.args.out.now) (g.K.Sink.told c.run_kept.new.out)) (named _ _ c.in-Ok-Some-Runs.file.now c.in-Ok.program (deed_is _ _ _ _ c.in-Ok-Some-Runs.ensures c.in-Ok-Some-Runs.field-0-is c.in-Ok-Some-Runs.field-0-0-is) c.in-Ok.ensures.loads) c.new.ensures c.run_kept.ensures.kept
 
-pub returns-in-Err-Text-clause-refused : goal.returns-in-Err-Text-clause-refused
-returns-in-Err-Text-clause-refused g c =
-    let loads = rw c.in-Err-Text.field-0-is at c.in-Err-Text.ensures.loads in
-    if_none _ _ (answer_anyway _ _ _ _ _ _ (c.refused_text.ensures.said _ _ c.in-Some.ensures loads))
+pub returns-in-Absent-clause-refused : goal.returns-in-Absent-clause-refused
+returns-in-Absent-clause-refused g c =
+    let loads = rw (c.in-Err-Because.field-0-is, c.in-Absent.is) at c.in-Err-Because.ensures.loads in
+    if_none _ _ (answer_of (λ l. l.items) c.absent_line.result _ _ _ _ _ 9 _ (lines.absent_line c.in-Ok-Some-Runs.file.now) c.absent_line.ensures c.said-in-Absent.ensures.printed c.said-in-Absent.ensures.silent c.said-in-Absent.ensures.status (because.absent c.in-Ok-Some-Runs.file.now (deed_is _ _ _ _ c.in-Ok-Some-Runs.ensures c.in-Ok-Some-Runs.field-0-is c.in-Ok-Some-Runs.field-0-0-is) loads))
 
-pub returns-in-Err-Failed-clause-refused : goal.returns-in-Err-Failed-clause-refused
-returns-in-Err-Failed-clause-refused g c =
-    let rose = c.in-Err-Failed.ensures.failed (rw c.in-Err-Failed.field-0-is refl) in
-    if_none _ _ (answer_of (λ l. l.items) c.unread_line.result _ _ _ _ _ 8 _ (words.unread_line c.in-Some.file.now) c.unread_line.ensures c.refused-in-Err-Failed.ensures.printed c.refused-in-Err-Failed.ensures.silent c.refused-in-Err-Failed.ensures.status (because.unread c.in-Some.file.now c.in-Some.ensures rose))
+pub returns-in-Failed-clause-refused : goal.returns-in-Failed-clause-refused
+returns-in-Failed-clause-refused g c =
+    let rose = c.in-Err-Because.ensures.failed (rw (c.in-Err-Because.field-0-is, c.in-Failed.is) refl) in
+    if_none _ _ (answer_of (λ l. l.items) c.unread_line.result _ _ _ _ _ 8 _ (lines.unread_line c.in-Ok-Some-Runs.file.now) c.unread_line.ensures c.said-in-Failed.ensures.printed c.said-in-Failed.ensures.silent c.said-in-Failed.ensures.status (because.unread c.in-Ok-Some-Runs.file.now (deed_is _ _ _ _ c.in-Ok-Some-Runs.ensures c.in-Ok-Some-Runs.field-0-is c.in-Ok-Some-Runs.field-0-0-is) rose))
+
+pub returns-in-TooLong-clause-refused : goal.returns-in-TooLong-clause-refused
+returns-in-TooLong-clause-refused g c =
+    let loads = rw (c.in-Err-Because.field-0-is, c.in-TooLong.is) at c.in-Err-Because.ensures.loads in
+    if_none _ _ (answer_of (λ l. l.items) c.too_long_line.result _ _ _ _ _ 11 _ lines.too_long_line c.too_long_line.ensures c.said-in-TooLong.ensures.printed c.said-in-TooLong.ensures.silent c.said-in-TooLong.ensures.status (because.too_long c.in-Ok-Some-Runs.file.now (deed_is _ _ _ _ c.in-Ok-Some-Runs.ensures c.in-Ok-Some-Runs.field-0-is c.in-Ok-Some-Runs.field-0-0-is, loads)))
+
+pub returns-in-Text-clause-refused : goal.returns-in-Text-clause-refused
+returns-in-Text-clause-refused g c =
+    let loads = rw (c.in-Err-Because.field-0-is, c.in-Text.is) at c.in-Err-Because.ensures.loads in
+    if_none _ _ (answer_anyway _ _ _ _ _ _ (c.refused_text.ensures.said _ _ (deed_is _ _ _ _ c.in-Ok-Some-Runs.ensures c.in-Ok-Some-Runs.field-0-is c.in-Ok-Some-Runs.field-0-0-is, loads)))

@@ -1,22 +1,23 @@
-//! The lines that end a refusal.
+//! How the program ends where it says a line, and runs nothing.
 
-ghost use Rattle.std.specs.Prelude.{◌≡◌, ◌⊎◌, ◌≢◌, ◌≤◌, None, IfOk, OnErr};
+ghost use Rattle.std.specs.Prelude.{◌≡◌, ◌≢◌, ◌<◌, None, IfOk, OnErr};
 ghost use Rattle.orca_io.specs.Causes.{Rose};
-ghost use Rattle.orca_cli.specs.Printed.{Grew, Ends, EndsAs};
+ghost use Rattle.orca_cli.specs.Printed.{Grew, Ends, EndsAs, HasStopped};
 
 use crate::kept::Ended;
-use crate::top::{NO_MEMORY, WRITE_FAULT};
+use crate::statuses::{NO_MEMORY, WRITE_FAULT};
 use orca_base::NoMemory;
 use orca_io::{Sink, SinkFault};
 
 /// Prints a line and gives its status, or that of the write that failed. Nothing is kept.
-pub fn refused<K: Sink>(out: &mut K, line: Result<Vec<u8>, NoMemory>, status: u8) -> Ended
+pub fn said<K: Sink>(out: &mut K, line: Result<Vec<u8>, NoMemory>, status: u8) -> Ended
     requires { status ≢ WRITE_FAULT }
     ensures none { result.kept ≡ None }
     ensures status { EndsAs status result.status }
     ensures printed { IfOk line (λ l. Grew (K.told out.old) (K.told out.new) (Ends status result.status l.items)) }
-    ensures silent { OnErr line ((result.status ≡ 12) × (K.told out.new ≡ K.told out.old)) }
+    ensures silent { OnErr line ((result.status ≡ NO_MEMORY) × (K.told out.new ≡ K.told out.old)) }
     ensures failed { result.status ≡ WRITE_FAULT → Rose (K.faults out.old) (K.faults out.new) }
+    ensures stopped { K.faults out.old < K.faults out.new → HasStopped result.status }
 {
     Ended {
         status: printed(out, line, status),
@@ -29,8 +30,9 @@ fn printed<K: Sink>(out: &mut K, line: Result<Vec<u8>, NoMemory>, status: u8) ->
     requires { status ≢ WRITE_FAULT }
     ensures status { EndsAs status result }
     ensures printed { IfOk line (λ l. Grew (K.told out.old) (K.told out.new) (Ends status result l.items)) }
-    ensures silent { OnErr line ((result ≡ 12) × (K.told out.new ≡ K.told out.old)) }
+    ensures silent { OnErr line ((result ≡ NO_MEMORY) × (K.told out.new ≡ K.told out.old)) }
     ensures failed { result ≡ WRITE_FAULT → Rose (K.faults out.old) (K.faults out.new) }
+    ensures stopped { K.faults out.old < K.faults out.new → HasStopped result }
 {
     match line {
         Err(_) => NO_MEMORY,
@@ -39,5 +41,16 @@ fn printed<K: Sink>(out: &mut K, line: Result<Vec<u8>, NoMemory>, status: u8) ->
             Err(SinkFault::Failed) => WRITE_FAULT,
             Err(SinkFault::NoMemory) => NO_MEMORY,
         },
+    }
+}
+
+/// The end for want of memory before anything was run.
+pub fn nothing() -> Ended
+    ensures kept { result.kept ≡ None }
+    ensures status { result.status ≡ NO_MEMORY }
+{
+    Ended {
+        status: NO_MEMORY,
+        kept: None,
     }
 }

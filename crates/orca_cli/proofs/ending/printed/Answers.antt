@@ -1,5 +1,5 @@
 use Rattle.orca_cli.proofs.CliLemmas.{put_failed}
-use Rattle.orca_cli.proofs.refusal.printed.Goals as goal
+use Rattle.orca_cli.proofs.ending.printed.Goals as goal
 
 pub returns-in-Err-Failed-clause-printed : goal.returns-in-Err-Failed-clause-printed
 returns-in-Err-Failed-clause-printed g c =
