@@ -2,7 +2,7 @@
 
 ghost use Rattle.std.specs.Prelude.{◌≡◌, ◌↔◌, IfOk, IsTrue};
 ghost use Rattle.bag_performer.specs.Bags.{class_of, flag_tries, made, pool_tries};
-ghost use Rattle.bag_performer.specs.Fitting.{FitsArgs, IsOneInteger, takes};
+ghost use Rattle.bag_performer.specs.Fitting.{FitsArgs, IsOneInteger, is_bare, takes};
 
 use crate::pool::number_in;
 use crate::{flag, pool};
@@ -41,14 +41,14 @@ impl Bags {
 }
 
 impl Bags {
-    /// Whether these arguments fit the operation: one integer where it takes one, else none.
+    /// Whether there is the operation and these arguments fit it: one integer where it takes one, else none.
     pub fn fits(kind: KindNo, op: OpNo, args: &Parts) -> bool
         ensures { IsTrue result ↔ FitsArgs kind op args.now }
     {
         if takes(kind, op) {
             is_one_integer(args)
         } else {
-            args.is_empty()
+            is_bare(kind, op) && args.is_empty()
         }
     }
 }
@@ -61,6 +61,17 @@ fn takes(kind: KindNo, op: OpNo) -> bool
         op.0 == 0
     } else {
         kind.0 == 2 && op.0 < 3
+    }
+}
+
+// Whether there is the operation and it takes nothing.
+fn is_bare(kind: KindNo, op: OpNo) -> bool
+    ensures { result ≡ is_bare kind op }
+{
+    if kind.0 == 1 {
+        op.0 == 1
+    } else {
+        kind.0 == 2 && op.0 == 3
     }
 }
 
@@ -92,7 +103,7 @@ impl Performer for Bags {
 
     ghost made_fits = { λ m kinds. makes_fit };
 
-    ghost keeps_fit = { λ m kinds kind op state args fits given. leaves_fit kind op state args fits };
+    ghost keeps_fit = { λ m kinds kind op state args fits given. leaves_fit kind op state args fits given };
 
     ghost replies_fit = { λ m kinds kind op state args fits given. replies_fit kind op state args fits };
 

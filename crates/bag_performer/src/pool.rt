@@ -1,9 +1,10 @@
 //! Operations on a pool.
 
-ghost use Rattle.std.specs.Prelude.{◌≡◌, [], ◌∷◌, ◌++◌, IfOk, Some};
+ghost use Rattle.std.specs.Prelude.{◌≡◌, [], ◌∷◌, ◌++◌, IfOk, IfSome, Some};
 ghost use Rattle.std.specs.Option.{option_copied};
 ghost use Rattle.value_core.specs.Datum as datum;
 ghost use Rattle.value_core.specs.Datum.{data_of, list_of};
+ghost use Rattle.value_core.specs.Integers.{IsWord};
 ghost use Rattle.value_core.specs.View.{datum_of};
 ghost use Rattle.bag_performer.specs.Bags.{first, items_of, number_of, only, pool_tries, put_of, take_of};
 
@@ -99,7 +100,8 @@ fn items_in(values: &Parts) -> Option<&Parts>
 
 // The first value, where it is an integer.
 pub(crate) fn number_in(values: &Parts) -> Option<i64>
-    ensures { result ≡ number_of (first values.now) }
+    ensures number { result ≡ number_of (first values.now) }
+    ensures word { IfSome result IsWord }
 {
     match values.get(0) {
         Some(Value::Int(number)) => Some(*number),

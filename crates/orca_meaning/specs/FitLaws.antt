@@ -26,7 +26,8 @@ use Rattle.value_core.specs.declared.action.Reply.TheVariants as answer
 use Rattle.value_core.specs.declared.meaning.Making.TheVariants as making
 use Rattle.value_core.specs.declared.meaning.Tried.TheVariants as tried
 use Rattle.orca_meaning.specs.Operations.{Name, after_assignments, body_tried, making_of, opening_assignments, opening_value, opening_values, operand_value, operation_tried, parameters_of, place_in, tries_of, value_at, value_or, with_value}
-use Rattle.orca_meaning.specs.Fitting.{AreFields, FitsArgs, FitsHead, FitsOperation, FitsReply, FitsResult, FitsResultOf, FitsState, FitsWriting, IsInteger, has_result}
+use Rattle.value_core.specs.Integers.{IsInteger}
+use Rattle.orca_meaning.specs.Fitting.{AreFields, FitsArgs, FitsHead, FitsOperation, FitsReply, FitsResult, FitsResultOf, FitsState, FitsWriting, has_result}
 use Rattle.orca_meaning.specs.HeadLaws.{BodiesFit, returns}
 use Rattle.orca_meaning.specs.Ranges.{AreInRange, AssignmentInRange, BodyInRange, OpeningInRange, OperandInRange, OperationInRange, zero_in_range}
 

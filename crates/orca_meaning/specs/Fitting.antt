@@ -11,16 +11,12 @@ use Rattle.small_program.specs.declared.tree.Operation.{Operation}
 use Rattle.small_program.specs.declared.tree.SmallProgram.{SmallProgram}
 use Rattle.value_core.specs.Datum.{Datum, Data, list_of}
 use Rattle.value_core.specs.Datum as datum
+use Rattle.value_core.specs.Integers.{IsInteger, IsWord}
 use Rattle.value_core.specs.View.{datum_of}
 use Rattle.value_core.specs.declared.action.Reply.{Reply}
 use Rattle.value_core.specs.declared.action.Reply.TheVariants as answer
 use Rattle.value_core.specs.Sound.{IsCode, IsShort}
 use Rattle.orca_meaning.specs.Operations.{Name}
-use Rattle.orca_meaning.specs.Ranges.{IsWord}
-
--- an integer of 64 bits
-abbrev pub IsInteger : Datum → Type 0
-IsInteger value = (n : ℤ) × IsWord n × (value ≡ datum.int n)
 
 -- an integer for each field
 abbrev pub AreFields : List Name → List Datum → Type 0

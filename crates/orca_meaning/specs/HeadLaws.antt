@@ -23,7 +23,8 @@ use Rattle.small_program.specs.declared.tree.OperationBody.TheVariants.{Returns,
 use Rattle.small_program.specs.declared.tree.SmallProgram.{SmallProgram}
 use Rattle.orca_meaning.specs.Processes.{number_in}
 use Rattle.orca_meaning.specs.Fitting.{has_result}
-use Rattle.orca_meaning.specs.Ranges.{ArgumentInRange, ArgumentInRange-prop, CallInRange, IsWord}
+use Rattle.value_core.specs.Integers.{IsWord}
+use Rattle.orca_meaning.specs.Ranges.{ArgumentInRange, ArgumentInRange-prop, CallInRange}
 
 -- whether a body returns a field
 abbrev pub returns : OperationBody → Bool

@@ -26,7 +26,8 @@ use Rattle.value_core.specs.declared.meaning.Doing.{Doing}
 use Rattle.value_core.specs.declared.meaning.Doing.TheVariants as doing
 use Rattle.orca_meaning.specs.Processes.{all_stating, doing_of, first_object, invocation, number_in, small_kind, text_of, writing}
 use Rattle.orca_meaning.specs.Program.{computes_of}
-use Rattle.orca_meaning.specs.Fitting.{FitsArgs, FitsHead, FitsOperation, FitsReply, FitsResultOf, FitsText, IsInteger, has_result}
+use Rattle.value_core.specs.Integers.{IsInteger}
+use Rattle.orca_meaning.specs.Fitting.{FitsArgs, FitsHead, FitsOperation, FitsReply, FitsResultOf, FitsText, has_result}
 use Rattle.orca_meaning.specs.HeadLaws.{CallFits, CallsFit, head_passes, is_plain, passes, takes}
 use Rattle.orca_meaning.specs.Ranges.{zero_in_range}
 use Rattle.orca_meaning.specs.SoundLaws.{text_codes, text_short}

@@ -1,5 +1,5 @@
 -- The numbers in a small program's text fit 64 bits.
-use Rattle.std.specs.Prelude.{ℤ, pos, FitsSigned}
+use Rattle.std.specs.Prelude.{ℤ, pos}
 use Rattle.std.specs.List.{All}
 use Rattle.std.proofs.Common.{w64, arith}
 use mir.ValLaws.{SFits-prop}
@@ -16,10 +16,7 @@ use Rattle.small_program.specs.declared.tree.Operation.{Operation}
 use Rattle.small_program.specs.declared.tree.OperationBody.{OperationBody}
 use Rattle.small_program.specs.declared.tree.OperationBody.TheVariants.{Returns, Assigns}
 use Rattle.small_program.specs.declared.tree.SmallProgram.{SmallProgram}
-
--- a number of 64 bits
-abbrev pub IsWord : ℤ → Type 0
-IsWord n = FitsSigned w64 n
+use Rattle.value_core.specs.Integers.{IsWord}
 
 pub zero_in_range : IsWord (pos 0)
 zero_in_range = record { sfits = omega arith }

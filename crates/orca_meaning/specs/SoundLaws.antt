@@ -16,15 +16,12 @@ use Rattle.small_program.specs.declared.tree.SmallProgram.{SmallProgram}
 use Rattle.value_core.specs.Datum.{Datum, Data, data_of, data_of-list_of, list_of}
 use Rattle.value_core.specs.Datum as datum
 use Rattle.value_core.specs.View.{datum_of}
-use Rattle.value_core.specs.Integers.{IsInteger as IsAnyInteger, integers_sound}
+use Rattle.value_core.specs.Integers.{IsInteger, IsWord, integers_sound}
 use Rattle.value_core.specs.Sound.{AreSound, AreSoundArguments, IsCode, IsShort, IsSound, IsSoundReply}
 use Rattle.value_core.specs.declared.action.Reply.{Reply}
 use Rattle.value_core.specs.declared.action.Reply.TheVariants as answer
 use Rattle.orca_meaning.specs.Processes.{text_of}
-use Rattle.orca_meaning.specs.Fitting.{AreFields, FitsArgs, FitsHead, FitsOperation, FitsReply, FitsResult, FitsResultOf, FitsState, FitsText, FitsWriting, IsInteger}
-
-any_integer : (v : Datum) → IsInteger v → IsAnyInteger v
-any_integer v integer = (integer.0, integer.2)
+use Rattle.orca_meaning.specs.Fitting.{AreFields, FitsArgs, FitsHead, FitsOperation, FitsReply, FitsResult, FitsResultOf, FitsState, FitsText, FitsWriting}
 
 -- an integer's text has codes below 128, and at most 20 of them
 codes_of : (codes : List ℕ) → IsAscii codes → All IsCode codes
@@ -40,13 +37,13 @@ text_short v integer =
     subst (λ (d : Datum). IsShort (text_of d)) (sym integer.2) (omega (arith, few))
 
 none_sound : AreSound datum.none
-none_sound = integers_sound datum.none (All-nil IsAnyInteger) (omega arith)
+none_sound = integers_sound datum.none (All-nil IsInteger) (omega arith)
 
 -- a list of one integer, and of one string
-one_sound : (values : Data) (n : _) → list_of values ≡ datum.int n ∷ [] → AreSound values
-one_sound values n is =
+one_sound : (values : Data) (n : _) → IsWord n → list_of values ≡ datum.int n ∷ [] → AreSound values
+one_sound values n word is =
     subst AreSound (sym (ap data_of is) ∙ data_of-list_of values)
-    (integers_sound (datum.more (datum.int n) datum.none) (All-cons IsAnyInteger (datum.int n) [] (n, refl) (All-nil IsAnyInteger)) (omega arith))
+    (integers_sound (datum.more (datum.int n) datum.none) (All-cons IsInteger (datum.int n) [] (n, word, refl) (All-nil IsInteger)) (omega arith))
 
 written_sound : (values : Data) (codes : List ℕ) → All IsCode codes → IsShort codes → list_of values ≡ datum.text codes ∷ [] → AreSound values
 written_sound values codes all short is =
@@ -62,7 +59,7 @@ states_sound program few kind state fits = by_kind (kind.0 == 0) fits
   where
     by_kind : (b : Bool) → MatchBool b (state ≡ datum.none) (AreFields program.fields (list_of state)) → AreSound state
     by_kind true is = subst AreSound (sym is) none_sound
-    by_kind false fields = integers_sound state (All-weaker IsInteger IsAnyInteger any_integer (list_of state) fields.1) (let long = fields.0 in omega (arith, long, few))
+    by_kind false fields = integers_sound state fields.1 (let long = fields.0 in omega (arith, long, few))
 
 few_arguments : (args : Data) (list : List Datum) → length list ≤ 1 → list_of args ≡ list → AreSound args → AreSoundArguments args
 few_arguments args list one is sound = let long : length (list_of args) ≡ length list = ap length is in record { values = sound; few = omega (arith, long, one) }
@@ -70,7 +67,7 @@ few_arguments args list one is sound = let long : length (list_of args) ≡ leng
 head_sound : (kind : HeadKind) (args : Data) → FitsHead kind (list_of args) → AreSoundArguments args
 head_sound Plain args fits = few_arguments args [] (omega arith) fits (empty_sound args fits)
 head_sound Gives args fits = few_arguments args [] (omega arith) fits (empty_sound args fits)
-head_sound (Takes parameter) args fits = few_arguments args (datum.int fits.0 ∷ []) (omega arith) fits.2 (one_sound args fits.0 fits.2)
+head_sound (Takes parameter) args fits = few_arguments args (datum.int fits.0 ∷ []) (omega arith) fits.2 (one_sound args fits.0 fits.1 fits.2)
 
 operation_sound : (o : Option Operation) (args : Data) → FitsOperation o (list_of args) → AreSoundArguments args
 operation_sound None args fits = absurd fits
@@ -89,7 +86,7 @@ pub text_sound : (text : TextNo) (args : Data) → FitsText text args → AreSou
 text_sound text args fits = subst AreSoundArguments (sym fits.1) (record { values = none_sound; few = omega arith })
 
 integer_sound : (v : Datum) → IsInteger v → IsSound v
-integer_sound v integer = subst IsSound (sym integer.2) (record { well_formed = tt; shallow = omega arith })
+integer_sound v integer = subst IsSound (sym integer.2) (record { well_formed = integer.1; shallow = omega arith })
 
 result_sound : (kind : HeadKind) (reply : Reply) → FitsResult kind reply → IsSoundReply reply
 result_sound kind answer.Done fits = tt

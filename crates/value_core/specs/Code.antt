@@ -1,3 +1,4 @@
+-- A code of values by tokens in postfix order, read back by two stacks.
 use Rattle.std.specs.Prelude.{◌≡◌, ℕ, ℤ, zero, suc, Bool, List, [], ◌∷◌, ◌⊎◌, refl}
 use Rattle.std.proofs.Common.{inl, inr, ap, ◌∙◌}
 use Rattle.std.specs.Coded.{Coded, code_by, coded×, coded⊎, coded_list, coded_ℕ, coded_bool, coded_ℤ}

@@ -1,3 +1,4 @@
+-- Values as clauses see them: pointer-free data.
 use Rattle.std.specs.Prelude.{◌≡◌, ℕ, ℤ, Bool, List, [], ◌∷◌, refl}
 use Rattle.std.proofs.Common.{ap}
 

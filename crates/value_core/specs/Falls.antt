@@ -1,3 +1,4 @@
+-- A value inside another has fewer values inside: recursion over values ends.
 use Rattle.std.specs.Prelude.{◌≤◌, List, [], ◌∷◌}
 use Rattle.std.proofs.Common.{arith}
 use denote.Param.Weighed.{most}

@@ -12,6 +12,7 @@ use Rattle.orca_base.specs.declared.ids.TextNo.{TextNo}
 use Rattle.orca_base.specs.declared.ids.ProcessNo.{ProcessNo}
 use Rattle.orca_base.specs.declared.ids.ObjectId.{ObjectId}
 use Rattle.orca_base.specs.declared.fault.FaultKind.{FaultKind}
+use Rattle.orca_base.specs.declared.limits.TheConstants.{TURNS}
 use Rattle.value_core.specs.Datum.{Datum, Data}
 use Rattle.value_core.specs.Datum as datum
 use Rattle.value_core.specs.declared.action.Instance.{Instance}
@@ -70,7 +71,7 @@ opening q = record {
 
 -- the most turns that a run may allow
 abbrev pub most_turns : ℕ
-most_turns = 10000000
+most_turns = TURNS
 
 -- a try gives this guard and reply
 abbrev pub Answers : Tried → ℕ → Reply → Type 0

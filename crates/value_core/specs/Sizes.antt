@@ -1,3 +1,4 @@
+-- How many values stand in a value: the measure of recursion over values.
 use Rattle.std.specs.Prelude.{ℕ, ◌+◌}
 use Rattle.value_core.specs.Datum.{Datum, Data}
 use Rattle.value_core.specs.Datum as datum

@@ -1,6 +1,8 @@
--- Sound values: those that a program has, and that bytes spell (docs/LANGUAGE.md, Values).
-use Rattle.std.specs.Prelude.{◌≡◌, ℕ, ◌+◌, ◌<◌, ◌≤◌, ◌^◌, List, All, length, max, IsTrue}
+-- Sound values: those that a program has, and that bytes spell (docs/LANGUAGE.md, Values). Numbers fit their types: an
+-- integer 64 bits with a sign, an enumeration's value 16, and an object's process and number 16 and 32.
+use Rattle.std.specs.Prelude.{◌≡◌, ℕ, ◌+◌, ◌<◌, ◌≤◌, ◌^◌, List, All, length, max, FitsSigned, IsTrue}
 use Rattle.std.specs.List.Sorted.{IsSorted, IsStrictlySortedBy}
+use Rattle.std.proofs.Common.{w64}
 use Rattle.orca_base.specs.declared.limits.TheConstants.{PARAMETERS, VALUE_NESTING}
 use Rattle.value_core.specs.Datum.{Datum, Data, list_of}
 use Rattle.value_core.specs.Datum as datum
@@ -40,19 +42,19 @@ IsShort xs = length xs < 2 ^ 32
 abbrev pub IsCode : ℕ → Type 0
 IsCode c = c ≤ 127
 
--- chars and strings of codes up to 127, sets that rise, bags that never fall, and lists whose length fits 32 bits
+-- numbers that fit, chars and strings of codes up to 127, sets that rise, bags that never fall, and lists whose length fits 32 bits
 abbrev mutual
   pub IsWellFormed : Datum → Type 0
-  IsWellFormed (datum.int z) = Unit {0}
+  IsWellFormed (datum.int z) = FitsSigned w64 z
   IsWellFormed (datum.truth b) = Unit {0}
   IsWellFormed (datum.char c) = IsCode c
-  IsWellFormed (datum.enumerated n) = Unit {0}
+  IsWellFormed (datum.enumerated n) = n < 2 ^ 16
   IsWellFormed (datum.text t) = All IsCode t × IsShort t
   IsWellFormed (datum.array w) = AreWellFormed w × IsShort (list_of w)
   IsWellFormed (datum.fields w) = AreWellFormed w × IsShort (list_of w)
   IsWellFormed (datum.set w) = AreWellFormed w × IsShort (list_of w) × IsStrictlySortedBy datum_cmp (list_of w)
   IsWellFormed (datum.bag w) = AreWellFormed w × IsShort (list_of w) × IsSorted datum_cmp (list_of w)
-  IsWellFormed (datum.object p n) = Unit {0}
+  IsWellFormed (datum.object p n) = (p < 2 ^ 16) × (n < 2 ^ 32)
 
   pub AreWellFormed : Data → Type 0
   AreWellFormed datum.none = Unit {0}

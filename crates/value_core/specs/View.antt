@@ -1,3 +1,4 @@
+-- What a value shows, and that it is what it shows.
 use Rattle.std.specs.Prelude.{◌≡◌, List, map, refl}
 use Rattle.value_core.specs.Datum.{Datum, Data, data_of}
 use Rattle.value_core.specs.Datum as datum
