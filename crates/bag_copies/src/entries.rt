@@ -66,6 +66,7 @@ pub fn entry(
     requires { FitsAll copies.old }
     ensures after { OnOk result (copies.new ≡ after bag_performs copies.old message.now) }
     ensures lines { IfOk result (λ all. lines_of all.items ≡ lines_after bag_performs copies.old message.now) }
+    ensures applies { OnOk result (Applies BagArgs copies.old message.now.action) }
     ensures refused { IfErr result (IsEntryRefusal copies.old message.now.action) }
     ensures err { OnErr result (copies.new ≡ copies.old) }
     ensures fits { FitsAll copies.new }
@@ -90,6 +91,7 @@ pub fn read(
 ) -> Result<Tried, Refused>
     requires { FitsAll copies.now }
     ensures tried { IfOk result (λ t. t ≡ tried_on bag_performs copies.now.objects kind op object args.now) }
+    ensures there { OnOk result (HasObject copies.now.objects kind object) }
     ensures refused { IfErr result (IsReadRefusal copies.now.objects kind op object args.now) }
 {
     if !has(copies.objects(), kind, object) || !Bags::fits(kind, op, args) {
@@ -109,6 +111,7 @@ pub fn read_view(
 ) -> Result<Tried, Refused>
     requires { StatesFit BagState view.now.objects }
     ensures tried { IfOk result (λ t. t ≡ tried_on bag_performs view.now.objects kind op object args.now) }
+    ensures there { OnOk result (HasObject view.now.objects kind object) }
     ensures refused { IfErr result (IsReadRefusal view.now.objects kind op object args.now) }
 {
     if !has(view.objects(), kind, object) || !Bags::fits(kind, op, args) {
