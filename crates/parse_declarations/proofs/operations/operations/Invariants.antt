@@ -2,7 +2,6 @@ use Rattle.std.proofs.Common.{length}
 use Rattle.orca_grammar.specs.Rules as rules
 use Rattle.orca_grammar.specs.Grammar.{read}
 use Rattle.orca_tree.specs.Marks as marks
-use Rattle.orca_tree.specs.Marks.{word}
 use Rattle.parse_exprs.proofs.Loops.{Row}
 use Rattle.parse_declarations.proofs.operations.operations.Given as goal
 
