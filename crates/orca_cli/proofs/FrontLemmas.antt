@@ -1,5 +1,5 @@
 -- What tokens and units say of a text.
-use Rattle.std.proofs.Common.{◌≡◌, ◌⊎◌, ℕ, ◌+◌, ◌-◌, ◌*◌, ◌<◌, ◌≤◌, Vec, Global, List, [], ◌∷◌, ◌++◌, Some, None, length, take, drop, refl, sym, ap, ◌∙◌, subst, inl, inr, arith, append_assoc, length-append, length-take}
+use Rattle.std.proofs.Common.{◌≡◌, ℕ, ◌+◌, ◌-◌, ◌<◌, ◌≤◌, Vec, Global, List, [], ◌∷◌, ◌++◌, Some, None, length, take, drop, refl, sym, ap, ◌∙◌, subst, inl, inr, arith, append_assoc, length-append, length-take}
 use Rattle.std.specs.Prelude.{slice_range, map, not, ◌==◌, ◌^◌, Result, Ok, Err, codes, IfOk, OnErr}
 use Rattle.std.specs.List.{All, AllByRecursion, suffix_len}
 use Rattle.std.proofs.lemmas.List.Elements.{All-from_recursion}
