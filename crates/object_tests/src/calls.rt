@@ -1,12 +1,8 @@
 //! Calls of the objects and of the queue that no entry makes.
 
-ghost use Rattle.bag_copies.specs.Fits.{FitsAll};
-
-use crate::entries::{Answer, Told, enter, line, start, told_of};
-use bag_copies::{Refused, make, object};
+use bag_copies::object;
 use bag_performer::Bags;
-use guard_queue::{Answered, Objects, Queue, Suspended, settle};
-use object_manager::Copies;
+use guard_queue::{Objects, Queue, Suspended};
 use orca_base::{CallNo, NoMemory, ProcessNo};
 use std::alloc::Global;
 use std::test::Fail;
@@ -84,35 +80,5 @@ fn queue_in_order(rt: HostRuntime) -> Result<(), Fail> {
     assert!(rt; !queue.has(ProcessNo(1)));
     assert!(rt; queue.has(ProcessNo(2)));
     assert_eq!(rt; twin.len(), 2);
-    Ok(())
-}
-
-// What settles on the copies' objects where this call alone waits.
-fn settle_alone(alloc: Global, copies: &Copies, call: Suspended) -> Result<Vec<Answered>, Refused>
-    requires { FitsAll copies.now }
-{
-    let mut objects = copies.objects().copy(alloc)?;
-    let mut queue = Queue::new(alloc);
-    let there = match objects.get(call.object) {
-        Some(kept) => kept.kind == call.kind,
-        None => false,
-    };
-    if !there || !Bags::fits(call.kind, call.op, &call.args) {
-        return Err(Refused::Object);
-    }
-    queue.push(alloc, call)?;
-    Ok(settle(alloc, &Bags, &mut objects, &mut queue)?)
-}
-
-#[test]
-fn ready_call_settles(rt: HostRuntime) -> Result<(), Fail> {
-    let alloc = rt.alloc();
-    let mut copies = start(alloc)?;
-    enter(alloc, &mut copies, &make(0, 0, Bags::FLAG, object(1)))?;
-    let none = settle_alone(alloc, &copies, waits(alloc, 1, 8)?)?;
-    assert!(rt; none.is_empty());
-    let lines = settle_alone(alloc, &copies, waits(alloc, 1, 0)?)?;
-    let awaited = line(1, 0, 1, Answer::Done);
-    assert_eq!(rt; told_of(alloc, &lines)?.as_slice(), [awaited].as_slice());
     Ok(())
 }
