@@ -34,15 +34,19 @@ one_cell = record {
 abbrev pub integer_args : ℕ → Data
 integer_args n = datum.more (datum.int (pos n)) datum.none
 
--- a line of process 0 by guard 0
-abbrev pub line : ℕ → Action → Reply → Line
-line call act reply = record { process = record { 0 = 0 }; call = record { 0 = call }; action = act; guard = 0; reply = reply }
+-- a line of process 0
+abbrev pub line : ℕ → ℕ → Action → Reply → Line
+line call guard act reply = record { process = record { 0 = 0 }; call = record { 0 = call }; action = act; guard = guard; reply = reply }
 
--- the four lines, where the third reply is this number
-abbrev pub book_with : ℕ → List Line
-book_with value =
-    line 0 (action.Make (record { 0 = 1 }) (record { process = 0; number = 1 })) answer.Done
-    ∷ line 1 (action.Call (record { 0 = 1 }) (record { 0 = 1 }) (record { process = 0; number = 1 }) (integer_args 6)) answer.Done
-    ∷ line 2 (action.Call (record { 0 = 1 }) (record { 0 = 0 }) (record { process = 0; number = 1 }) datum.none) (answer.Gave (values.Int (pos value)))
-    ∷ line 3 (action.Call (record { 0 = 0 }) (record { 0 = 0 }) (record { process = 0; number = 0 }) (datum.more (datum.text (codes "6")) datum.none)) answer.Done
+-- the four lines, where the third has this call number, guard and reply
+abbrev pub book_of : ℕ → ℕ → ℕ → List Line
+book_of call guard value =
+    line 0 0 (action.Make (record { 0 = 1 }) (record { process = 0; number = 1 })) answer.Done
+    ∷ line 1 0 (action.Call (record { 0 = 1 }) (record { 0 = 1 }) (record { process = 0; number = 1 }) (integer_args 6)) answer.Done
+    ∷ line call guard (action.Call (record { 0 = 1 }) (record { 0 = 0 }) (record { process = 0; number = 1 }) datum.none) (answer.Gave (values.Int (pos value)))
+    ∷ line 3 0 (action.Call (record { 0 = 0 }) (record { 0 = 0 }) (record { process = 0; number = 0 }) (datum.more (datum.text (codes "6")) datum.none)) answer.Done
     ∷ []
+
+-- as they run
+abbrev pub book : List Line
+book = book_of 2 0 6

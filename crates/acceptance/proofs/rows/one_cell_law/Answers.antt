@@ -4,6 +4,9 @@ use Rattle.orca_meaning.specs.Processes.{writing}
 use Rattle.acceptance.proofs.Decimals.{six}
 use Rattle.acceptance.proofs.rows.one_cell_law.Goals as goal
 
+pub returns-clause-ended : goal.returns-clause-ended
+returns-clause-ended c = record { process = _; exists = refl; ended = refl }
+
 pub returns-clause-legal : goal.returns-clause-legal
 returns-clause-legal c = (
   record { process = _; exists = refl; call = refl; next = refl; performed = (refl, refl) },
