@@ -9,23 +9,21 @@ use Rattle.orca_lexer.specs.declared.token.Token.{Token}
 use Rattle.orca_lexer.specs.Refusal as lexer
 use Rattle.orca_lexer.specs.Rules.{message_of}
 use Rattle.orca_lexer.specs.Tokens.{Tokens}
-use Rattle.orca_grammar.specs.Grammar.{IsText, IsUnexpected, IsTooNested}
-use Rattle.orca_tree.specs.declared.tree.Unit.{Unit as UnitTree}
-use Rattle.orca_tree.specs.Marks.{unit as unit_marks}
+use Rattle.orca_grammar.specs.Grammar.{IsUnexpected, IsTooNested}
+use Rattle.orca_syntax.specs.Syntax.{Syntax}
+use Rattle.orca_syntax.specs.TextSyntax.{HasSyntax}
 use Rattle.parse_units.specs.declared.parse_error.ParseError.{ParseError}
 use Rattle.parse_units.specs.Refused.{end_of_text, IsRefusal}
 use Rattle.small_program.specs.declared.tree.SmallProgram.{SmallProgram}
-use Rattle.small_program.specs.Scope.{IsSmall}
+use Rattle.small_program.specs.Scope.{IsSmallSyntax}
 use Rattle.orca_cli.specs.declared.front.FrontFault.{FrontFault}
 use Rattle.orca_cli.specs.declared.front.FrontFault.TheVariants.{Refused, TooNested, NotYet}
 
--- the text is that of this small program: its tokens are a unit, and that is the program
+-- the text is that of this small program: the text has a syntax, which is one alone, and that is the program's
 pub record IsProgram (text : List ℕ) (p : SmallProgram) : Type 0 where
-  pub tokens : List Token
-  pub unit : UnitTree
-  pub has : Tokens text tokens
-  pub parsed : IsText (unit_marks unit) tokens
-  pub small : IsSmall unit p
+  pub syntax : Syntax
+  pub has : HasSyntax text syntax
+  pub small : IsSmallSyntax syntax p
 
 -- why a text is refused, the place, and what is said of it
 pub data IsRefused (text : List ℕ) : Place → List ℕ → Type 0 where
@@ -50,13 +48,11 @@ pub record IsInLimits (text : List ℕ) : Type 0 where
   pub bytes : length text ≤ SOURCE_BYTES
   pub shallow : IsTooDeep text → ⊥
 
--- the text is a unit, and no small program
+-- the text has a syntax, and that is no small program's
 pub record IsNotSmall (text : List ℕ) : Type 0 where
-  pub tokens : List Token
-  pub unit : UnitTree
-  pub has : Tokens text tokens
-  pub parsed : IsText (unit_marks unit) tokens
-  pub none : (p : SmallProgram) → IsSmall unit p → ⊥
+  pub syntax : Syntax
+  pub has : HasSyntax text syntax
+  pub none : (p : SmallProgram) → IsSmallSyntax syntax p → ⊥
 
 -- what was read of a text, or why nothing was
 abbrev pub Reads : List ℕ → Result SmallProgram (Refusal FrontFault) → Type 0

@@ -1,3 +1,5 @@
+use Rattle.orca_syntax.specs.Shown.{syntax_of}
+use Rattle.orca_syntax.proofs.TextOnce.{text_syntax}
 use Rattle.orca_cli.proofs.FrontLemmas.{long_enough, tokens_room, unit_shallow}
 use Rattle.orca_cli.proofs.front.program_of.Goals as goal
 
@@ -8,10 +10,8 @@ pub returns-in-Some-clause-reads : goal.returns-in-Some-clause-reads
 returns-in-Some-clause-reads c =
     let parsed = rw c.deref.ensures.value at c.in-Ok-parse.ensures.found in (
       record {
-        tokens = c.in-Ok.found.items;
-        unit = c.in-Ok-parse.unit;
-        has = c.in-Ok.ensures.tokens;
-        parsed = parsed;
+        syntax = syntax_of c.in-Ok-parse.unit;
+        has = text_syntax c.in-Ok-parse.unit c.args.text.now c.in-Ok.found.items c.in-Ok.ensures.tokens parsed;
         small = rw c.in-Some.is at c.in_ok-program.ensures.found;
       },
       unit_shallow c.args.text.now c.in-Ok.found.items _ c.in-Ok.ensures.tokens parsed c.in-Ok-parse.ensures.nests,
@@ -30,10 +30,8 @@ returns-clause-reads c =
     let parsed = rw c.deref.ensures.value at c.in-Ok-parse.ensures.found in
     rw c.refuse.ensures (
       record {
-        tokens = c.in-Ok.found.items;
-        unit = c.in-Ok-parse.unit;
-        has = c.in-Ok.ensures.tokens;
-        parsed = parsed;
+        syntax = syntax_of c.in-Ok-parse.unit;
+        has = text_syntax c.in-Ok-parse.unit c.args.text.now c.in-Ok.found.items c.in-Ok.ensures.tokens parsed;
         none = rw c.in-None.is at c.in_ok-program.ensures.none;
       },
       unit_shallow c.args.text.now c.in-Ok.found.items _ c.in-Ok.ensures.tokens parsed c.in-Ok-parse.ensures.nests,
