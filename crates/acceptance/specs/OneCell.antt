@@ -25,7 +25,11 @@ one_cell = record {
   fields = codes "x" ∷ [];
   operations =
       record { head = record { name = codes "Value"; kind = Gives }; body = Returns (codes "x") }
-      ∷ record { head = record { name = codes "Assign"; kind = Takes (codes "v") }; body = Assigns (record { field = codes "x"; value = operand.Named (codes "v") } ∷ []) } ∷ [];
+      ∷ record {
+        head = record { name = codes "Assign"; kind = Takes (codes "v") };
+        body = Assigns
+            (record { field = codes "x"; value = operand.Named (codes "v") } ∷ []);
+      } ∷ [];
   opening = Begins (record { field = codes "x"; value = operand.Number (pos 0) } ∷ []);
   variable = codes "X";
   calls = call.Passes (codes "Assign") (argument.Number (pos 6)) ∷ call.Writes (argument.Result (codes "Value")) ∷ [];
@@ -43,8 +47,10 @@ abbrev pub book_of : ℕ → ℕ → ℕ → List Line
 book_of call guard value =
     line 0 0 (action.Make (record { 0 = 1 }) (record { process = 0; number = 1 })) answer.Done
     ∷ line 1 0 (action.Call (record { 0 = 1 }) (record { 0 = 1 }) (record { process = 0; number = 1 }) (integer_args 6)) answer.Done
-    ∷ line call guard (action.Call (record { 0 = 1 }) (record { 0 = 0 }) (record { process = 0; number = 1 }) datum.none) (answer.Gave (values.Int (pos value)))
-    ∷ line 3 0 (action.Call (record { 0 = 0 }) (record { 0 = 0 }) (record { process = 0; number = 0 }) (datum.more (datum.text (codes "6")) datum.none)) answer.Done
+    ∷ line call guard (action.Call (record { 0 = 1 }) (record { 0 = 0 }) (record { process = 0; number = 1 }) datum.none)
+    (answer.Gave (values.Int (pos value)))
+    ∷ line 3 0 (action.Call (record { 0 = 0 }) (record { 0 = 0 }) (record { process = 0; number = 0 })
+    (datum.more (datum.text (codes "6")) datum.none)) answer.Done
     ∷ []
 
 -- as they run

@@ -129,5 +129,6 @@ asked_by names.Run rows = option_map (λ o. run o (first_of (codes "script") row
 asked_by names.Code rows = Some (code (files_of rows))
 asked_by names.Choice rows = option_map (λ n. choice n (files_of rows)) (nodes_of rows)
 asked_by names.Replay rows = option_map (λ h. replay h (files_of rows)) (first_of (codes "history") rows)
-asked_by names.Make rows = option_and_then (λ o. option_map (λ n. make o n) (option_and_then number_of (first_of (codes "number") rows))) (make_options_of rows)
+asked_by names.Make rows = option_and_then (λ o. option_map (λ n. make o n) (option_and_then number_of (first_of (codes "number") rows)))
+    (make_options_of rows)
 asked_by names.Join rows = option_map (λ o. join o (first_of (codes "script") rows) (files_of rows)) (join_options_of rows)

@@ -8,7 +8,8 @@ use Rattle.command_line.specs.declared.numbers.TheConstants.{NUMBER_DIGITS}
 -- the number that 1 to 19 decimal digits write
 abbrev pub number_of : List ℕ → Option ℕ
 number_of text =
-    if nat_lt 0 (length text) && nat_le (length text) NUMBER_DIGITS && list_all is_ascii_digit text then Some (digits_value 10 text) else None
+    if nat_lt 0 (length text) && nat_le (length text) NUMBER_DIGITS &&
+    list_all is_ascii_digit text then Some (digits_value 10 text) else None
 
 -- the same, where it is in the range
 abbrev pub number_in : ℕ → ℕ → List ℕ → Option ℕ

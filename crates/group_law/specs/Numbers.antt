@@ -69,14 +69,17 @@ pub record Numbers {M : Type 0} (w : GroupWorld M) (entries incarnations : ℕ) 
   pub of : (q : Packet M) → Sent w.past.letters q → q.inc ≤ incarnations
 
 abbrev pub NumbersLaw : Type 0 → Type 0
-NumbersLaw M = (g : Group M) → 2 * g.resilience < g.nodes → (events : List (Event M)) → Numbers (run g opening events) (submissions events) (2 * g.nodes * coordinations events)
+NumbersLaw M = (g : Group M) → 2 * g.resilience < g.nodes → (events : List (Event M)) →
+    Numbers (run g opening events) (submissions events) (2 * g.nodes * coordinations events)
 
 -- the greatest number of an entry and of an incarnation in a run; an entry that is lacked may have the next one
 abbrev pub MOST : ℕ
 MOST = 2 ^ 62 - 2
 
--- all of them are below 2^62 where members are numbered by 8 bits, and there are as many submissions, and at each member as many ticks and coordinations, as a run may have steps: a step submits one message at most, and is at most one tick or coordination of each member
+-- all of them are below 2^62 where members are numbered by 8 bits, and there are as many submissions, and at each member as many ticks and
+-- coordinations, as a run may have steps: a step submits one message at most, and is at most one tick or coordination of each member
 abbrev pub FewEventsLaw : Type 0 → Type 0
 FewEventsLaw M =
     (g : Group M) → g.nodes ≤ 2 ^ 8 → (events : List (Event M)) → submissions events ≤ EVENTS → coordinations events ≤ g.nodes * EVENTS
-    → (suc (submissions events) < 2 ^ 62) × (2 * g.nodes * coordinations events < 2 ^ 62) × (2 * g.resilience < g.nodes → Numbers (run g opening events) MOST MOST)
+    → (suc (submissions events) < 2 ^ 62) × (2 * g.nodes * coordinations events < 2 ^ 62) ×
+    (2 * g.resilience < g.nodes → Numbers (run g opening events) MOST MOST)

@@ -19,5 +19,6 @@ IsReply reply = ⊥
 -- so a packet is sound by whatever holds of each message that was submitted
 abbrev pub SoundLaw : Type 0 → Type 0 → Type 0
 SoundLaw M R =
-    (g : Group M) → 2 * g.resilience < g.nodes → g.nodes ≤ NODES → (events : List (Event M)) (q : Packet M) → Sent (run g opening events).past.letters q
+    (g : Group M) → 2 * g.resilience < g.nodes → g.nodes ≤ NODES → (events : List (Event M)) (q : Packet M) →
+    Sent (run g opening events).past.letters q
     → IsSoundPacket {R = R} (IsSubmitted g (run g opening events)) IsReply (on_wire g.nodes q.inc q.kind)

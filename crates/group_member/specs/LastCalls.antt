@@ -15,12 +15,14 @@ AreLastCalls g calls log = (i : ℕ) → last_call g log i ≡ slice_index_or ca
 -- of whichever log the numbers are, the answer says whether the log has this call of the message's process already, or a later one
 abbrev pub TellsRepeat : {B : Type 0} → (B → MessageId) → (B → ℕ) → List (Option ℕ) → B → Bool → Type 0
 TellsRepeat {B} name bytes calls x answer =
-    (nodes resilience : ℕ) (log : List B) → AreLastCalls (group_of name bytes nodes resilience) calls log → answer ≡ is_repeat (group_of name bytes nodes resilience) log x
+    (nodes resilience : ℕ) (log : List B) → AreLastCalls (group_of name bytes nodes resilience) calls log →
+    answer ≡ is_repeat (group_of name bytes nodes resilience) log x
 
 -- of whichever log the first numbers are, the second are those of the log with this message at its end
 abbrev pub NotesMessage : {B : Type 0} → (B → MessageId) → (B → ℕ) → List (Option ℕ) → List (Option ℕ) → B → Type 0
 NotesMessage {B} name bytes old new x =
-    (nodes resilience : ℕ) (log : List B) → AreLastCalls (group_of name bytes nodes resilience) old log → AreLastCalls (group_of name bytes nodes resilience) new (log ++ x ∷ [])
+    (nodes resilience : ℕ) (log : List B) → AreLastCalls (group_of name bytes nodes resilience) old log →
+    AreLastCalls (group_of name bytes nodes resilience) new (log ++ x ∷ [])
 
 -- there is a place for this process, and the numbers are as before
 abbrev pub HasPlace : List (Option ℕ) → List (Option ℕ) → ℕ → Type 0

@@ -77,7 +77,8 @@ Follows name bytes old new row = Becomes (group_at name bytes old) old new row
 -- whichever report the answer carries, the member keeps that
 abbrev pub KeepsAnswer : {B R : Type 0} → (B → MessageId) → (B → ℕ) → ℕ → Join B R → Member B R → Member B R → Type 0
 KeepsAnswer {B} name bytes from join old new =
-    (report : Report B) → on_join old.promised report ≡ join → report.base ≤ length report.log → Follows name bytes old new (keeps from report)
+    (report : Report B) → on_join old.promised report ≡ join → report.base ≤ length report.log →
+    Follows name bytes old new (keeps from report)
 
 -- the answer carries what the member tells of itself
 abbrev pub IsOwnJoin : {B R : Type 0} → (B → MessageId) → (B → ℕ) → Member B R → Join B R → Type 0

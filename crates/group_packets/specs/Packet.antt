@@ -53,7 +53,8 @@ packet_bytes message_bytes reply_bytes (Nack incarnation first applied whole) = 
 packet_bytes message_bytes reply_bytes (Status incarnation length applied) = HEAD_BYTES + 8 + 8
 packet_bytes message_bytes reply_bytes (Invite incarnation) = HEAD_BYTES
 packet_bytes message_bytes reply_bytes (Join join) = HEAD_BYTES + 8 + 8 + 8 + 8 + 4 + sum (map message_bytes join.messages)
-packet_bytes message_bytes reply_bytes (Result news) = HEAD_BYTES + 8 + 8 + 1 + length news.members + 4 + sum (map message_bytes news.messages)
+packet_bytes message_bytes reply_bytes (Result news) = HEAD_BYTES + 8 + 8 + 1 + length news.members + 4 +
+    sum (map message_bytes news.messages)
 packet_bytes message_bytes reply_bytes (Ask incarnation place message) = HEAD_BYTES + 8 + message_bytes message
 packet_bytes message_bytes reply_bytes (Answer incarnation place process call reply) = HEAD_BYTES + 8 + 2 + 8 + reply_bytes reply
 

@@ -13,7 +13,14 @@ use Rattle.group_rules.specs.OnWire.{on_wire, on_join}
 
 -- the group of so many members whose messages have these names and lengths
 abbrev pub group_of : {B : Type 0} → (B → MessageId) → (B → ℕ) → ℕ → ℕ → Group B
-group_of name bytes nodes resilience = record { nodes = nodes; resilience = resilience; process = λ x. (name x).process.0; call = λ x. (name x).call.0; bytes = bytes }
+group_of name bytes nodes resilience = record {
+  nodes = nodes;
+  resilience = resilience;
+  process = λ x. (name x).process.0;
+  call = λ x.
+      (name x).call.0;
+  bytes = bytes;
+}
 
 -- the group, by the member's own numbers
 abbrev pub group_at : {B R : Type 0} → (B → MessageId) → (B → ℕ) → Seat B R → Group B
@@ -22,7 +29,8 @@ group_at name bytes seat = group_of name bytes seat.nodes seat.resilience
 -- what was sent, in order
 abbrev pub sent_by : {B R : Type 0} → ℕ → List (Act B) → List (Send B R)
 sent_by N [] = []
-sent_by N (Act.Sends letter ∷ acts) = sent_by N acts ++ record { to = letter.to; packet = on_wire N letter.packet.inc letter.packet.kind } ∷ []
+sent_by N (Act.Sends letter ∷ acts) = sent_by N acts ++ record { to = letter.to; packet = on_wire N letter.packet.inc letter.packet.kind } ∷
+    []
 sent_by N (Act.Keeps packet ∷ acts) = sent_by N acts
 sent_by N (Act.Orders k x ∷ acts) = sent_by N acts
 sent_by N (Act.Begins k log answers ∷ acts) = sent_by N acts
@@ -86,7 +94,8 @@ acknowledges_by seat = ackers seat.nodes seat.resilience seat.installed (test_of
 
 -- the least number that an acknowledger acknowledged, by its own lists
 abbrev pub least_by : {B R : Type 0} → Seat B R → ℕ
-least_by seat = least seat.nodes (ackers seat.nodes seat.resilience seat.installed (test_of seat.answered.items)) (λ x. slice_index_or seat.acked.items x 0) (length_of seat)
+least_by seat = least seat.nodes (ackers seat.nodes seat.resilience seat.installed (test_of seat.answered.items))
+    (λ x. slice_index_or seat.acked.items x 0) (length_of seat)
 
 -- the least applied number that it heard, by its own list
 abbrev pub stable_by : {B R : Type 0} → Seat B R → ℕ
@@ -95,4 +104,5 @@ stable_by seat = least_heard seat.nodes seat.me (λ x. slice_index_or seat.heard
 -- a packet to each other member below n, in increasing order
 abbrev pub others_below : {B R : Type 0} → ℕ → ℕ → Packet B R → List (Send B R)
 others_below zero me packet = []
-others_below (suc n) me packet = if n == me then others_below n me packet else others_below n me packet ++ record { to = n; packet = packet } ∷ []
+others_below (suc n) me packet = if n == me then others_below n me packet else others_below n me packet ++
+    record { to = n; packet = packet } ∷ []

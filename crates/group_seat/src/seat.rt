@@ -91,7 +91,8 @@ impl<B: Body> Seat<B> {
         requires seat { IsSeat self.old }
         requires entries { length_of self.old < 2 ^ 62 }
         requires nacked { self.old.nacked ≤ 2 ^ 62 }
-        ensures does { OnOk result (Does self.old self.new (take_entry (group_at B.id_of B.length_of self.old) self.old.me number accepted stable message)) }
+        ensures does { OnOk result
+            (Does self.old self.new (take_entry (group_at B.id_of B.length_of self.old) self.old.me number accepted stable message)) }
         ensures same { OnOk result (SameSeat self.old self.new) }
     {
         self.take_number(number, stable, message)?;
@@ -143,7 +144,8 @@ impl<B: Body> Seat<B> {
         requires seat { IsSeat self.old }
         requires entries { length_of self.old < 2 ^ 62 }
         requires nacked { self.old.nacked ≤ 2 ^ 62 }
-        ensures does { OnOk result (Does self.old self.new (take_number (group_at B.id_of B.length_of self.old) self.old.me number stable message)) }
+        ensures does { OnOk result
+            (Does self.old self.new (take_number (group_at B.id_of B.length_of self.old) self.old.me number stable message)) }
         ensures same { OnOk result (SameSeat self.old self.new) }
         ensures seat { OnOk result (IsSeat self.new) }
         ensures entries { OnOk result (length_of self.new < 2 ^ 63) }
@@ -185,7 +187,8 @@ impl<B: Body> Seat<B> {
         requires seat { IsSeat self.old }
         requires entries { length_of self.old < 2 ^ 63 }
         requires nacked { self.old.nacked ≤ 2 ^ 63 }
-        ensures does { OnOk result (Does self.old self.new (take_accept (group_at B.id_of B.length_of self.old) self.old.me accepted stable)) }
+        ensures does { OnOk result
+            (Does self.old self.new (take_accept (group_at B.id_of B.length_of self.old) self.old.me accepted stable)) }
         ensures same { OnOk result (SameSeat self.old self.new) }
     {
         self.accept(accepted);
@@ -199,7 +202,9 @@ impl<B: Body> Seat<B> {
         requires seat { IsSeat self.old }
         requires entries { length_of self.old < 2 ^ 63 }
         requires nacked { self.old.nacked ≤ 2 ^ 63 }
-        ensures does { OnOk result (Does self.old self.new (λ v. when (nat_lt (length v.state.log) number) (nack (group_at B.id_of B.length_of self.old) self.old.me) v)) }
+        ensures does { OnOk result
+            (Does self.old self.new
+            (λ v. when (nat_lt (length v.state.log) number) (nack (group_at B.id_of B.length_of self.old) self.old.me) v)) }
         ensures same { OnOk result (SameSeat self.old self.new) }
         ensures seat { OnOk result (IsSeat self.new) }
         ensures entries { OnOk result (length_of self.new ≡ length_of self.old) }
@@ -394,7 +399,10 @@ impl<B: Body> Seat<B> {
     /// The others are told how much is accepted.
     fn tell_accepted(&mut self) -> Result<(), NoMemory>
         requires { IsSeat self.old }
-        ensures does { OnOk result (Does self.old self.new (λ v. tell_others (group_at B.id_of B.length_of self.old) self.old.me v.state.installed (Accept v.state.accepted (stable_of (group_at B.id_of B.length_of self.old) self.old.me v.state)) v)) }
+        ensures does { OnOk result
+            (Does self.old self.new
+            (λ v. tell_others (group_at B.id_of B.length_of self.old) self.old.me v.state.installed
+            (Accept v.state.accepted (stable_of (group_at B.id_of B.length_of self.old) self.old.me v.state)) v)) }
         ensures same { OnOk result (SameSeat self.old self.new) }
     {
         let stable = self.stable();
@@ -413,7 +421,8 @@ impl<B: Body> Seat<B> {
     pub fn keep_answer(&mut self, from: u8, join: Join<B>)
         requires seat { IsSeat self.old }
         requires member { from < self.old.nodes }
-        ensures does { (report : Report B) → on_join self.old.promised report ≡ join → Does self.old self.new (λ v. becomes (keeps from report v.state) v) }
+        ensures does { (report : Report B) → on_join self.old.promised report ≡ join →
+            Does self.old self.new (λ v. becomes (keeps from report v.state) v) }
         ensures same { SameSeat self.old self.new }
     {
         self.answers[from as usize] = Some(join);
@@ -423,7 +432,10 @@ impl<B: Body> Seat<B> {
     pub fn install(&mut self, alloc: Global, news: News<B>) -> Result<(), NoMemory>
         requires seat { IsSeat self.old }
         requires members { All (λ m. m < self.old.nodes) news.members }
-        ensures does { OnOk result ((named : ℕ → Bool) (log : List B) → members_below self.old.nodes named ≡ news.members → drop news.base log ≡ news.messages → news.base ≤ length log → Does self.old self.new (λ v. becomes (told news.incarnation news.accepted news.base named log v.state) v)) }
+        ensures does { OnOk result
+            ((named : ℕ → Bool) (log : List B) → members_below self.old.nodes named ≡ news.members → drop news.base log ≡ news.messages →
+            news.base ≤ length log →
+            Does self.old self.new (λ v. becomes (told news.incarnation news.accepted news.base named log v.state) v)) }
         ensures same { OnOk result (SameSeat self.old self.new) }
     {
         let answered = test_of_members(alloc, self.nodes, news.members.as_slice())?;

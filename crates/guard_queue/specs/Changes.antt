@@ -30,8 +30,10 @@ queue_changed queue (change.Puts object kept) = queue
 queue_changed queue (change.Joins call) = queue ++ call ∷ []
 
 -- all fits after a change
-abbrev pub ChangeFits : (Kinds → KindNo → Data → Type 0) → (Kinds → KindNo → OpNo → Data → Type 0) → Objects → List Suspended → Change → Type 0
-ChangeFits fits_state fits_args objects queue change = AllFit fits_state fits_args (objects_changed objects change) (queue_changed queue change)
+abbrev pub ChangeFits : (Kinds → KindNo → Data → Type 0) → (Kinds → KindNo → OpNo → Data → Type 0) → Objects → List Suspended → Change →
+    Type 0
+ChangeFits fits_state fits_args objects queue change = AllFit fits_state fits_args (objects_changed objects change)
+    (queue_changed queue change)
 
 -- a call that joins is blocked
 abbrev pub JoinsBlocked : Performs → Objects → Change → Type 0
@@ -41,7 +43,8 @@ JoinsBlocked p objects (change.Joins call) = tried_in p objects call ≡ tried.B
 
 -- a change is made and the queue settles, with these lines in front
 abbrev pub outcome : Performs → Objects → List Suspended → Change → Vec Answered Global → Settling
-outcome p objects queue change lines = behind (lines_of lines.items) (settled p (objects_changed objects change) (queue_changed queue change))
+outcome p objects queue change lines = behind (lines_of lines.items)
+    (settled p (objects_changed objects change) (queue_changed queue change))
 
 -- an object is put in and the queue settles, with these lines in front
 abbrev pub after_put : Performs → Objects → ObjectId → Instance → List Suspended → Vec Answered Global → Settling

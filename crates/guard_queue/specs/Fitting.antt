@@ -21,7 +21,8 @@ abbrev pub kind_at : Objects → ObjectId → Option KindNo
 kind_at objects object = kind_in (object_at objects object)
 
 -- the object exists and is of this type, and the arguments fit the operation
-pub record OperationFits (fits_args : Kinds → KindNo → OpNo → Data → Type 0) (kinds : Kinds) (objects : Objects) (of_kind : KindNo) (op : OpNo) (object : ObjectId) (given : Data) : Type 0 where
+pub record OperationFits (fits_args : Kinds → KindNo → OpNo → Data → Type 0) (kinds : Kinds) (objects : Objects) (of_kind : KindNo)
+    (op : OpNo) (object : ObjectId) (given : Data) : Type 0 where
   pub kept : Instance
   pub exists : object_at objects object ≡ Some kept
   pub kind : kept.kind ≡ of_kind
@@ -32,7 +33,8 @@ abbrev pub CallFits : (Kinds → KindNo → OpNo → Data → Type 0) → Kinds 
 CallFits fits_args kinds objects call = OperationFits fits_args kinds objects call.kind call.op call.object call.args
 
 -- each object's state fits its type, and each call its object
-pub record Fitting (fits_state : Kinds → KindNo → Data → Type 0) (fits_args : Kinds → KindNo → OpNo → Data → Type 0) (kinds : Kinds) (objects : Objects) (queue : List Suspended) : Type 0 where
+pub record Fitting (fits_state : Kinds → KindNo → Data → Type 0) (fits_args : Kinds → KindNo → OpNo → Data → Type 0) (kinds : Kinds)
+    (objects : Objects) (queue : List Suspended) : Type 0 where
   pub states : (object : ObjectId) (kept : Instance) → object_at objects object ≡ Some kept → fits_state kinds kept.kind kept.state
   pub calls : (at : ℕ) (call : Suspended) → slice_get queue at ≡ Some call → CallFits fits_args kinds objects call
 
@@ -41,7 +43,8 @@ abbrev pub AllFit : (Kinds → KindNo → Data → Type 0) → (Kinds → KindNo
 AllFit fits_state fits_args objects queue = Fitting fits_state fits_args (kinds_of objects) objects queue
 
 -- the operation can be tried: its object's state and its arguments fit, where the object exists
-pub record CanTry (fits_state : Kinds → KindNo → Data → Type 0) (fits_args : Kinds → KindNo → OpNo → Data → Type 0) (objects : Objects) (kind : KindNo) (op : OpNo) (object : ObjectId) (given : Data) : Type 0 where
+pub record CanTry (fits_state : Kinds → KindNo → Data → Type 0) (fits_args : Kinds → KindNo → OpNo → Data → Type 0) (objects : Objects)
+    (kind : KindNo) (op : OpNo) (object : ObjectId) (given : Data) : Type 0 where
   pub kinds : Kinds
   pub state : (kept : Instance) → object_at objects object ≡ Some kept → fits_state kinds kind kept.state
   pub args : fits_args kinds kind op given

@@ -13,7 +13,8 @@ use Rattle.guard_queue.specs.Shown.{Rises}
 
 -- after settling each suspended call is blocked
 abbrev pub SettlesBlocked : Performs → Type 0
-SettlesBlocked p = (objects : Objects) (queue : List Suspended) → AllBlocked p (settled p objects queue).objects (settled p objects queue).queue
+SettlesBlocked p = (objects : Objects) (queue : List Suspended) →
+    AllBlocked p (settled p objects queue).objects (settled p objects queue).queue
 
 -- what fits goes on fitting
 abbrev pub SettlesFitting : (Kinds → KindNo → Data → Type 0) → (Kinds → KindNo → OpNo → Data → Type 0) → Performs → Type 0

@@ -9,4 +9,8 @@ use Rattle.object_manager.specs.After.{Copied}
 
 -- the objects and the queue after a change, and its lines
 abbrev pub acts : Copied → Change → Vec Answered Global → Settling
-acts c change lines = record { objects = objects_changed c.objects change; queue = queue_changed c.queue change; lines = lines_of lines.items }
+acts c change lines = record {
+  objects = objects_changed c.objects change;
+  queue = queue_changed c.queue change;
+  lines = lines_of lines.items;
+}

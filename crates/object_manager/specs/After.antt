@@ -47,15 +47,32 @@ line_of message reply = record { process = message.process; call = message.call;
 
 -- the message's call, as it waits where it is blocked
 abbrev pub as_call : Message → KindNo → OpNo → ObjectId → Data → Suspended
-as_call message kind op object args = record { process = message.process; call = message.call; kind = kind; op = op; object = object; args = args }
+as_call message kind op object args = record {
+  process = message.process;
+  call = message.call;
+  kind = kind;
+  op = op;
+  object = object;
+  args = args;
+}
 
 -- a call, by what its try gave: blocked it joins the queue, else it is performed or faults
 abbrev pub called : Copied → Suspended → Tried → Settling
 called c call tried.Blocked = record { objects = c.objects; queue = c.queue ++ call ∷ []; lines = [] }
 called c call (tried.Did guard state reply) =
-    record { objects = objects_with c.objects call (tried.Did guard state reply); queue = c.queue; lines = answered call (tried.Did guard state reply) ∷ [] }
+    record {
+      objects = objects_with c.objects call (tried.Did guard state reply);
+      queue = c.queue;
+      lines = answered call
+          (tried.Did guard state reply) ∷ [];
+    }
 called c call (tried.Broke guard fault) =
-    record { objects = objects_with c.objects call (tried.Broke guard fault); queue = c.queue; lines = answered call (tried.Broke guard fault) ∷ [] }
+    record {
+      objects = objects_with c.objects call (tried.Broke guard fault);
+      queue = c.queue;
+      lines = answered call
+          (tried.Broke guard fault) ∷ [];
+    }
 
 -- a call that is tried
 abbrev pub called_by : Performs → Copied → Suspended → Settling
@@ -68,7 +85,12 @@ after_made p c kind object = after_making c.objects kind object (p.made kind)
 -- what the message itself does: a make adds the object, or none where it faults; a call is tried
 abbrev pub acted_by : Performs → Copied → Message → Action → Settling
 acted_by p c message (action.Make kind object) =
-    record { objects = after_making c.objects kind object (p.made kind); queue = c.queue; lines = line_of message (making_reply (p.made kind)) ∷ [] }
+    record {
+      objects = after_making c.objects kind object (p.made kind);
+      queue = c.queue;
+      lines = line_of message
+          (making_reply (p.made kind)) ∷ [];
+    }
 acted_by p c message (action.Call kind op object args) =
     called c (as_call message kind op object args) (tried_in p c.objects (as_call message kind op object args))
 acted_by p c message (action.Fork process args place_on) =

@@ -18,11 +18,13 @@ AfterBlocked p = (c : Copied) (message : Message) → AllBlocked p (after p c me
 -- what fits goes on fitting
 abbrev pub AfterFitting : (Kinds → KindNo → Data → Type 0) → (Kinds → KindNo → OpNo → Data → Type 0) → Performs → Type 0
 AfterFitting fits_state fits_args p =
-    (c : Copied) (message : Message) → CopiesFit fits_state fits_args c → Applies fits_args c message.action → CopiesFit fits_state fits_args (after p c message)
+    (c : Copied) (message : Message) → CopiesFit fits_state fits_args c → Applies fits_args c message.action →
+    CopiesFit fits_state fits_args (after p c message)
 
 -- each object stays, by its type
 abbrev pub AfterTyped : (Kinds → KindNo → OpNo → Data → Type 0) → Performs → Type 0
-AfterTyped fits_args p = (c : Copied) (message : Message) → Applies fits_args c message.action → ExtendsKinds (kinds_of c.objects) (kinds_of (after p c message).objects)
+AfterTyped fits_args p = (c : Copied) (message : Message) → Applies fits_args c message.action →
+    ExtendsKinds (kinds_of c.objects) (kinds_of (after p c message).objects)
 
 -- ids that rise go on rising
 abbrev pub AfterRising : Performs → Type 0

@@ -31,7 +31,8 @@ MakesTooMany objects (making.Broke fault) = ⊥
 -- the message would make the 4,097th object or the 257th process
 abbrev pub IsTooMany : Performs → Copied → Action → What → ℕ → Type 0
 IsTooMany p c (action.Make kind object) w number = MakesTooMany c.objects (p.made kind) × (w ≡ what.Objects) × (number ≡ most_objects)
-IsTooMany p c (action.Fork process args place_on) w number = (most_processes ≤ c.processes) × (w ≡ what.Processes) × (number ≡ most_processes)
+IsTooMany p c (action.Fork process args place_on) w number = (most_processes ≤ c.processes) × (w ≡ what.Processes) ×
+    (number ≡ most_processes)
 IsTooMany p c (action.Call kind op object args) w number = ⊥
 IsTooMany p c action.Ended w number = ⊥
 IsTooMany p c (action.Faulted fault) w number = ⊥

@@ -15,4 +15,5 @@ pub record Viewed : Type 0 where
 
 -- each object's state fits its type
 abbrev pub StatesFit : (Kinds → KindNo → Data → Type 0) → Objects → Type 0
-StatesFit fits_state objects = (object : ObjectId) (kept : Instance) → object_at objects object ≡ Some kept → fits_state (kinds_of objects) kept.kind kept.state
+StatesFit fits_state objects = (object : ObjectId) (kept : Instance) → object_at objects object ≡ Some kept →
+    fits_state (kinds_of objects) kept.kind kept.state

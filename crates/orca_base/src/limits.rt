@@ -92,5 +92,4 @@ pub const IDLE_TICKS: u32 = 200;
 pub const TURNS: u64 = 10_000_000;
 
 /// The greatest number of events that a run may be allowed.
-/// Nothing uses it yet.
 pub const EVENTS: u64 = 4_000_000;

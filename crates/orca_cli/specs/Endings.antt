@@ -11,7 +11,8 @@ use Rattle.orca_cli.specs.Printed.{Grew, Ends, EndsAs}
 
 -- the words ask for the run of a file whose text is such a one; of the text nothing is said where the shelf tells nothing
 abbrev pub Runs : List (List ℕ) → Option (List File) → List ℕ → (List ℕ → Type 0) → Type 0
-Runs words told file P = (deed_in words ≡ Some (runs file)) × IfSome told (λ files. (text : List ℕ) × (content_of files file ≡ Some text) × P text)
+Runs words told file P = (deed_in words ≡ Some (runs file)) ×
+    IfSome told (λ files. (text : List ℕ) × (content_of files file ≡ Some text) × P text)
 
 -- The words ask for help or for the version; they are no command, or ask for what isn't built. The file is not there; it can't be
 -- read, which comes only where the shelf's count of faults rose. Its text passes a limit: it is longer than SOURCE_BYTES, or nests beyond
@@ -20,11 +21,15 @@ pub data IsEnding (words : List (List ℕ)) (told : Option (List File)) (rose : 
   said : (text : List ℕ) → deed_in words ≡ Some (says text) → IsEnding words told rose FINISHED text
   usage : deed_in words ≡ None → IsEnding words told rose USAGE usage_line
   unread : (file : List ℕ) → deed_in words ≡ Some (runs file) → rose → IsEnding words told rose READ_FAULT (unread_line file)
-  absent : (file : List ℕ) → deed_in words ≡ Some (runs file) → IfSome told (λ files. content_of files file ≡ None) → IsEnding words told rose ABSENT (absent_line file)
+  absent : (file : List ℕ) → deed_in words ≡ Some (runs file) → IfSome told (λ files. content_of files file ≡ None) →
+      IsEnding words told rose ABSENT (absent_line file)
   too_long : (file : List ℕ) → Runs words told file (λ text. SOURCE_BYTES < length text) → IsEnding words told rose LIMIT too_long_line
-  too_nested : (file : List ℕ) → Runs words told file (λ text. (length text ≤ SOURCE_BYTES) × IsTooDeep text) → IsEnding words told rose LIMIT too_nested_line
-  refused : (file : List ℕ) (at : Place) (line : List ℕ) → Runs words told file (λ text. IsInLimits text × IsRefused text at line) → IsEnding words told rose REFUSED (refused_line file at line)
-  not_yet : (file : List ℕ) → Runs words told file (λ text. IsInLimits text × IsNotSmall text) → IsEnding words told rose NOT_YET (not_yet_line file)
+  too_nested : (file : List ℕ) → Runs words told file (λ text. (length text ≤ SOURCE_BYTES) × IsTooDeep text) →
+      IsEnding words told rose LIMIT too_nested_line
+  refused : (file : List ℕ) (at : Place) (line : List ℕ) → Runs words told file (λ text. IsInLimits text × IsRefused text at line) →
+      IsEnding words told rose REFUSED (refused_line file at line)
+  not_yet : (file : List ℕ) → Runs words told file (λ text. IsInLimits text × IsNotSmall text) →
+      IsEnding words told rose NOT_YET (not_yet_line file)
 
 -- the answer where nothing was run: an ending whose line was printed, or a front of the line where the write failed or
 -- memory lacked; or nothing at all, for want of memory

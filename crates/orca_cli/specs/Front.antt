@@ -30,9 +30,11 @@ pub data IsRefused (text : List ℕ) : Place → List ℕ → Type 0 where
   -- it has no tokens
   lexical : (error : LexError) → lexer.IsRefusal text error → IsRefused text error.at (message_of error.rule)
   -- a token with which no unit goes on
-  token : (tokens front rest : List Token) (t : Token) → Tokens text tokens → IsUnexpected tokens front (t ∷ rest) → IsRefused text t.at (codes "unexpected '" ++ (slice_range text t.start t.end ++ codes "'"))
+  token : (tokens front rest : List Token) (t : Token) → Tokens text tokens → IsUnexpected tokens front (t ∷ rest) →
+      IsRefused text t.at (codes "unexpected '" ++ (slice_range text t.start t.end ++ codes "'"))
   -- the text's end, where no unit ends
-  end : (tokens front : List Token) → Tokens text tokens → IsUnexpected tokens front [] → IsRefused text (end_of_text tokens) (codes "unexpected end of text")
+  end : (tokens front : List Token) → Tokens text tokens → IsUnexpected tokens front [] →
+      IsRefused text (end_of_text tokens) (codes "unexpected end of text")
 
 -- a token of the text stands in more than NESTING nested phrases
 pub record IsTooDeep (text : List ℕ) : Type 0 where

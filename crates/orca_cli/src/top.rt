@@ -30,10 +30,10 @@ use std::alloc::Global;
 /// name.
 ///
 /// `words` leaves out the program's name. The status is `FINISHED` where the run finished or the help was said, `USAGE` where the words
-/// are no command or ask for what is not built, `READ_FAULT` and `ABSENT` where the file can't be read or isn't there, `LIMIT` exactly where
-/// it is longer than `SOURCE_BYTES` or nests beyond `NESTING` levels, `REFUSED` where its text has no tokens or is no unit, `NOT_YET` where it
-/// can't be run yet, `WRITE_FAULT` where a write failed and `NO_MEMORY` where memory lacked. Each refusal prints its line; a run prints what
-/// its history writes.
+/// are no command or ask for what is not built, `READ_FAULT` and `ABSENT` where the file can't be read or isn't there, `LIMIT` exactly
+/// where it is longer than `SOURCE_BYTES` or nests beyond `NESTING` levels, `REFUSED` where its text has no tokens or is no unit, `NOT_YET`
+/// where it can't be run yet, `WRITE_FAULT` where a write failed and `NO_MEMORY` where memory lacked. Each refusal prints its line; a run
+/// prints what its history writes.
 pub fn orca_main<F: Shelf, K: Sink>(
     alloc: Global,
     words: &[String],

@@ -75,14 +75,19 @@ bracketed b ms = Begin b ∷ (ms ++ End b ∷ [])
 -- nested phrase.
 pub data Derives (rule : Nest → Form) : Form → List Mark → List Token → List Token → Type 0 where
   nothing : {ts : List Token} → Derives rule Nothing [] ts ts
-  word : {keeps : Bool} {w : Terminal} {t : Token} {ts : List Token} → is w t.kind ≡ true → Derives rule (Word keeps w) (mark_of keeps t ∷ []) (t ∷ ts) ts
-  both : {f g : Form} {a b : List Mark} {ts mid rest : List Token} → Derives rule f a ts mid → Derives rule g b mid rest → Derives rule (f ⨾ g) (a ++ b) ts rest
+  word : {keeps : Bool} {w : Terminal} {t : Token} {ts : List Token} → is w t.kind ≡ true →
+      Derives rule (Word keeps w) (mark_of keeps t ∷ []) (t ∷ ts) ts
+  both : {f g : Form} {a b : List Mark} {ts mid rest : List Token} → Derives rule f a ts mid → Derives rule g b mid rest →
+      Derives rule (f ⨾ g) (a ++ b) ts rest
   one : {f g : Form} {a : List Mark} {ts rest : List Token} → Derives rule f a ts rest → Derives rule (f ∣ g) a ts rest
   other : {f g : Form} {a : List Mark} {ts rest : List Token} → Derives rule g a ts rest → Derives rule (f ∣ g) a ts rest
   none : {f : Form} {ts : List Token} → Derives rule (Many f) [] ts ts
-  more : {f : Form} {a b : List Mark} {ts mid rest : List Token} → Derives rule f a ts mid → Derives rule (Many f) b mid rest → Derives rule (Many f) (a ++ b) ts rest
-  links : {l : Links} {f : Form} {a : List Mark} {ts rest : List Token} → Derives rule f a ts rest → Derives rule (Chained l f) (bracketed (Chain l) a) ts rest
-  nested : {n : Nest} {a : List Mark} {ts rest : List Token} → Derives rule (rule n) a ts rest → Derives rule (Nested n) (bracketed (Phrase n) a) ts rest
+  more : {f : Form} {a b : List Mark} {ts mid rest : List Token} → Derives rule f a ts mid → Derives rule (Many f) b mid rest →
+      Derives rule (Many f) (a ++ b) ts rest
+  links : {l : Links} {f : Form} {a : List Mark} {ts rest : List Token} → Derives rule f a ts rest →
+      Derives rule (Chained l f) (bracketed (Chain l) a) ts rest
+  nested : {n : Nest} {a : List Mark} {ts rest : List Token} → Derives rule (rule n) a ts rest →
+      Derives rule (Nested n) (bracketed (Phrase n) a) ts rest
 
 abbrev pub one_later : Option ℕ → Option ℕ
 one_later None = None

@@ -19,7 +19,8 @@ SaysOfSome tokens marks (t ∷ rest) = (front : List Token) × IsUnexpected toke
 -- none was: with the first of these tokens, or at the end, none goes on, or it is the first that stands too deep
 abbrev pub SaysOfNone : List Token → Why → List Token → Type 0
 SaysOfNone tokens Unexpected found = (front : List Token) × IsUnexpected tokens front found
-SaysOfNone tokens TooDeep found = (front : List Token) × (t : Token) × (rest : List Token) × (found ≡ t ∷ rest) × IsTooNested tokens front t rest
+SaysOfNone tokens TooDeep found = (front : List Token) × (t : Token) × (rest : List Token) × (found ≡ t ∷ rest) ×
+    IsTooNested tokens front t rest
 
 abbrev pub Says : List Token → Read → Type 0
 Says tokens (Ok x) = SaysOfSome tokens x.0 x.1

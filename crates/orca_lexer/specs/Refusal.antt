@@ -43,7 +43,8 @@ pub data IsSenseless (word : List ℕ) : LexRule → ℕ → Type 0 where
   -- a char that isn't one character long, at its opening quote
   not_one : is_literal 39 word ≡ true → (character_count false (content_of word) ≡ 1 → ⊥) → IsSenseless word StrayCharacter 0
   -- a char of one wrong character, at that
-  in_char : (n : ℕ) → is_literal 39 word ≡ true → character_count false (content_of word) ≡ 1 → IsWrongBehind 39 (content_of word) n → IsSenseless word StrayCharacter (n + 1)
+  in_char : (n : ℕ) → is_literal 39 word ≡ true → character_count false (content_of word) ≡ 1 → IsWrongBehind 39 (content_of word) n →
+      IsSenseless word StrayCharacter (n + 1)
   -- a string with a wrong character, at the first one
   in_string : (n : ℕ) → is_literal 34 word ≡ true → IsWrongBehind 34 (content_of word) n → IsSenseless word StrayCharacter (n + 1)
 
@@ -54,7 +55,8 @@ NoLexeme text = (word rest : List ℕ) → text ≡ word ++ rest → is_lexeme w
 -- why a text that begins with no gap begins with no token: the rule, and how many bytes stand before the fault
 pub data IsFault (text : List ℕ) : LexRule → ℕ → Type 0 where
   -- its longest lexeme stands for no token
-  senseless : (rule : LexRule) (n : ℕ) (word rest : List ℕ) → text ≡ word ++ rest → IsLongest word rest → IsSenseless word rule n → IsFault text rule n
+  senseless : (rule : LexRule) (n : ℕ) (word rest : List ℕ) → text ≡ word ++ rest → IsLongest word rest → IsSenseless word rule n →
+      IsFault text rule n
   -- a quote that is never closed
   unclosed : IsStart is_quote text → NoLexeme text → IsFault text OpenString 0
   -- any other character that begins no lexeme

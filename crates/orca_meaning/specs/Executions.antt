@@ -34,7 +34,8 @@ main_process = record { 0 = 0 }
 -- the output object, and the process's object once it is made
 abbrev pub objects_with : Option Data → Objects
 objects_with None = (output_object, record { kind = output_kind; state = datum.none }) ∷ []
-objects_with (Some state) = (output_object, record { kind = output_kind; state = datum.none }) ∷ (first_object main_process, record { kind = small_kind; state = state }) ∷ []
+objects_with (Some state) = (output_object, record { kind = output_kind; state = datum.none }) ∷
+    (first_object main_process, record { kind = small_kind; state = state }) ∷ []
 
 -- the configuration with this object and these replies of the one process
 abbrev pub configuration_with : Option Data → List Reply → Configuration

@@ -43,29 +43,37 @@ value_at_integer values (Some place) all = by_case (slice_get values place) refl
     by_case None e = tt
     by_case (Some v) e = subst IsInteger (get_or_from_slice_get values place v v e) (all place v (slice_get_within values place v e))
 
-operand_integer : (fields parameters : List Name) (state args : List Datum) (v : Operand) → OperandInRange v → All IsInteger state → All IsInteger args → IsInteger (operand_value fields state parameters args v)
+operand_integer : (fields parameters : List Name) (state args : List Datum) (v : Operand) → OperandInRange v → All IsInteger state →
+    All IsInteger args → IsInteger (operand_value fields state parameters args v)
 operand_integer fields parameters state args (Number n) small all given = (n, small, refl)
 operand_integer fields parameters state args (Named name) small all given =
     value_or_integer (value_at state (place_in fields name)) _ (value_at_integer state (place_in fields name) all)
-    (value_or_integer (value_at args (place_in parameters name)) opening_value (value_at_integer args (place_in parameters name) given) (pos 0, zero_in_range, refl))
+    (value_or_integer (value_at args (place_in parameters name)) opening_value (value_at_integer args (place_in parameters name) given)
+    (pos 0, zero_in_range, refl))
 
-set_fits : (fields : List Name) (state : List Datum) (place : Option ℕ) (v : Datum) → IsInteger v → AreFields fields state → AreFields fields (with_value state place v)
+set_fits : (fields : List Name) (state : List Datum) (place : Option ℕ) (v : Datum) → IsInteger v → AreFields fields state →
+    AreFields fields (with_value state place v)
 set_fits fields state None v integer fits = fits
 set_fits fields state (Some place) v integer fits = (length-set state place v ∙ fits.0, All-set IsInteger state place v integer fits.1)
 
-assigned_fits : (fields parameters : List Name) (args : List Datum) (assignments : List Assignment) (state : List Datum) → All AssignmentInRange assignments → All IsInteger args → AreFields fields state → AreFields fields (after_assignments fields parameters args assignments state)
+assigned_fits : (fields parameters : List Name) (args : List Datum) (assignments : List Assignment) (state : List Datum) →
+    All AssignmentInRange assignments → All IsInteger args → AreFields fields state →
+    AreFields fields (after_assignments fields parameters args assignments state)
 assigned_fits fields parameters args [] state small given fits = fits
 assigned_fits fields parameters args (a ∷ assignments) state small given fits =
     assigned_fits fields parameters args assignments _ (All-tail AssignmentInRange a assignments small) given
-    (set_fits fields state (place_in fields a.field) _ (operand_integer fields parameters state args a.value (All-head AssignmentInRange a assignments small) fits.1 given) fits)
+    (set_fits fields state (place_in fields a.field) _
+    (operand_integer fields parameters state args a.value (All-head AssignmentInRange a assignments small) fits.1 given) fits)
 
 given_integers : (kind : HeadKind) (args : List Datum) → FitsHead kind args → All IsInteger args
 given_integers Plain args fits = subst (All IsInteger) (sym fits) (All-nil IsInteger)
 given_integers Gives args fits = subst (All IsInteger) (sym fits) (All-nil IsInteger)
-given_integers (Takes parameter) args fits = subst (All IsInteger) (sym fits.2) (All-cons IsInteger (datum.int fits.0) [] (fits.0, fits.1, refl) (All-nil IsInteger))
+given_integers (Takes parameter) args fits = subst (All IsInteger) (sym fits.2)
+    (All-cons IsInteger (datum.int fits.0) [] (fits.0, fits.1, refl) (All-nil IsInteger))
 
 opening_fits : (fields : List Name) → AreFields fields (opening_values fields)
-opening_fits fields = (length-map fields (λ _. opening_value), All-map IsInteger (λ _. opening_value) fields (λ k d less. (pos 0, zero_in_range, refl)))
+opening_fits fields =
+    (length-map fields (λ _. opening_value), All-map IsInteger (λ _. opening_value) fields (λ k d less. (pos 0, zero_in_range, refl)))
 
 as_data : (fields : List Name) (values : List Datum) → AreFields fields values → AreFields fields (list_of (data_of values))
 as_data fields values fits = subst (AreFields fields) (sym (list_of-data_of values)) fits
@@ -80,49 +88,76 @@ made_fit program small kind = by_kind (kind.0 == 0)
     values : List Datum
     values = after_assignments program.fields [] [] (opening_assignments program.opening) (opening_values program.fields)
 
-    by_kind : (b : Bool) → IfMade (making.Made (if b then datum.none else data_of values)) (λ state. MatchBool b (state ≡ datum.none) (AreFields program.fields (list_of state)))
+    by_kind : (b : Bool) →
+        IfMade (making.Made (if b then datum.none else data_of values))
+        (λ state. MatchBool b (state ≡ datum.none) (AreFields program.fields (list_of state)))
     by_kind true = refl
-    by_kind false = as_data program.fields values (assigned_fits program.fields [] [] (opening_assignments program.opening) (opening_values program.fields) (opening_in_range program.opening small.0) (All-nil IsInteger) (opening_fits program.fields))
+    by_kind false = as_data program.fields values
+        (assigned_fits program.fields [] [] (opening_assignments program.opening) (opening_values program.fields)
+        (opening_in_range program.opening small.0) (All-nil IsInteger) (opening_fits program.fields))
 
 module _ (program : SmallProgram) (args state : Data) where
-  body_keeps : (kind : HeadKind) (body : OperationBody) → BodyInRange body → FitsHead kind (list_of args) → AreFields program.fields (list_of state) → KeepsState (body_tried program.fields (parameters_of kind) (list_of args) (list_of state) body) (λ after. AreFields program.fields (list_of after))
+  body_keeps : (kind : HeadKind) (body : OperationBody) → BodyInRange body → FitsHead kind (list_of args) →
+      AreFields program.fields (list_of state) →
+      KeepsState (body_tried program.fields (parameters_of kind) (list_of args) (list_of state) body)
+      (λ after. AreFields program.fields (list_of after))
   body_keeps kind (Returns field) small given fits = as_data program.fields (list_of state) fits
   body_keeps kind (Assigns assignments) small given fits =
-      as_data program.fields _ (assigned_fits program.fields (parameters_of kind) (list_of args) assignments (list_of state) small (given_integers kind (list_of args) given) fits)
+      as_data program.fields _
+      (assigned_fits program.fields (parameters_of kind) (list_of args) assignments (list_of state) small
+      (given_integers kind (list_of args) given) fits)
 
-  operation_keeps : (o : Option Operation) → ((x : Operation) → o ≡ Some x → OperationInRange x) → FitsOperation o (list_of args) → AreFields program.fields (list_of state) → KeepsState (operation_tried program.fields (list_of args) (list_of state) o) (λ after. AreFields program.fields (list_of after))
+  operation_keeps : (o : Option Operation) → ((x : Operation) → o ≡ Some x → OperationInRange x) → FitsOperation o (list_of args) →
+      AreFields program.fields (list_of state) →
+      KeepsState (operation_tried program.fields (list_of args) (list_of state) o) (λ after. AreFields program.fields (list_of after))
   operation_keeps None small given fits = tt
   operation_keeps (Some o) small given fits = body_keeps o.head.kind o.body (small o refl) given fits
 
   in_range_at : AreInRange program → (at : ℕ) (x : Operation) → slice_get program.operations at ≡ Some x → OperationInRange x
-  in_range_at small at x is = subst OperationInRange (get_or_from_slice_get program.operations at x x is) (small.1 at x (slice_get_within program.operations at x is))
+  in_range_at small at x is = subst OperationInRange (get_or_from_slice_get program.operations at x x is)
+      (small.1 at x (slice_get_within program.operations at x is))
 
-  pub tries_keep : AreInRange program → (kind : KindNo) (op : OpNo) → FitsState program kind state → FitsArgs program kind op args → KeepsState (tries_of program kind op state args) (FitsState program kind)
+  pub tries_keep : AreInRange program → (kind : KindNo) (op : OpNo) → FitsState program kind state → FitsArgs program kind op args →
+      KeepsState (tries_of program kind op state args) (FitsState program kind)
   tries_keep small kind op fits given = by_kind (kind.0 == 0) fits given
     where
-      by_kind : (b : Bool) → MatchBool b (state ≡ datum.none) (AreFields program.fields (list_of state)) → MatchBool b ((op.0 ≡ 0) × FitsWriting (list_of args)) (FitsOperation (slice_get program.operations op.0) (list_of args)) →
-          KeepsState (if b then tried.Did 0 state answer.Done else operation_tried program.fields (list_of args) (list_of state) (slice_get program.operations op.0)) (λ after. MatchBool b (after ≡ datum.none) (AreFields program.fields (list_of after)))
+      by_kind : (b : Bool) → MatchBool b (state ≡ datum.none) (AreFields program.fields (list_of state)) →
+          MatchBool b ((op.0 ≡ 0) × FitsWriting (list_of args)) (FitsOperation (slice_get program.operations op.0) (list_of args)) →
+          KeepsState (if b then tried.Did 0 state answer.Done else operation_tried program.fields (list_of args) (list_of state)
+          (slice_get program.operations op.0)) (λ after. MatchBool b (after ≡ datum.none) (AreFields program.fields (list_of after)))
       by_kind true none writes = none
       by_kind false fields takes = operation_keeps (slice_get program.operations op.0) (in_range_at small op.0) takes fields
 
-  body_replies : (kind : HeadKind) (body : OperationBody) → has_result kind ≡ returns body → AreFields program.fields (list_of state) → RepliesWell (body_tried program.fields (parameters_of kind) (list_of args) (list_of state) body) (FitsResult kind)
+  body_replies : (kind : HeadKind) (body : OperationBody) → has_result kind ≡ returns body → AreFields program.fields (list_of state) →
+      RepliesWell (body_tried program.fields (parameters_of kind) (list_of args) (list_of state) body) (FitsResult kind)
   body_replies kind (Returns field) is fits =
-      let v = value_or (value_at (list_of state) (place_in program.fields field)) opening_value in
-      (is, subst IsInteger (sym (datum_of-value_of v)) (value_or_integer (value_at (list_of state) (place_in program.fields field)) opening_value (value_at_integer (list_of state) (place_in program.fields field) fits.1) (pos 0, zero_in_range, refl)))
+      let v = value_or (value_at (list_of state) (place_in program.fields field)) opening_value in (
+        is,
+        subst IsInteger (sym (datum_of-value_of v))
+            (value_or_integer (value_at (list_of state) (place_in program.fields field)) opening_value
+            (value_at_integer (list_of state) (place_in program.fields field) fits.1) (pos 0, zero_in_range, refl)),
+      )
   body_replies kind (Assigns assignments) is fits = is
 
-  operation_replies : (o : Option Operation) → ((x : Operation) → o ≡ Some x → has_result x.head.kind ≡ returns x.body) → AreFields program.fields (list_of state) → RepliesWell (operation_tried program.fields (list_of args) (list_of state) o) (FitsResultOf o)
+  operation_replies : (o : Option Operation) → ((x : Operation) → o ≡ Some x → has_result x.head.kind ≡ returns x.body) →
+      AreFields program.fields (list_of state) →
+      RepliesWell (operation_tried program.fields (list_of args) (list_of state) o) (FitsResultOf o)
   operation_replies None bodies fits = tt
   operation_replies (Some o) bodies fits = by_body o.body (body_replies o.head.kind o.body (bodies o refl) fits)
     where
-      by_body : (body : OperationBody) → RepliesWell (body_tried program.fields (parameters_of o.head.kind) (list_of args) (list_of state) body) (FitsResult o.head.kind) → RepliesWell (body_tried program.fields (parameters_of o.head.kind) (list_of args) (list_of state) body) (FitsResultOf (Some o))
+      by_body : (body : OperationBody) →
+          RepliesWell (body_tried program.fields (parameters_of o.head.kind) (list_of args) (list_of state) body) (FitsResult o.head.kind) →
+          RepliesWell (body_tried program.fields (parameters_of o.head.kind) (list_of args) (list_of state) body) (FitsResultOf (Some o))
       by_body (Returns field) h = h
       by_body (Assigns assignments) h = h
 
-  pub tries_reply : (kind : KindNo) (op : OpNo) → BodiesFit program → FitsState program kind state → RepliesWell (tries_of program kind op state args) (FitsReply program kind op)
+  pub tries_reply : (kind : KindNo) (op : OpNo) → BodiesFit program → FitsState program kind state →
+      RepliesWell (tries_of program kind op state args) (FitsReply program kind op)
   tries_reply kind op bodies fits = by_kind (kind.0 == 0) fits
     where
       by_kind : (b : Bool) → MatchBool b (state ≡ datum.none) (AreFields program.fields (list_of state)) →
-          RepliesWell (if b then tried.Did 0 state answer.Done else operation_tried program.fields (list_of args) (list_of state) (slice_get program.operations op.0)) (λ reply. MatchBool b (FitsResult Plain reply) (FitsResultOf (slice_get program.operations op.0) reply))
+          RepliesWell (if b then tried.Did 0 state answer.Done else operation_tried program.fields (list_of args) (list_of state)
+          (slice_get program.operations op.0))
+          (λ reply. MatchBool b (FitsResult Plain reply) (FitsResultOf (slice_get program.operations op.0) reply))
       by_kind true none = refl
       by_kind false fields = operation_replies (slice_get program.operations op.0) (λ x is. bodies op.0 x is) fields

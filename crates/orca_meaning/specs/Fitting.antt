@@ -42,7 +42,8 @@ FitsWriting args = (codes : List ℕ) × All IsCode codes × IsShort codes × (a
 
 -- the arguments of an operation: the output object has one, `WriteLine`
 abbrev pub FitsArgs : SmallProgram → KindNo → OpNo → Data → Type 0
-FitsArgs program kind op args = MatchBool (kind.0 == 0) ((op.0 ≡ 0) × FitsWriting (list_of args)) (FitsOperation (slice_get program.operations op.0) (list_of args))
+FitsArgs program kind op args = MatchBool (kind.0 == 0) ((op.0 ≡ 0) × FitsWriting (list_of args))
+    (FitsOperation (slice_get program.operations op.0) (list_of args))
 
 -- a small program has one text, `OrcaMain`, without parameters
 abbrev pub FitsText : TextNo → Data → Type 0

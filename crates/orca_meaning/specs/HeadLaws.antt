@@ -86,17 +86,21 @@ name_of o = o.head.name
 
 module _ (program : SmallProgram) (scoped : IsScoped program) where
   -- two operations have two names
-  names_differ : (j k : ℕ) (d : Operation) → j < k → k < length program.operations → (slice_index_or program.operations j d).head.name ≡ (slice_index_or program.operations k d).head.name → ⊥
+  names_differ : (j k : ℕ) (d : Operation) → j < k → k < length program.operations →
+      (slice_index_or program.operations j d).head.name ≡ (slice_index_or program.operations k d).head.name → ⊥
   names_differ j k d less inside same =
       let names = map name_of program.operations in
       let n = length program.fields in
       let long : length (program.fields ++ names) ≡ n + length names = length-append program.fields names in
       let many : length names ≡ length program.operations = length-map program.operations name_of in
-      let at_j = get_or-append-add program.fields names j (name_of d) ∙ get_or-map name_of program.operations j d (name_of d) (omega (arith, less, inside)) in
+      let at_j = get_or-append-add program.fields names j (name_of d) ∙
+      get_or-map name_of program.operations j d (name_of d) (omega (arith, less, inside)) in
       let at_k = get_or-append-add program.fields names k (name_of d) ∙ get_or-map name_of program.operations k d (name_of d) inside in
-      scoped.names (suc (suc (suc (n + j)))) (suc (suc (suc (n + k)))) (name_of d) (omega (arith, less)) (omega (arith, long, many, inside)) (at_j ∙ same ∙ sym at_k)
+      scoped.names (suc (suc (suc (n + j)))) (suc (suc (suc (n + k)))) (name_of d) (omega (arith, less)) (omega (arith, long, many, inside))
+      (at_j ∙ same ∙ sym at_k)
 
-  found : (name : List ℕ) (k : ℕ) (x : Operation) → k < length program.operations → slice_index_or program.operations k x ≡ x → x.head.name ≡ name → slice_get program.operations (number_in program.operations name) ≡ Some x
+  found : (name : List ℕ) (k : ℕ) (x : Operation) → k < length program.operations → slice_index_or program.operations k x ≡ x →
+      x.head.name ≡ name → slice_get program.operations (number_in program.operations name) ≡ Some x
   found name k x inside is named =
       ap (slice_get program.operations) number ∙ slice_get-get_or program.operations k x inside ∙ ap (λ (o : Operation). Some o) is
     where
@@ -108,17 +112,21 @@ module _ (program : SmallProgram) (scoped : IsScoped program) where
 
       place : position_or_len test program.operations ≡ k
       place = position_or_len_is test program.operations k x (omega (arith, inside))
-          (λ j less. false_from_ne_true (test (slice_index_or program.operations j x)) (λ passed. names_differ j k x less inside ((bytes_eq-Decides _ name).0 passed ∙ sym at_name)))
+          (λ j less. false_from_ne_true (test (slice_index_or program.operations j x))
+          (λ passed. names_differ j k x less inside ((bytes_eq-Decides _ name).0 passed ∙ sym at_name)))
           (λ _. (bytes_eq-Decides _ name).1 at_name)
 
-      by_test : (b : Bool) → nat_lt (position_or_len test program.operations) (length program.operations) ≡ b → position_or_len test program.operations ≡ k → k < length program.operations → unwrap_or (cond b (Some (position_or_len test program.operations)) None) 0 ≡ k
+      by_test : (b : Bool) → nat_lt (position_or_len test program.operations) (length program.operations) ≡ b →
+          position_or_len test program.operations ≡ k → k < length program.operations →
+          unwrap_or (cond b (Some (position_or_len test program.operations)) None) 0 ≡ k
       by_test true e at less = at
       by_test false e at less = absurd (grind (arith, nat_tests))
 
       number : number_in program.operations name ≡ k
       number = by_test _ refl place inside
 
-  passes_test : (name : List ℕ) (P : HeadKind → Type 0) (test : HeadKind → Bool) → ((kind : HeadKind) → P kind → test kind ≡ true) → HasHead program.operations name P → head_passes program.operations name test ≡ true
+  passes_test : (name : List ℕ) (P : HeadKind → Type 0) (test : HeadKind → Bool) → ((kind : HeadKind) → P kind → test kind ≡ true) →
+      HasHead program.operations name P → head_passes program.operations name test ≡ true
   passes_test name P test so has =
       ap (passes test) (found name has.0 has.1 has.2 has.3 has.4.0) ∙ so has.1.head.kind has.4.1
 
@@ -128,13 +136,15 @@ module _ (program : SmallProgram) (scoped : IsScoped program) where
 
   call_fits : (c : Call) → CallInRange c → IsCall program.operations c → CallFits program.operations c
   call_fits (call.Invokes operation) small fits = passes_test operation _ is_plain (λ kind is. ap is_plain is) fits
-  call_fits (call.Passes operation value) small fits = (passes_test operation _ takes (λ kind is. ap takes is.1) fits.0, argument_fits value small fits.1)
+  call_fits (call.Passes operation value) small fits =
+      (passes_test operation _ takes (λ kind is. ap takes is.1) fits.0, argument_fits value small fits.1)
   call_fits (call.Writes value) small fits = argument_fits value small fits
 
   pub calls_fit : All CallInRange program.calls → CallsFit program
   calls_fit small at c is =
       call_fits c (subst CallInRange (get_or_from_slice_get program.calls at c c is) (small at c (slice_get_within program.calls at c is)))
-      (subst (IsCall program.operations) (get_or_from_slice_get program.calls at c c is) (scoped.calls at c (slice_get_within program.calls at c is)))
+      (subst (IsCall program.operations) (get_or_from_slice_get program.calls at c c is)
+      (scoped.calls at c (slice_get_within program.calls at c is)))
 
   body_fits : (kind : HeadKind) (body : OperationBody) → IsBody program.fields kind body → has_result kind ≡ returns body
   body_fits kind (Returns field) fits = ap has_result fits.0
@@ -147,5 +157,6 @@ module _ (program : SmallProgram) (scoped : IsScoped program) where
 
   pub bodies_fit : BodiesFit program
   bodies_fit at o is =
-      let body : IsBody program.fields o.head.kind o.body = subst (λ (x : Operation). IsBody program.fields x.head.kind x.body) (get_or_from_slice_get program.operations at o o is) (scoped.bodies at o (slice_get_within program.operations at o is)) in
+      let body : IsBody program.fields o.head.kind o.body = subst (λ (x : Operation). IsBody program.fields x.head.kind x.body)
+      (get_or_from_slice_get program.operations at o o is) (scoped.bodies at o (slice_get_within program.operations at o is)) in
       body_fits o.head.kind o.body body

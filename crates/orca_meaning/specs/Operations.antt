@@ -54,7 +54,8 @@ opening_value = datum.int (pos 0)
 -- what a number, a field or a parameter stands for
 abbrev pub operand_value : List Name → List Datum → List Name → List Datum → Operand → Datum
 operand_value fields state parameters args (Number n) = datum.int n
-operand_value fields state parameters args (Named name) = value_or (value_at state (place_in fields name)) (value_or (value_at args (place_in parameters name)) opening_value)
+operand_value fields state parameters args (Named name) = value_or (value_at state (place_in fields name))
+    (value_or (value_at args (place_in parameters name)) opening_value)
 
 -- the parameter that a head names
 abbrev pub parameters_of : HeadKind → List Name
@@ -66,12 +67,15 @@ parameters_of (Takes parameter) = parameter ∷ []
 abbrev pub after_assignments : List Name → List Name → List Datum → List Assignment → List Datum → List Datum
 after_assignments fields parameters args [] state = state
 after_assignments fields parameters args (a ∷ assignments) state =
-    after_assignments fields parameters args assignments (with_value state (place_in fields a.field) (operand_value fields state parameters args a.value))
+    after_assignments fields parameters args assignments
+    (with_value state (place_in fields a.field) (operand_value fields state parameters args a.value))
 
 -- what an operation's body does: a small program has no guards, and nothing in it faults
 abbrev pub body_tried : List Name → List Name → List Datum → List Datum → OperationBody → Tried
-body_tried fields parameters args state (Returns field) = tried.Did 0 (data_of state) (answer.Gave (value_of (value_or (value_at state (place_in fields field)) opening_value)))
-body_tried fields parameters args state (Assigns assignments) = tried.Did 0 (data_of (after_assignments fields parameters args assignments state)) answer.Done
+body_tried fields parameters args state (Returns field) = tried.Did 0 (data_of state)
+    (answer.Gave (value_of (value_or (value_at state (place_in fields field)) opening_value)))
+body_tried fields parameters args state (Assigns assignments) = tried.Did 0
+    (data_of (after_assignments fields parameters args assignments state)) answer.Done
 
 abbrev pub operation_tried : List Name → List Datum → List Datum → Option Operation → Tried
 operation_tried fields args state None = tried.Blocked

@@ -78,7 +78,8 @@ abbrev pub stating : SmallProgram → ProcessNo → Call → List Reply → (Lis
 stating program number (call.Invokes operation) replies next = acting (invocation program number operation datum.none) replies next
 stating program number (call.Passes operation value) replies next =
     arguing program number value replies (λ v rest. acting (invocation program number operation (datum.more v datum.none)) rest next)
-stating program number (call.Writes value) replies next = arguing program number value replies (λ v rest. acting (writing (text_of v)) rest next)
+stating program number (call.Writes value) replies next = arguing program number value replies
+    (λ v rest. acting (writing (text_of v)) rest next)
 
 -- statements, one after the other, and then the end
 abbrev pub all_stating : SmallProgram → ProcessNo → List Call → List Reply → Doing

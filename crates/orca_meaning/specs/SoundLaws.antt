@@ -28,7 +28,8 @@ codes_of : (codes : List ℕ) → IsAscii codes → All IsCode codes
 codes_of codes ascii = All-from_get_or IsCode codes 0 (λ i less. let small = ascii i in omega (arith, small))
 
 pub text_codes : (v : Datum) → IsInteger v → All IsCode (text_of v)
-text_codes v integer = subst (λ (d : Datum). All IsCode (text_of d)) (sym integer.2) (codes_of (signed_decimal integer.0) (IsAscii-signed integer.0 integer.1.sfits))
+text_codes v integer = subst (λ (d : Datum). All IsCode (text_of d)) (sym integer.2)
+    (codes_of (signed_decimal integer.0) (IsAscii-signed integer.0 integer.1.sfits))
 
 pub text_short : (v : Datum) → IsInteger v → IsShort (text_of v)
 text_short v integer =
@@ -43,9 +44,11 @@ none_sound = integers_sound datum.none (All-nil IsInteger) (omega arith)
 one_sound : (values : Data) (n : _) → IsWord n → list_of values ≡ datum.int n ∷ [] → AreSound values
 one_sound values n word is =
     subst AreSound (sym (ap data_of is) ∙ data_of-list_of values)
-    (integers_sound (datum.more (datum.int n) datum.none) (All-cons IsInteger (datum.int n) [] (n, word, refl) (All-nil IsInteger)) (omega arith))
+    (integers_sound (datum.more (datum.int n) datum.none) (All-cons IsInteger (datum.int n) [] (n, word, refl) (All-nil IsInteger))
+    (omega arith))
 
-written_sound : (values : Data) (codes : List ℕ) → All IsCode codes → IsShort codes → list_of values ≡ datum.text codes ∷ [] → AreSound values
+written_sound : (values : Data) (codes : List ℕ) → All IsCode codes → IsShort codes → list_of values ≡ datum.text codes ∷ [] →
+    AreSound values
 written_sound values codes all short is =
     subst AreSound (sym (ap data_of is) ∙ data_of-list_of values)
     (record { well_formed = ((all, short), tt); shallow = omega arith; short = omega arith })
@@ -54,7 +57,8 @@ empty_sound : (values : Data) → list_of values ≡ [] → AreSound values
 empty_sound values is = subst AreSound (sym (ap data_of is) ∙ data_of-list_of values) none_sound
 
 -- a state that fits is sound
-pub states_sound : (program : SmallProgram) → length program.fields < 2 ^ 32 → (kind : KindNo) (state : Data) → FitsState program kind state → AreSound state
+pub states_sound : (program : SmallProgram) → length program.fields < 2 ^ 32 → (kind : KindNo) (state : Data) →
+    FitsState program kind state → AreSound state
 states_sound program few kind state fits = by_kind (kind.0 == 0) fits
   where
     by_kind : (b : Bool) → MatchBool b (state ≡ datum.none) (AreFields program.fields (list_of state)) → AreSound state
@@ -62,23 +66,29 @@ states_sound program few kind state fits = by_kind (kind.0 == 0) fits
     by_kind false fields = integers_sound state fields.1 (let long = fields.0 in omega (arith, long, few))
 
 few_arguments : (args : Data) (list : List Datum) → length list ≤ 1 → list_of args ≡ list → AreSound args → AreSoundArguments args
-few_arguments args list one is sound = let long : length (list_of args) ≡ length list = ap length is in record { values = sound; few = omega (arith, long, one) }
+few_arguments args list one is sound = let long : length (list_of args) ≡
+    length list = ap length is in record { values = sound; few = omega (arith, long, one) }
 
 head_sound : (kind : HeadKind) (args : Data) → FitsHead kind (list_of args) → AreSoundArguments args
 head_sound Plain args fits = few_arguments args [] (omega arith) fits (empty_sound args fits)
 head_sound Gives args fits = few_arguments args [] (omega arith) fits (empty_sound args fits)
-head_sound (Takes parameter) args fits = few_arguments args (datum.int fits.0 ∷ []) (omega arith) fits.2 (one_sound args fits.0 fits.1 fits.2)
+head_sound (Takes parameter) args fits = few_arguments args (datum.int fits.0 ∷ []) (omega arith) fits.2
+    (one_sound args fits.0 fits.1 fits.2)
 
 operation_sound : (o : Option Operation) (args : Data) → FitsOperation o (list_of args) → AreSoundArguments args
 operation_sound None args fits = absurd fits
 operation_sound (Some o) args fits = head_sound o.head.kind args fits
 
 -- arguments that fit are sound
-pub arguments_sound : (program : SmallProgram) (kind : KindNo) (op : OpNo) (args : Data) → FitsArgs program kind op args → AreSoundArguments args
+pub arguments_sound : (program : SmallProgram) (kind : KindNo) (op : OpNo) (args : Data) → FitsArgs program kind op args →
+    AreSoundArguments args
 arguments_sound program kind op args fits = by_kind (kind.0 == 0) fits
   where
-    by_kind : (b : Bool) → MatchBool b ((op.0 ≡ 0) × FitsWriting (list_of args)) (FitsOperation (slice_get program.operations op.0) (list_of args)) → AreSoundArguments args
-    by_kind true (number, (codes, all, short, is)) = few_arguments args (datum.text codes ∷ []) (omega arith) is (written_sound args codes all short is)
+    by_kind : (b : Bool) →
+        MatchBool b ((op.0 ≡ 0) × FitsWriting (list_of args)) (FitsOperation (slice_get program.operations op.0) (list_of args)) →
+        AreSoundArguments args
+    by_kind true (number, (codes, all, short, is)) = few_arguments args (datum.text codes ∷ []) (omega arith) is
+        (written_sound args codes all short is)
     by_kind false takes = operation_sound (slice_get program.operations op.0) args takes
 
 -- and so are the arguments of the text
@@ -98,9 +108,11 @@ result_of_sound None reply fits = absurd fits
 result_of_sound (Some o) reply fits = result_sound o.head.kind reply fits
 
 -- a reply that fits is sound
-pub replies_sound : (program : SmallProgram) (kind : KindNo) (op : OpNo) (reply : Reply) → FitsReply program kind op reply → IsSoundReply reply
+pub replies_sound : (program : SmallProgram) (kind : KindNo) (op : OpNo) (reply : Reply) → FitsReply program kind op reply →
+    IsSoundReply reply
 replies_sound program kind op reply fits = by_kind (kind.0 == 0) fits
   where
-    by_kind : (b : Bool) → MatchBool b (FitsResult Plain reply) (FitsResultOf (slice_get program.operations op.0) reply) → IsSoundReply reply
+    by_kind : (b : Bool) → MatchBool b (FitsResult Plain reply) (FitsResultOf (slice_get program.operations op.0) reply) →
+        IsSoundReply reply
     by_kind true plain = result_sound Plain reply plain
     by_kind false result = result_of_sound (slice_get program.operations op.0) reply result

@@ -25,7 +25,8 @@ use Rattle.orca_meaning.specs.declared.process.Stage.TheVariants.{Making, Callin
 -- the rest of a statement whose argument has this value
 abbrev pub passing : SmallProgram → ProcessNo → Call → Datum → List Reply → (List Reply → Doing) → Doing
 passing program number (call.Invokes operation) v replies next = acting (invocation program number operation datum.none) replies next
-passing program number (call.Passes operation value) v replies next = acting (invocation program number operation (datum.more v datum.none)) replies next
+passing program number (call.Passes operation value) v replies next = acting
+    (invocation program number operation (datum.more v datum.none)) replies next
 passing program number (call.Writes value) v replies next = acting (writing (text_of v)) replies next
 
 -- the first of these statements has its argument's value, and the others follow

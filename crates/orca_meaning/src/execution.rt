@@ -134,11 +134,17 @@ impl Execution {
     /// the lines that it followed.
     pub fn step(&mut self, alloc: Global, machine: &TreeMachine) -> Result<Option<Line>, NoMemory>
         requires { (lines : List Line) × Follows machine.now.program self.old lines }
-        ensures line { IfOk result (λ r. (lines : List Line) → Follows machine.now.program self.old lines → MatchOption r (HasEnded machine.now.program lines × Follows machine.now.program self.new lines) (λ line. Follows machine.now.program self.new (lines ++ line ∷ []))) }
+        ensures line { IfOk result
+            (λ r. (lines : List Line) → Follows machine.now.program self.old lines →
+            MatchOption r (HasEnded machine.now.program lines × Follows machine.now.program self.new lines)
+            (λ line. Follows machine.now.program self.new (lines ++ line ∷ []))) }
 
         // A program makes at most a line for its object and two for each statement, so the lines come to an end.
-        ensures few { IfOk result (λ r. (lines : List Line) → Follows machine.now.program self.old lines → OnSome r (length lines < 2 * length machine.now.program.calls + 1)) }
-        ensures err { OnErr result ((lines : List Line) → Follows machine.now.program self.old lines → Follows machine.now.program self.new lines) }
+        ensures few { IfOk result
+            (λ r. (lines : List Line) → Follows machine.now.program self.old lines →
+            OnSome r (length lines < 2 * length machine.now.program.calls + 1)) }
+        ensures err { OnErr result
+            ((lines : List Line) → Follows machine.now.program self.old lines → Follows machine.now.program self.new lines) }
     {
         let process = machine.copy(alloc, &self.process)?;
         let (process, halt) = machine.go(alloc, process, 1)?;
@@ -165,21 +171,24 @@ impl Execution {
 
     /// The action at which the process is behind the lines that were followed. It was not performed.
     pub fn next(&self, alloc: Global, machine: &TreeMachine) -> Result<Action, NoMemory>
-        ensures { IfOk result (λ act. (lines : List Line) → Follows machine.now.program self.now lines → IsAt machine.now.program lines act) }
+        ensures { IfOk result
+            (λ act. (lines : List Line) → Follows machine.now.program self.now lines → IsAt machine.now.program lines act) }
     {
         self.process.next(alloc, &machine.program)
     }
 
     /// The replies that the process received, in order, and no more of the execution.
     pub fn into_replies(self) -> Vec<Reply>
-        ensures { (program : SmallProgram) (lines : List Line) → Follows program self lines → result.items ≡ replies_of (performs_of program) (computes_of program) lines 0 }
+        ensures { (program : SmallProgram) (lines : List Line) → Follows program self lines →
+            result.items ≡ replies_of (performs_of program) (computes_of program) lines 0 }
     {
         self.replies
     }
 
     /// The replies that the process received, in order.
     pub fn replies(&self) -> &[Reply]
-        ensures { (program : SmallProgram) (lines : List Line) → Follows program self.now lines → result.now ≡ replies_of (performs_of program) (computes_of program) lines 0 }
+        ensures { (program : SmallProgram) (lines : List Line) → Follows program self.now lines →
+            result.now ≡ replies_of (performs_of program) (computes_of program) lines 0 }
     {
         self.replies.as_slice()
     }

@@ -49,7 +49,8 @@ fn operand(
     args: &[Value],
     value: &Operand,
 ) -> Result<Value, NoMemory>
-    ensures { IfOk result (λ v. datum_of v ≡ operand_value fields.now (map datum_of state.now) (parameters_of kind.now) (map datum_of args.now) value.now) }
+    ensures { IfOk result
+        (λ v. datum_of v ≡ operand_value fields.now (map datum_of state.now) (parameters_of kind.now) (map datum_of args.now) value.now) }
 {
     match value {
         Operand::Number { value } => Ok(Value::Int(*value)),
@@ -83,7 +84,9 @@ fn assigned(
     assignments: &[Assignment],
     state: Vec<Value>,
 ) -> Result<Vec<Value>, NoMemory>
-    ensures { IfOk result (λ after. map datum_of after.items ≡ after_assignments fields.now (parameters_of kind.now) (map datum_of args.now) assignments.now (map datum_of state.items)) }
+    ensures { IfOk result
+        (λ after. map datum_of after.items ≡
+        after_assignments fields.now (parameters_of kind.now) (map datum_of args.now) assignments.now (map datum_of state.items)) }
 {
     let mut state = state;
     'assignments: for assignment in assignments {
@@ -198,7 +201,9 @@ fn state_after(
     assignments: &[Assignment],
     state: Vec<Value>,
 ) -> Result<ObjectState, NoMemory>
-    ensures { IfOk result (λ after. after ≡ data_of (after_assignments fields.now (parameters_of kind.now) (map datum_of args.now) assignments.now (map datum_of state.items))) }
+    ensures { IfOk result
+        (λ after. after ≡ data_of
+        (after_assignments fields.now (parameters_of kind.now) (map datum_of args.now) assignments.now (map datum_of state.items))) }
 {
     Ok(Parts::from_vec(assigned(alloc, fields, kind, args, assignments, state)?))
 }

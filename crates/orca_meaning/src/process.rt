@@ -49,7 +49,8 @@ impl SmallProcess {
 
     /// The process receives one more reply.
     pub fn reply(&mut self, program: &SmallProgram, reply: Reply)
-        ensures { (replies : List Reply) → Stands program.now self.old.number self.old replies → Stands program.now self.old.number self.new (replies ++ reply ∷ []) }
+        ensures { (replies : List Reply) → Stands program.now self.old.number self.old replies →
+            Stands program.now self.old.number self.new (replies ++ reply ∷ []) }
     {
         let stage = mem::replace(&mut self.stage, Stage::Making);
         self.stage = after(program, stage, reply);
@@ -180,7 +181,9 @@ impl SmallProcess {
     pub fn next(&self, alloc: Global, program: &SmallProgram) -> Result<Action, NoMemory>
         requires { length program.now.operations < 2 ^ 16 }
         ensures stage { IfOk result (λ act. resumed program.now self.now.number self.now.stage [] ≡ At act) }
-        ensures doing { IfOk result (λ act. (replies : List Reply) → Stands program.now self.now.number self.now replies → doing_of program.now self.now.number replies ≡ At act) }
+        ensures doing { IfOk result
+            (λ act. (replies : List Reply) → Stands program.now self.now.number self.now replies →
+            doing_of program.now self.now.number replies ≡ At act) }
     {
         next_action(alloc, program, self.number, &self.stage)
     }
@@ -355,7 +358,8 @@ fn first_action(
     at: usize,
 ) -> Result<Action, NoMemory>
     requires { length program.now.operations < 2 ^ 16 }
-    ensures { IfOk result (λ act. (next : List Reply → Doing) → first_doing program.now number (slice_get program.now.calls at) [] next ≡ At act) }
+    ensures { IfOk result
+        (λ act. (next : List Reply → Doing) → first_doing program.now number (slice_get program.now.calls at) [] next ≡ At act) }
 {
     match program.calls.as_slice().get(at) {
         None => Ok(Action::Ended),
@@ -372,7 +376,9 @@ fn last_action(
     value: &Value,
 ) -> Result<Action, NoMemory>
     requires { length program.now.operations < 2 ^ 16 }
-    ensures { IfOk result (λ act. (next : List Reply → Doing) → last_doing program.now number (slice_get program.now.calls at) (datum_of value.now) [] next ≡ At act) }
+    ensures { IfOk result
+        (λ act. (next : List Reply → Doing) → last_doing program.now number (slice_get program.now.calls at) (datum_of value.now) [] next ≡
+        At act) }
 {
     match program.calls.as_slice().get(at) {
         None => Ok(Action::Ended),

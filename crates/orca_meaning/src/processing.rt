@@ -27,7 +27,8 @@ impl Processor for TreeMachine {
 
     ghost settled = { λ m text number args replies n k apart. refl };
 
-    ghost lawful = { λ m kinds text number args replies given got. lawful_of m.program number kinds text args replies (∥∥₁_elim m.scoped (CallsFit-prop m.program) (λ scoped. calls_fit m.program scoped m.ranged.2)) got };
+    ghost lawful = { λ m kinds text number args replies given got. lawful_of m.program number kinds text args replies
+        (∥∥₁_elim m.scoped (CallsFit-prop m.program) (λ scoped. calls_fit m.program scoped m.ranged.2)) got };
 
     fn main_text(&self) -> TextNo {
         TextNo(0)

@@ -130,7 +130,8 @@ abbrev pub decl : Decl → Decl
 decl (syn.Constant at n value) = syn.Constant nowhere (name n) (bound value)
 decl (syn.Declares at n of) = syn.Declares nowhere (name n) (definition of)
 decl (syn.Specification at n heads) = syn.Specification nowhere (name n) (map head heads)
-decl (syn.Implementation at n fields operations opening) = syn.Implementation nowhere (name n) (map variables fields) (map operation operations) (option_map stmts opening)
+decl (syn.Implementation at n fields operations opening) = syn.Implementation nowhere (name n) (map variables fields)
+    (map operation operations) (option_map stmts opening)
 decl (syn.Function at n ps result b) = syn.Function nowhere (name n) (map parameter ps) (option_map kind result) (block b)
 decl (syn.Process at n ps b) = syn.Process nowhere (name n) (map parameter ps) (block b)
 

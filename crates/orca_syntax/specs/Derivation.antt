@@ -108,7 +108,10 @@ type_inside (syn.Character at) = word_at at (Key KeyChar) none
 type_inside (syn.String at) = word_at at (Key KeyString) none
 type_inside (syn.Named n) = name n none
 type_inside (syn.Array at low high k) =
-    word_at at (Key KeyArray) (word (Sign OpensIndex) (bound low (word (Sign RangeSign) (bound high (word (Sign ClosesIndex) (word (Key KeyOf) (group (Phrase TypeNest) (type_inside k) none)))))))
+    word_at at (Key KeyArray)
+    (word (Sign OpensIndex)
+    (bound low (word (Sign RangeSign)
+    (bound high (word (Sign ClosesIndex) (word (Key KeyOf) (group (Phrase TypeNest) (type_inside k) none)))))))
 type_inside (syn.Set at k) = word_at at (Key KeySet) (word (Key KeyOf) (group (Phrase TypeNest) (type_inside k) none))
 type_inside (syn.Bag at k) = word_at at (Key KeyBag) (word (Key KeyOf) (group (Phrase TypeNest) (type_inside k) none))
 
@@ -143,7 +146,8 @@ abbrev mutual
   stmt_inside (syn.If at as_) = word_at at (Key KeyIf) (arms as_ (word (Key KeyFi) none))
   stmt_inside (syn.While at test ss) = word_at at (Key KeyWhile) (value test (word (Key KeyDo) (stmts ss (word (Key KeyOd) none))))
   stmt_inside (syn.For at n low high ss) =
-      word_at at (Key KeyFor) (name n (word (Key KeyIn) (value low (word (Sign RangeSign) (value high (word (Key KeyDo) (stmts ss (word (Key KeyOd) none))))))))
+      word_at at (Key KeyFor)
+      (name n (word (Key KeyIn) (value low (word (Sign RangeSign) (value high (word (Key KeyDo) (stmts ss (word (Key KeyOd) none))))))))
   stmt_inside (syn.Repeat at ss test) = word_at at (Key KeyRepeat) (stmts ss (word (Key KeyUntil) (value test none)))
   stmt_inside (syn.Fork at n es on) = word_at at (Key KeyFork) (name n (enclosed es (if_any on_value on none)))
   stmt_inside (syn.WriteLine at es) = word_at at (Key KeyWriteLine) (enclosed es none)
@@ -196,7 +200,9 @@ parameter p f = name p.name (word (Sign Colon) (mode p.mode (type_phrase p.kind 
 
 abbrev pub head : Head → Forest → Forest
 head h f =
-    word_at h.at (Key KeyOperation) (name h.name (word (Sign Opens) (separated (Sign Semicolon) typed_name h.parameters (word (Sign Closes) (if_any result h.result f)))))
+    word_at h.at (Key KeyOperation)
+    (name h.name (word (Sign Opens)
+    (separated (Sign Semicolon) typed_name h.parameters (word (Sign Closes) (if_any result h.result f)))))
 
 abbrev pub head_line : Head → Forest → Forest
 head_line h f = head h (word (Sign Semicolon) f)
@@ -232,9 +238,12 @@ called n ps f = name n (word (Sign Opens) (separated (Sign Semicolon) parameter 
 abbrev pub decl : Decl → Forest → Forest
 decl (syn.Constant at n b) f = word_at at (Key KeyConst) (name n (word (Sign Equals) (bound b (word (Sign Semicolon) f))))
 decl (syn.Declares at n d) f = word_at at (Key KeyType) (name n (word (Sign Equals) (definition d (word (Sign Semicolon) f))))
-decl (syn.Specification at n hs) f = word_at at (Key KeyObject) (word (Key KeySpecification) (name n (word (Sign Semicolon) (each head_line hs (ended f)))))
+decl (syn.Specification at n hs) f = word_at at (Key KeyObject)
+    (word (Key KeySpecification) (name n (word (Sign Semicolon) (each head_line hs (ended f)))))
 decl (syn.Implementation at n vs os ss) f =
-    word_at at (Key KeyObject) (word (Key KeyImplementation) (name n (word (Sign Semicolon) (each variables vs (each operation os (if_any opening ss (ended f)))))))
+    word_at at (Key KeyObject)
+    (word (Key KeyImplementation)
+    (name n (word (Sign Semicolon) (each variables vs (each operation os (if_any opening ss (ended f)))))))
 decl (syn.Function at n ps r b) f = word_at at (Key KeyFunction) (called n ps (if_any result r (word (Sign Semicolon) (block b f))))
 decl (syn.Process at n ps b) f = word_at at (Key KeyProcess) (called n ps (word (Sign Semicolon) (block b f)))
 

@@ -161,7 +161,8 @@ abbrev pub decl : Declaration → Decl
 decl (declares.Constant at name value) = syn.Constant at name value
 decl (declares.Type at name of) = syn.Declares at name (definition of)
 decl (declares.Specification at name heads) = syn.Specification at name (map head heads.items)
-decl (declares.Implementation at name fields operations opening) = syn.Implementation at name (map variables fields.items) (map operation operations.items) (option_map (λ ss. stmts ss.items) opening)
+decl (declares.Implementation at name fields operations opening) = syn.Implementation at name (map variables fields.items)
+    (map operation operations.items) (option_map (λ ss. stmts ss.items) opening)
 decl (declares.Function at name ps result b) = syn.Function at name (map parameter ps.items) (option_map kind result) (block b)
 decl (declares.Process at name ps b) = syn.Process at name (map parameter ps.items) (block b)
 

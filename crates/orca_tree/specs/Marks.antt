@@ -1,6 +1,6 @@
 -- The marks of a tree: its derivation by the grammar (orca_grammar, specs/Forms.antt and Rules.antt), which are its tokens in
--- order, with brackets round each nested phrase and round the links of each chain, and the tree's places. Read row by row, marks
--- that a text has are those of one tree alone, but for where it lies in memory.
+-- order, with brackets round each nested phrase and round the links of each chain, and the tree's places. Trees with the same
+-- marks are the same, but for where they lie in memory (orca_syntax, `syntax_law`).
 use Rattle.std.specs.Prelude.{Bool, true, false, List, [], ◌∷◌, ◌++◌, Option, Some, None}
 use Rattle.std.specs.List.{flat_map}
 use Rattle.orca_base.specs.declared.place.Place.{Place}
@@ -125,7 +125,8 @@ abbrev mutual
   operand (Ordinal' at p e) = factor (word_at at (Key KeyOrd) ∷ enclosed (whole (operand e)))
   operand (Get' name shape path) = factor (name_mark name ∷ selectors_row path)
   operand (Call' name shape arguments) = factor (name_mark name ∷ enclosed (arguments_row arguments))
-  operand (Invoke' object operation shape arguments) = factor (name_mark object ∷ word (Sign Dollar) ∷ name_mark operation ∷ enclosed (arguments_row arguments))
+  operand (Invoke' object operation shape arguments) = factor
+      (name_mark object ∷ word (Sign Dollar) ∷ name_mark operation ∷ enclosed (arguments_row arguments))
 
   pub selector : Selector → List Mark
   selector (Field at name) = word_at at (Sign Period) ∷ name_mark name ∷ []
@@ -193,7 +194,9 @@ type_phrase (types.Char at) = bracketed (Phrase TypeNest) (word_at at (Key KeyCh
 type_phrase (types.Text at) = bracketed (Phrase TypeNest) (word_at at (Key KeyString) ∷ [])
 type_phrase (types.Named name) = bracketed (Phrase TypeNest) (name_mark name ∷ [])
 type_phrase (types.Array' at low high p element) =
-    bracketed (Phrase TypeNest) (word_at at (Key KeyArray) ∷ word (Sign OpensIndex) ∷ (bound low ++ word (Sign RangeSign) ∷ (bound high ++ word (Sign ClosesIndex) ∷ word (Key KeyOf) ∷ type_phrase element)))
+    bracketed (Phrase TypeNest)
+    (word_at at (Key KeyArray) ∷ word (Sign OpensIndex) ∷
+    (bound low ++ word (Sign RangeSign) ∷ (bound high ++ word (Sign ClosesIndex) ∷ word (Key KeyOf) ∷ type_phrase element)))
 type_phrase (types.Set' at p element) = bracketed (Phrase TypeNest) (word_at at (Key KeySet) ∷ word (Key KeyOf) ∷ type_phrase element)
 type_phrase (types.Bag' at p element) = bracketed (Phrase TypeNest) (word_at at (Key KeyBag) ∷ word (Key KeyOf) ∷ type_phrase element)
 
@@ -220,17 +223,25 @@ abbrev mutual
   pub statement : Statement → List Mark
   statement (does.Return at value) = statement_of (word_at at (Key KeyReturn) ∷ if_any expression value)
   statement (does.If' at shape arms) = statement_of (word_at at (Key KeyIf) ∷ (arms_row arms ++ word (Key KeyFi) ∷ []))
-  statement (does.While' at test shape body) = statement_of (word_at at (Key KeyWhile) ∷ (expression test ++ word (Key KeyDo) ∷ (statements_row body ++ word (Key KeyOd) ∷ [])))
+  statement (does.While' at test shape body) = statement_of
+      (word_at at (Key KeyWhile) ∷ (expression test ++ word (Key KeyDo) ∷ (statements_row body ++ word (Key KeyOd) ∷ [])))
   statement (does.For' at name range shape body) =
-      statement_of (word_at at (Key KeyFor) ∷ name_mark name ∷ word (Key KeyIn) ∷ (expression range.low ++ word (Sign RangeSign) ∷ (expression range.high ++ word (Key KeyDo) ∷ (statements_row body ++ word (Key KeyOd) ∷ []))))
-  statement (does.Repeat' at shape body test) = statement_of (word_at at (Key KeyRepeat) ∷ (statements_row body ++ word (Key KeyUntil) ∷ expression test))
-  statement (does.Fork at process args on) = statement_of (word_at at (Key KeyFork) ∷ name_mark process ∷ (enclosed (arguments args.items) ++ if_any (λ e. word (Key KeyOn) ∷ expression e) on))
+      statement_of (word_at at (Key KeyFor) ∷ name_mark name ∷ word (Key KeyIn) ∷
+      (expression range.low ++ word (Sign RangeSign) ∷
+      (expression range.high ++ word (Key KeyDo) ∷ (statements_row body ++ word (Key KeyOd) ∷ []))))
+  statement (does.Repeat' at shape body test) = statement_of
+      (word_at at (Key KeyRepeat) ∷ (statements_row body ++ word (Key KeyUntil) ∷ expression test))
+  statement (does.Fork at process args on) = statement_of
+      (word_at at (Key KeyFork) ∷ name_mark process ∷ (enclosed (arguments args.items) ++ if_any (λ e. word (Key KeyOn) ∷ expression e) on))
   statement (does.WriteLine at args) = statement_of (word_at at (Key KeyWriteLine) ∷ enclosed (arguments args.items))
-  statement (does.Insert at element into) = statement_of (word_at at (Key KeyInsert) ∷ enclosed (expression element ++ word (Sign Comma) ∷ designator into))
-  statement (does.Delete at element from) = statement_of (word_at at (Key KeyDelete) ∷ enclosed (expression element ++ word (Sign Comma) ∷ designator from))
+  statement (does.Insert at element into) = statement_of
+      (word_at at (Key KeyInsert) ∷ enclosed (expression element ++ word (Sign Comma) ∷ designator into))
+  statement (does.Delete at element from) = statement_of
+      (word_at at (Key KeyDelete) ∷ enclosed (expression element ++ word (Sign Comma) ∷ designator from))
   statement (does.Assign to value) = statement_of (designator to ++ word (Sign Becomes) ∷ expression value)
   statement (does.Call function args) = statement_of (name_mark function ∷ enclosed (arguments args.items))
-  statement (does.Invoke object operation args) = statement_of (name_mark object ∷ word (Sign Dollar) ∷ name_mark operation ∷ enclosed (arguments args.items))
+  statement (does.Invoke object operation args) = statement_of
+      (name_mark object ∷ word (Sign Dollar) ∷ name_mark operation ∷ enclosed (arguments args.items))
 
   pub statements_row : {n : _} → Row_of-Statement n → List Mark
   statements_row end_of-Statement = []
@@ -265,7 +276,8 @@ abbrev pub typed_names : List TypedName → List Mark
 typed_names ts = separated (Sign Semicolon) typed_name ts
 
 abbrev pub head : Head → List Mark
-head h = word_at h.at (Key KeyOperation) ∷ name_mark h.name ∷ word (Sign Opens) ∷ (typed_names h.parameters.items ++ word (Sign Closes) ∷ result h.result)
+head h = word_at h.at (Key KeyOperation) ∷ name_mark h.name ∷ word (Sign Opens) ∷
+    (typed_names h.parameters.items ++ word (Sign Closes) ∷ result h.result)
 
 abbrev pub mode : Mode → List Mark
 mode modes.Value = []
@@ -288,17 +300,20 @@ abbrev pub block : Block → List Mark
 block b = all_variables b.variables.items ++ word (Key KeyBegin) ∷ ended (statements b.statements.items)
 
 abbrev pub guard : Guard → List Mark
-guard g = word_at g.at (Key KeyGuard) ∷ (expression g.test ++ word (Key KeyDo) ∷ (statements g.body.items ++ word (Key KeyOd) ∷ word (Sign Semicolon) ∷ []))
+guard g = word_at g.at (Key KeyGuard) ∷
+    (expression g.test ++ word (Key KeyDo) ∷ (statements g.body.items ++ word (Key KeyOd) ∷ word (Sign Semicolon) ∷ []))
 
 abbrev pub operation_body : OperationBody → List Mark
 operation_body (Guarded first others) = guard first ++ flat_map guard others.items
 operation_body (Plain body) = statements body.items
 
 abbrev pub operation : Operation → List Mark
-operation o = head o.head ++ word (Sign Semicolon) ∷ (all_variables o.variables.items ++ word (Key KeyBegin) ∷ ended (operation_body o.body))
+operation o = head o.head ++ word (Sign Semicolon) ∷
+    (all_variables o.variables.items ++ word (Key KeyBegin) ∷ ended (operation_body o.body))
 
 abbrev pub definition : Definition → List Mark
-definition (Record at fields) = word_at at (Key KeyRecord) ∷ (flat_map (λ f. typed_name f ++ word (Sign Semicolon) ∷ []) fields.items ++ word (Key KeyEnd) ∷ [])
+definition (Record at fields) = word_at at (Key KeyRecord) ∷
+    (flat_map (λ f. typed_name f ++ word (Sign Semicolon) ∷ []) fields.items ++ word (Key KeyEnd) ∷ [])
 definition (Enumeration at ns) = word_at at (Key KeyEnum) ∷ enclosed (names ns.items)
 definition (Alias of) = type_phrase of
 
@@ -309,17 +324,21 @@ abbrev pub opening : List Statement → List Mark
 opening ss = word (Key KeyBegin) ∷ statements ss
 
 abbrev pub declaration : Declaration → List Mark
-declaration (declares.Constant at name value) = word_at at (Key KeyConst) ∷ name_mark name ∷ word (Sign Equals) ∷ (bound value ++ word (Sign Semicolon) ∷ [])
-declaration (declares.Type at name of) = word_at at (Key KeyType) ∷ name_mark name ∷ word (Sign Equals) ∷ (definition of ++ word (Sign Semicolon) ∷ [])
+declaration (declares.Constant at name value) = word_at at (Key KeyConst) ∷ name_mark name ∷ word (Sign Equals) ∷
+    (bound value ++ word (Sign Semicolon) ∷ [])
+declaration (declares.Type at name of) = word_at at (Key KeyType) ∷ name_mark name ∷ word (Sign Equals) ∷
+    (definition of ++ word (Sign Semicolon) ∷ [])
 declaration (declares.Specification at name hs) =
     word_at at (Key KeyObject) ∷ word (Key KeySpecification) ∷ name_mark name ∷ word (Sign Semicolon) ∷ ended (heads hs.items)
 declaration (declares.Implementation at name fields operations begins) =
     word_at at (Key KeyObject) ∷ word (Key KeyImplementation) ∷ name_mark name ∷ word (Sign Semicolon)
     ∷ ended (all_variables fields.items ++ (flat_map operation operations.items ++ if_any (λ ss. opening ss.items) begins))
 declaration (declares.Function at name ps r body) =
-    word_at at (Key KeyFunction) ∷ name_mark name ∷ word (Sign Opens) ∷ (parameters ps.items ++ word (Sign Closes) ∷ (result r ++ word (Sign Semicolon) ∷ block body))
+    word_at at (Key KeyFunction) ∷ name_mark name ∷ word (Sign Opens) ∷
+    (parameters ps.items ++ word (Sign Closes) ∷ (result r ++ word (Sign Semicolon) ∷ block body))
 declaration (declares.Process at name ps body) =
-    word_at at (Key KeyProcess) ∷ name_mark name ∷ word (Sign Opens) ∷ (parameters ps.items ++ word (Sign Closes) ∷ word (Sign Semicolon) ∷ block body)
+    word_at at (Key KeyProcess) ∷ name_mark name ∷ word (Sign Opens) ∷
+    (parameters ps.items ++ word (Sign Closes) ∷ word (Sign Semicolon) ∷ block body)
 
 -- module N ; and import N ;
 abbrev pub module_line : Option Name → List Mark

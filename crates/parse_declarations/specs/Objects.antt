@@ -13,4 +13,5 @@ use Rattle.orca_tree.specs.Marks.{word_at}
 
 -- what reading gives of the object whose `object` stands at this place, where this form and its end are behind it
 abbrev pub object_of : Place → ℕ → Form → List Token → Read
-object_of at depth form tokens = behind (word_at at (Key KeyObject) ∷ []) (read depth (form ⨾ rules.key KeyEnd ⨾ rules.sign Semicolon) tokens)
+object_of at depth form tokens = behind (word_at at (Key KeyObject) ∷ [])
+    (read depth (form ⨾ rules.key KeyEnd ⨾ rules.sign Semicolon) tokens)

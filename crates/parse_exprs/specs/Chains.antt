@@ -39,7 +39,8 @@ links_marks (l ∷ ls) = bracketed (Chain (list_links (l ∷ ls))) (flat_map lin
 -- the token is this operator of a level, or it is none of them
 abbrev pub IsOperator : Links → TokenKind → Option Operator → Type 0
 IsOperator level kind None = is_any (first sets (rules.operator level)) kind ≡ false
-IsOperator level kind (Some op) = (is_any (first sets (rules.operator level)) kind ≡ true) × (kind ≡ operator_token op) × (links_of op ≡ level)
+IsOperator level kind (Some op) = (is_any (first sets (rules.operator level)) kind ≡ true) × (kind ≡ operator_token op) ×
+    (links_of op ≡ level)
 
 -- an operator of a level comes next, and is read, or none comes
 abbrev pub Operates : Links → List Token → Option (Operator × Bor (List Token)) → Type 0

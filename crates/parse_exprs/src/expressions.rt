@@ -63,7 +63,8 @@ fn operand_of(alloc: Global, depth: u32, level: Level, tokens: &[Token]) -> Pars
 // Operators of this level, each with its right operand. Of relations there is one at most.
 #[cycle(expressions)]
 fn links(alloc: Global, depth: u32, level: Level, tokens: &[Token]) -> Parsed<'_, Vec<Link>>
-    ensures { Parses (λ ls. links_marks ls.items) result (read depth (chained (links_at level) (operand_form (links_at level))) tokens.now) }
+    ensures { Parses (λ ls. links_marks ls.items) result
+        (read depth (chained (links_at level) (operand_form (links_at level))) tokens.now) }
 {
     let mut links = Vec::new(alloc);
     let mut rest = tokens;

@@ -37,7 +37,8 @@ pub fn negative(alloc: Global, at: Place, inner: Expression) -> Result<Expressio
 
 /// An expression in parentheses.
 pub fn parentheses(alloc: Global, at: Place, inner: Expression) -> Result<Expression, NoMemory>
-    ensures { IfOk result (λ e. operand e ≡ factor_marks (spelled_at at (Sign Opens) ∷ (whole (operand inner) ++ spelled (Sign Closes) ∷ []))) }
+    ensures { IfOk result
+        (λ e. operand e ≡ factor_marks (spelled_at at (Sign Opens) ∷ (whole (operand inner) ++ spelled (Sign Closes) ∷ []))) }
 {
     let inner = Box::new(alloc, inner)?;
     Ok(Expression::Parentheses { at, inner })
@@ -85,7 +86,8 @@ pub fn call(function: Name, arguments: Vec<Expression>) -> Expression
 
 /// An operation on an object.
 pub fn invoke(object: Name, operation: Name, arguments: Vec<Expression>) -> Expression
-    ensures { operand result ≡ factor_marks (name_mark object ∷ spelled (Sign Dollar) ∷ name_mark operation ∷ enclosed (arguments_marks arguments.items)) }
+    ensures { operand result ≡
+        factor_marks (name_mark object ∷ spelled (Sign Dollar) ∷ name_mark operation ∷ enclosed (arguments_marks arguments.items)) }
 {
     Expression::Invoke {
         object,

@@ -96,7 +96,9 @@ pub fn sign(tokens: &[Token], symbol: Symbol) -> Result<&[Token], Refusal<ReadEr
 
 /// The tokens behind this keyword, if it comes next.
 pub fn after_key(tokens: &[Token], word: Keyword) -> Option<&[Token]>
-    ensures { MatchOption result (comes (KeyOf word ∷ []) tokens.now ≡ false) (λ rest. (comes (KeyOf word ∷ []) tokens.now ≡ true) × (word_read false (KeyOf word) tokens.now ≡ Ok (spelled (Key word) ∷ [], rest.now))) }
+    ensures { MatchOption result (comes (KeyOf word ∷ []) tokens.now ≡ false)
+        (λ rest. (comes (KeyOf word ∷ []) tokens.now ≡ true) ×
+        (word_read false (KeyOf word) tokens.now ≡ Ok (spelled (Key word) ∷ [], rest.now))) }
 {
     match tokens {
         [first, rest @ ..] if is_key(&first.kind, word) => Some(rest),
@@ -106,7 +108,9 @@ pub fn after_key(tokens: &[Token], word: Keyword) -> Option<&[Token]>
 
 /// The tokens behind this symbol, if it comes next.
 pub fn after_sign(tokens: &[Token], symbol: Symbol) -> Option<&[Token]>
-    ensures { MatchOption result (comes (SignOf symbol ∷ []) tokens.now ≡ false) (λ rest. (comes (SignOf symbol ∷ []) tokens.now ≡ true) × (word_read false (SignOf symbol) tokens.now ≡ Ok (spelled (Sign symbol) ∷ [], rest.now))) }
+    ensures { MatchOption result (comes (SignOf symbol ∷ []) tokens.now ≡ false)
+        (λ rest. (comes (SignOf symbol ∷ []) tokens.now ≡ true) ×
+        (word_read false (SignOf symbol) tokens.now ≡ Ok (spelled (Sign symbol) ∷ [], rest.now))) }
 {
     match tokens {
         [first, rest @ ..] if is_sign(&first.kind, symbol) => Some(rest),

@@ -19,14 +19,19 @@ pub fn branches(at: Place, arms: Vec<Arm>) -> Statement
 
 /// `while` with its test and its body.
 pub fn while_loop(at: Place, test: Expression, body: Vec<Statement>) -> Statement
-    ensures { marks.statement result ≡ marks.statement_of (word_at at (Key KeyWhile) ∷ (marks.expression test ++ word (Key KeyDo) ∷ (marks.statements body.items ++ word (Key KeyOd) ∷ []))) }
+    ensures { marks.statement result ≡
+        marks.statement_of (word_at at (Key KeyWhile) ∷
+        (marks.expression test ++ word (Key KeyDo) ∷ (marks.statements body.items ++ word (Key KeyOd) ∷ []))) }
 {
     Statement::While { at, test, body }
 }
 
 /// `for` with its name, its bounds and its body.
 pub fn for_loop(at: Place, name: Name, range: Range, body: Vec<Statement>) -> Statement
-    ensures { marks.statement result ≡ marks.statement_of (word_at at (Key KeyFor) ∷ name_mark name ∷ word (Key KeyIn) ∷ (marks.expression range.low ++ word (Sign RangeSign) ∷ (marks.expression range.high ++ word (Key KeyDo) ∷ (marks.statements body.items ++ word (Key KeyOd) ∷ [])))) }
+    ensures { marks.statement result ≡
+        marks.statement_of (word_at at (Key KeyFor) ∷ name_mark name ∷ word (Key KeyIn) ∷
+        (marks.expression range.low ++ word (Sign RangeSign) ∷
+        (marks.expression range.high ++ word (Key KeyDo) ∷ (marks.statements body.items ++ word (Key KeyOd) ∷ [])))) }
 {
     Statement::For {
         at,
@@ -38,7 +43,8 @@ pub fn for_loop(at: Place, name: Name, range: Range, body: Vec<Statement>) -> St
 
 /// `repeat` with its body and its test.
 pub fn repeat_loop(at: Place, body: Vec<Statement>, test: Expression) -> Statement
-    ensures { marks.statement result ≡ marks.statement_of (word_at at (Key KeyRepeat) ∷ (marks.statements body.items ++ word (Key KeyUntil) ∷ marks.expression test)) }
+    ensures { marks.statement result ≡
+        marks.statement_of (word_at at (Key KeyRepeat) ∷ (marks.statements body.items ++ word (Key KeyUntil) ∷ marks.expression test)) }
 {
     Statement::Repeat { at, body, test }
 }

@@ -184,7 +184,8 @@ fn elsif_arm(alloc: Global, depth: u32, tokens: &[Token]) -> Parsed<'_, Arm>
 #[cycle(statements)]
 #[tactic(auto, unfolding(orca_grammar::specs::Rules::when))]
 fn when(alloc: Global, depth: u32, tokens: &[Token]) -> Parsed<'_, (Expression, Vec<Statement>)>
-    ensures { Parses (λ x. marks.expression x.0 ++ word (Key KeyThen) ∷ marks.statements x.1.items) result (read depth rules.when tokens.now) }
+    ensures { Parses (λ x. marks.expression x.0 ++ word (Key KeyThen) ∷ marks.statements x.1.items) result
+        (read depth rules.when tokens.now) }
 {
     let (test, rest) = expression(alloc, depth, tokens)?;
     let rest = key(rest, Keyword::KeyThen)?;

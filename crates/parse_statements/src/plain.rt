@@ -90,7 +90,8 @@ fn element_and_designator(
     depth: u32,
     tokens: &[Token],
 ) -> Parsed<'_, (Expression, Designator)>
-    ensures { Parses (λ x. marks.enclosed (marks.expression x.0 ++ word (Sign Comma) ∷ marks.designator x.1)) result (read depth rules.element_and_designator tokens.now) }
+    ensures { Parses (λ x. marks.enclosed (marks.expression x.0 ++ word (Sign Comma) ∷ marks.designator x.1)) result
+        (read depth rules.element_and_designator tokens.now) }
 {
     let rest = sign(tokens, Symbol::Opens)?;
     let (element, rest) = expression(alloc, depth, rest)?;
@@ -102,7 +103,8 @@ fn element_and_designator(
 
 /// `insert` of an element into a set or bag.
 pub fn insert_statement(alloc: Global, depth: u32, tokens: &[Token]) -> Parsed<'_, Statement>
-    ensures { Parses marks.statement result (phrase StatementPhrase depth (rules.key_at KeyInsert ⨾ rules.element_and_designator) tokens.now) }
+    ensures { Parses marks.statement result
+        (phrase StatementPhrase depth (rules.key_at KeyInsert ⨾ rules.element_and_designator) tokens.now) }
 {
     let (at, rest) = key_at(tokens, Keyword::KeyInsert)?;
     let ((element, into), rest) = element_and_designator(alloc, depth, rest)?;
@@ -111,7 +113,8 @@ pub fn insert_statement(alloc: Global, depth: u32, tokens: &[Token]) -> Parsed<'
 
 /// `delete` of an element from a set or bag.
 pub fn delete_statement(alloc: Global, depth: u32, tokens: &[Token]) -> Parsed<'_, Statement>
-    ensures { Parses marks.statement result (phrase StatementPhrase depth (rules.key_at KeyDelete ⨾ rules.element_and_designator) tokens.now) }
+    ensures { Parses marks.statement result
+        (phrase StatementPhrase depth (rules.key_at KeyDelete ⨾ rules.element_and_designator) tokens.now) }
 {
     let (at, rest) = key_at(tokens, Keyword::KeyDelete)?;
     let ((element, from), rest) = element_and_designator(alloc, depth, rest)?;

@@ -31,7 +31,8 @@ fn field(alloc: Global, depth: u32, tokens: &[Token]) -> Parsed<'_, TypedName>
 // One field and those behind it.
 #[tactic(auto, unfolding(orca_grammar::specs::Rules::fields))]
 fn fields(alloc: Global, depth: u32, tokens: &[Token]) -> Parsed<'_, Vec<TypedName>>
-    ensures { Parses (λ fs. flat_map (λ f. marks.typed_name f ++ word (Sign Semicolon) ∷ []) fs.items) result (read depth rules.fields tokens.now) }
+    ensures { Parses (λ fs. flat_map (λ f. marks.typed_name f ++ word (Sign Semicolon) ∷ []) fs.items) result
+        (read depth rules.fields tokens.now) }
 {
     let (first, mut rest) = field(alloc, depth, tokens)?;
     let mut parts = vec![in alloc; first]?;

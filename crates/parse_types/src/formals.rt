@@ -15,7 +15,8 @@ use std::alloc::Global;
 
 // Names with their types, with semicolons between.
 fn some_typed_names(alloc: Global, depth: u32, tokens: &[Token]) -> Parsed<'_, Vec<TypedName>>
-    ensures { Parses (λ ts. marks.typed_names ts.items) result (read depth (rules.listed (rules.sign Semicolon) rules.typed_name) tokens.now) }
+    ensures { Parses (λ ts. marks.typed_names ts.items) result
+        (read depth (rules.listed (rules.sign Semicolon) rules.typed_name) tokens.now) }
 {
     let (first, mut rest) = typed_name(alloc, depth, tokens)?;
     let mut parts = vec![in alloc; first]?;
@@ -66,7 +67,8 @@ fn parameter(alloc: Global, depth: u32, tokens: &[Token]) -> Parsed<'_, Paramete
 
 // Parameters with semicolons between.
 fn some_parameters(alloc: Global, depth: u32, tokens: &[Token]) -> Parsed<'_, Vec<Parameter>>
-    ensures { Parses (λ ps. marks.parameters ps.items) result (read depth (rules.listed (rules.sign Semicolon) rules.parameter) tokens.now) }
+    ensures { Parses (λ ps. marks.parameters ps.items) result
+        (read depth (rules.listed (rules.sign Semicolon) rules.parameter) tokens.now) }
 {
     let (first, mut rest) = parameter(alloc, depth, tokens)?;
     let mut parts = vec![in alloc; first]?;

@@ -81,7 +81,8 @@ fn begins_type(tokens: &[Token]) -> bool
 /// A type without parts.
 #[tactic(auto, unfolding(orca_grammar::specs::Rules::plain_type))]
 fn plain_type(alloc: Global, tokens: &[Token]) -> Parsed<'_, TypePhrase>
-    ensures { (depth : ℕ) → Parses marks.type_phrase result (in_brackets (Phrase forms.TypePhrase) (read depth rules.plain_type tokens.now)) }
+    ensures { (depth : ℕ) →
+        Parses marks.type_phrase result (in_brackets (Phrase forms.TypePhrase) (read depth rules.plain_type tokens.now)) }
 {
     if comes_key(tokens, Keyword::KeyInteger) {
         let (at, rest) = key_at(tokens, Keyword::KeyInteger)?;
@@ -128,7 +129,8 @@ pub fn type_phrase(alloc: Global, depth: u32, tokens: &[Token]) -> Parsed<'_, Ty
 #[cycle(types)]
 #[tactic(auto, unfolding(orca_grammar::specs::Rules::array_rest, orca_grammar::specs::Rules::bound))]
 fn array_type(alloc: Global, depth: u32, tokens: &[Token]) -> Parsed<'_, TypePhrase>
-    ensures { Parses marks.type_phrase result (in_brackets (Phrase forms.TypePhrase) (read depth (rules.key_at KeyArray ⨾ rules.array_rest) tokens.now)) }
+    ensures { Parses marks.type_phrase result
+        (in_brackets (Phrase forms.TypePhrase) (read depth (rules.key_at KeyArray ⨾ rules.array_rest) tokens.now)) }
 {
     let (at, rest) = key_at(tokens, Keyword::KeyArray)?;
     let rest = sign(rest, Symbol::OpensIndex)?;
@@ -151,7 +153,8 @@ fn array_type(alloc: Global, depth: u32, tokens: &[Token]) -> Parsed<'_, TypePhr
 // A set, and the type of its elements.
 #[cycle(types)]
 fn set_type(alloc: Global, depth: u32, tokens: &[Token]) -> Parsed<'_, TypePhrase>
-    ensures { Parses marks.type_phrase result (in_brackets (Phrase forms.TypePhrase) (read depth (rules.key_at KeySet ⨾ rules.element_rest) tokens.now)) }
+    ensures { Parses marks.type_phrase result
+        (in_brackets (Phrase forms.TypePhrase) (read depth (rules.key_at KeySet ⨾ rules.element_rest) tokens.now)) }
 {
     let (at, rest) = key_at(tokens, Keyword::KeySet)?;
     let (element, rest) = element_type(alloc, depth, rest)?;
@@ -161,7 +164,8 @@ fn set_type(alloc: Global, depth: u32, tokens: &[Token]) -> Parsed<'_, TypePhras
 // A bag, and the type of its elements.
 #[cycle(types)]
 fn bag_type(alloc: Global, depth: u32, tokens: &[Token]) -> Parsed<'_, TypePhrase>
-    ensures { Parses marks.type_phrase result (in_brackets (Phrase forms.TypePhrase) (read depth (rules.key_at KeyBag ⨾ rules.element_rest) tokens.now)) }
+    ensures { Parses marks.type_phrase result
+        (in_brackets (Phrase forms.TypePhrase) (read depth (rules.key_at KeyBag ⨾ rules.element_rest) tokens.now)) }
 {
     let (at, rest) = key_at(tokens, Keyword::KeyBag)?;
     let (element, rest) = element_type(alloc, depth, rest)?;

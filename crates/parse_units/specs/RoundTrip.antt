@@ -24,8 +24,10 @@ pub record IsReadBack (u : UnitTree) : Type 0 where
 
 -- so it is for a unit that was read from a text
 abbrev pub ReadsBack : UnitTree → Type 0
-ReadsBack u = (text : List ℕ) (tokens : List Token) → Tokens text tokens → IsText (unit_marks u) tokens → first_deep (unit_marks u) NESTING ≡ None → IsReadBack u
+ReadsBack u = (text : List ℕ) (tokens : List Token) → Tokens text tokens → IsText (unit_marks u) tokens →
+    first_deep (unit_marks u) NESTING ≡ None → IsReadBack u
 
 -- the text is short enough to be read, where the one that the unit was read from is below half of that
 abbrev pub StaysShort : UnitTree → Type 0
-StaysShort u = (text : List ℕ) (tokens : List Token) → Tokens text tokens → IsText (unit_marks u) tokens → length text < 2 ^ 31 - 1 → length (printed u) < 2 ^ 32 - 1
+StaysShort u = (text : List ℕ) (tokens : List Token) → Tokens text tokens → IsText (unit_marks u) tokens → length text < 2 ^ 31 - 1 →
+    length (printed u) < 2 ^ 32 - 1

@@ -35,8 +35,8 @@ fn refusal(alloc: Global, tokens: &[Token], cause: ReadError<'_>) -> Result<Pars
     }
 }
 
-/// The unit that tokens are, whole. One token decides each step, and nothing recurses deeper than the nesting of the text, which is `NESTING`
-/// at most; the cost is that of the tokens' number.
+/// The unit that tokens are, whole. One token decides each step, and nothing recurses deeper than the nesting of the text, which is
+/// `NESTING` at most; the cost is that of the tokens' number.
 pub fn parse(alloc: Global, tokens: &[Token]) -> Result<Unit, Refusal<ParseError>>
     requires { All HasRoom tokens.now }
 

@@ -21,7 +21,8 @@ Passes spelled tokens result =
     MatchRefusal result (λ rest. tokens ≡ spelled ++ rest.now) (λ _. (rest : List TokenKind) → tokens ≡ spelled ++ rest → ⊥)
 
 -- the same of parts one after another, up to tokens that begin none
-abbrev pub ParsesAll : {X : Type 0} → (X → List TokenKind) → (List TokenKind → Bool) → List TokenKind → Result (List X × Bor (List TokenKind)) (Refusal NotSmall) → Type 0
+abbrev pub ParsesAll : {X : Type 0} → (X → List TokenKind) → (List TokenKind → Bool) → List TokenKind →
+    Result (List X × Bor (List TokenKind)) (Refusal NotSmall) → Type 0
 ParsesAll spelled goes_on tokens result =
     MatchRefusal result (λ r. (tokens ≡ flat_map spelled r.0 ++ r.1.now) × (goes_on r.1.now ≡ false))
     (λ _. (xs : List _) (rest : List TokenKind) → tokens ≡ flat_map spelled xs ++ rest → goes_on rest ≡ false → ⊥)

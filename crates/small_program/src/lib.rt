@@ -3,8 +3,8 @@
 //! The floor above uses `small`: `Some` exactly where the syntax that a unit shows is that of a small program (`IsSmall` of
 //! specs/Scope.antt), which is one program at most. specs/Small.antt is their grammar and specs/Scope.antt the rules of their names.
 //!
-//! It stands on `orca_base`, the tokens of `orca_lexer`, the trees of `orca_tree` and their syntax (`orca_syntax`). It runs nothing. It goes
-//! once all programs run.
+//! It stands on `orca_base`, the tokens of `orca_lexer`, the trees of `orca_tree` and their syntax (`orca_syntax`). It runs nothing. It
+//! goes once all programs run.
 #![tactic(auto)]
 
 mod reader;

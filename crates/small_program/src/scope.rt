@@ -202,7 +202,8 @@ impl<'a> Names<'a> {
     }
 
     fn are_operations(&self, operations: &[Operation]) -> bool
-        ensures { IsTrue result ↔ All (λ o. ParameterDiffers (declared_names self.now) o.head.kind × IsBody self.now.fields o.head.kind o.body) operations.now }
+        ensures { IsTrue result ↔
+            All (λ o. ParameterDiffers (declared_names self.now) o.head.kind × IsBody self.now.fields o.head.kind o.body) operations.now }
     {
         operations.iter().all(|operation| {
             self.parameter_differs(&operation.head.kind)

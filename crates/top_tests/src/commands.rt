@@ -66,7 +66,8 @@ fn options_and_files_mix(rt: HostRuntime) -> Result<(), Fail> {
     };
     assert!(rt;
         matches!(&read_words(alloc, &line),
-        Ok(Request::Run { options, script: Some("s.txt"), files }) if *options == given && files.as_slice() == ["a.orca", "b.orca"].as_slice())
+        Ok(Request::Run { options, script: Some("s.txt"), files }) if *options == given &&
+            files.as_slice() == ["a.orca", "b.orca"].as_slice())
     );
     Ok(())
 }

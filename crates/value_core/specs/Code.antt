@@ -92,4 +92,5 @@ abbrev pub leaf_code : Coded Leaf
 leaf_code = coded⊎ coded_ℤ (coded⊎ coded_bool (coded⊎ coded_ℕ (coded⊎ coded_ℕ (coded⊎ (coded_list coded_ℕ) (coded× coded_ℕ coded_ℕ)))))
 
 abbrev pub data_code : Coded Data
-data_code = code_by (List Token) (coded_list (coded⊎ leaf_code coded_ℕ)) (λ w. all_written w []) (λ ts. first_of_all (read ts [] []).1) (λ w. ap (λ (s : Stacks). first_of_all s.1) (read_all w [] [] []))
+data_code = code_by (List Token) (coded_list (coded⊎ leaf_code coded_ℕ)) (λ w. all_written w []) (λ ts. first_of_all (read ts [] []).1)
+    (λ w. ap (λ (s : Stacks). first_of_all s.1) (read_all w [] [] []))

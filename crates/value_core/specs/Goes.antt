@@ -17,11 +17,13 @@ Stands = TextNo → ProcessNo → Data → List Reply → ℕ → Type 0
 
 -- there is a process of which it is said
 abbrev pub ForSome : Stands → Type 0
-ForSome stands = (text : TextNo) × (number : ProcessNo) × (args : Data) × (replies : List Reply) × (turns : ℕ) × stands text number args replies turns
+ForSome stands = (text : TextNo) × (number : ProcessNo) × (args : Data) × (replies : List Reply) × (turns : ℕ) ×
+    stands text number args replies turns
 
 -- P of each process of which it is said
 abbrev pub ForEach : Stands → Stands → Type 0
-ForEach stands P = (text : TextNo) (number : ProcessNo) (args : Data) (replies : List Reply) (turns : ℕ) → stands text number args replies turns → P text number args replies turns
+ForEach stands P = (text : TextNo) (number : ProcessNo) (args : Data) (replies : List Reply) (turns : ℕ) →
+    stands text number args replies turns → P text number args replies turns
 
 -- the next action is reached after exactly so many turns: with one more it isn't busy, and with these it is
 abbrev pub Reaches : (ℕ → Doing) → ℕ → Doing → Type 0
@@ -30,12 +32,14 @@ Reaches next used act = (next (used + 1) ≡ act) × ((used ≡ 0) ⊎ (next use
 -- from so many turns and with this budget: the next action is reached before the budget's last turn is begun, and the state
 -- stands for the turns that this took; or that turn is begun first
 abbrev pub Goes : (ℕ → Doing) → (ℕ → Type 0) → ℕ → ℕ → Halt → Type 0
-Goes next stands turns budget (halt.At act) = (used : ℕ) × (turns ≤ used) × (used < turns + budget) × Reaches next used (doing.At act) × stands used
+Goes next stands turns budget (halt.At act) = (used : ℕ) × (turns ≤ used) × (used < turns + budget) × Reaches next used (doing.At act) ×
+    stands used
 Goes next stands turns budget halt.Paused = (next (turns + budget) ≡ doing.Busy) × stands (turns + budget)
 
 -- what a computation with this budget comes to, for the process that its state stands for
 abbrev pub GoesOn : Computes → Stands → ℕ → Halt → Stands
-GoesOn q stands budget halt text number args replies turns = Goes (q.doing text number args replies) (stands text number args replies) turns budget halt
+GoesOn q stands budget halt text number args replies turns = Goes (q.doing text number args replies)
+    (stands text number args replies) turns budget halt
 
 -- the process has one more reply
 abbrev pub HasReplied : Reply → Stands → Stands

@@ -212,6 +212,12 @@ pub record IsStuck (p : Performs) (q : Computes) (lines : List Line) (number : P
   pub has : object_at (objects_of p q lines) object ≡ Some kept
   pub blocked : p.tries kind op kept.state args ≡ tried.Blocked
 
+-- a process is at an action at the end of a history, which was not performed
+pub record IsAt (p : Performs) (q : Computes) (lines : List Line) (number : ProcessNo) (act : Action) : Type 0 where
+  pub process : Process
+  pub exists : slice_get (processes_of p q lines) number.0 ≡ Some process
+  pub at : q.doing process.text number process.args process.replies most_turns ≡ doing.At act
+
 -- a process has ended at the end of a history
 pub record HasEnded (p : Performs) (q : Computes) (lines : List Line) (number : ProcessNo) : Type 0 where
   pub process : Process

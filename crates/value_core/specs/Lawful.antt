@@ -37,7 +37,8 @@ FitsAction fits_reply (doing.At (action.Faulted fault)) reply = ⊥
 abbrev pub RepliesFitFrom : Computes → (KindNo → OpNo → Reply → Type 0) → TextNo → ProcessNo → Data → List Reply → List Reply → Type 0
 RepliesFitFrom q fits_reply text number args before [] = Unit {0}
 RepliesFitFrom q fits_reply text number args before (reply ∷ replies) =
-    FitsAction fits_reply (next_of q text number args before) reply × RepliesFitFrom q fits_reply text number args (before ++ reply ∷ []) replies
+    FitsAction fits_reply (next_of q text number args before) reply ×
+    RepliesFitFrom q fits_reply text number args (before ++ reply ∷ []) replies
 
 abbrev pub RepliesFit : Computes → (KindNo → OpNo → Reply → Type 0) → TextNo → ProcessNo → Data → List Reply → Type 0
 RepliesFit q fits_reply text number args replies = RepliesFitFrom q fits_reply text number args [] replies
@@ -62,10 +63,13 @@ IsArgumentOf args object = Contains (list_of args) (datum.object object.process 
 
 -- the process knows the object with its type: the output object, one that it made, or an argument by the type that it has
 -- among the objects that exist
-pub data IsKnownObject (q : Computes) (kinds : Kinds) (text : TextNo) (number : ProcessNo) (args : Data) (replies : List Reply) : ObjectId → KindNo → Type 0 where
+pub data IsKnownObject (q : Computes) (kinds : Kinds) (text : TextNo) (number : ProcessNo) (args : Data) (replies : List Reply) : ObjectId →
+    KindNo → Type 0 where
   output : IsKnownObject q kinds text number args replies output_object output_kind
-  own : (object : ObjectId) (kind : KindNo) → Contains (own_objects q text number args replies) (object, kind) → IsKnownObject q kinds text number args replies object kind
-  argument : (object : ObjectId) (kind : KindNo) → IsArgumentOf args object → Contains kinds (object, kind) → IsKnownObject q kinds text number args replies object kind
+  own : (object : ObjectId) (kind : KindNo) → Contains (own_objects q text number args replies) (object, kind) →
+      IsKnownObject q kinds text number args replies object kind
+  argument : (object : ObjectId) (kind : KindNo) → IsArgumentOf args object → Contains kinds (object, kind) →
+      IsKnownObject q kinds text number args replies object kind
 
 -- the objects that exist, and those that the process made, among more
 abbrev pub KnowsIn : Computes → Kinds → TextNo → ProcessNo → Data → List Reply → Kinds → Type 0
@@ -73,18 +77,21 @@ KnowsIn q kinds text number args replies more = ExtendsKinds kinds more × Exten
 
 -- what a process does next names only what it knows: it makes the object behind its earlier ones, calls an object that it
 -- knows by its type and with arguments that fit, and forks with arguments that fit and hold only such objects
-abbrev pub IsLawfulDoing : Computes → (Kinds → KindNo → OpNo → Data → Type 0) → (Kinds → TextNo → Data → Type 0) → Kinds → TextNo → ProcessNo → Data → List Reply → Doing → Type 0
+abbrev pub IsLawfulDoing : Computes → (Kinds → KindNo → OpNo → Data → Type 0) → (Kinds → TextNo → Data → Type 0) → Kinds → TextNo →
+    ProcessNo → Data → List Reply → Doing → Type 0
 IsLawfulDoing q fits_args fits_text kinds text number args replies doing.Busy = Unit {0}
 IsLawfulDoing q fits_args fits_text kinds text number args replies (doing.At (action.Make kind object)) =
     (object.process ≡ number.0) × (object.number ≡ length (own_objects q text number args replies) + 1)
 IsLawfulDoing q fits_args fits_text kinds text number args replies (doing.At (action.Call kind op object given)) =
-    IsKnownObject q kinds text number args replies object kind × ((more : Kinds) → KnowsIn q kinds text number args replies more → fits_args more kind op given)
+    IsKnownObject q kinds text number args replies object kind ×
+    ((more : Kinds) → KnowsIn q kinds text number args replies more → fits_args more kind op given)
 IsLawfulDoing q fits_args fits_text kinds text number args replies (doing.At (action.Fork process given place_on)) =
     ((object : ObjectId) → IsArgumentOf given object → (kind : KindNo) × IsKnownObject q kinds text number args replies object kind)
     × ((more : Kinds) → KnowsIn q kinds text number args replies more → fits_text more process given)
 IsLawfulDoing q fits_args fits_text kinds text number args replies (doing.At action.Ended) = Unit {0}
 IsLawfulDoing q fits_args fits_text kinds text number args replies (doing.At (action.Faulted fault)) = Unit {0}
 
-abbrev pub IsLawful : Computes → (Kinds → KindNo → OpNo → Data → Type 0) → (Kinds → TextNo → Data → Type 0) → Kinds → TextNo → ProcessNo → Data → List Reply → Type 0
+abbrev pub IsLawful : Computes → (Kinds → KindNo → OpNo → Data → Type 0) → (Kinds → TextNo → Data → Type 0) → Kinds → TextNo → ProcessNo →
+    Data → List Reply → Type 0
 IsLawful q fits_args fits_text kinds text number args replies =
     IsLawfulDoing q fits_args fits_text kinds text number args replies (next_of q text number args replies)

@@ -86,7 +86,10 @@ then_equal Equal = refl
 then_equal Greater = refl
 
 -- the order of values, by their keys
-by_keys : (v w : Datum) → datum_cmp v w ≡ ordering_then (nat_cmp (tag v) (tag w)) (ordering_then (int_cmp (integer_in v) (integer_in w)) (ordering_then (slice_cmp nat_cmp (codes_in v) (codes_in w)) (data_cmp (parts_in v) (parts_in w))))
+by_keys : (v w : Datum) →
+    datum_cmp v w ≡ ordering_then (nat_cmp (tag v) (tag w))
+    (ordering_then (int_cmp (integer_in v) (integer_in w))
+    (ordering_then (slice_cmp nat_cmp (codes_in v) (codes_in w)) (data_cmp (parts_in v) (parts_in w))))
 by_keys (datum.int y) (datum.int z) = sym (then_equal (int_cmp y z))
 by_keys (datum.truth true) (datum.truth true) = refl
 by_keys (datum.truth true) (datum.truth false) = refl
@@ -99,7 +102,9 @@ by_keys (datum.array vs) (datum.array ws) = refl
 by_keys (datum.fields vs) (datum.fields ws) = refl
 by_keys (datum.set vs) (datum.set ws) = refl
 by_keys (datum.bag vs) (datum.bag ws) = refl
-by_keys (datum.object p m) (datum.object q n) = sym (then_equal (ordering_then (nat_cmp p q) (ordering_then (nat_cmp m n) Equal)) ∙ ap (ordering_then (nat_cmp p q)) (then_equal (nat_cmp m n)))
+by_keys (datum.object p m) (datum.object q n) = sym
+    (then_equal (ordering_then (nat_cmp p q) (ordering_then (nat_cmp m n) Equal)) ∙
+    ap (ordering_then (nat_cmp p q)) (then_equal (nat_cmp m n)))
 by_keys v w = refl
 
 none_first : (R : Datum → Datum → Ordering) (w : Data) → slice_cmp R [] (list_of w) ≡ data_cmp datum.none w
@@ -132,8 +137,12 @@ parts_nest (datum.bag w) n h = omega arith
 parts_nest (datum.object p m) n h = omega arith
 
 -- where the lists of parts agree, so do the orders
-by_parts : (n : ℕ) (v w : Datum) → slice_cmp (cmp_within n) (list_of (parts_in v)) (list_of (parts_in w)) ≡ data_cmp (parts_in v) (parts_in w) → cmp_within (suc n) v w ≡ datum_cmp v w
-by_parts n v w same = ap (λ r. ordering_then (nat_cmp (tag v) (tag w)) (ordering_then (int_cmp (integer_in v) (integer_in w)) (ordering_then (slice_cmp nat_cmp (codes_in v) (codes_in w)) r))) same ∙ sym (by_keys v w)
+by_parts : (n : ℕ) (v w : Datum) → slice_cmp (cmp_within n) (list_of (parts_in v)) (list_of (parts_in w)) ≡
+    data_cmp (parts_in v) (parts_in w) → cmp_within (suc n) v w ≡ datum_cmp v w
+by_parts n v w same = ap
+    (λ r. ordering_then (nat_cmp (tag v) (tag w))
+    (ordering_then (int_cmp (integer_in v) (integer_in w)) (ordering_then (slice_cmp nat_cmp (codes_in v) (codes_in w)) r))) same ∙
+    sym (by_keys v w)
 
 -- values that nest at most so deep are compared so deep
 mutual
@@ -144,13 +153,16 @@ mutual
   within-datum (datum.char c) w (suc n) h k = by_parts n (datum.char c) w (none_first (cmp_within n) (parts_in w))
   within-datum (datum.enumerated m) w (suc n) h k = by_parts n (datum.enumerated m) w (none_first (cmp_within n) (parts_in w))
   within-datum (datum.text t) w (suc n) h k = by_parts n (datum.text t) w (none_first (cmp_within n) (parts_in w))
-  within-datum (datum.array vs) w (suc n) h k = by_parts n (datum.array vs) w (within-data vs (parts_in w) n (omega arith) (parts_nest w n k))
-  within-datum (datum.fields vs) w (suc n) h k = by_parts n (datum.fields vs) w (within-data vs (parts_in w) n (omega arith) (parts_nest w n k))
+  within-datum (datum.array vs) w (suc n) h k = by_parts n (datum.array vs) w
+      (within-data vs (parts_in w) n (omega arith) (parts_nest w n k))
+  within-datum (datum.fields vs) w (suc n) h k = by_parts n (datum.fields vs) w
+      (within-data vs (parts_in w) n (omega arith) (parts_nest w n k))
   within-datum (datum.set vs) w (suc n) h k = by_parts n (datum.set vs) w (within-data vs (parts_in w) n (omega arith) (parts_nest w n k))
   within-datum (datum.bag vs) w (suc n) h k = by_parts n (datum.bag vs) w (within-data vs (parts_in w) n (omega arith) (parts_nest w n k))
   within-datum (datum.object p m) w (suc n) h k = by_parts n (datum.object p m) w (none_first (cmp_within n) (parts_in w))
 
-  pub within-data : (vs ws : Data) (n : ℕ) → nesting_of_all vs ≤ n → nesting_of_all ws ≤ n → slice_cmp (cmp_within n) (list_of vs) (list_of ws) ≡ data_cmp vs ws
+  pub within-data : (vs ws : Data) (n : ℕ) → nesting_of_all vs ≤ n → nesting_of_all ws ≤ n →
+      slice_cmp (cmp_within n) (list_of vs) (list_of ws) ≡ data_cmp vs ws
   within-data datum.none ws n h k = none_first (cmp_within n) ws
   within-data (datum.more v vs) datum.none n h k = refl
   within-data (datum.more v vs) (datum.more w ws) n h k =
@@ -162,13 +174,18 @@ pub datum_total : IsTotalOrder datum_cmp
 datum_total = record {
   antisymm = λ v w.
       let n = nesting v + nesting w in
-      sym (within-datum v w n (omega arith) (omega arith)) ∙ (cmp_within_total n).antisymm v w ∙ ap ordering_reverse (within-datum w v n (omega arith) (omega arith));
+      sym (within-datum v w n (omega arith) (omega arith)) ∙ (cmp_within_total n).antisymm v w ∙
+      ap ordering_reverse (within-datum w v n (omega arith) (omega arith));
   trans = λ u v w p q.
       let n = nesting u + nesting v + nesting w in
-      sym (within-datum u w n (omega arith) (omega arith)) ∙ (cmp_within_total n).trans u v w (within-datum u v n (omega arith) (omega arith) ∙ p) (within-datum v w n (omega arith) (omega arith) ∙ q);
+      sym (within-datum u w n (omega arith) (omega arith)) ∙
+      (cmp_within_total n).trans u v w (within-datum u v n (omega arith) (omega arith) ∙ p)
+      (within-datum v w n (omega arith) (omega arith) ∙ q);
   congr = λ u v w p.
       let n = nesting u + nesting v + nesting w in
-      sym (within-datum u w n (omega arith) (omega arith)) ∙ (cmp_within_total n).congr u v w (within-datum u v n (omega arith) (omega arith) ∙ p) ∙ within-datum v w n (omega arith) (omega arith);
+      sym (within-datum u w n (omega arith) (omega arith)) ∙
+      (cmp_within_total n).congr u v w (within-datum u v n (omega arith) (omega arith) ∙ p) ∙
+      within-datum v w n (omega arith) (omega arith);
 }
 
 -- the order of lists of values, as that of the arrays that have them

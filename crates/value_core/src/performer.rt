@@ -66,25 +66,33 @@ pub trait Performer {
     ghost made_fits: { (m : Self) (kinds : Kinds) (kind : KindNo) → IfMade ((performs m).made kind) (fits_state m kinds kind) };
 
     /// What a try leaves fits again.
-    ghost keeps_fit: { (m : Self) (kinds : Kinds) (kind : KindNo) (op : OpNo) (state args : Data) → fits_state m kinds kind state → fits_args m kinds kind op args → KeepsState ((performs m).tries kind op state args) (fits_state m kinds kind) };
+    ghost keeps_fit: { (m : Self) (kinds : Kinds) (kind : KindNo) (op : OpNo) (state args : Data) → fits_state m kinds kind state →
+        fits_args m kinds kind op args → KeepsState ((performs m).tries kind op state args) (fits_state m kinds kind) };
 
     /// What a try replies fits.
-    ghost replies_fit: { (m : Self) (kinds : Kinds) (kind : KindNo) (op : OpNo) (state args : Data) → fits_state m kinds kind state → fits_args m kinds kind op args → RepliesWell ((performs m).tries kind op state args) (fits_reply m kind op) };
+    ghost replies_fit: { (m : Self) (kinds : Kinds) (kind : KindNo) (op : OpNo) (state args : Data) → fits_state m kinds kind state →
+        fits_args m kinds kind op args → RepliesWell ((performs m).tries kind op state args) (fits_reply m kind op) };
 
     /// A read leaves the state as it is.
-    ghost reads_keep: { (m : Self) (kinds : Kinds) (kind : KindNo) (op : OpNo) (state args : Data) → (performs m).class_of kind op ≡ Reads → fits_state m kinds kind state → fits_args m kinds kind op args → KeepsState ((performs m).tries kind op state args) (λ after. after ≡ state) };
+    ghost reads_keep: { (m : Self) (kinds : Kinds) (kind : KindNo) (op : OpNo) (state args : Data) → (performs m).class_of kind op ≡ Reads →
+        fits_state m kinds kind state → fits_args m kinds kind op args →
+        KeepsState ((performs m).tries kind op state args) (λ after. after ≡ state) };
 
     /// What fits stays fitting as more objects come to be.
-    ghost state_stays_fit: { (m : Self) (kinds more : Kinds) (kind : KindNo) (state : Data) → ExtendsKinds kinds more → fits_state m kinds kind state → fits_state m more kind state };
+    ghost state_stays_fit: { (m : Self) (kinds more : Kinds) (kind : KindNo) (state : Data) → ExtendsKinds kinds more →
+        fits_state m kinds kind state → fits_state m more kind state };
 
-    ghost args_stay_fit: { (m : Self) (kinds more : Kinds) (kind : KindNo) (op : OpNo) (args : Data) → ExtendsKinds kinds more → fits_args m kinds kind op args → fits_args m more kind op args };
+    ghost args_stay_fit: { (m : Self) (kinds more : Kinds) (kind : KindNo) (op : OpNo) (args : Data) → ExtendsKinds kinds more →
+        fits_args m kinds kind op args → fits_args m more kind op args };
 
-    ghost text_stays_fit: { (m : Self) (kinds more : Kinds) (text : TextNo) (args : Data) → ExtendsKinds kinds more → fits_text m kinds text args → fits_text m more text args };
+    ghost text_stays_fit: { (m : Self) (kinds more : Kinds) (text : TextNo) (args : Data) → ExtendsKinds kinds more →
+        fits_text m kinds text args → fits_text m more text args };
 
     /// What fits is sound: a program has no other values, and bytes spell these.
     ghost state_sound: { (m : Self) (kinds : Kinds) (kind : KindNo) (state : Data) → fits_state m kinds kind state → AreSound state };
 
-    ghost args_sound: { (m : Self) (kinds : Kinds) (kind : KindNo) (op : OpNo) (args : Data) → fits_args m kinds kind op args → AreSoundArguments args };
+    ghost args_sound: { (m : Self) (kinds : Kinds) (kind : KindNo) (op : OpNo) (args : Data) → fits_args m kinds kind op args →
+        AreSoundArguments args };
 
     ghost text_sound: { (m : Self) (kinds : Kinds) (text : TextNo) (args : Data) → fits_text m kinds text args → AreSoundArguments args };
 

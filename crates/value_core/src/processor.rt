@@ -93,9 +93,13 @@ pub trait Processor: Performer {
     ghost main_fits: { (m : Self) (kinds : Kinds) → Self.fits_text m kinds ((computes m).main) datum.none };
 
     /// What a process does next, once it isn't busy, is the same for every greater number of turns.
-    ghost settled: { (m : Self) (text : TextNo) (number : ProcessNo) (args : Data) (replies : List Reply) (n k : ℕ) → ((computes m).doing text number args replies n ≡ Busy → ⊥) → (computes m).doing text number args replies (n + k) ≡ (computes m).doing text number args replies n };
+    ghost settled: { (m : Self) (text : TextNo) (number : ProcessNo) (args : Data) (replies : List Reply) (n k : ℕ) →
+        ((computes m).doing text number args replies n ≡ Busy → ⊥) →
+        (computes m).doing text number args replies (n + k) ≡ (computes m).doing text number args replies n };
 
     /// A process whose arguments and replies fit makes its own objects in order, calls and hands on only objects that it knows,
     /// by their types, and with arguments that fit.
-    ghost lawful: { (m : Self) (kinds : Kinds) (text : TextNo) (number : ProcessNo) (args : Data) (replies : List Reply) → Self.fits_text m kinds text args → RepliesFit (computes m) (Self.fits_reply m) text number args replies → IsLawful (computes m) (Self.fits_args m) (Self.fits_text m) kinds text number args replies };
+    ghost lawful: { (m : Self) (kinds : Kinds) (text : TextNo) (number : ProcessNo) (args : Data) (replies : List Reply) →
+        Self.fits_text m kinds text args → RepliesFit (computes m) (Self.fits_reply m) text number args replies →
+        IsLawful (computes m) (Self.fits_args m) (Self.fits_text m) kinds text number args replies };
 }

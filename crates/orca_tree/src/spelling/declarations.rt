@@ -65,7 +65,9 @@ impl Speller {
 
     // The words of a constant.
     fn constant(&mut self, name: &Name, value: &Bound) -> Result<(), NoMemory>
-        ensures { OnOk result (self.new ≡ self.old ++ Key Keyword.KeyConst ∷ spelled (name_mark name.now ∷ word (Sign Symbol.Equals) ∷ (bound value.now ++ word (Sign Semicolon) ∷ []))) }
+        ensures { OnOk result
+            (self.new ≡ self.old ++ Key Keyword.KeyConst ∷
+            spelled (name_mark name.now ∷ word (Sign Symbol.Equals) ∷ (bound value.now ++ word (Sign Semicolon) ∷ []))) }
     {
         self.key(Keyword::KeyConst)?;
         self.name(name)?;
@@ -76,7 +78,9 @@ impl Speller {
 
     // The words of a type's declaration.
     fn type_declaration(&mut self, name: &Name, of: &Definition) -> Result<(), NoMemory>
-        ensures { OnOk result (self.new ≡ self.old ++ Key Keyword.KeyType ∷ spelled (name_mark name.now ∷ word (Sign Symbol.Equals) ∷ (definition of.now ++ word (Sign Semicolon) ∷ []))) }
+        ensures { OnOk result
+            (self.new ≡ self.old ++ Key Keyword.KeyType ∷
+            spelled (name_mark name.now ∷ word (Sign Symbol.Equals) ∷ (definition of.now ++ word (Sign Semicolon) ∷ []))) }
     {
         self.key(Keyword::KeyType)?;
         self.name(name)?;
@@ -119,7 +123,9 @@ impl Speller {
 
     // The words of a specification.
     fn specification(&mut self, name: &Name, all: &[Head]) -> Result<(), NoMemory>
-        ensures { OnOk result (self.new ≡ self.old ++ Key Keyword.KeyObject ∷ Key Keyword.KeySpecification ∷ spelled (name_mark name.now ∷ word (Sign Semicolon) ∷ ended (heads all.now))) }
+        ensures { OnOk result
+            (self.new ≡ self.old ++ Key Keyword.KeyObject ∷ Key Keyword.KeySpecification ∷
+            spelled (name_mark name.now ∷ word (Sign Semicolon) ∷ ended (heads all.now))) }
     {
         self.key(Keyword::KeyObject)?;
         self.key(Keyword::KeySpecification)?;
@@ -161,7 +167,9 @@ impl Speller {
         operations: &[Operation],
         begins: &Option<Vec<Statement>>,
     ) -> Result<(), NoMemory>
-        ensures { OnOk result (self.new ≡ self.old ++ Key Keyword.KeyObject ∷ Key Keyword.KeyImplementation ∷ spelled (name_mark name.now ∷ word (Sign Semicolon)
+        ensures { OnOk result
+            (self.new ≡ self.old ++ Key Keyword.KeyObject ∷ Key Keyword.KeyImplementation ∷
+            spelled (name_mark name.now ∷ word (Sign Semicolon)
             ∷ ended (all_variables fields.now ++ (flat_map operation operations.now ++ if_any (λ ss. opening ss.items) begins.now)))) }
     {
         self.key(Keyword::KeyObject)?;

@@ -145,7 +145,9 @@ impl Speller {
         operation: &Name,
         given: &[Expression],
     ) -> Result<(), NoMemory>
-        ensures { OnOk result (self.new ≡ self.old ++ spelled (name_mark object.now ∷ word (Sign Dollar) ∷ name_mark operation.now ∷ enclosed (arguments given.now))) }
+        ensures { OnOk result
+            (self.new ≡ self.old ++
+            spelled (name_mark object.now ∷ word (Sign Dollar) ∷ name_mark operation.now ∷ enclosed (arguments given.now))) }
     {
         self.name(object)?;
         self.sign(Symbol::Dollar)?;

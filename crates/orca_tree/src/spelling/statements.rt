@@ -126,7 +126,9 @@ impl Speller {
     // The words of a `while`.
     #[cycle(spell_statements)]
     fn while_loop(&mut self, body: &[Statement], test: &Expression) -> Result<(), NoMemory>
-        ensures { OnOk result (self.new ≡ self.old ++ Key Keyword.KeyWhile ∷ spelled (expression test.now ++ word (Key KeyDo) ∷ (statements body.now ++ word (Key KeyOd) ∷ []))) }
+        ensures { OnOk result
+            (self.new ≡ self.old ++ Key Keyword.KeyWhile ∷
+            spelled (expression test.now ++ word (Key KeyDo) ∷ (statements body.now ++ word (Key KeyOd) ∷ []))) }
     {
         self.key(Keyword::KeyWhile)?;
         self.expression(test)?;
@@ -136,7 +138,10 @@ impl Speller {
     // The words of a `for`.
     #[cycle(spell_statements)]
     fn for_loop(&mut self, name: &Name, range: &Range, body: &[Statement]) -> Result<(), NoMemory>
-        ensures { OnOk result (self.new ≡ self.old ++ Key Keyword.KeyFor ∷ TokenKind.Name name.now.text ∷ Key Keyword.KeyIn ∷ spelled (expression range.now.low ++ word (Sign Symbol.Range) ∷ (expression range.now.high ++ word (Key KeyDo) ∷ (statements body.now ++ word (Key KeyOd) ∷ [])))) }
+        ensures { OnOk result
+            (self.new ≡ self.old ++ Key Keyword.KeyFor ∷ TokenKind.Name name.now.text ∷ Key Keyword.KeyIn ∷
+            spelled (expression range.now.low ++ word (Sign Symbol.Range) ∷
+            (expression range.now.high ++ word (Key KeyDo) ∷ (statements body.now ++ word (Key KeyOd) ∷ [])))) }
     {
         self.key(Keyword::KeyFor)?;
         self.name(name)?;
@@ -158,7 +163,8 @@ impl Speller {
     // The words of a `repeat`.
     #[cycle(spell_statements)]
     fn repeat_loop(&mut self, body: &[Statement], test: &Expression) -> Result<(), NoMemory>
-        ensures { OnOk result (self.new ≡ self.old ++ Key Keyword.KeyRepeat ∷ spelled (statements body.now ++ word (Key KeyUntil) ∷ expression test.now)) }
+        ensures { OnOk result
+            (self.new ≡ self.old ++ Key Keyword.KeyRepeat ∷ spelled (statements body.now ++ word (Key KeyUntil) ∷ expression test.now)) }
     {
         self.key(Keyword::KeyRepeat)?;
         self.statements(body)?;
@@ -206,7 +212,10 @@ impl Speller {
         given: &[Expression],
         on: &Option<Expression>,
     ) -> Result<(), NoMemory>
-        ensures { OnOk result (self.new ≡ self.old ++ Key Keyword.KeyFork ∷ spelled (name_mark process.now ∷ (enclosed (arguments given.now) ++ if_any (λ e. word (Key Keyword.KeyOn) ∷ expression e) on.now))) }
+        ensures { OnOk result
+            (self.new ≡ self.old ++ Key Keyword.KeyFork ∷
+            spelled (name_mark process.now ∷
+            (enclosed (arguments given.now) ++ if_any (λ e. word (Key Keyword.KeyOn) ∷ expression e) on.now))) }
     {
         self.key(Keyword::KeyFork)?;
         self.call(process, given)?;
