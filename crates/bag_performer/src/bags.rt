@@ -27,16 +27,22 @@ impl Bags {
     /// A type whose making divides by zero.
     pub const BROKEN: KindNo = KindNo(3);
 
+    /// The pool's operation that puts an element in.
     pub const PUT: OpNo = OpNo(0);
 
+    /// The pool's guarded operation that takes an element out.
     pub const TAKE: OpNo = OpNo(1);
 
+    /// The flag's guarded read.
     pub const AWAIT: OpNo = OpNo(0);
 
+    /// The flag's assignment.
     pub const SET: OpNo = OpNo(1);
 
+    /// The flag's operation that assigns and then faults.
     pub const SPOIL: OpNo = OpNo(2);
 
+    /// The flag's operation of two guards.
     pub const STEP: OpNo = OpNo(3);
 }
 
