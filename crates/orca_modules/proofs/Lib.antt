@@ -1,0 +1,4 @@
+pub mod Firsts
+pub mod Widened
+pub mod Passes
+pub mod Cyclic
