@@ -2,3 +2,4 @@ pub mod Firsts
 pub mod Widened
 pub mod Passes
 pub mod Cyclic
+pub mod Ranked

@@ -8,6 +8,7 @@ ghost use Rattle.orca_modules.specs.Leading.{AllLead, IsClosed, IsLeading, outsi
 ghost use Rattle.orca_modules.specs.Judged.{Judges};
 
 use crate::names::{Names, add, holds};
+use crate::order::{falls, ranks};
 use crate::sites::ImportLine;
 use link_rules::LinkError;
 use orca_base::{NoMemory, Refusal, refuse};
@@ -75,8 +76,9 @@ fn turned<'a>(
     Ok(Leading { target, names })
 }
 
-/// No import lies on a cycle. Imports of one module stand together, so that the modules that lead to it are found once.
-pub fn acyclic(alloc: Global, lines: &[ImportLine<'_>]) -> Result<(), Refusal<LinkError>>
+// The first import that lies on a cycle is refused. Imports of one module stand together, so that the modules that lead to it are found
+// once.
+fn first_cycle(alloc: Global, lines: &[ImportLine<'_>]) -> Result<(), Refusal<LinkError>>
     ensures { (us : List Source) → imports us ≡ map import_line lines.now → Judges result (import_cycles us) }
 {
     let names = find_leading(alloc, lines, "")?;
@@ -89,4 +91,16 @@ pub fn acyclic(alloc: Global, lines: &[ImportLine<'_>]) -> Result<(), Refusal<Li
         }
     }
     Ok(())
+}
+
+/// No import lies on a cycle. Where the modules can be put in an order, each import is gone through a few times; the first import on a
+/// cycle takes as many passes over all imports as the square of the number of modules, at most.
+pub fn acyclic(alloc: Global, lines: &[ImportLine<'_>]) -> Result<(), Refusal<LinkError>>
+    ensures { (us : List Source) → imports us ≡ map import_line lines.now → Judges result (import_cycles us) }
+{
+    let ranks = ranks(alloc, lines)?;
+    if falls(&ranks, lines) {
+        return Ok(());
+    }
+    first_cycle(alloc, lines)
 }

@@ -10,6 +10,7 @@
 mod cycles;
 mod linking;
 mod names;
+mod order;
 mod program;
 mod rules;
 mod sites;

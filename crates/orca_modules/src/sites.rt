@@ -2,7 +2,7 @@
 
 ghost use Rattle.std.specs.Prelude.{◌≡◌, ◌++◌, ◌∷◌, [], map, IfOk, OnOk};
 ghost use Rattle.orca_syntax.specs.Shown.{decl};
-ghost use Rattle.link_rules.specs.Units.{defined, defined_by, definitions, definitions_of, imported, imports, imports_of, module_of, source};
+ghost use Rattle.link_rules.specs.Units.{defined, defined_by, definitions, definitions_of, imports, imports_of, module_of, source};
 ghost use Rattle.link_rules.specs.Rules.{at_definition, at_import};
 ghost use Rattle.orca_modules.specs.Seen.{definition as definition_seen, import_line};
 
@@ -91,7 +91,8 @@ fn values<'a>(
     file: &'a Text,
     names: &'a [Name],
 ) -> Result<(), NoMemory>
-    ensures { OnOk result (map definition_seen all.new.items ≡ map definition_seen all.old.items ++ map (defined file.now Role.Other) names.now) }
+    ensures { OnOk result (map definition_seen all.new.items ≡
+        map definition_seen all.old.items ++ map (defined file.now Role.Other) names.now) }
 {
     'values: for name in names {
         all.push(Definition::new(Role::Other, file, name))?;
@@ -105,7 +106,8 @@ fn declaration<'a>(
     file: &'a Text,
     declaration: &'a Declaration,
 ) -> Result<(), NoMemory>
-    ensures { OnOk result (map definition_seen all.new.items ≡ map definition_seen all.old.items ++ defined_by file.now (decl declaration.now)) }
+    ensures { OnOk result (map definition_seen all.new.items ≡
+        map definition_seen all.old.items ++ defined_by file.now (decl declaration.now)) }
 {
     let (role, name) = match declaration {
         Declaration::Specification { name, .. } => (Role::Specification, name),
@@ -127,7 +129,8 @@ fn declaration<'a>(
 
 // What a unit defines.
 fn unit_definitions<'a>(all: &mut Vec<Definition<'a>>, unit: &'a NamedUnit) -> Result<(), NoMemory>
-    ensures { OnOk result (map definition_seen all.new.items ≡ map definition_seen all.old.items ++ definitions_of (source unit.now)) }
+    ensures { OnOk result (map definition_seen all.new.items ≡
+        map definition_seen all.old.items ++ definitions_of (source unit.now)) }
 {
     all.push(module_definition(unit))?;
     'declarations: for part in &unit.unit.declarations {

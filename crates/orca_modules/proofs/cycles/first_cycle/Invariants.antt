@@ -4,7 +4,7 @@ use Rattle.link_rules.specs.Units.{Source, imports}
 use Rattle.link_rules.specs.Rules.{is_on_cycle}
 use Rattle.orca_modules.specs.Seen.{import_line}
 use Rattle.orca_modules.specs.Leading.{IsLeading}
-use Rattle.orca_modules.proofs.cycles.acyclic.Given as goal
+use Rattle.orca_modules.proofs.cycles.first_cycle.Given as goal
 
 abbrev pub invariant-imports : goal.invariant-imports
 invariant-imports l =
