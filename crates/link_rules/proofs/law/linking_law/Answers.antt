@@ -1,0 +1,5 @@
+use Rattle.link_rules.proofs.Ways.{reaches_all}
+use Rattle.link_rules.proofs.law.linking_law.Goals as goal
+
+pub returns : goal.returns
+returns c = record { cycles = reaches_all }

@@ -1,0 +1,42 @@
+//! Linking.
+
+ghost use Rattle.std.specs.Prelude.{◌≡◌, map, IfOk};
+ghost use Rattle.orca_base.specs.Refusal.{IfBecause};
+ghost use Rattle.link_rules.specs.Units.{source};
+ghost use Rattle.link_rules.specs.Rules.{IsLinkError, link_errors};
+ghost use Rattle.orca_modules.specs.Judged.{Judges};
+
+use crate::cycles::acyclic;
+use crate::program::Program;
+use crate::rules::{distinct, implemented, known, with_main};
+use crate::sites::{definitions, imports};
+use link_rules::{LinkError, NamedUnit};
+use orca_base::Refusal;
+use std::alloc::Global;
+
+// The rules of linking, the lowest first.
+fn check(alloc: Global, units: &[NamedUnit]) -> Result<(), Refusal<LinkError>>
+    ensures { Judges result (link_errors (map source units.now)) }
+{
+    let definitions = definitions(alloc, units)?;
+    let imports = imports(alloc, units)?;
+    let tables = distinct(alloc, &definitions)?;
+    known(alloc, &tables, &imports)?;
+    acyclic(alloc, &imports)?;
+    with_main(alloc, &definitions)?;
+    implemented(alloc, &tables, &definitions)
+}
+
+/// The program that these units are, exactly where they link: no name is defined twice, what is imported is a module, no import lies on a
+/// cycle, a name is `OrcaMain`, and each specification has an implementation (docs/LANGUAGE.md, Linking). Names are looked up in trees,
+/// so the cost is that of the names that are defined and imported times the logarithm of their number, but for cycles: for these all
+/// imports are gone through at most as often as the square of the number of modules.
+pub fn link(alloc: Global, units: Vec<NamedUnit>) -> Result<Program, Refusal<LinkError>>
+    ensures program { IfOk result (λ p. p.units.items ≡ units.items) }
+
+    // The first breach of the lowest rule that is broken.
+    ensures refused { IfBecause result (IsLinkError (map source units.items)) }
+{
+    check(alloc, &units)?;
+    Ok(Program { units })
+}
