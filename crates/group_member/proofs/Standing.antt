@@ -9,7 +9,9 @@ use Rattle.group_rules.specs.Member.{Report, Member as RulesMember, nobody, repo
 use Rattle.group_rules.specs.OnWire.{on_join}
 use Rattle.group_rules.specs.Reset.{gathers, keeps}
 use Rattle.group_member.specs.declared.member.Member.{Member}
-use Rattle.group_member.specs.StandsFor.{Becomes, StandsFor, PutIn, on_answer, on_waiting, join_of, test_of}
+use Rattle.orca_base.specs.declared.ids.MessageId.{MessageId}
+use Rattle.group_member.specs.LastCalls.{group_of}
+use Rattle.group_member.specs.StandsFor.{Follows, IsMember, StandsFor, PutIn, on_answer, on_waiting, join_of, test_of}
 
 answers_with : {B R : Type 0} (k from : ℕ) (join : Join B R) (report : Report B) (answers : ℕ → Option (Report B)) (old new : List (ℕ × Join B R)) → on_join k report ≡ join → ((x : ℕ) → on_answer k (answers x) ≡ join_of x old) → PutIn from join old new
     → (x : ℕ) → on_answer k (with_at answers from (Some report) x) ≡ join_of x new
@@ -29,9 +31,14 @@ based_with {B} from report answers low h x other e = go (x == from) e
     go true q = let s : report ≡ other = cc in (let P : Report B → Type 0 = λ r. r.base ≤ length r.log in subst P s low)
     go false q = h x other q
 
-pub keeps_answer : {B R : Type 0} {g : Group B} {s : Member B R} {m : RulesMember B} (from : ℕ) (join : Join B R) (report : Report B) (answers : Vec (ℕ × Join B R) Global) → StandsFor g s m → on_join s.promised report ≡ join → report.base ≤ length report.log → PutIn from join s.answers.items answers.items
-    → StandsFor g (record s { answers = answers }) (keeps from report m)
-keeps_answer {R = R} {s = s} {m = m} from join report answers h wire low put = record {
+pub keeps_answer : {B R : Type 0} {g : Group B} {which : ℕ} {s : Member B R} {m : RulesMember B} (from : ℕ) (join : Join B R) (report : Report B) (answers : Vec (ℕ × Join B R) Global) → IsMember (record s { answers = answers }) → StandsFor g which s m
+    → on_join s.promised report ≡ join → report.base ≤ length report.log → PutIn from join s.answers.items answers.items
+    → StandsFor g which (record s { answers = answers }) (keeps from report m)
+keeps_answer {R = R} {s = s} {m = m} from join report answers is h wire low put = record {
+  nodes = h.nodes;
+  resilience = h.resilience;
+  me = h.me;
+  member = is;
   installed = h.installed;
   promised = h.promised;
   answered = h.answered;
@@ -52,12 +59,16 @@ keeps_answer {R = R} {s = s} {m = m} from join report answers h wire low put = r
   answers = answers_with m.promised from join report m.answers s.answers.items answers.items (ap (λ k. on_join k report) h.promised ∙ wire) h.answers put;
   based = based_with from report m.answers low h.based;
   last = h.last;
-  purged = h.purged;
+  done = h.done;
 }
 
 -- the same answers in another vector
-pub same_answers : {B R : Type 0} {g : Group B} {s : Member B R} {m : RulesMember B} (answers : Vec (ℕ × Join B R) Global) → answers.items ≡ s.answers.items → StandsFor g s m → StandsFor g (record s { answers = answers }) m
-same_answers {s = s} answers e h = record {
+pub same_answers : {B R : Type 0} {g : Group B} {which : ℕ} {s : Member B R} {m : RulesMember B} (answers : Vec (ℕ × Join B R) Global) → answers.items ≡ s.answers.items → IsMember (record s { answers = answers }) → StandsFor g which s m → StandsFor g which (record s { answers = answers }) m
+same_answers {s = s} answers e is h = record {
+  nodes = h.nodes;
+  resilience = h.resilience;
+  me = h.me;
+  member = is;
   installed = h.installed;
   promised = h.promised;
   answered = h.answered;
@@ -78,23 +89,26 @@ same_answers {s = s} answers e h = record {
   answers = λ x. h.answers x ∙ ap (join_of x) (sym e);
   based = h.based;
   last = h.last;
-  purged = h.purged;
+  done = h.done;
 }
 
--- the clauses of the call that keeps an answer
-pub keeps_row : {A E B R : Type 0} (g : Group B) (s : Member B R) (from : ℕ) (join : Join B R) (answers : Vec (ℕ × Join B R) Global) (r : Result A E) → OnOk r (PutIn from join s.answers.items answers.items)
-    → OnOk r ((report : Report B) → on_join s.promised report ≡ join → report.base ≤ length report.log → Becomes g s (record s { answers = answers }) (keeps from report))
-keeps_row g s from join answers (Ok a) put = λ report wire low m h. keeps_answer from join report answers h wire low put
-keeps_row g s from join answers (Err e) put = tt
+same_places : {B R : Type 0} {s : Member B R} (answers : Vec (ℕ × Join B R) Global) → IsMember s → IsMember (record s { answers = answers })
+same_places answers i = record { me = i.me; answered = i.answered; acked = i.acked; heard = i.heard; purges = i.purges; applies = i.applies; accepts = i.accepts; kept = i.kept; small = i.small }
 
-pub keeps_none : {A E B R : Type 0} (g : Group B) (s : Member B R) (answers : Vec (ℕ × Join B R) Global) (r : Result A E) → OnErr r (answers.items ≡ s.answers.items) → OnErr r (Becomes g s (record s { answers = answers }) (λ m. m))
-keeps_none g s answers (Ok a) e = tt
-keeps_none g s answers (Err x) e = λ m h. same_answers answers e h
+-- the clauses of the call that keeps an answer
+pub keeps_row : {A E B R : Type 0} (name : B → MessageId) (bytes : B → ℕ) (s : Member B R) (from : ℕ) (join : Join B R) (answers : Vec (ℕ × Join B R) Global) (r : Result A E) → OnOk r (PutIn from join s.answers.items answers.items)
+    → OnOk r ((report : Report B) → on_join s.promised report ≡ join → report.base ≤ length report.log → Follows name bytes s (record s { answers = answers }) (λ g which. keeps from report))
+keeps_row name bytes s from join answers (Ok a) put = λ report wire low nodes resilience which m h. keeps_answer from join report answers (same_places answers h.member) h wire low put
+keeps_row name bytes s from join answers (Err e) put = tt
+
+pub keeps_none : {A E B R : Type 0} (name : B → MessageId) (bytes : B → ℕ) (s : Member B R) (answers : Vec (ℕ × Join B R) Global) (r : Result A E) → OnErr r (answers.items ≡ s.answers.items) → OnErr r (Follows name bytes s (record s { answers = answers }) (λ g which m. m))
+keeps_none name bytes s answers (Ok a) e = tt
+keeps_none name bytes s answers (Err x) e = λ nodes resilience which m h. same_answers answers e (same_places answers h.member) h
 
 -- what a member tells of itself
-pub own_join_is : {B R : Type 0} (g : Group B) (s : Member B R) (base : ℕ) (messages : List B) → base ≡ s.window.base → messages ≡ s.window.items → (m : RulesMember B) → StandsFor g s m
+pub own_join_is : {B R : Type 0} (g : Group B) (which : ℕ) (s : Member B R) (base : ℕ) (messages : List B) → base ≡ s.window.base → messages ≡ s.window.items → (m : RulesMember B) → StandsFor g which s m
     → record { incarnation = s.promised; installed = s.installed; accepted = s.accepted; applied = s.applied; base = base; messages = messages } ≡ on_join {M = B} {R = R} m.promised (report_of m)
-own_join_is g s base messages b l m h = rw (h.log, h.base, h.promised, h.installed, h.accepted, h.applied, b, l) refl
+own_join_is g which s base messages b l m h = rw (h.log, h.base, h.promised, h.installed, h.accepted, h.applied, b, l) refl
 
 alone_based : {B : Type 0} (me : ℕ) (m : RulesMember B) → m.base ≤ length m.log → (x : ℕ) (other : Report B) → with_at nobody me (Some (report_of m)) x ≡ Some other → other.base ≤ length other.log
 alone_based me m low x other e = based_with me (report_of m) nobody low (λ y r q. absurd (none_is r q)) x other e
@@ -103,9 +117,15 @@ alone_based me m low x other e = based_with me (report_of m) nobody low (λ y r 
     none_is r q = cc
 
 -- a coordinator keeps its own answer alone
-pub gathers_row : {B R : Type 0} (g : Group B) (s : Member B R) (k : ℕ) (own : Join B R) (answers : Vec (ℕ × Join B R) Global) → ((m : RulesMember B) → StandsFor g s m → own ≡ on_join m.promised (report_of m)) → answers.items ≡ (s.me, record own { incarnation = k }) ∷ []
-    → Becomes g s (record s { promised = k; silent = 0; answers = answers }) (gathers s.me k)
-gathers_row {B} {R} g s k own answers tells is m h = record {
+pub gathers_row : {B R : Type 0} (name : B → MessageId) (bytes : B → ℕ) (s : Member B R) (k : ℕ) (own : Join B R) (answers : Vec (ℕ × Join B R) Global)
+    → ((nodes resilience which : ℕ) (m : RulesMember B) → StandsFor (group_of name bytes nodes resilience) which s m → own ≡ on_join m.promised (report_of m))
+    → answers.items ≡ (s.me, record own { incarnation = k }) ∷ []
+    → Follows name bytes s (record s { promised = k; silent = 0; answers = answers }) (λ g which. gathers which k)
+gathers_row {B} {R} name bytes s k own answers tells is nodes resilience which m h = record {
+  nodes = h.nodes;
+  resilience = h.resilience;
+  me = h.me;
+  member = record { me = h.member.me; answered = h.member.answered; acked = h.member.acked; heard = h.member.heard; purges = h.member.purges; applies = h.member.applies; accepts = h.member.accepts; kept = h.member.kept; small = h.member.small };
   installed = h.installed;
   promised = refl;
   answered = h.answered;
@@ -123,20 +143,24 @@ gathers_row {B} {R} g s k own answers tells is m h = record {
   acked = h.acked;
   heard = h.heard;
   waiting = h.waiting;
-  answers = answers_with k s.me (record own { incarnation = k }) (report_of m) nobody [] answers.items (sym (ap (λ (j : Join B R). record j { incarnation = k }) (tells m h))) (λ x. refl) (λ x. ap (join_of x) is);
-  based = alone_based s.me m h.whole;
+  answers = answers_with k which (record own { incarnation = k }) (report_of m) nobody [] answers.items (sym (ap (λ (j : Join B R). record j { incarnation = k }) (tells nodes resilience which m h))) (λ x. refl) (λ x. ap (join_of x) is ∙ ap (λ (n : ℕ). if n == x then Some (record own { incarnation = k }) else None) h.me);
+  based = alone_based which m h.whole;
   last = h.last;
-  purged = h.purged;
+  done = h.done;
 }
 
 -- equal lists in other vectors
-pub copied_row : {B R : Type 0} (g : Group B) (s t : Member B R) → t ≡ record s { answered = t.answered; window = t.window; pending = t.pending; bodies = t.bodies; acked = t.acked; heard = t.heard; waiting = t.waiting; answers = t.answers; last = t.last; purged = t.purged }
+pub copied_row : {B R : Type 0} (name : B → MessageId) (bytes : B → ℕ) (s t : Member B R) → t ≡ record s { answered = t.answered; window = t.window; pending = t.pending; bodies = t.bodies; acked = t.acked; heard = t.heard; waiting = t.waiting; answers = t.answers; last = t.last; done = t.done }
     → t.answered.items ≡ s.answered.items → t.window ≡ s.window → t.pending.items ≡ s.pending.items → t.bodies.items ≡ s.bodies.items → t.acked.items ≡ s.acked.items → t.heard.items ≡ s.heard.items
-    → t.waiting.items ≡ s.waiting.items → t.answers.items ≡ s.answers.items → t.last.calls.items ≡ s.last.calls.items → t.purged.calls.items ≡ s.purged.calls.items → Becomes g s t (λ m. m)
-copied_row {B} {R} g s t same answered window pending bodies acked heard waiting answers last purged m h = record {
+    → t.waiting.items ≡ s.waiting.items → t.answers.items ≡ s.answers.items → t.last.calls.items ≡ s.last.calls.items → t.done.calls.items ≡ s.done.calls.items → (IsMember s → IsMember t) → Follows name bytes s t (λ g which m. m)
+copied_row {B} {R} name bytes s t same answered window pending bodies acked heard waiting answers last done is nodes resilience which m h = record {
+  nodes = ap (λ (u : Member B R). u.config.nodes) same ∙ h.nodes;
+  resilience = ap (λ (u : Member B R). u.config.resilience) same ∙ h.resilience;
+  me = ap (λ (u : Member B R). u.me) same ∙ h.me;
+  member = is h.member;
   installed = h.installed ∙ sym (ap (λ (u : Member B R). u.installed) same);
   promised = h.promised ∙ sym (ap (λ (u : Member B R). u.promised) same);
-  answered = λ x l. h.answered x (of_nodes l) ∙ ap (λ (xs : List Bool). test_of xs x) (sym answered);
+  answered = λ x l. h.answered x l ∙ ap (λ (xs : List Bool). test_of xs x) (sym answered);
   base = h.base ∙ ap (λ (w : Window B). w.base) (sym window);
   log = h.log ∙ ap (λ (w : Window B). w.items) (sym window);
   whole = h.whole;
@@ -148,14 +172,11 @@ copied_row {B} {R} g s t same answered window pending bodies acked heard waiting
   nacked = h.nacked ∙ sym (ap (λ (u : Member B R). u.nacked) same);
   reported = h.reported ∙ sym (ap (λ (u : Member B R). u.reported) same);
   outside = h.outside ∙ sym (ap (λ (u : Member B R). u.outside) same);
-  acked = λ x l. h.acked x (of_nodes l) ∙ ap (λ (xs : List ℕ). slice_index_or xs x 0) (sym acked);
-  heard = λ x l. h.heard x (of_nodes l) ∙ ap (λ (xs : List (Option ℕ)). slice_index_or xs x None) (sym heard);
+  acked = λ x l. h.acked x l ∙ ap (λ (xs : List ℕ). slice_index_or xs x 0) (sym acked);
+  heard = λ x l. h.heard x l ∙ ap (λ (xs : List (Option ℕ)). slice_index_or xs x None) (sym heard);
   waiting = h.waiting ∙ ap (map on_waiting) (sym waiting);
   answers = λ x. h.answers x ∙ ap (join_of x) (sym answers);
   based = h.based;
   last = λ i. h.last i ∙ ap (λ (xs : List (Option ℕ)). slice_index_or xs i None) (sym last);
-  purged = (h.purged.0, h.purged.1, h.purged.2, λ i. h.purged.3 i ∙ ap (λ (xs : List (Option ℕ)). slice_index_or xs i None) (sym purged));
+  done = λ i. h.done i ∙ ap (λ (xs : List (Option ℕ)). slice_index_or xs i None) (sym done);
 }
-  where
-    of_nodes : {x : ℕ} → x < t.config.nodes → x < s.config.nodes
-    of_nodes {x} l = let P : Member B R → Type 0 = λ u. x < u.config.nodes in subst P same l

@@ -1,5 +1,5 @@
 -- The last call of each process, as numbers, against a log.
-use Rattle.std.specs.Prelude.{ℕ, Bool, List, [], ◌∷◌, ◌++◌, Option, None, ◌≡◌, ◌<◌, length, slice_index_or}
+use Rattle.std.specs.Prelude.{ℕ, Bool, List, [], ◌∷◌, ◌++◌, Option, None, ◌≡◌, slice_index_or}
 use Rattle.orca_base.specs.declared.ids.MessageId.{MessageId}
 use Rattle.group_rules.specs.Messages.{Group, last_call, is_repeat}
 
@@ -24,6 +24,6 @@ NotesMessage {B} name bytes old new x =
     (nodes resilience : ℕ) (log : List B) → AreLastCalls (group_of name bytes nodes resilience) old log →
     AreLastCalls (group_of name bytes nodes resilience) new (log ++ x ∷ [])
 
--- there is a place for this process, and the numbers are as before
-abbrev pub HasPlace : List (Option ℕ) → List (Option ℕ) → ℕ → Type 0
-HasPlace old new place = (place < length new) × ((i : ℕ) → slice_index_or new i None ≡ slice_index_or old i None)
+-- both lists have the same number at each place, or none
+abbrev pub SameCalls : List (Option ℕ) → List (Option ℕ) → Type 0
+SameCalls old new = (i : ℕ) → slice_index_or new i None ≡ slice_index_or old i None

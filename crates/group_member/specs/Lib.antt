@@ -1,2 +1,4 @@
 pub mod LastCalls
 pub mod StandsFor
+pub mod ByOwn
+pub mod AtWork

@@ -1,7 +1,9 @@
 -- How a member over a window, with lists and numbers in place of maps, stands for a member of the rules.
-use Rattle.std.specs.Prelude.{ℕ, Bool, false, List, [], ◌∷◌, ◌≡◌, ◌≤◌, ◌<◌, ◌==◌, if◌then◌else◌, length, take, drop, map, slice_index_or, Option, None, Some}
+use Rattle.std.specs.Prelude.{ℕ, Bool, false, List, [], ◌∷◌, ◌≡◌, ◌≤◌, ◌<◌, ◌+◌, ◌^◌, ◌==◌, if◌then◌else◌, length, take, drop, map, slice_index_or, Option, None, Some}
 use Rattle.orca_base.specs.declared.ids.MessageId.{MessageId}
+use Rattle.orca_base.specs.declared.limits.TheConstants.{WINDOW}
 use Rattle.group_packets.specs.declared.packet.Join.{Join}
+use Rattle.history_buffer.specs.Window.{last_number}
 use Rattle.group_rules.specs.Messages.{Group}
 use Rattle.group_rules.specs.Member.{Report, Waiting as RulesWaiting, Member as RulesMember, report_of}
 use Rattle.group_rules.specs.OnWire.{on_join}
@@ -32,15 +34,29 @@ PutIn from join old new = (x : ℕ) → join_of x new ≡ (if from == x then Som
 abbrev pub on_waiting : {B R : Type 0} → Waiting B R → RulesWaiting B
 on_waiting w = record { by_name = w.by_name; message = w.message }
 
--- the numbers are the last calls of some beginning of the log that has all purged and no more than the applied entries
-abbrev pub PurgedCalls : {B : Type 0} → Group B → List (Option ℕ) → RulesMember B → Type 0
-PurgedCalls g calls m = (through : ℕ) × (m.base ≤ through) × (through ≤ m.applied) × AreLastCalls g calls (take through m.log)
+-- its lists have a place for each member, and its numbers are in order: it keeps at most a window of entries, and so few that they can be
+-- counted
+pub record IsMember {B R : Type 0} (s : Member B R) : Type 0 where
+  pub me : s.me < s.config.nodes
+  pub answered : length s.answered.items ≡ s.config.nodes
+  pub acked : length s.acked.items ≡ s.config.nodes
+  pub heard : length s.heard.items ≡ s.config.nodes
+  pub purges : s.window.base ≤ s.applied
+  pub applies : s.applied ≤ s.accepted
+  pub accepts : s.accepted ≤ last_number s.window
+  pub kept : length s.window.items ≤ WINDOW
+  pub small : s.applied < 2 ^ 62
 
--- the state is that of the rules, but for the purged entries and what maps say beyond the members
-pub record StandsFor {B R : Type 0} (g : Group B) (s : Member B R) (m : RulesMember B) : Type 0 where
+-- it is this member of the group, and its state is that of the rules, but for the purged entries, also those of kept answers, and for what
+-- maps say beyond the members
+pub record StandsFor {B R : Type 0} (g : Group B) (which : ℕ) (s : Member B R) (m : RulesMember B) : Type 0 where
+  pub nodes : s.config.nodes ≡ g.nodes
+  pub resilience : s.config.resilience ≡ g.resilience
+  pub me : s.me ≡ which
+  pub member : IsMember s
   pub installed : m.installed ≡ s.installed
   pub promised : m.promised ≡ s.promised
-  pub answered : (x : ℕ) → x < s.config.nodes → m.answered x ≡ test_of s.answered.items x
+  pub answered : (x : ℕ) → x < g.nodes → m.answered x ≡ test_of s.answered.items x
   -- the window is the log without its first base entries
   pub base : m.base ≡ s.window.base
   pub log : drop m.base m.log ≡ s.window.items
@@ -53,45 +69,35 @@ pub record StandsFor {B R : Type 0} (g : Group B) (s : Member B R) (m : RulesMem
   pub nacked : m.nacked ≡ s.nacked
   pub reported : m.reported ≡ s.reported
   pub outside : m.outside ≡ s.outside
-  pub acked : (x : ℕ) → x < s.config.nodes → m.acked x ≡ slice_index_or s.acked.items x 0
-  pub heard : (x : ℕ) → x < s.config.nodes → m.heard x ≡ slice_index_or s.heard.items x None
+  pub acked : (x : ℕ) → x < g.nodes → m.acked x ≡ slice_index_or s.acked.items x 0
+  pub heard : (x : ℕ) → x < g.nodes → m.heard x ≡ slice_index_or s.heard.items x None
   pub waiting : m.waiting ≡ map on_waiting s.waiting.items
   pub answers : (x : ℕ) → on_answer m.promised (m.answers x) ≡ join_of x s.answers.items
   pub based : (x : ℕ) (report : Report B) → m.answers x ≡ Some report → report.base ≤ length report.log
-  -- the last call of each process in the log, and in some beginning of it that stays whatever is installed
+  -- the last call of each process in the log, and in its applied entries, which stay whatever is installed
   pub last : AreLastCalls g s.last.calls.items m.log
-  pub purged : PurgedCalls g s.purged.calls.items m
+  pub done : AreLastCalls g s.done.calls.items (take m.applied m.log)
 
--- the group, by the member's own numbers
-abbrev pub group_at : {B R : Type 0} → (B → MessageId) → (B → ℕ) → Member B R → Group B
-group_at name bytes s = group_of name bytes s.config.nodes s.config.resilience
+-- whichever member of a group whose messages have these names and lengths it stood for, it stands for that one after the row
+abbrev pub Follows : {B R : Type 0} → (B → MessageId) → (B → ℕ) → Member B R → Member B R →
+    (Group B → ℕ → RulesMember B → RulesMember B) → Type 0
+Follows {B} name bytes old new row =
+    (nodes resilience which : ℕ) (m : RulesMember B) → StandsFor (group_of name bytes nodes resilience) which old m →
+    StandsFor (group_of name bytes nodes resilience) which new
+    (row (group_of name bytes nodes resilience) which m)
 
--- whichever member of the rules it stood for, it stands for that member after the row
-abbrev pub Becomes : {B R : Type 0} → Group B → Member B R → Member B R → (RulesMember B → RulesMember B) → Type 0
-Becomes {B} g old new row = (m : RulesMember B) → StandsFor g old m → StandsFor g new (row m)
-
--- the same in its own group
-abbrev pub Follows : {B R : Type 0} → (B → MessageId) → (B → ℕ) → Member B R → Member B R → (RulesMember B → RulesMember B) → Type 0
-Follows name bytes old new row = Becomes (group_at name bytes old) old new row
+-- of whichever member it stands for, this is so
+abbrev pub Tells : {B R : Type 0} → (B → MessageId) → (B → ℕ) → Member B R → (Group B → ℕ → RulesMember B → Type 0) → Type 0
+Tells {B} name bytes s says =
+    (nodes resilience which : ℕ) (m : RulesMember B) → StandsFor (group_of name bytes nodes resilience) which s m →
+    says (group_of name bytes nodes resilience) which m
 
 -- whichever report the answer carries, the member keeps that
 abbrev pub KeepsAnswer : {B R : Type 0} → (B → MessageId) → (B → ℕ) → ℕ → Join B R → Member B R → Member B R → Type 0
 KeepsAnswer {B} name bytes from join old new =
     (report : Report B) → on_join old.promised report ≡ join → report.base ≤ length report.log →
-    Follows name bytes old new (keeps from report)
+    Follows name bytes old new (λ g which. keeps from report)
 
 -- the answer carries what the member tells of itself
 abbrev pub IsOwnJoin : {B R : Type 0} → (B → MessageId) → (B → ℕ) → Member B R → Join B R → Type 0
-IsOwnJoin {B} name bytes s join = (m : RulesMember B) → StandsFor (group_at name bytes s) s m → join ≡ on_join m.promised (report_of m)
-
--- its lists have a place for each member
-pub record IsMember {B R : Type 0} (s : Member B R) : Type 0 where
-  pub me : s.me < s.config.nodes
-  pub answered : length s.answered.items ≡ s.config.nodes
-  pub acked : length s.acked.items ≡ s.config.nodes
-  pub heard : length s.heard.items ≡ s.config.nodes
-
--- it is the same member of the same group
-pub record SameMember {B R : Type 0} (old new : Member B R) : Type 0 where
-  pub config : new.config ≡ old.config
-  pub me : new.me ≡ old.me
+IsOwnJoin name bytes s join = Tells name bytes s (λ g which m. join ≡ on_join m.promised (report_of m))

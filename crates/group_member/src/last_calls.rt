@@ -1,21 +1,21 @@
 //! The last call of each process, kept as numbers beside a log.
 
-ghost use Rattle.group_member.specs.LastCalls.{HasPlace, NotesMessage, TellsRepeat};
+ghost use Rattle.group_member.specs.LastCalls.{NotesMessage, SameCalls, TellsRepeat};
 ghost use Rattle.group_rules.specs.Messages.{at_least};
-ghost use Rattle.std.specs.Prelude.{◌≡◌, [], IfOk, OnOk, slice_index_or};
+ghost use Rattle.std.specs.Prelude.{◌≡◌, ◌<◌, [], length, IfOk, OnErr, OnOk, slice_index_or};
 
 use orca_base::{Body, MessageId, NoMemory};
 use std::alloc::Global;
 
-/// The greatest call of each process in a log.
+// The greatest call of each process in a log.
 #[derive(Drop)]
-pub struct LastCalls {
+pub(crate) struct LastCalls {
     calls: Vec<Option<u64>>,
 }
 
 impl LastCalls {
-    /// Those of an empty log.
-    pub fn new(alloc: Global) -> LastCalls
+    // Those of an empty log.
+    pub(crate) fn new(alloc: Global) -> LastCalls
         ensures { result.calls.items ≡ [] }
     {
         LastCalls {
@@ -23,8 +23,8 @@ impl LastCalls {
         }
     }
 
-    /// Whether the log has this call of the process already, or a later one.
-    pub fn is_repeat<B: Body>(&self, message: &B) -> bool
+    // Whether the log has this call of the process already, or a later one.
+    pub(crate) fn is_repeat<B: Body>(&self, message: &B) -> bool
         ensures { TellsRepeat B.id_of B.length_of self.now.calls.items message.now result }
     {
         let id = message.id();
@@ -34,9 +34,10 @@ impl LastCalls {
         }
     }
 
-    /// The message is appended to the log.
-    pub fn note<B: Body>(&mut self, message: &B) -> Result<(), NoMemory>
-        ensures { OnOk result (NotesMessage B.id_of B.length_of self.old.calls.items self.new.calls.items message.now) }
+    // The message is appended to the log.
+    pub(crate) fn note<B: Body>(&mut self, message: &B) -> Result<(), NoMemory>
+        ensures ok { OnOk result (NotesMessage B.id_of B.length_of self.old.calls.items self.new.calls.items message.now) }
+        ensures err { OnErr result (SameCalls self.old.calls.items self.new.calls.items) }
     {
         let MessageId { process, call } = message.id();
         let place = process.0 as usize;
@@ -46,8 +47,8 @@ impl LastCalls {
         Ok(())
     }
 
-    /// The same numbers.
-    pub fn copy(&self, alloc: Global) -> Result<LastCalls, NoMemory>
+    // The same numbers.
+    pub(crate) fn copy(&self, alloc: Global) -> Result<LastCalls, NoMemory>
         ensures { IfOk result (λ copied. copied.calls.items ≡ self.now.calls.items) }
     {
         Ok(LastCalls {
@@ -67,7 +68,8 @@ impl LastCalls {
 
     // There is a place for this process.
     fn reach(&mut self, place: usize) -> Result<(), NoMemory>
-        ensures { OnOk result (HasPlace self.old.calls.items self.new.calls.items place) }
+        ensures place { OnOk result (place < length self.new.calls.items) }
+        ensures same { SameCalls self.old.calls.items self.new.calls.items }
     {
         'places: while self.calls.len() <= place {
             self.calls.push(None)?;

@@ -10,6 +10,8 @@
 mod last_calls;
 mod lists;
 mod member;
+mod reset;
+mod sends;
 
-pub use last_calls::LastCalls;
 pub use member::{Config, Member};
+pub use sends::{Letter, Sends};

@@ -1,10 +1,11 @@
-//! The state of a member, and the calls by which a reset reads and changes it.
+//! The state of a member, and what can be read of it.
 
-ghost use Rattle.std.specs.Prelude.{◌≡◌, ◌==◌, ◌<◌, ◌^◌, IfOk, OnErr, OnOk};
-ghost use Rattle.std.specs.List.{position_or_len};
-ghost use Rattle.group_member.specs.StandsFor.{Follows, group_at, IsMember, IsOwnJoin, KeepsAnswer, PutIn, SameMember, StandsFor};
-ghost use Rattle.group_rules.specs.Member.{leaves, opening_member};
-ghost use Rattle.group_rules.specs.Reset.{gathers, promises};
+ghost use Rattle.std.specs.Prelude.{◌≡◌, ◌%◌, ◌<◌, not, ◌&&◌, IfOk};
+ghost use Rattle.group_member.specs.LastCalls.{group_of};
+ghost use Rattle.group_member.specs.StandsFor.{Follows, IsMember, StandsFor, Tells};
+ghost use Rattle.group_member.specs.ByOwn.{active_by, leads_by};
+ghost use Rattle.group_rules.specs.Member.{leads, opening_member};
+ghost use Rattle.group_rules.specs.Steps.{is_empty};
 ghost use Rattle.history_buffer.specs.Slots.{slot_at, slot_copied};
 ghost use Rattle.history_buffer.specs.Window.{last_number};
 
@@ -25,8 +26,8 @@ pub struct Config {
 /// A message that waits for room in the window, and whether it came as Body.
 #[derive(Drop)]
 pub struct Waiting<B: Body> {
-    by_name: bool,
-    message: B,
+    pub(crate) by_name: bool,
+    pub(crate) message: B,
 }
 
 impl<B: Body> Copied for Waiting<B> {
@@ -47,35 +48,34 @@ impl<B: Body> Copied for (u8, Join<B>) {
 /// A member of a group: what the rules have of it, with a window in place of its log and lists in place of maps.
 #[derive(Drop)]
 pub struct Member<B: Body> {
-    config: Config,
-    me: u8,
-    installed: u64,
-    promised: u64,
-    answered: Vec<bool>,
-    window: History<B>,
-    accepted: u64,
-    applied: u64,
-    pending: Vec<B>,
-    bodies: Vec<Option<B>>,
-    silent: u64,
-    nacked: u64,
-    reported: u64,
-    outside: bool,
-    acked: Vec<u64>,
-    heard: Vec<Option<u64>>,
-    waiting: Vec<Waiting<B>>,
-    answers: Vec<(u8, Join<B>)>,
-    last: LastCalls,
-    purged: LastCalls,
+    pub(crate) config: Config,
+    pub(crate) me: u8,
+    pub(crate) installed: u64,
+    pub(crate) promised: u64,
+    pub(crate) answered: Vec<bool>,
+    pub(crate) window: History<B>,
+    pub(crate) accepted: u64,
+    pub(crate) applied: u64,
+    pub(crate) pending: Vec<B>,
+    pub(crate) bodies: Vec<Option<B>>,
+    pub(crate) silent: u64,
+    pub(crate) nacked: u64,
+    pub(crate) reported: u64,
+    pub(crate) outside: bool,
+    pub(crate) acked: Vec<u64>,
+    pub(crate) heard: Vec<Option<u64>>,
+    pub(crate) waiting: Vec<Waiting<B>>,
+    pub(crate) answers: Vec<(u8, Join<B>)>,
+    pub(crate) last: LastCalls,
+    pub(crate) done: LastCalls,
 }
 
 impl<B: Body> Member<B> {
     /// Member `me` of such a group, as all members begin.
     pub fn new(alloc: Global, config: Config, me: u8) -> Result<Member<B>, NoMemory>
         requires { me < config.nodes }
-        ensures opening { IfOk result (λ member. StandsFor (group_at B.id_of B.length_of member) member opening_member) }
-        ensures member { IfOk result IsMember }
-        ensures same { IfOk result (λ member. (member.config ≡ config) × (member.me ≡ me)) }
+        ensures { IfOk result
+            (λ member. StandsFor (group_of B.id_of B.length_of config.nodes config.resilience) me member opening_member) }
     {
         Ok(Member {
             config,
@@ -97,14 +97,13 @@ impl<B: Body> Member<B> {
             waiting: Vec::new(alloc),
             answers: Vec::new(alloc),
             last: LastCalls::new(alloc),
-            purged: LastCalls::new(alloc),
+            done: LastCalls::new(alloc),
         })
     }
 
     /// An equal member: one that stands for whatever this one stands for.
     pub fn copy(&self, alloc: Global) -> Result<Member<B>, NoMemory>
-        ensures row { IfOk result (λ copied. Follows B.id_of B.length_of self.now copied (λ m. m)) }
-        ensures same { IfOk result (SameMember self.now) }
+        ensures row { IfOk result (λ copied. Follows B.id_of B.length_of self.now copied (λ g which m. m)) }
         ensures member { IfOk result (λ copied. IsMember self.now → IsMember copied) }
     {
         Ok(Member {
@@ -127,13 +126,27 @@ impl<B: Body> Member<B> {
             waiting: copy_list(alloc, self.waiting.as_slice())?,
             answers: copy_list(alloc, self.answers.as_slice())?,
             last: self.last.copy(alloc)?,
-            purged: self.purged.copy(alloc)?,
+            done: self.done.copy(alloc)?,
         })
+    }
+
+    /// How many members its group has, and how many of them may be lost.
+    pub fn config(&self) -> Config
+        ensures { result ≡ self.now.config }
+    {
+        self.config
+    }
+
+    /// Its own number.
+    pub fn me(&self) -> u8
+        ensures { result ≡ self.now.me }
+    {
+        self.me
     }
 
     /// The number of entries of its log.
     pub fn length(&self) -> u64
-        requires { last_number self.now.window < 2 ^ 64 }
+        requires { IsMember self.now }
         ensures { result ≡ last_number self.now.window }
     {
         self.window.last()
@@ -181,102 +194,41 @@ impl<B: Body> Member<B> {
         self.window.get(number)
     }
 
-    /// The answers that it keeps as a coordinator, with their members.
-    pub fn answers(&self) -> &[(u8, Join<B>)]
-        ensures { result.now ≡ self.now.answers.items }
+    /// Whether a message of its own isn't among its applied entries.
+    pub fn has_pending(&self) -> bool
+        ensures { Tells B.id_of B.length_of self.now (λ g which m. result ≡ not (is_empty m.pending)) }
     {
-        self.answers.as_slice()
+        !self.pending.is_empty()
     }
 
-    /// It promises a later incarnation: it drops the answers that it kept, and is silent for no tick.
-    pub fn promise(&mut self, incarnation: u64)
-        ensures row { Follows B.id_of B.length_of self.old self.new (promises incarnation) }
-        ensures same { SameMember self.old self.new }
-        ensures member { IsMember self.old → IsMember self.new }
+    /// Whether it is the active sequencer, and a message waits for room in its window.
+    pub fn has_waiting(&self) -> bool
+        requires { IsMember self.now }
+        ensures { Tells B.id_of B.length_of self.now (λ g which m. result ≡ (leads g which m && not (is_empty m.waiting))) }
     {
-        self.promised = incarnation;
-        self.silent = 0;
-        self.answers.clear();
+        self.leads() && !self.waiting.is_empty()
     }
 
-    /// What it tells of itself, as its answer to the incarnation that it promised.
-    pub fn own_join(&self, alloc: Global) -> Result<Join<B>, NoMemory>
-        ensures { IfOk result (IsOwnJoin B.id_of B.length_of self.now) }
+    // Whether it stands in the incarnation that it promised, and isn't outside.
+    pub(crate) fn is_active(&self) -> bool
+        ensures { result ≡ active_by self.now }
     {
-        Ok(Join {
-            incarnation: self.promised,
-            installed: self.installed,
-            accepted: self.accepted,
-            applied: self.applied,
-            base: self.window.base(),
-            messages: self.window.messages(alloc)?,
-        })
+        self.installed == self.promised && !self.outside
     }
 
-    /// It promises a later incarnation, as its coordinator: it keeps its own answer alone.
-    pub fn gather(&mut self, alloc: Global, incarnation: u64) -> Result<(), NoMemory>
-        ensures row { OnOk result (Follows B.id_of B.length_of self.old self.new (gathers self.old.me incarnation)) }
-        ensures same { SameMember self.old self.new }
-        ensures member { IsMember self.old → IsMember self.new }
-        ensures err { OnErr result (self.new ≡ self.old) }
+    // Whether it is the active sequencer.
+    pub(crate) fn leads(&self) -> bool
+        requires { IsMember self.now }
+        ensures { result ≡ leads_by self.now }
     {
-        let mut own = self.own_join(alloc)?;
-        own.incarnation = incarnation;
-        let mut answers = Vec::new(alloc);
-        answers.push((self.me, own))?;
-        self.promised = incarnation;
-        self.silent = 0;
-        self.answers = answers;
-        Ok(())
+        self.is_active() && self.sequencer() == self.me
     }
 
-    /// A member's answer to the incarnation that it promised is kept, in the place of an earlier one.
-    pub fn keep_answer(&mut self, from: u8, join: Join<B>) -> Result<(), NoMemory>
-        ensures row { OnOk result (KeepsAnswer B.id_of B.length_of from join self.old self.new) }
-        ensures same { SameMember self.old self.new }
-        ensures member { IsMember self.old → IsMember self.new }
-        ensures err { OnErr result (Follows B.id_of B.length_of self.old self.new (λ m. m)) }
+    // The sequencer of its log's incarnation.
+    pub(crate) fn sequencer(&self) -> u8
+        requires { IsMember self.now }
+        ensures { result ≡ self.now.installed % self.now.config.nodes }
     {
-        put_answer(&mut self.answers, from, join)
+        (self.installed % self.config.nodes as u64) as u8
     }
-
-    /// It takes no part any more.
-    pub fn leave(&mut self)
-        ensures row { Follows B.id_of B.length_of self.old self.new leaves }
-        ensures same { SameMember self.old self.new }
-        ensures member { IsMember self.old → IsMember self.new }
-    {
-        self.outside = true;
-    }
-}
-
-// The place of a member's answer, or how many answers there are where it has none.
-fn place_of<B: Body>(answers: &[(u8, Join<B>)], from: u8) -> usize
-    ensures { result ≡ position_or_len (λ answer. answer.0 == from) answers.now }
-{
-    for (place, answer) in answers.iter().enumerate() {
-        if answer.0 == from {
-            return place;
-        }
-    }
-    answers.len()
-}
-
-// An answer is put in the place of an earlier one of its member, or at the end.
-fn put_answer<B: Body>(
-    answers: &mut Vec<(u8, Join<B>)>,
-    from: u8,
-    join: Join<B>,
-) -> Result<(), NoMemory>
-    ensures ok { OnOk result (PutIn from join answers.old.items answers.new.items) }
-    ensures err { OnErr result (answers.new.items ≡ answers.old.items) }
-{
-    let kept = answers.as_slice();
-    let place = place_of(kept, from);
-    if place < kept.len() {
-        answers[place] = (from, join);
-    } else {
-        answers.push((from, join))?;
-    }
-    Ok(())
 }

@@ -1,11 +1,13 @@
 -- Letters and their numbers, and packets as they travel.
-use Rattle.std.proofs.Common.{◌≡◌, ℕ, ◌<◌, ◌==◌, ◌⊎◌, inl, inr, ⊎_elim, Bool, true, false, Some, List, [], ◌∷◌, ◌++◌, length, refl, sym, ap, arith, if◌then◌else◌}
-use Rattle.std.proofs.lemmas.Bool.{cond_both, eqb-true, eqb-false}
+use Rattle.std.proofs.Common.{◌≡◌, ℕ, ◌<◌, ◌==◌, ◌⊎◌, inl, inr, ⊎_elim, Bool, true, false, Some, List, [], ◌∷◌, ◌++◌, length, refl, sym, ap, ◌∙◌, arith, append_assoc, if◌then◌else◌}
+use Rattle.std.proofs.lemmas.Bool.{cond_both, eqb-true, eqb-false, eq-eqb}
+use Rattle.std.proofs.lemmas.List.{append-nil}
 use Rattle.group_rules.specs.Sets.{In}
 use Rattle.group_rules.specs.Member.{Letter}
 use Rattle.group_rules.specs.Member.Kind.{Request, Body, Order, Entry, Ack, Accept, Nack, Status, Invite, Join, News}
-use Rattle.group_rules.specs.World.{letter_number, NumberedLaw}
-use Rattle.group_rules.specs.OnWire.{Posted, post_of, posted, PostedLaw, ReceivedLaw}
+use Rattle.group_rules.specs.World.{Past, after, letter_number, NumberedLaw}
+use Rattle.group_rules.specs.Work.{Act}
+use Rattle.group_rules.specs.OnWire.{Posted, post_of, posted, posts_of, ToOthers, AppendedLaw, PostedLaw, ReceivedLaw}
 
 -- ---- letters and their numbers
 
@@ -58,6 +60,20 @@ posted_in {M} {R} N (y ∷ ls) p =
 
 pub posted_law : (M R : Type 0) → PostedLaw M R
 posted_law M R N letters post t = let o = posted_in N letters post t in let n = number_of letters o.letter o.sent in record { which = n.which; letter = o.letter; number = n.is; other = o.other; is = o.is }
+
+-- ---- what a step posts
+
+pub appended_law : (M R : Type 0) → AppendedLaw M R
+appended_law M R N [] p t = sym (append-nil (posted N p.letters))
+appended_law M R N (Act.Sends letter ∷ acts) p t =
+    cond_both (letter.to == letter.packet.from) (posted N (after acts p).letters) (posted N (after acts p).letters ++ post_of N letter ∷ []) (λ (l : List (Posted M R)). l ≡ posted N p.letters ++ (posts_of N acts ++ post_of N letter ∷ []))
+    (λ e. absurd (t.0 (eqb-true letter.to letter.packet.from e)))
+    (λ e. ap (λ (l : List (Posted M R)). l ++ post_of N letter ∷ []) (appended_law M R N acts p t.1) ∙ append_assoc (posted N p.letters) (posts_of N acts) (post_of N letter ∷ []))
+appended_law M R N (Act.Keeps packet ∷ acts) p t =
+    cond_both (packet.from == packet.from) (posted N (after acts p).letters) _ (λ (l : List (Posted M R)). l ≡ posted N p.letters ++ posts_of N acts)
+    (λ e. appended_law M R N acts p t) (λ e. absurd (eqb-false packet.from packet.from e refl))
+appended_law M R N (Act.Orders k x ∷ acts) p t = appended_law M R N acts p t
+appended_law M R N (Act.Begins k log answers ∷ acts) p t = appended_law M R N acts p t
 
 -- ---- what is received
 

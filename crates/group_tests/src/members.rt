@@ -1,7 +1,7 @@
 //! Calls of a member, as one of three.
 
 use crate::plain::Plain;
-use group_member::{Config, LastCalls, Member};
+use group_member::{Config, Member};
 use group_packets::Join;
 use orca_base::{Items, NoMemory};
 
@@ -24,7 +24,9 @@ fn answers_are_kept(rt: HostRuntime) -> Result<(), NoMemory> {
         base: 0,
         messages: Items::new(Vec::new(alloc)),
     };
+    assert_eq!(rt; member.promised(), 4);
     member.keep_answer(2, join(0))?;
+    assert_eq!(rt; member.promised(), 4);
     member.keep_answer(2, join(1))?;
     let copied = member.copy(alloc)?;
     let answers = copied.answers();
@@ -35,18 +37,8 @@ fn answers_are_kept(rt: HostRuntime) -> Result<(), NoMemory> {
     member.promise(5);
     assert_eq!(rt; member.answers().len(), 0);
     assert_eq!(rt; (member.promised(), member.installed()), (5, 0));
-    Ok(())
-}
-
-/// Once a call of a process is noted, it is a repeat.
-#[test]
-fn a_call_is_noted(rt: HostRuntime) -> Result<(), NoMemory> {
-    let message = Plain { call: 3, bytes: 31 };
-    let mut calls = LastCalls::new(rt.alloc());
-    assert_eq!(rt; calls.is_repeat(&message), false);
-    calls.note(&message)?;
-    assert_eq!(rt; calls.is_repeat(&message), true);
-    let later = Plain { call: 4, bytes: 31 };
-    assert_eq!(rt; calls.copy(rt.alloc())?.is_repeat(&later), false);
+    assert_eq!(rt; (member.config(), member.me()), (THREE, 1));
+    assert_eq!(rt; (member.has_pending(), member.has_waiting()), (false, false));
+    member.listen(0, 0);
     Ok(())
 }

@@ -82,7 +82,7 @@ impl<B> History<B> {
         self.kept.len() as u32
     }
 
-    /// The number of the last entry: how many were ever appended.
+    /// The number of the last entry: how many entries the list has.
     pub fn last(&self) -> u64
         requires { last_number self.now < 2 ^ 64 }
         ensures { result ≡ last_number self.now }
@@ -130,7 +130,7 @@ impl<B: Drop> History<B> {
 }
 
 impl<B: Body> History<B> {
-    /// An equal history, with room of its own. It costs one copy of each entry that is kept.
+    /// An equal history, with room of its own.
     pub fn copy(&self, alloc: Global) -> Result<History<B>, NoMemory>
         ensures { IfOk result (λ history. history ≡ self.now) }
     {

@@ -1,4 +1,4 @@
-use Rattle.group_rules.proofs.Travelling.{numbered_law, posted_law}
+use Rattle.group_rules.proofs.Travelling.{appended_law, numbered_law, posted_law}
 use Rattle.group_rules.proofs.wire.wire_law.Goals as goal
 
 pub returns-clause-numbered : goal.returns-clause-numbered
@@ -6,3 +6,6 @@ returns-clause-numbered g c = numbered_law _
 
 pub returns-clause-posted : goal.returns-clause-posted
 returns-clause-posted g c = posted_law _ _
+
+pub returns-clause-appended : goal.returns-clause-appended
+returns-clause-appended g c = appended_law _ _
