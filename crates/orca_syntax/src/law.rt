@@ -9,13 +9,12 @@ ghost use Rattle.orca_tree.specs.Marks.{unit as unit_marks};
 ghost use Rattle.orca_syntax.specs.Syntax.{Syntax};
 ghost use Rattle.orca_syntax.specs.Shown.{syntax_of};
 ghost use Rattle.orca_syntax.specs.Derivation.{syntax_marks};
-ghost use Rattle.orca_syntax.specs.Literals.{HasCharacters};
 ghost use Rattle.orca_syntax.specs.TextSyntax.{HasSyntax, IsOfSyntax, IsReadBack, IsShown, LosesPlaces, Reads};
 
 /// The law of the syntax. What the grammar derives is derived with the marks of a syntax, and no list of tokens has two: so a text whose
 /// tokens are a unit has one syntax, and each other text none. A tree has the marks of the syntax that it shows: where a text has
 /// the marks of a tree, that is *the* syntax of the text. The text that `print_tree` gives of a unit that was read from a text has the
-/// same syntax, places aside. The literals of a text's syntax stand for characters, whose codes are at most 127.
+/// same syntax, places aside.
 pub fn syntax_law()
     ensures some { (ms : List Mark) (tokens : List Token) → IsText ms tokens → IsOfSyntax ms }
     ensures one { (tokens : List Token) (s t : Syntax) → Reads tokens s → Reads tokens t → s ≡ t }
@@ -23,6 +22,5 @@ pub fn syntax_law()
     ensures marks { (u : UnitTree) → unit_marks u ≡ syntax_marks (syntax_of u) }
     ensures shown { (u : UnitTree) → IsShown u }
     ensures bare { (s : Syntax) → LosesPlaces s }
-    ensures literals { (text : List ℕ) (s : Syntax) → HasSyntax text s → HasCharacters s }
     ensures printed { (u : UnitTree) → IsReadBack u }
 {}

@@ -1,4 +1,3 @@
-use Rattle.orca_syntax.proofs.Characters.{text_characters}
 use Rattle.orca_syntax.proofs.Complete.{some_syntax}
 use Rattle.orca_syntax.proofs.MarksOfDeclarations.{unit_shown}
 use Rattle.orca_syntax.proofs.PrintedOnce.{loses_places, read_back}
@@ -25,6 +24,3 @@ returns-clause-bare c = loses_places
 
 pub returns-clause-printed : goal.returns-clause-printed
 returns-clause-printed c = read_back
-
-pub returns-clause-literals : goal.returns-clause-literals
-returns-clause-literals c = text_characters
