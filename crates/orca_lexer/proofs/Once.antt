@@ -21,11 +21,11 @@ use Rattle.orca_lexer.specs.declared.token.TokenKind.TheVariants.{Name, Number, 
 use Rattle.orca_lexer.specs.Tables.{symbol_of}
 use Rattle.orca_lexer.specs.Shapes.{is_name_byte, is_word, is_numeral, is_quote, is_literal, is_last, is_lexeme, content_len, content_of}
 use Rattle.orca_lexer.specs.Contents.{first_character, Spells}
-use Rattle.orca_lexer.specs.Tokens.{IsLongest, IsStart, Means, Begins, Follow, Tokens, end_of, after_gap, place_in}
+use Rattle.orca_lexer.specs.Tokens.{HasRoom, IsLongest, IsStart, Means, Begins, Follow, Tokens, end_of, after_gap, place_in}
 use Rattle.orca_lexer.specs.Refusal.{IsWrongBehind, IsSenseless, IsFault, IsFirstBadByte, IsNoToken, IsRefusal}
 use Rattle.orca_lexer.specs.Refusal.IsSenseless.{large, not_one, in_char, in_string}
 use Rattle.orca_lexer.specs.Refusal.IsFault.{senseless, unclosed, stray}
-use Rattle.orca_lexer.proofs.Slices.{HasRoomIn, StandsBefore, tokens_room, tokens_rise}
+use Rattle.orca_lexer.proofs.Slices.{EndsIn, StandsBefore, tokens_room, tokens_rise, tokens_within}
 use Rattle.orca_lexer.proofs.Longest.{symbol_like, is_sign_like, sign_first}
 use Rattle.orca_lexer.proofs.LiteralLemmas.{first_more, spells_once, count_spelled, rest_in}
 use Rattle.orca_lexer.specs.Spelling.{IsSound}
@@ -415,7 +415,8 @@ pub record IsOnly {V : Type 0} (view : V → List Token) (text : List ℕ) (r : 
   pub sound : IfOk r (λ found. AllByRecursion (λ token. IsSound token.kind) (view found))
   pub none : IfBecause r (λ _. (others : List Token) → Tokens text others → ⊥)
   pub first : IfBecause r (λ error. (other : LexError) → IsRefusal text other → other ≡ error)
-  pub room : IfOk r (λ found. All (HasRoomIn text) (view found))
+  pub room : IfOk r (λ found. All HasRoom (view found))
+  pub within : IfOk r (λ found. All (EndsIn text) (view found))
   pub rise : IfOk r (λ found. AllPairs StandsBefore (view found))
 
 pub is_only : {V : Type 0} (view : V → List Token) (text : List ℕ) → length text < 2 ^ 32 - 1 → (r : Result V (Refusal LexError)) → MatchRefusal r (λ found. Tokens text (view found)) (IsNoToken text) → IsOnly view text r
@@ -425,6 +426,7 @@ is_only view text short (Ok found) h = record {
   none = tt;
   first = tt;
   room = tokens_room text (view found) short h;
+  within = tokens_within text (view found) h;
   rise = tokens_rise text (view found) h;
 }
 is_only view text short (Err (Because error)) h = record {
@@ -433,6 +435,7 @@ is_only view text short (Err (Because error)) h = record {
   none = λ others p. refusal_none text error others (inr h) p;
   first = λ other p. refusal_once text other error p (inr h);
   room = tt;
+  within = tt;
   rise = tt;
 }
-is_only view text short (Err NoMemory) h = record { only = tt; sound = tt; none = tt; first = tt; room = tt; rise = tt }
+is_only view text short (Err NoMemory) h = record { only = tt; sound = tt; none = tt; first = tt; room = tt; within = tt; rise = tt }

@@ -36,24 +36,30 @@ slice_of text from t b =
 
 -- ---- room
 
--- a token's slice is one of the text, and the place behind it has a number
-abbrev pub HasRoomIn : List ℕ → Token → Type 0
-HasRoomIn text t = HasRoom t × (t.end ≤ length text)
+abbrev pub EndsIn : List ℕ → Token → Type 0
+EndsIn text t = t.end ≤ length text
 
-room_of : (text : List ℕ) (from : ℕ) (t : Token) → length text < 2 ^ 32 - 1 → Begins text from t → HasRoomIn text t
+room_of : (text : List ℕ) (from : ℕ) (t : Token) → length text < 2 ^ 32 - 1 → Begins text from t → HasRoom t
 room_of text from t short b =
     let s = slice_of text from t b in
     let some = s.some in
     let within = s.within in
     let column = s.column in
-    (record { slice = omega arith; place = omega arith }, within)
+    record { slice = omega arith; place = omega arith }
 
-follow_room : (text : List ℕ) (from : ℕ) (ts : List Token) → length text < 2 ^ 32 - 1 → Follow text from ts → AllByRecursion (HasRoomIn text) ts
+follow_room : (text : List ℕ) (from : ℕ) (ts : List Token) → length text < 2 ^ 32 - 1 → Follow text from ts → AllByRecursion HasRoom ts
 follow_room text from [] short f = tt
 follow_room text from (t ∷ ts) short f = (room_of text from t short f.0, follow_room text t.end ts short f.1)
 
-pub tokens_room : (text : List ℕ) (ts : List Token) → length text < 2 ^ 32 - 1 → Tokens text ts → All (HasRoomIn text) ts
-tokens_room text ts short h = All-from_recursion (HasRoomIn text) ts (follow_room text 0 ts short h.follow)
+follow_within : (text : List ℕ) (from : ℕ) (ts : List Token) → Follow text from ts → AllByRecursion (EndsIn text) ts
+follow_within text from [] f = tt
+follow_within text from (t ∷ ts) f = let begins = f.0 in (begins.within, follow_within text t.end ts f.1)
+
+pub tokens_room : (text : List ℕ) (ts : List Token) → length text < 2 ^ 32 - 1 → Tokens text ts → All HasRoom ts
+tokens_room text ts short h = All-from_recursion HasRoom ts (follow_room text 0 ts short h.follow)
+
+pub tokens_within : (text : List ℕ) (ts : List Token) → Tokens text ts → All (EndsIn text) ts
+tokens_within text ts h = All-from_recursion (EndsIn text) ts (follow_within text 0 ts h.follow)
 
 -- ---- text order
 

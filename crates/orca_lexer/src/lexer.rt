@@ -77,8 +77,9 @@ pub fn tokens(alloc: Global, text: &[u8]) -> Result<Vec<Token>, Refusal<LexError
     ensures only { IfOk result (λ found. (others : List Token) → Tokens text.now others → others ≡ found.items) }
     ensures sound { IfOk result (λ found. AllByRecursion (λ token. IsSound token.kind) found.items) }
 
-    // Each has a slice of the text, and they stand in text order.
-    ensures room { IfOk result (λ found. All (λ token. HasRoom token × (token.end ≤ length text.now)) found.items) }
+    // Each has a slice of the text and a place behind it, and they stand in text order.
+    ensures room { IfOk result (λ found. All HasRoom found.items) }
+    ensures within { IfOk result (λ found. All (λ token. token.end ≤ length text.now) found.items) }
     ensures rise { IfOk result (λ found. AllPairs (λ one other. one.end ≤ other.start) found.items) }
 
     // No list is; this is the first reason, and no other is.

@@ -26,3 +26,6 @@ returns-in-None-clause-room c = (is_only (λ v. v.items) c.args.text.now c.requi
 
 pub returns-in-None-clause-rise : goal.returns-in-None-clause-rise
 returns-in-None-clause-rise c = (is_only (λ v. v.items) c.args.text.now c.requires c.lexed.result c.lexed.ensures).rise
+
+pub returns-in-None-clause-within : goal.returns-in-None-clause-within
+returns-in-None-clause-within c = (is_only (λ v. v.items) c.args.text.now c.requires c.lexed.result c.lexed.ensures).within
