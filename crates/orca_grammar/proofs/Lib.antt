@@ -11,3 +11,4 @@ pub mod Whole
 pub mod Placed
 pub mod Once
 pub mod Promises
+pub mod Refusals

@@ -1,5 +1,6 @@
--- The grammar of a text (docs/LANGUAGE.md, Grammar), production by production. A place is kept of each name, and of each word
--- that begins a phrase. What stands in itself is named where it stands: statements, expressions, factors and types.
+-- The grammar of a text (docs/LANGUAGE.md, Grammar), production by production. A place is kept of each name, and of the token
+-- that begins a statement, factor, type, bound, definition, selector, guard, head or declaration. What stands in itself is named where
+-- it stands: statements, expressions, factors and types.
 use Rattle.std.specs.Prelude.{true, false}
 use Rattle.orca_lexer.specs.declared.token.Keyword.{Keyword}
 use Rattle.orca_lexer.specs.declared.token.Keyword.TheVariants.{KeyAnd, KeyArray, KeyBag, KeyBegin, KeyBoolean, KeyChar, KeyConst, KeyDelete, KeyDo, KeyElse, KeyElsif, KeyEnd, KeyEnum, KeyFalse, KeyFi, KeyFor, KeyFork, KeyFrom, KeyFunction, KeyGuard, KeyIf, KeyImplementation, KeyImport, KeyIn, KeyInsert, KeyInteger, KeyModule, KeyNot, KeyObject, KeyOd, KeyOf, KeyOn, KeyOperation, KeyOr, KeyOrd, KeyOut, KeyProcess, KeyRecord, KeyRepeat, KeyReturn, KeySet, KeyShared, KeySize, KeySpecification, KeyString, KeyThen, KeyTrue, KeyType, KeyUntil, KeyWhile, KeyWriteLine}

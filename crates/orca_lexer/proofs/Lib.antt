@@ -13,3 +13,5 @@ pub mod Sound
 pub mod TextsBack
 pub mod ReadsBack
 pub mod Shorter
+pub mod Slices
+pub mod Kept

@@ -1,8 +1,8 @@
 -- There is one list of tokens, and one first reason for none, and never both.
 use Rattle.std.proofs.Common.{◌≡◌, ℕ, suc, ◌-◌, ◌+◌, ◌<◌, ◌≤◌, Bool, true, false, cond, not, List, [], ◌∷◌, ◌++◌, length, take, drop, Some, None, refl, sym, ap, ◌∙◌, subst, inl, inr, ◌⊎◌, arith, append_assoc, length-drop, length-take, take-append-drop}
-use Rattle.std.specs.Prelude.{slice_range, is_some, ◌==◌}
+use Rattle.std.specs.Prelude.{slice_range, is_some, ◌==◌, ◌^◌}
 use Rattle.std.specs.Char.{is_ascii_alphabetic, is_ascii_digit}
-use Rattle.std.specs.List.{AllByRecursion, list_all}
+use Rattle.std.specs.List.{All, AllByRecursion, AllPairs, list_all}
 use Rattle.std.specs.Str.{IsUtf8}
 use Rattle.std.proofs.lemmas.Bool.{and_parts, or_parts, false_from_ne_true, cases_order, eqb-true}
 use Rattle.std.proofs.lemmas.Bool.Decides.{nat_tests}
@@ -21,10 +21,11 @@ use Rattle.orca_lexer.specs.declared.token.TokenKind.TheVariants.{Name, Number, 
 use Rattle.orca_lexer.specs.Tables.{symbol_of}
 use Rattle.orca_lexer.specs.Shapes.{is_name_byte, is_word, is_numeral, is_quote, is_literal, is_last, is_lexeme, content_len, content_of}
 use Rattle.orca_lexer.specs.Contents.{first_character, Spells}
-use Rattle.orca_lexer.specs.Tokens.{IsLongest, IsStart, Means, Begins, Follow, Tokens, end_of, after_gap, place_in}
+use Rattle.orca_lexer.specs.Tokens.{HasRoom, IsLongest, IsStart, Means, Begins, Follow, Tokens, end_of, after_gap, place_in}
 use Rattle.orca_lexer.specs.Refusal.{IsWrongBehind, IsSenseless, IsFault, IsFirstBadByte, IsNoToken, IsRefusal}
 use Rattle.orca_lexer.specs.Refusal.IsSenseless.{large, not_one, in_char, in_string}
 use Rattle.orca_lexer.specs.Refusal.IsFault.{senseless, unclosed, stray}
+use Rattle.orca_lexer.proofs.Slices.{EndsIn, StandsBefore, tokens_room, tokens_rise, tokens_within}
 use Rattle.orca_lexer.proofs.Longest.{symbol_like, is_sign_like, sign_first}
 use Rattle.orca_lexer.proofs.LiteralLemmas.{first_more, spells_once, count_spelled, rest_in}
 use Rattle.orca_lexer.specs.Spelling.{IsSound}
@@ -414,8 +415,27 @@ pub record IsOnly {V : Type 0} (view : V → List Token) (text : List ℕ) (r : 
   pub sound : IfOk r (λ found. AllByRecursion (λ token. IsSound token.kind) (view found))
   pub none : IfBecause r (λ _. (others : List Token) → Tokens text others → ⊥)
   pub first : IfBecause r (λ error. (other : LexError) → IsRefusal text other → other ≡ error)
+  pub room : IfOk r (λ found. All HasRoom (view found))
+  pub within : IfOk r (λ found. All (EndsIn text) (view found))
+  pub rise : IfOk r (λ found. AllPairs StandsBefore (view found))
 
-pub is_only : {V : Type 0} (view : V → List Token) (text : List ℕ) (r : Result V (Refusal LexError)) → MatchRefusal r (λ found. Tokens text (view found)) (IsNoToken text) → IsOnly view text r
-is_only view text (Ok found) h = record { only = λ others p. tokens_once text others (view found) p h; sound = tokens_sound text (view found) h; none = tt; first = tt }
-is_only view text (Err (Because error)) h = record { only = tt; sound = tt; none = λ others p. refusal_none text error others (inr h) p; first = λ other p. refusal_once text other error p (inr h) }
-is_only view text (Err NoMemory) h = record { only = tt; sound = tt; none = tt; first = tt }
+pub is_only : {V : Type 0} (view : V → List Token) (text : List ℕ) → length text < 2 ^ 32 - 1 → (r : Result V (Refusal LexError)) → MatchRefusal r (λ found. Tokens text (view found)) (IsNoToken text) → IsOnly view text r
+is_only view text short (Ok found) h = record {
+  only = λ others p. tokens_once text others (view found) p h;
+  sound = tokens_sound text (view found) h;
+  none = tt;
+  first = tt;
+  room = tokens_room text (view found) short h;
+  within = tokens_within text (view found) h;
+  rise = tokens_rise text (view found) h;
+}
+is_only view text short (Err (Because error)) h = record {
+  only = tt;
+  sound = tt;
+  none = λ others p. refusal_none text error others (inr h) p;
+  first = λ other p. refusal_once text other error p (inr h);
+  room = tt;
+  within = tt;
+  rise = tt;
+}
+is_only view text short (Err NoMemory) h = record { only = tt; sound = tt; none = tt; first = tt; room = tt; within = tt; rise = tt }

@@ -21,7 +21,7 @@ use Rattle.orca_lexer.specs.Tables.{symbols, symbol_of}
 use Rattle.orca_lexer.specs.Shapes.{is_name_byte, is_word, is_numeral, is_quote, is_literal, is_last, is_lexeme, content_len, content_of}
 use Rattle.orca_lexer.specs.Contents.{escape_of, is_plain, first_character, Spells}
 use Rattle.orca_lexer.specs.Tokens.{is_blank, IsLongest, Means, Begins, Follow, Tokens, end_of, after_gap, place_in}
-use Rattle.orca_lexer.specs.Spelling.{keyword_text, symbol_text, character_text, spelling_of, written, is_character, IsSound}
+use Rattle.orca_lexer.specs.Spelling.{keyword_text, symbol_text, character_text, spelling_of, written, is_character, IsSound, AreReadBack}
 use Rattle.orca_lexer.proofs.Longest.{IsShaped, shaped, not_true, entry_passes, all_seam, stops, word_longest, numeral_longest, sign_longest, no_empty_lexeme}
 use Rattle.orca_lexer.proofs.Longest.IsShaped.{a_word, a_numeral, a_sign, a_char, a_string}
 use Rattle.orca_lexer.proofs.LiteralLemmas.{plain_first, escape_first}
@@ -408,13 +408,7 @@ reads_text (kind ∷ kinds) sound =
       kinds_are = λ i. kind ∷ others.kinds_are i;
     }
 
--- the text of sound kinds has tokens of exactly these kinds
-pub record IsReadBack (kinds : List TokenKind) : Type 0 where
-  pub tokens : List Token
-  pub are : Tokens (written kinds) tokens
-  pub kinds_are : map (λ token. token.kind) tokens ≡ kinds
-
-pub reads_back : (kinds : List TokenKind) → AllByRecursion IsSound kinds → IsReadBack kinds
+pub reads_back : (kinds : List TokenKind) → AllByRecursion IsSound kinds → AreReadBack kinds
 reads_back kinds sound = record {
   tokens = found.tokens;
   are = subst (λ (text : List ℕ). Tokens text found.tokens) (sym (text_is kinds)) (record { utf8 = IsUtf8-from_ascii (text_of kinds) (ascii_from_low (text_of kinds) (text_low kinds sound)); follow = found.follow; over = found.over });

@@ -152,7 +152,7 @@ comment_step c cs p q = by_end (c == 10)
     by_end false = omega arith
 
 mutual
-  gap_length : (text : List ℕ) → length (after_gap text) ≤ length text
+  pub gap_length : (text : List ℕ) → length (after_gap text) ≤ length text
   gap_length [] = omega arith
   gap_length (c ∷ cs) = gap_step c cs (gap_length cs) (comment_length cs)
 

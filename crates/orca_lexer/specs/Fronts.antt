@@ -42,3 +42,7 @@ pub record IsStrayInside (quote : ℕ) (content : List ℕ) (fault : Fault) : Ty
 pub record IsBadAt (text : List ℕ) (n : ℕ) : Type 0 where
   pub none : IsUtf8 text → ⊥
   pub first : IsFirstBadByte text n
+
+-- bytes begin as they did
+pub record StillBegins (old new : List ℕ) : Type 0 where
+  pub front : take (length old) new ≡ old

@@ -6,10 +6,12 @@ use Rattle.orca_lexer.specs.declared.token.Keyword.{Keyword}
 use Rattle.orca_lexer.specs.declared.token.Keyword.TheVariants.{KeyAnd, KeyArray, KeyBag, KeyBegin, KeyBoolean, KeyChar, KeyConst, KeyDelete, KeyDo, KeyElse, KeyElsif, KeyEnd, KeyEnum, KeyFalse, KeyFi, KeyFor, KeyFork, KeyFrom, KeyFunction, KeyGuard, KeyIf, KeyImplementation, KeyImport, KeyIn, KeyInsert, KeyInteger, KeyModule, KeyNot, KeyObject, KeyOd, KeyOf, KeyOn, KeyOperation, KeyOr, KeyOrd, KeyOut, KeyProcess, KeyRecord, KeyRepeat, KeyReturn, KeySet, KeyShared, KeySize, KeySpecification, KeyString, KeyThen, KeyTrue, KeyType, KeyUntil, KeyWhile, KeyOutput, KeyWriteLine}
 use Rattle.orca_lexer.specs.declared.token.Symbol.{Symbol}
 use Rattle.orca_lexer.specs.declared.token.Symbol.TheVariants.{Becomes, Range, Differs, AtMost, AtLeast, Semicolon, Colon, Comma, Period, Equals, Less, Greater, Plus, Minus, Times, Over, Percent, Joins, Opens, Closes, OpensIndex, ClosesIndex, Dollar}
+use Rattle.orca_lexer.specs.declared.token.Token.{Token}
 use Rattle.orca_lexer.specs.declared.token.TokenKind.{TokenKind}
 use Rattle.orca_lexer.specs.declared.token.TokenKind.TheVariants.{Name, Number, Char, Text, Key, Sign}
 use Rattle.orca_lexer.specs.Tables.{keyword_of}
 use Rattle.orca_lexer.specs.Shapes.{is_word}
+use Rattle.orca_lexer.specs.Tokens.{Tokens}
 
 -- a keyword's text
 abbrev pub keyword_text : Keyword → List ℕ
@@ -123,3 +125,9 @@ IsSound (Char code) = is_character code ≡ true
 IsSound (Text text) = list_all is_character text ≡ true
 IsSound (Key _) = Unit {0}
 IsSound (Sign _) = Unit {0}
+
+-- the text of these kinds has tokens of exactly these kinds
+pub record AreReadBack (kinds : List TokenKind) : Type 0 where
+  pub tokens : List Token
+  pub are : Tokens (written kinds) tokens
+  pub kinds_are : map (λ token. token.kind) tokens ≡ kinds

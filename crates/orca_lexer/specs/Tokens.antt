@@ -1,6 +1,6 @@
 -- The tokens of a text (docs/LANGUAGE.md, Tokens): the longest match at each place, over the shapes of lexemes. What a
 -- lexeme stands for is said apart: a numeral that is too large is one lexeme that stands for no token.
-use Rattle.std.specs.Prelude.{◌≡◌, ℕ, ◌+◌, ◌^◌, ◌<◌, ◌≤◌, Bool, true, not, ◌||◌, ◌==◌, List, [], ◌∷◌, ◌++◌, length, take, drop, slice_range, Some, None, if◌then◌else◌, pos}
+use Rattle.std.specs.Prelude.{◌≡◌, ℕ, ◌+◌, ◌-◌, ◌^◌, ◌<◌, ◌≤◌, Bool, true, not, ◌||◌, ◌==◌, List, [], ◌∷◌, ◌++◌, length, take, drop, slice_range, Some, None, if◌then◌else◌, pos}
 use Rattle.std.specs.List.{count_by, suffix_len}
 use Rattle.std.specs.Str.{IsUtf8}
 use Rattle.std.specs.Str.Parse.{digits_value}
@@ -75,6 +75,11 @@ pub record Tokens (text : List ℕ) (tokens : List Token) : Type 0 where
   pub utf8 : IsUtf8 text
   pub follow : Follow text 0 tokens
   pub over : after_gap (drop (end_of 0 tokens) text) ≡ []
+
+-- a token's slice is one, and the column behind it is below 2^32
+pub record HasRoom (t : Token) : Type 0 where
+  pub slice : t.start ≤ t.end
+  pub place : t.at.column + (t.end - t.start) < 2 ^ 32
 
 -- a text begins with a byte that passes
 abbrev pub IsStart : (ℕ → Bool) → List ℕ → Type 0

@@ -10,7 +10,7 @@ use orca_base::Place;
 pub enum LexRule {
     /// The text isn't UTF-8.
     NotUtf8,
-    /// A character begins no token, or is none of a char's or a string's.
+    /// A character begins no token, or is none of a char's or a string's; or a char isn't one character long.
     StrayCharacter,
     /// A char or a string isn't closed on its line.
     OpenString,

@@ -1,12 +1,12 @@
 //! From bytes to tokens.
 
-ghost use Rattle.std.specs.Prelude.{◌≡◌, ◌-◌, ◌<◌, ◌^◌, length, drop, List, IfOk};
-ghost use Rattle.std.specs.List.{AllByRecursion};
+ghost use Rattle.std.specs.Prelude.{◌≡◌, ◌-◌, ◌<◌, ◌^◌, ◌≤◌, length, drop, List, IfOk};
+ghost use Rattle.std.specs.List.{All, AllByRecursion, AllPairs};
 ghost use Rattle.std.specs.Str.{IsUtf8};
 ghost use Rattle.orca_base.specs.Refusal.{MatchRefusal, IfBecause};
 ghost use Rattle.orca_lexer.specs.declared.error.LexError.{LexError};
 ghost use Rattle.orca_lexer.specs.declared.token.Token.{Token};
-ghost use Rattle.orca_lexer.specs.Tokens.{Follow, Tokens};
+ghost use Rattle.orca_lexer.specs.Tokens.{Follow, HasRoom, Tokens};
 ghost use Rattle.orca_lexer.specs.Spelling.{IsSound};
 ghost use Rattle.orca_lexer.specs.Refusal.{IsRefusal, IsNoToken};
 ghost use Rattle.orca_lexer.specs.Cursors.{IsAt, StartsToken, IsFaultAt};
@@ -76,6 +76,11 @@ pub fn tokens(alloc: Global, text: &[u8]) -> Result<Vec<Token>, Refusal<LexError
     ensures tokens { IfOk result (λ found. Tokens text.now found.items) }
     ensures only { IfOk result (λ found. (others : List Token) → Tokens text.now others → others ≡ found.items) }
     ensures sound { IfOk result (λ found. AllByRecursion (λ token. IsSound token.kind) found.items) }
+
+    // Each has a slice of the text and a place behind it, and they stand in text order.
+    ensures room { IfOk result (λ found. All HasRoom found.items) }
+    ensures within { IfOk result (λ found. All (λ token. token.end ≤ length text.now) found.items) }
+    ensures rise { IfOk result (λ found. AllPairs (λ one other. one.end ≤ other.start) found.items) }
 
     // No list is; this is the first reason, and no other is.
     ensures none { IfBecause result (λ _. (others : List Token) → Tokens text.now others → ⊥) }

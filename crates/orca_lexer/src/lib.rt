@@ -2,8 +2,8 @@
 //!
 //! The floor above uses `tokens`: a text's tokens with their slices and places, and no other list is that; or the first
 //! reason for which it has none, and no other is. `write_token` puts a token's text; what is written so is read back
-//! (`reads_back`, proofs/ReadsBack.antt). It stands on orca_base, and on std's check of UTF-8. It knows nothing of the
-//! grammar, and keeps no comments.
+//! (`spelling_law`). It stands on orca_base, and on std's check of UTF-8. It knows nothing of the grammar, and keeps no
+//! comments.
 #![tactic(auto)]
 
 mod cursor;
@@ -23,5 +23,5 @@ mod words;
 
 pub use error::{LexError, LexRule};
 pub use lexer::tokens;
-pub use spelling::write_token;
-pub use token::{KEYWORDS, Keyword, SYMBOLS, Symbol, Token, TokenKind};
+pub use spelling::{spelling_law, write_token};
+pub use token::{Keyword, Symbol, Token, TokenKind};

@@ -64,28 +64,51 @@ pub enum Keyword {
 /// A symbol of the language.
 #[derive(Clone, Copy, Debug, PartialEq, Eq)]
 pub enum Symbol {
+    /// `:=`
     Becomes,
+    /// `..`
     Range,
+    /// `/=`
     Differs,
+    /// `<=`
     AtMost,
+    /// `>=`
     AtLeast,
+    /// `;`
     Semicolon,
+    /// `:`
     Colon,
+    /// `,`
     Comma,
+    /// `.`
     Period,
+    /// `=`
     Equals,
+    /// `<`
     Less,
+    /// `>`
     Greater,
+    /// `+`
     Plus,
+    /// `-`
     Minus,
+    /// `*`
     Times,
+    /// `/`
     Over,
+    /// `%`
     Percent,
+    /// `&`
     Joins,
+    /// `(`
     Opens,
+    /// `)`
     Closes,
+    /// `[`
     OpensIndex,
+    /// `]`
     ClosesIndex,
+    /// `$`
     Dollar,
 }
 
@@ -114,9 +137,9 @@ pub enum TokenKind {
     Name { name: Text },
     /// A number, from 0 to 9,223,372,036,854,775,807.
     Number { value: i64 },
-    /// A character, with its escape resolved: a code from 0 to 127.
+    /// A character, with its escape resolved: one of codes 32 to 126, 9 or 10.
     Char { code: u8 },
-    /// The characters of a string, with escapes resolved: codes from 0 to 127.
+    /// The characters of a string, with escapes resolved: each is one of codes 32 to 126, 9 or 10.
     Text { text: Text },
     /// A keyword.
     Key { word: Keyword },
@@ -134,7 +157,7 @@ pub struct Token {
     pub at: Place,
 }
 
-// Each keyword with its text.
+/// Each keyword with its text.
 pub const KEYWORDS: [(&[u8], Keyword); 52] = [
     (b"and", Keyword::KeyAnd),
     (b"array", Keyword::KeyArray),
@@ -190,7 +213,7 @@ pub const KEYWORDS: [(&[u8], Keyword); 52] = [
     (b"WriteLine", Keyword::KeyWriteLine),
 ];
 
-// Each symbol with its text.
+/// Each symbol with its text.
 pub const SYMBOLS: [(&[u8], Symbol); 23] = [
     (b":=", Symbol::Becomes),
     (b"..", Symbol::Range),

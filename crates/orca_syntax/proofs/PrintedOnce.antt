@@ -4,9 +4,9 @@ use Rattle.std.specs.Prelude.{map}
 use Rattle.std.specs.List.{AllByRecursion}
 use Rattle.orca_lexer.specs.declared.token.Token.{Token}
 use Rattle.orca_lexer.specs.declared.token.TokenKind.{TokenKind}
-use Rattle.orca_lexer.specs.Spelling.{IsSound}
+use Rattle.orca_lexer.specs.Spelling.{AreReadBack, IsSound}
 use Rattle.orca_lexer.proofs.Once.{tokens_once}
-use Rattle.orca_lexer.proofs.ReadsBack.{IsReadBack, reads_back}
+use Rattle.orca_lexer.proofs.ReadsBack.{reads_back}
 use Rattle.orca_lexer.proofs.Sound.{tokens_sound}
 use Rattle.orca_grammar.specs.Forms.{Form, ◌⨾◌, Many, Chained, Nested, Bracket, Phrase, Chain, Mark, Spelled, Begin, End, bracketed, spelled, unplaced, Derives, nothing, word, both, one, other, none as no_more, more, links, nested}
 use Rattle.orca_grammar.specs.Grammar.{IsText}
@@ -19,7 +19,7 @@ use Rattle.orca_syntax.specs.Syntax.{Syntax}
 use Rattle.orca_syntax.specs.Shown.{syntax_of}
 use Rattle.orca_syntax.specs.Forest.{Forest, none, token, group, flat}
 use Rattle.orca_syntax.specs.Derivation.{unit, syntax_marks}
-use Rattle.orca_syntax.specs.TextSyntax.{HasSyntax, IsReadBack as ReadsBack, LosesPlaces}
+use Rattle.orca_syntax.specs.TextSyntax.{AreWordsSound, HasSyntax, IsSyntaxReadBack, LosesPlaces}
 use Rattle.orca_syntax.specs.Bare.{nowhere, bare}
 use Rattle.orca_syntax.proofs.MarksOfDeclarations.{unit_shown}
 use Rattle.orca_syntax.proofs.Complete.{some_syntax}
@@ -103,17 +103,22 @@ all_sound : (tokens : List Token) → AllByRecursion (λ t. IsSound t.kind) toke
 all_sound [] sound = tt
 all_sound (t ∷ tokens) sound = (sound.0, all_sound tokens sound.1)
 
+-- the tokens of a text's syntax are such as a text may have
+pub syntax_sound : (text : List ℕ) (s : Syntax) → HasSyntax text s → AreWordsSound s
+syntax_sound text s has =
+    subst (λ (ks : List TokenKind). AllByRecursion IsSound ks) (text_kinds (syntax_marks s) has.tokens has.derived) (all_sound has.tokens (tokens_sound text has.tokens has.are))
+
 -- the tokens of a printed unit are those that it spells
 record Spells (u : UnitTree) (text : List ℕ) (p : HasSyntax text (syntax_of u)) : Type 0 where
   is : IsText (unit_marks u) p.tokens
   kinds_are : kinds p.tokens ≡ spelled (unit_marks u)
-  back : IsReadBack (spelled (unit_marks u))
+  back : AreReadBack (spelled (unit_marks u))
 
 spells : (u : UnitTree) (text : List ℕ) (p : HasSyntax text (syntax_of u)) → Spells u text p
 spells u text p =
     let is : IsText (unit_marks u) p.tokens = subst (λ (ms : List Mark). IsText ms p.tokens) (sym (unit_shown u)) p.derived in
     let kinds_are = text_kinds (unit_marks u) p.tokens is in
-    let sound = subst (λ (ks : List TokenKind). AllByRecursion IsSound ks) kinds_are (all_sound p.tokens (tokens_sound text p.tokens p.are)) in
+    let sound = subst (λ (ms : List Mark). AllByRecursion IsSound (spelled ms)) (sym (unit_shown u)) (syntax_sound text (syntax_of u) p) in
     record { is = is; kinds_are = kinds_are; back = reads_back (spelled (unit_marks u)) sound }
 
 pub printed_once : (u : UnitTree) (text : List ℕ) → HasSyntax text (syntax_of u) → (s : Syntax) → HasSyntax (printed u) s → bare s ≡ bare (syntax_of u)
@@ -122,7 +127,7 @@ printed_once u text p s q =
     kinds_once s (syntax_of u) q.tokens p.tokens q.derived p.derived (ap kinds (tokens_once (printed u) q.tokens r.back.tokens q.are r.back.are) ∙ r.back.kinds_are ∙ sym r.kinds_are)
 
 -- and they are derived again, with the marks of a syntax
-pub read_back : (u : UnitTree) → ReadsBack u
+pub read_back : (u : UnitTree) → IsSyntaxReadBack u
 read_back u text p =
     let r = spells u text p in
     let again = derived_again r.is r.back.tokens r.back.kinds_are in

@@ -1,8 +1,10 @@
 -- The syntax of a text.
 use Rattle.std.specs.Prelude.{◌≡◌, ℕ, List}
+use Rattle.std.specs.List.{AllByRecursion}
 use Rattle.orca_lexer.specs.declared.token.Token.{Token}
+use Rattle.orca_lexer.specs.Spelling.{IsSound}
 use Rattle.orca_lexer.specs.Tokens.{Tokens}
-use Rattle.orca_grammar.specs.Forms.{Mark, unplaced}
+use Rattle.orca_grammar.specs.Forms.{Mark, spelled, unplaced}
 use Rattle.orca_grammar.specs.Grammar.{IsText}
 use Rattle.orca_tree.specs.declared.tree.Unit.{Unit as UnitTree}
 use Rattle.orca_tree.specs.Marks.{unit as unit_marks}
@@ -22,6 +24,11 @@ pub record HasSyntax (text : List ℕ) (s : Syntax) : Type 0 where
   pub are : Tokens text tokens
   pub derived : Reads tokens s
 
+-- each of its tokens is one that a text may have: numbers from 0, below 2^63, names that are words and no keywords, and characters
+-- of a text (orca_lexer, specs/Spelling.antt, `IsSound`)
+abbrev pub AreWordsSound : Syntax → Type 0
+AreWordsSound s = AllByRecursion IsSound (spelled (syntax_marks s))
+
 -- what a tree shows is the syntax of each text that has the tree's marks
 abbrev pub IsShown : UnitTree → Type 0
 IsShown u = (text : List ℕ) (tokens : List Token) → Tokens text tokens → IsText (unit_marks u) tokens → HasSyntax text (syntax_of u)
@@ -35,5 +42,5 @@ abbrev pub LosesPlaces : Syntax → Type 0
 LosesPlaces s = unplaced (syntax_marks (bare s)) ≡ unplaced (syntax_marks s)
 
 -- where a tree is that of a text, the text that it is printed as has a syntax, which is the same, places aside
-abbrev pub IsReadBack : UnitTree → Type 0
-IsReadBack u = (text : List ℕ) → HasSyntax text (syntax_of u) → (s : Syntax) × HasSyntax (printed u) s × (bare s ≡ bare (syntax_of u))
+abbrev pub IsSyntaxReadBack : UnitTree → Type 0
+IsSyntaxReadBack u = (text : List ℕ) → HasSyntax text (syntax_of u) → (s : Syntax) × HasSyntax (printed u) s × (bare s ≡ bare (syntax_of u))

@@ -4,3 +4,4 @@ pub mod PrintedSound
 pub mod Rows
 pub mod Spelled
 pub mod SpelledRows
+pub mod FirstPlaces

@@ -1,6 +1,6 @@
 -- The marks of a tree: its derivation by the grammar (orca_grammar, specs/Forms.antt and Rules.antt), which are its tokens in
--- order, with brackets round each nested phrase and round the links of each chain, and the tree's places. Trees with the same
--- marks are the same, but for where they lie in memory (orca_syntax, `syntax_law`).
+-- order, with brackets round each nested phrase and round the links of each chain, and the tree's places. Trees with the marks
+-- of one text show the same syntax (orca_syntax, `syntax_law`: `trees`).
 use Rattle.std.specs.Prelude.{Bool, true, false, List, [], ◌∷◌, ◌++◌, Option, Some, None}
 use Rattle.std.specs.List.{flat_map}
 use Rattle.orca_base.specs.declared.place.Place.{Place}

@@ -10,6 +10,6 @@ use Rattle.orca_tree.specs.Marks.{unit}
 abbrev pub printed : UnitTree → List ℕ
 printed u = written (spelled (unit u))
 
--- each of its tokens is one that a text may have: so it is for the tree of a text
+-- each of its tokens is one that a text may have: so it is for the tree of a text (orca_syntax, `syntax_law`: `sound`, `marks`)
 abbrev pub AreWordsSound : UnitTree → Type 0
 AreWordsSound u = AllByRecursion IsSound (spelled (unit u))

@@ -1,15 +1,16 @@
 //! The place of a phrase, which is that of its first token.
 
-ghost use Rattle.std.specs.Prelude.{◌≡◌};
-ghost use Rattle.orca_tree.specs.Places.{bound_place, expression_place, statement_place, type_place};
+ghost use Rattle.std.specs.Prelude.{◌≡◌, Some};
+ghost use Rattle.orca_tree.specs.Marks.{bound, expression, statement, type_phrase};
+ghost use Rattle.orca_tree.specs.Places.{first_place};
 
 use crate::tree::{Bound, Expression, Statement, TypePhrase};
 use orca_base::Place;
 
 impl Bound {
-    /// Where its first word stands.
+    /// The place of its first token.
     pub fn place(&self) -> Place
-        ensures { result ≡ bound_place self.now }
+        ensures { first_place (bound self.now) ≡ Some result }
     {
         match self {
             Bound::Number { at, .. } | Bound::Negative { at, .. } => *at,
@@ -19,9 +20,9 @@ impl Bound {
 }
 
 impl TypePhrase {
-    /// Where its first word stands.
+    /// The place of its first token.
     pub fn place(&self) -> Place
-        ensures { result ≡ type_place self.now }
+        ensures { first_place (type_phrase self.now) ≡ Some result }
     {
         match self {
             TypePhrase::Integer { at }
@@ -37,9 +38,9 @@ impl TypePhrase {
 }
 
 impl Expression {
-    /// A chain begins with its first operand.
+    /// The place of its first token; a chain begins with its first operand.
     pub fn place(&self) -> Place
-        ensures { result ≡ expression_place self.now }
+        ensures { first_place (expression self.now) ≡ Some result }
     {
         match self {
             Expression::Chain { first, .. } => first.place(),
@@ -61,9 +62,9 @@ impl Expression {
 }
 
 impl Statement {
-    /// Where its first word stands.
+    /// The place of its first token.
     pub fn place(&self) -> Place
-        ensures { result ≡ statement_place self.now }
+        ensures { first_place (statement self.now) ≡ Some result }
     {
         match self {
             Statement::Return { at, .. }

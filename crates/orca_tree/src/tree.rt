@@ -1,7 +1,7 @@
 //! The tree of a source text, as the grammar has it: one variant for each alternative, parentheses kept.
 //!
-//! A chain of operators of one level lies flat, a first operand and its links, so that no tree is deeper than the nesting of its
-//! text. A place is that of the first token of what it stands in.
+//! A chain of operators of one level lies flat, a first operand and its links, so a long chain is no deep tree: for each
+//! expression that is open there are at most five chains, one in another. A place is that of the first token of what it stands in.
 
 use orca_base::{Place, Text};
 
@@ -23,21 +23,25 @@ pub struct Unit {
 /// A declaration.
 #[derive(Drop)]
 pub enum Declaration {
+    /// `const` name `=` value.
     Constant {
         at: Place,
         name: Name,
         value: Bound,
     },
+    /// `type` name `=` definition.
     Type {
         at: Place,
         name: Name,
         definition: Definition,
     },
+    /// `object specification`: the heads of its operations.
     Specification {
         at: Place,
         name: Name,
         heads: Vec<Head>,
     },
+    /// `object implementation`: fields, operations, and the statements that open an object, where there are any.
     Implementation {
         at: Place,
         name: Name,
@@ -45,6 +49,7 @@ pub enum Declaration {
         operations: Vec<Operation>,
         opening: Option<Vec<Statement>>,
     },
+    /// `function`, with the type of its result, where it has one.
     Function {
         at: Place,
         name: Name,
@@ -52,6 +57,7 @@ pub enum Declaration {
         result: Option<TypePhrase>,
         body: Block,
     },
+    /// `process`.
     Process {
         at: Place,
         name: Name,
@@ -63,16 +69,22 @@ pub enum Declaration {
 /// What a declared type is.
 #[derive(Drop)]
 pub enum Definition {
+    /// `record` fields `end`.
     Record { at: Place, fields: Vec<TypedName> },
+    /// `enum` with its names.
     Enumeration { at: Place, names: Vec<Name> },
+    /// The name of another type.
     Alias { of: TypePhrase },
 }
 
 /// A bound of an array, or the value of a constant.
 #[derive(Drop)]
 pub enum Bound {
+    /// A number.
     Number { at: Place, value: i64 },
+    /// A number behind `-`.
     Negative { at: Place, value: i64 },
+    /// The name of a constant.
     Named { name: Name },
 }
 
@@ -80,31 +92,39 @@ pub enum Bound {
 #[derive(Drop)]
 #[cycle(types)]
 pub enum TypePhrase {
+    /// `integer`.
     Integer {
         at: Place,
     },
+    /// `boolean`.
     Boolean {
         at: Place,
     },
+    /// `char`.
     Char {
         at: Place,
     },
+    /// `string`.
     Text {
         at: Place,
     },
+    /// A declared type.
     Named {
         name: Name,
     },
+    /// `array [` low `..` high `] of` element.
     Array {
         at: Place,
         low: Bound,
         high: Bound,
         element: Box<TypePhrase>,
     },
+    /// `set of` element.
     Set {
         at: Place,
         element: Box<TypePhrase>,
     },
+    /// `bag of` element.
     Bag {
         at: Place,
         element: Box<TypePhrase>,
@@ -128,8 +148,11 @@ pub struct Variables {
 /// How a parameter is passed.
 #[derive(Clone, Copy, Debug, PartialEq, Eq)]
 pub enum Mode {
+    /// By its value.
     Value,
+    /// `shared`.
     Shared,
+    /// `out`.
     Out,
 }
 
@@ -161,7 +184,9 @@ pub struct Operation {
 /// The body of an operation: guarded alternatives, of which there is at least one, or statements alone.
 #[derive(Drop)]
 pub enum OperationBody {
+    /// Guarded alternatives.
     Guarded { first: Guard, others: Vec<Guard> },
+    /// Statements alone.
     Plain { statements: Vec<Statement> },
 }
 
@@ -184,58 +209,70 @@ pub struct Block {
 #[derive(Drop)]
 #[cycle(statements)]
 pub enum Statement {
+    /// `return`, with a value or without.
     Return {
         at: Place,
         value: Option<Expression>,
     },
+    /// `if` arms `fi`.
     If {
         at: Place,
         arms: Vec<Arm>,
     },
+    /// `while` test `do` body `od`.
     While {
         at: Place,
         test: Expression,
         body: Vec<Statement>,
     },
+    /// `for` name `in` range `do` body `od`.
     For {
         at: Place,
         name: Name,
         range: Range,
         body: Vec<Statement>,
     },
+    /// `repeat` body `until` test.
     Repeat {
         at: Place,
         body: Vec<Statement>,
         test: Expression,
     },
+    /// `fork` process, and the member `on` which it runs, where one is given.
     Fork {
         at: Place,
         process: Name,
         arguments: Vec<Expression>,
         on: Option<Expression>,
     },
+    /// `WriteLine` with arguments.
     WriteLine {
         at: Place,
         arguments: Vec<Expression>,
     },
+    /// `insert` an element into a set or bag.
     Insert {
         at: Place,
         element: Expression,
         into: Designator,
     },
+    /// `delete` an element from a set or bag.
     Delete {
         at: Place,
         element: Expression,
         from: Designator,
     },
+    /// designator `:=` value.
     Assign {
         to: Designator,
         value: Expression,
     },
+    /// A call of a function.
     Call {
         function: Name,
         arguments: Vec<Expression>,
     },
+    /// A call of an operation, object `$` operation.
     Invoke {
         object: Name,
         operation: Name,
@@ -247,10 +284,12 @@ pub enum Statement {
 #[derive(Drop)]
 #[cycle(statements)]
 pub enum Arm {
+    /// A test `then` a body.
     When {
         test: Expression,
         body: Vec<Statement>,
     },
+    /// `else` a body.
     Otherwise {
         body: Vec<Statement>,
     },
@@ -272,53 +311,66 @@ pub enum Expression {
         first: Box<Expression>,
         links: Vec<Link>,
     },
+    /// A number.
     Number {
         at: Place,
         value: i64,
     },
+    /// A character.
     Char {
         at: Place,
         code: u8,
     },
+    /// A string.
     Text {
         at: Place,
         text: Text,
     },
+    /// `true` or `false`.
     Truth {
         at: Place,
         value: bool,
     },
+    /// `not` operand.
     Not {
         at: Place,
         operand: Box<Expression>,
     },
+    /// `-` operand.
     Negative {
         at: Place,
         operand: Box<Expression>,
     },
+    /// An expression in parentheses.
     Parentheses {
         at: Place,
         inner: Box<Expression>,
     },
+    /// `from`: an element that is taken out of a set or bag.
     From {
         at: Place,
         source: Designator,
     },
+    /// `size` of an expression.
     Size {
         at: Place,
         of: Box<Expression>,
     },
+    /// `ord` of an expression.
     Ordinal {
         at: Place,
         of: Box<Expression>,
     },
+    /// The value of a variable, or of a part of one.
     Get {
         from: Designator,
     },
+    /// A call of a function.
     Call {
         function: Name,
         arguments: Vec<Expression>,
     },
+    /// A call of an operation, object `$` operation.
     Invoke {
         object: Name,
         operation: Name,
@@ -337,20 +389,35 @@ pub struct Link {
 /// An operator between two operands.
 #[derive(Clone, Copy, Debug, PartialEq, Eq)]
 pub enum Operator {
+    /// `or`.
     Or,
+    /// `and`.
     And,
+    /// `=`.
     Equal,
+    /// `/=`.
     Different,
+    /// `<`.
     Less,
+    /// `<=`.
     AtMost,
+    /// `>`.
     Greater,
+    /// `>=`.
     AtLeast,
+    /// `in`.
     In,
+    /// `+`.
     Add,
+    /// `-`.
     Subtract,
+    /// `&`.
     Join,
+    /// `*`.
     Multiply,
+    /// `/`.
     Divide,
+    /// `%`.
     Remainder,
 }
 
@@ -366,6 +433,8 @@ pub struct Designator {
 #[derive(Drop)]
 #[cycle(expressions)]
 pub enum Selector {
+    /// `.` name.
     Field { at: Place, name: Name },
+    /// `[` index `]`.
     Index { at: Place, index: Expression },
 }

@@ -1,7 +1,8 @@
 use Rattle.orca_syntax.proofs.Complete.{some_syntax}
+use Rattle.orca_syntax.proofs.FirstPlaces.{are_places, are_shown_places}
 use Rattle.orca_syntax.proofs.MarksOfDeclarations.{unit_shown}
-use Rattle.orca_syntax.proofs.PrintedOnce.{loses_places, read_back}
-use Rattle.orca_syntax.proofs.TextOnce.{derived_once, text_once, text_syntax}
+use Rattle.orca_syntax.proofs.PrintedOnce.{loses_places, read_back, syntax_sound}
+use Rattle.orca_syntax.proofs.TextOnce.{derived_once, text_once, text_syntax, trees_once}
 use Rattle.orca_syntax.proofs.law.syntax_law.Goals as goal
 
 pub returns-clause-some : goal.returns-clause-some
@@ -24,3 +25,15 @@ returns-clause-bare c = loses_places
 
 pub returns-clause-printed : goal.returns-clause-printed
 returns-clause-printed c = read_back
+
+pub returns-clause-trees : goal.returns-clause-trees
+returns-clause-trees c = trees_once
+
+pub returns-clause-sound : goal.returns-clause-sound
+returns-clause-sound c = syntax_sound
+
+pub returns-clause-places : goal.returns-clause-places
+returns-clause-places c = are_places
+
+pub returns-clause-shown_places : goal.returns-clause-shown_places
+returns-clause-shown_places c = are_shown_places
