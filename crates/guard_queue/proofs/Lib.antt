@@ -12,3 +12,5 @@ pub mod Writes
 pub mod Places
 pub mod Changed
 pub mod Stays
+pub mod Ends
+pub mod Apart

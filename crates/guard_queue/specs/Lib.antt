@@ -4,4 +4,6 @@ pub mod Settles
 pub mod Fitting
 pub mod Changes
 pub mod Rounds
+pub mod Ends
+pub mod Apart
 pub mod Laws

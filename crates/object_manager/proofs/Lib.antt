@@ -1,3 +1,4 @@
 pub mod Acting
 pub mod Always
 pub mod Lasting
+pub mod Apart

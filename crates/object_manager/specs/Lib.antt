@@ -3,4 +3,5 @@ pub mod Limits
 pub mod Applies
 pub mod Viewed
 pub mod Acts
+pub mod Apart
 pub mod Laws
