@@ -1,5 +1,5 @@
 -- Elements of lists that are made of others.
-use Rattle.std.proofs.Common.{◌≡◌, ℕ, zero, suc, ◌<◌, ◌≤◌, Bool, true, false, not, List, [], ◌∷◌, length, get_or, map, ◌⊎◌, inl, inr, refl, sym, ap, ◌∙◌, subst, arith}
+use Rattle.std.proofs.Common.{◌≡◌, ℕ, zero, suc, ◌<◌, ◌≤◌, Bool, true, false, not, cond, List, [], ◌∷◌, length, get_or, map, ◌⊎◌, inl, inr, refl, sym, ap, ◌∙◌, subst, arith}
 use Rattle.std.specs.Prelude.{bytes_eq, filter, flat_map}
 use Rattle.std.specs.List.{Contains}
 use Rattle.std.proofs.lemmas.Bool.{true≢false}
@@ -88,3 +88,9 @@ fewer_others c (n ∷ ns) h = by_test (bytes_eq n c) refl (cons_cases n ns c h) 
     by_test true is at most rest = rw is (omega (arith, most))
     by_test false is (inl e) most rest = absurd (true≢false (sym (ap (λ (v : List ℕ). bytes_eq v c) e ∙ same_name c) ∙ is))
     by_test false is (inr r) most rest = let less = rest r in rw is (omega (arith, less))
+
+-- a filter that nothing passes
+pub none_left : {X : Type 0} (p : X → Bool) (xs : List X) → ((x : X) → Contains xs x → p x ≡ false) → filter p xs ≡ []
+none_left p [] h = refl
+none_left {X} p (x ∷ xs) h =
+    ap (λ (b : Bool). cond b (x ∷ filter p xs) (filter p xs)) (h x (here x xs)) ∙ none_left p xs (λ y c. h y (there x xs y c))

@@ -1,2 +1,4 @@
+pub mod Truth
 pub mod Elements
 pub mod Ways
+pub mod Breaches

@@ -1,15 +1,15 @@
 -- Within as many imports as there are units each module is reached that is reached at all: a way that comes by a module twice is cut
 -- short, so that each module imports once on it.
-use Rattle.std.proofs.Common.{◌≡◌, ℕ, zero, suc, ◌≤◌, Bool, true, false, ◌&&◌, ◌||◌, List, length, map, ◌⊎◌, inl, inr, refl, sym, ap, ◌∙◌, subst, arith}
+use Rattle.std.proofs.Common.{◌≡◌, ℕ, zero, suc, ◌≤◌, Bool, true, false, ◌&&◌, ◌||◌, List, length, map, ◌⊎◌, inl, inr, refl, ap, ◌∙◌, subst, arith}
 use Rattle.std.specs.Prelude.{bytes_eq}
 use Rattle.std.specs.List.{Contains, list_any}
-use Rattle.std.proofs.lemmas.Bool.{true≢false}
 use Rattle.std.proofs.lemmas.List.{length-map}
 use Rattle.std.proofs.lemmas.List.Folds.{Any-from_list_any, list_any-from_Any}
 use Rattle.std.proofs.lemmas.Slice.Eq.{bytes_eq-Decides}
 use Rattle.link_rules.specs.Units.{Source, Import, imported, imports, imports_of, module_of}
 use Rattle.link_rules.specs.Rules.{leads}
 use Rattle.link_rules.specs.Cycles.{Leads, itself, by_import, ReachesAll}
+use Rattle.link_rules.proofs.Truth.{and_first, and_second, both_true, or_left, or_right}
 use Rattle.link_rules.proofs.Elements.{others, in_others, fewer_others, in_map, from_map, from_flat_map}
 
 -- a way on which these modules alone import
@@ -29,24 +29,6 @@ cut is c ns x b (goes _ _ _ i own in_ by rest) = by_test (bytes_eq x c) refl (cu
     by_test t test (inr r) = inr r
     by_test true test (inl w) = inr (i, in_, by ∙ (bytes_eq-Decides x c).0 test, w)
     by_test false test (inl w) = inl (goes (others c ns) x b i (in_others c ns x test own) in_ by w)
-
-both_true : (p q : Bool) → p ≡ true → q ≡ true → (p && q) ≡ true
-both_true p q e f = ap (λ (t : Bool). t && q) e ∙ f
-
-or_left : (p q : Bool) → p ≡ true → (p || q) ≡ true
-or_left p q e = ap (λ (t : Bool). t || q) e
-
-or_right : (p q : Bool) → q ≡ true → (p || q) ≡ true
-or_right true q e = refl
-or_right false q e = e
-
-and_first : (p q : Bool) → (p && q) ≡ true → p ≡ true
-and_first true q e = refl
-and_first false q e = e
-
-and_second : (p q : Bool) → (p && q) ≡ true → q ≡ true
-and_second true q e = e
-and_second false q e = absurd (true≢false (sym e))
 
 ends_at_once : (is : List Import) (n : ℕ) (a b : List ℕ) → a ≡ b → leads is n a b ≡ true
 ends_at_once is zero a b e = (bytes_eq-Decides a b).1 e

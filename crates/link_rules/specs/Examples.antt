@@ -66,7 +66,8 @@ main_twice = plain (codes "a.orca") (main 1 ∷ []) ∷ plain (codes "b.orca") (
 -- two specifications of one object type, behind its implementation
 abbrev pub specified_twice : List Source
 specified_twice =
-    plain (codes "a.orca") (main 1 ∷ implementation 2 (codes "Cell") ∷ specification 3 (codes "Cell") ∷ specification 4 (codes "Cell") ∷ []) ∷ []
+    plain (codes "a.orca")
+    (main 1 ∷ implementation 2 (codes "Cell") ∷ specification 3 (codes "Cell") ∷ specification 4 (codes "Cell") ∷ []) ∷ []
 
 -- a top-level name isn't a module's
 abbrev pub no_such_module : List Source
@@ -75,7 +76,8 @@ no_such_module =
 
 -- two modules import one another, and a third, in front of them, one of the two
 abbrev pub two_in_a_cycle : List Source
-two_in_a_cycle = named (codes "a.orca") (codes "A") (codes "B" ∷ []) [] ∷ named (codes "b.orca") (codes "B") (codes "A" ∷ []) [] ∷ []
+two_in_a_cycle =
+    named (codes "a.orca") (codes "A") (codes "B" ∷ []) [] ∷ named (codes "b.orca") (codes "B") (codes "A" ∷ []) [] ∷ []
 
 abbrev pub cycle_behind : List Source
 cycle_behind = named (codes "c.orca") (codes "C") (codes "A" ∷ []) (main 3 ∷ []) ∷ two_in_a_cycle

@@ -1,4 +1,5 @@
 pub mod Units
 pub mod Rules
 pub mod Cycles
+pub mod Linked
 pub mod Examples

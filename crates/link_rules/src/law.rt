@@ -4,10 +4,14 @@ ghost use Rattle.std.specs.Prelude.{◌≡◌, List, codes};
 ghost use Rattle.link_rules.specs.Units.{Source};
 ghost use Rattle.link_rules.specs.Rules.{Links, first, link_errors};
 ghost use Rattle.link_rules.specs.Cycles.{ReachesAll};
+ghost use Rattle.link_rules.specs.Linked.{IsNoBreach};
 ghost use Rattle.link_rules.specs.Examples.{breach, cycle_behind, importing, main_twice, module_alone, name_twice, no_such_module, one_implemented, own_import, place, specified_twice, two_in_a_cycle, whole_program};
 
-/// The law of linking: modules lead to others within as many imports as there are units exactly where they lead there at all.
+/// The law of linking. No rule is broken exactly where each name is defined once, what is imported is a module, no module that is imported
+/// leads back to its importer, a name is `OrcaMain`, and each specification has an implementation. A module leads to another within as
+/// many imports as there are units exactly where it leads there at all.
 pub fn linking_law()
+    ensures links { (us : List Source) → IsNoBreach us }
     ensures cycles { (us : List Source) → ReachesAll us }
 {}
 

@@ -1,6 +1,5 @@
 -- Where imports lead to lower ranks, none lies on a cycle.
 use Rattle.std.proofs.Common.{◌≡◌, ℕ, ◌<◌, ◌≤◌, ◌+◌, Bool, true, false, List, [], ◌∷◌, length, get_or, take, map, inl, inr, refl, sym, ap, ◌∙◌, subst, arith}
-use Rattle.std.specs.Prelude.{filter, cond}
 use Rattle.std.specs.List.{Contains}
 use Rattle.std.specs.Borrow.{Bor}
 use Rattle.std.specs.BTreeMap.{BTreeMap}
@@ -9,7 +8,7 @@ use Rattle.std.proofs.lemmas.List.Elements.{Contains-push_cases}
 use Rattle.link_rules.specs.Units.{Source, Import, imports}
 use Rattle.link_rules.specs.Rules.{at_import, import_cycles, is_on_cycle}
 use Rattle.link_rules.specs.Cycles.{Leads, itself, by_import}
-use Rattle.link_rules.proofs.Elements.{here, there}
+use Rattle.link_rules.proofs.Elements.{none_left}
 use Rattle.link_rules.proofs.Ways.{reaches_all}
 use Rattle.orca_modules.specs.Ranks.{Falls, rank}
 
@@ -41,11 +40,6 @@ no_cycle ranks us i falls in_ = by_test (is_on_cycle us i) refl
         let back = lower ranks (imports us) i.name.text i.by falls ((reaches_all us i.name.text i.by).0 is) in
         let less = falls i in_ in
         absurd (omega (arith, back, less))
-
-none_left : {X : Type 0} (p : X → Bool) (xs : List X) → ((x : X) → Contains xs x → p x ≡ false) → filter p xs ≡ []
-none_left p [] h = refl
-none_left {X} p (x ∷ xs) h =
-    ap (λ (b : Bool). cond b (x ∷ filter p xs) (filter p xs)) (h x (here x xs)) ∙ none_left p xs (λ y c. h y (there x xs y c))
 
 pub no_cycles : (ranks : BTreeMap (Bor (List ℕ)) ℕ) (us : List Source) (is : List Import) → Falls ranks is → imports us ≡ is → import_cycles us ≡ []
 no_cycles ranks us is falls same =

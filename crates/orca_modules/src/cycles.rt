@@ -60,7 +60,7 @@ struct Leading<'a> {
 }
 
 // The modules that lead to this one: those that are at hand, where it is the same.
-fn turned<'a>(
+fn leading_to<'a>(
     alloc: Global,
     lines: &[ImportLine<'a>],
     last: Leading<'a>,
@@ -84,7 +84,7 @@ fn first_cycle(alloc: Global, lines: &[ImportLine<'_>]) -> Result<(), Refusal<Li
     let names = find_leading(alloc, lines, "")?;
     let mut last = Leading { target: "", names };
     'imports: for line in lines {
-        last = turned(alloc, lines, last, line.by)?;
+        last = leading_to(alloc, lines, last, line.by)?;
         if holds(&last.names, line.name) {
             let cause = line.error(alloc, 3)?;
             return refuse(cause);
@@ -93,8 +93,8 @@ fn first_cycle(alloc: Global, lines: &[ImportLine<'_>]) -> Result<(), Refusal<Li
     Ok(())
 }
 
-/// No import lies on a cycle. Where the modules can be put in an order, each import is gone through a few times; the first import on a
-/// cycle takes as many passes over all imports as the square of the number of modules, at most.
+/// No import lies on a cycle. Where the modules have an order in which each stands behind those that it imports, each import is gone through
+/// a few times. Else the first import on a cycle is looked for, in as many passes as the square of the number of modules, at most.
 pub fn acyclic(alloc: Global, lines: &[ImportLine<'_>]) -> Result<(), Refusal<LinkError>>
     ensures { (us : List Source) → imports us ≡ map import_line lines.now → Judges result (import_cycles us) }
 {

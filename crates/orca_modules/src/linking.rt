@@ -3,7 +3,7 @@
 ghost use Rattle.std.specs.Prelude.{◌≡◌, map, IfOk};
 ghost use Rattle.orca_base.specs.Refusal.{IfBecause};
 ghost use Rattle.link_rules.specs.Units.{source};
-ghost use Rattle.link_rules.specs.Rules.{IsLinkError, link_errors};
+ghost use Rattle.link_rules.specs.Rules.{IsLinkError, Links, link_errors};
 ghost use Rattle.orca_modules.specs.Judged.{Judges};
 
 use crate::cycles::acyclic;
@@ -28,11 +28,12 @@ fn check(alloc: Global, units: &[NamedUnit]) -> Result<(), Refusal<LinkError>>
 }
 
 /// The program that these units are, exactly where they link: no name is defined twice, what is imported is a module, no import lies on a
-/// cycle, a name is `OrcaMain`, and each specification has an implementation (docs/LANGUAGE.md, Linking). Names are looked up in trees,
-/// so the cost is that of the names that are defined and imported times the logarithm of their number, but for cycles: for these all
-/// imports are gone through at most as often as the square of the number of modules.
+/// cycle, a name is `OrcaMain`, and each specification has an implementation (docs/LANGUAGE.md, Linking). The cost is that of the names that
+/// are defined and imported times the logarithm of their number. Only where imports go round in a cycle are they gone through more often,
+/// up to the square of the number of modules.
 pub fn link(alloc: Global, units: Vec<NamedUnit>) -> Result<Program, Refusal<LinkError>>
     ensures program { IfOk result (λ p. p.units.items ≡ units.items) }
+    ensures links { IfOk result (λ _. Links (map source units.items)) }
 
     // The first breach of the lowest rule that is broken.
     ensures refused { IfBecause result (IsLinkError (map source units.items)) }

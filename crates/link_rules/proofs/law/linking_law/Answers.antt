@@ -1,5 +1,6 @@
+use Rattle.link_rules.proofs.Breaches.{no_breach}
 use Rattle.link_rules.proofs.Ways.{reaches_all}
 use Rattle.link_rules.proofs.law.linking_law.Goals as goal
 
 pub returns : goal.returns
-returns c = record { cycles = reaches_all }
+returns c = record { links = no_breach; cycles = reaches_all }
