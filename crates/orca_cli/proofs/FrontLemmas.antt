@@ -12,7 +12,7 @@ use Rattle.orca_base.specs.declared.refusal.Refusal.{Refusal}
 use Rattle.orca_base.specs.declared.refusal.Refusal.TheVariants.{Because, NoMemory as Without}
 use Rattle.orca_lexer.specs.declared.error.LexError.{LexError}
 use Rattle.orca_lexer.specs.declared.token.Token.{Token}
-use Rattle.orca_lexer.specs.Tokens.{Begins, Follow, Tokens}
+use Rattle.orca_lexer.specs.Tokens.{Begins, Follow, HasRoom, Tokens}
 use Rattle.orca_lexer.specs.Refusal.{IsRefusal as IsLexical}
 use Rattle.orca_lexer.proofs.Longest.{no_empty_lexeme}
 use Rattle.orca_lexer.proofs.Once.{refusal_none, tokens_once}
@@ -23,7 +23,6 @@ use Rattle.orca_tree.specs.declared.tree.Unit.{Unit as UnitTree}
 use Rattle.orca_tree.specs.Marks.{unit as unit_marks}
 use Rattle.parse_units.specs.declared.parse_error.ParseError.TheVariants.{Syntax, TooNested}
 use Rattle.parse_units.specs.declared.parse_error.Found.TheVariants.{Token as OfToken, End}
-use Rattle.parse_units.specs.Refused.{HasRoom}
 use Rattle.small_program.specs.Least.{least_bytes}
 use Rattle.small_program.proofs.Sizes.{tokens_long}
 use Rattle.orca_cli.specs.declared.front.FrontFault.{FrontFault}

@@ -1,3 +1,4 @@
 pub mod Decisions
 pub mod Texts
+pub mod Refusals
 pub mod RoundTrips

@@ -1,5 +1,5 @@
 -- Why tokens are no unit: the refusal that a parser answers (docs/LANGUAGE.md, Refusals).
-use Rattle.std.specs.Prelude.{◌≡◌, ◌+◌, ◌-◌, ◌≤◌, ◌<◌, ◌^◌, List, [], ◌∷◌}
+use Rattle.std.specs.Prelude.{◌≡◌, ◌+◌, ◌-◌, List, [], ◌∷◌}
 use Rattle.orca_base.specs.declared.place.Place.{Place}
 use Rattle.orca_lexer.specs.declared.token.Token.{Token}
 use Rattle.orca_grammar.specs.Grammar.{IsUnexpected, IsTooNested}
@@ -7,12 +7,7 @@ use Rattle.parse_units.specs.declared.parse_error.ParseError.{ParseError}
 use Rattle.parse_units.specs.declared.parse_error.ParseError.TheVariants.{Syntax, TooNested}
 use Rattle.parse_units.specs.declared.parse_error.Found.TheVariants.{Token as OfToken, End}
 
--- a token's slice is one, and the place behind it has a number
-pub record HasRoom (t : Token) : Type 0 where
-  pub slice : t.start ≤ t.end
-  pub place : t.at.column + (t.end - t.start) < 2 ^ 32
-
--- the place behind a token, and the one behind the last token
+-- the place behind a token, and the one behind the last token. No tokens at all are a unit, so that is never asked of none
 abbrev pub behind : Token → Place
 behind t = record { line = t.at.line; column = t.at.column + (t.end - t.start) }
 

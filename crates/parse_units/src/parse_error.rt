@@ -4,7 +4,8 @@ ghost use Rattle.std.specs.Prelude.{◌≡◌, ◌∷◌, ◌<◌, [], List, len
 ghost use Rattle.std.specs.List.{All};
 ghost use Rattle.orca_lexer.specs.declared.token.Token.{Token as TokenSeen};
 ghost use Rattle.orca_grammar.specs.Grammar.{IsUnexpected};
-ghost use Rattle.parse_units.specs.Refused.{HasRoom, IsRefusal, end_of_text};
+ghost use Rattle.orca_lexer.specs.Tokens.{HasRoom};
+ghost use Rattle.parse_units.specs.Refused.{IsRefusal, end_of_text};
 
 use orca_base::{NoMemory, Place};
 use orca_lexer::{Token, TokenKind};
@@ -59,7 +60,7 @@ fn copy_token(alloc: Global, token: &Token) -> Result<Token, NoMemory>
     })
 }
 
-// The place just behind the last token, or the first place where there is none.
+// The place just behind the last token. No refusal comes where there is none: no tokens at all are a unit.
 fn end_place(tokens: &[Token]) -> Place
     requires { All HasRoom tokens.now }
     ensures { result ≡ end_of_text tokens.now }
