@@ -1,3 +1,6 @@
 pub mod Acting
-pub mod Always
+pub mod Fitted
 pub mod Lasting
+pub mod Singles
+pub mod Whole
+pub mod Settled
