@@ -9,16 +9,17 @@ use Rattle.value_core.specs.Fits.{Kinds}
 use Rattle.value_core.specs.History.{Objects, object_at}
 use Rattle.value_core.specs.declared.action.Action.{Action}
 use Rattle.object_manager.specs.After.{Copied}
-use Rattle.object_manager.specs.Applies.{Applies, CopiesFit}
-use Rattle.object_manager.specs.Limits.{IfLimit, IsTooMany}
+use Rattle.object_manager.specs.Applies.{Applies, AppliesSingle, CopiesBlocked, CopiesFit}
+use Rattle.object_manager.specs.Limits.{IfLimit, too_many}
+use Rattle.object_manager.specs.Singles.{IsMake}
+use Rattle.object_manager.specs.Viewed.{StatesFit}
 use Rattle.object_manager.specs.declared.copies.ApplyError.TheVariants as apply
 use Rattle.bag_performer.specs.Bags.{bag_performs}
 use Rattle.bag_performer.specs.Fitting.{FitsArgs, FitsState}
-use Rattle.guard_queue.specs.Settles.{AllBlocked}
 use Rattle.bag_copies.specs.declared.entries.Refused.{Refused}
 use Rattle.bag_copies.specs.declared.entries.Refused.TheVariants as refused
 
--- what fits, whatever objects there are
+-- what fits, over whatever types
 abbrev pub BagState : Kinds → KindNo → Data → Type 0
 BagState kinds = FitsState
 
@@ -27,7 +28,11 @@ BagArgs kinds = FitsArgs
 
 -- all fits, and each suspended call is blocked
 abbrev pub FitsAll : Copied → Type 0
-FitsAll c = CopiesFit BagState BagArgs c × AllBlocked bag_performs c.objects c.queue
+FitsAll c = CopiesFit BagState BagArgs c × CopiesBlocked bag_performs c
+
+-- each object's state fits its type, over some types
+abbrev pub ViewFits : Objects → Type 0
+ViewFits objects = (kinds : Kinds) × StatesFit BagState kinds objects
 
 -- the object exists, by this type
 abbrev pub HasObject : Objects → KindNo → ObjectId → Type 0
@@ -37,7 +42,19 @@ HasObject objects kind object = (kept : Instance) × (object_at objects object �
 abbrev pub IsEntryRefusal : Copied → Action → Refused → Type 0
 IsEntryRefusal c action refused.Object = Applies BagArgs c action → ⊥
 IsEntryRefusal c action refused.Entries = c.applied ≡ 2 ^ 64 - 1
-IsEntryRefusal c action (refused.Copies why) = IfLimit why (IsTooMany bag_performs c action)
+IsEntryRefusal c action (refused.Copies why) = IfLimit why (too_many bag_performs c action)
+
+-- why an entry with this action wasn't applied as a make of a single object
+abbrev pub IsPassRefusal : Copied → Action → Refused → Type 0
+IsPassRefusal c action refused.Object = IsMake action → Applies BagArgs c action → ⊥
+IsPassRefusal c action refused.Entries = c.applied ≡ 2 ^ 64 - 1
+IsPassRefusal c action (refused.Copies why) = IfLimit why (too_many bag_performs c action)
+
+-- why a call on a single object wasn't tried
+abbrev pub IsSingleRefusal : Copied → Action → Refused → Type 0
+IsSingleRefusal c action refused.Object = AppliesSingle BagArgs c action → ⊥
+IsSingleRefusal c action refused.Entries = ⊥
+IsSingleRefusal c action (refused.Copies why) = why ≡ apply.NoMemory
 
 -- why an operation wasn't tried
 abbrev pub IsReadRefusal : Objects → KindNo → OpNo → ObjectId → Data → Refused → Type 0

@@ -1,19 +1,20 @@
 //! Entries and reads on copies of pools and flags.
 
-ghost use Rattle.std.specs.Prelude.{◌≡◌, ◌<◌, ◌^◌, ◌-◌, ◌↔◌, IfOk, IfErr, OnOk, OnErr, IsTrue};
+ghost use Rattle.std.specs.Prelude.{◌≡◌, ◌<◌, ◌^◌, ◌-◌, ◌↔◌, ◌∷◌, [], IfOk, IfErr, None, OnOk, OnErr, IsTrue, false};
+ghost use Rattle.value_core.specs.History.{object_at};
 ghost use Rattle.bag_performer.specs.Fitting.{FitsArgs};
-ghost use Rattle.guard_queue.specs.Fitting.{OperationFits, kinds_of};
-ghost use Rattle.guard_queue.specs.Settles.{lines_of, tried_on};
-ghost use Rattle.object_manager.specs.After.{after, lines_after, opening_copies};
-ghost use Rattle.object_manager.specs.Applies.{Applies};
-ghost use Rattle.object_manager.specs.Viewed.{StatesFit};
+ghost use Rattle.guard_queue.specs.Settles.{lines_of, settled, tried_on};
+ghost use Rattle.object_manager.specs.After.{acted, after, lines_after, opening_copies};
+ghost use Rattle.object_manager.specs.Applies.{Applies, AppliesSingle};
+ghost use Rattle.object_manager.specs.Singles.{IsCounted, IsMake, after_passed, after_single, lines_single};
 ghost use Rattle.bag_performer.specs.Bags.{bag_performs};
 ghost use Rattle.object_manager.specs.declared.copies.ApplyError.TheVariants.{NoMemory as Without};
 ghost use Rattle.bag_copies.specs.declared.entries.Refused.TheVariants.{Copies as OfCopies};
-ghost use Rattle.bag_copies.specs.Fits.{BagArgs, BagState, FitsAll, HasObject, IsEntryRefusal, IsReadRefusal};
+ghost use Rattle.bag_copies.specs.Fits.{BagArgs, FitsAll, HasObject, IsEntryRefusal, IsPassRefusal, IsReadRefusal, IsSingleRefusal};
+ghost use Rattle.bag_copies.specs.Fits.{ViewFits};
 
 use bag_performer::Bags;
-use guard_queue::{Answered, Objects};
+use guard_queue::{Answered, Objects, Queue, Suspended, settle};
 use object_manager::{ApplyError, Copies, View, copies_law};
 use orca_base::{CallNo, KindNo, NoMemory, ObjectId, OpNo, ProcessNo, TextNo};
 use std::alloc::Global;
@@ -71,13 +72,79 @@ pub fn entry(
     ensures err { OnErr result (copies.new ≡ copies.old) }
     ensures fits { FitsAll copies.new }
 {
-    if copies.applied() == u64::MAX {
+    if is_full(copies) {
         return Err(Refused::Entries);
     }
     if !applies(copies, &message.action) {
         return Err(Refused::Object);
     }
     Ok(copies.apply(alloc, &Bags, message)?)
+}
+
+/// One more entry is applied, which makes a single object, where it may be. Its state is kept here where `keeps` is true.
+pub fn pass(
+    alloc: Global,
+    copies: &mut Copies,
+    message: &Message,
+    keeps: bool,
+) -> Result<Vec<Answered>, Refused>
+    requires { FitsAll copies.old }
+    ensures after { OnOk result (copies.new ≡ after_passed bag_performs keeps copies.old message.now) }
+    ensures lines { IfOk result (λ all. lines_of all.items ≡ (acted bag_performs copies.old message.now).lines) }
+    ensures make { OnOk result (IsMake message.now.action) }
+    ensures applies { OnOk result (Applies BagArgs copies.old message.now.action) }
+    ensures refused { IfErr result (IsPassRefusal copies.old message.now.action) }
+    ensures err { OnErr result (copies.new ≡ copies.old) }
+    ensures fits { FitsAll copies.new }
+{
+    if is_full(copies) {
+        return Err(Refused::Entries);
+    }
+    if !is_make(&message.action) || !applies(copies, &message.action) {
+        return Err(Refused::Object);
+    }
+    Ok(copies.pass_make(alloc, &Bags, message, keeps)?)
+}
+
+/// A call on a single object that is kept here is tried, where it may be.
+pub fn single(
+    alloc: Global,
+    copies: &mut Copies,
+    message: &Message,
+) -> Result<Vec<Answered>, Refused>
+    requires { FitsAll copies.old }
+    ensures after { OnOk result (copies.new ≡ after_single bag_performs copies.old message.now) }
+    ensures lines { IfOk result (λ all. lines_of all.items ≡ lines_single bag_performs copies.old message.now) }
+    ensures applies { OnOk result (AppliesSingle BagArgs copies.old message.now.action) }
+    ensures refused { IfErr result (IsSingleRefusal copies.old message.now.action) }
+    ensures err { OnErr result (copies.new ≡ copies.old) }
+    ensures fits { FitsAll copies.new }
+{
+    if !applies_single(copies, &message.action) {
+        return Err(Refused::Object);
+    }
+    Ok(copies.call_single(alloc, &Bags, message)?)
+}
+
+/// What one suspended call does on the copies' objects, in a queue of its own. The copies stay.
+pub fn settle_alone(
+    alloc: Global,
+    copies: &Copies,
+    call: Suspended,
+) -> Result<Vec<Answered>, Refused>
+    requires { FitsAll copies.now }
+    ensures lines { IfOk result (λ all. lines_of all.items ≡ (settled bag_performs copies.now.objects (call ∷ [])).lines) }
+    ensures refused { IfErr result (IsReadRefusal copies.now.objects call.kind call.op call.object call.args) }
+{
+    if !has(copies.objects(), call.kind, call.object)
+        || !Bags::fits(call.kind, call.op, &call.args)
+    {
+        return Err(Refused::Object);
+    }
+    let mut objects = copies.objects().copy(alloc)?;
+    let mut queue = Queue::new(alloc);
+    queue.push(alloc, call)?;
+    Ok(settle(alloc, &Bags, &mut objects, &mut queue)?)
 }
 
 /// What a try of the operation gives on the copies.
@@ -109,7 +176,7 @@ pub fn read_view(
     object: ObjectId,
     args: &Parts,
 ) -> Result<Tried, Refused>
-    requires { StatesFit BagState view.now.objects }
+    requires { ViewFits view.now.objects }
     ensures tried { IfOk result (λ t. t ≡ tried_on bag_performs view.now.objects kind op object args.now) }
     ensures there { OnOk result (HasObject view.now.objects kind object) }
     ensures refused { IfErr result (IsReadRefusal view.now.objects kind op object args.now) }
@@ -176,12 +243,20 @@ pub fn fork(
     })
 }
 
+// Whether no more entries can be counted.
+fn is_full(copies: &Copies) -> bool
+    ensures full { IsTrue result → copies.now.applied ≡ 2 ^ 64 - 1 }
+    ensures room { result ≡ false → copies.now.applied < 2 ^ 64 - 1 }
+{
+    copies.applied() == u64::MAX
+}
+
 // Whether an entry with this action may be applied.
 fn applies(copies: &Copies, action: &Action) -> bool
     ensures { IsTrue result ↔ Applies BagArgs copies.now action.now }
 {
     match action {
-        Action::Make { object, .. } => copies.objects().get(*object).is_none(),
+        Action::Make { object, .. } => is_new(copies, *object),
         Action::Call {
             kind,
             op,
@@ -189,6 +264,35 @@ fn applies(copies: &Copies, action: &Action) -> bool
             args,
         } => has(copies.objects(), *kind, *object) && Bags::fits(*kind, *op, args),
         Action::Fork { .. } | Action::Ended | Action::Faulted { .. } => true,
+    }
+}
+
+// Whether the object is neither replicated nor counted as single.
+fn is_new(copies: &Copies, object: ObjectId) -> bool
+    ensures { IsTrue result ↔ (object_at copies.now.objects object ≡ None) × (IsCounted copies.now.singles object → ⊥) }
+{
+    copies.objects().get(object).is_none() && !copies.is_counted(object)
+}
+
+// Whether the action makes an object.
+fn is_make(action: &Action) -> bool
+    ensures { IsTrue result ↔ IsMake action.now }
+{
+    matches!(action, Action::Make { .. })
+}
+
+// Whether the action is a call that may be tried on the single objects that are kept here.
+fn applies_single(copies: &Copies, action: &Action) -> bool
+    ensures { IsTrue result ↔ AppliesSingle BagArgs copies.now action.now }
+{
+    match action {
+        Action::Call {
+            kind,
+            op,
+            object,
+            args,
+        } => has(copies.own(), *kind, *object) && Bags::fits(*kind, *op, args),
+        Action::Make { .. } | Action::Fork { .. } | Action::Ended | Action::Faulted { .. } => false,
     }
 }
 

@@ -3,7 +3,7 @@
 ghost use Rattle.std.specs.Prelude.{◌<◌};
 ghost use Rattle.bag_copies.specs.Fits.{FitsAll};
 
-use crate::entries::{Refused, call, entry, fork, make};
+use crate::entries::{Refused, call, entry, fork, make, pass};
 use bag_performer::Bags;
 use object_manager::{Copies, View};
 use orca_base::ObjectId;
@@ -22,6 +22,19 @@ pub fn make_flags(alloc: Global, copies: &mut Copies, count: u32) -> Result<(), 
     for number in 0..count {
         let id = object(number.wrapping_add(1));
         entry(alloc, copies, &make(0, u64::from(number), Bags::FLAG, id))?;
+    }
+    Ok(())
+}
+
+/// Makes so many single flags, whose states are kept elsewhere. The first one is the object with this number.
+pub fn pass_flags(alloc: Global, copies: &mut Copies, first: u32, count: u32) -> Result<(), Refused>
+    requires { FitsAll copies.old }
+    ensures { FitsAll copies.new }
+{
+    for number in 0..count {
+        let id = object(first.wrapping_add(number));
+        let message = make(0, u64::from(number), Bags::FLAG, id);
+        pass(alloc, copies, &message, false)?;
     }
     Ok(())
 }

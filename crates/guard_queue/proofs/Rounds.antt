@@ -9,7 +9,7 @@ use Rattle.value_core.specs.History.{Objects}
 use Rattle.guard_queue.specs.declared.queue.Suspended.{Suspended}
 use Rattle.guard_queue.specs.Settles.{AllBlocked, IsFound, Settling, is_blocked, is_ready, next_ready, settle_up_to, settled_from, stepped, taken, tried_in}
 use Rattle.guard_queue.specs.Rounds.{OthersBlocked}
-use Rattle.guard_queue.specs.Fitting.{AllFit}
+use Rattle.guard_queue.specs.Fitting.{GoOnFitting}
 use Rattle.orca_base.specs.declared.ids.KindNo.{KindNo}
 use Rattle.orca_base.specs.declared.ids.ObjectId.{ObjectId}
 use Rattle.orca_base.specs.declared.ids.OpNo.{OpNo}
@@ -64,10 +64,10 @@ blocked_from p objects n (c ∷ cs) none =
 pub all_blocked : (p : Performs) (objects : Objects) (queue : List Suspended) (o : Option (ℕ × Tried)) → o ≡ None → next_ready p objects queue ≡ option_map (λ x. x.0) o → AllBlocked p objects queue
 all_blocked p objects queue o is place = blocked_from p objects 0 queue (place ∙ ap (option_map (λ x. x.0)) is)
 
--- rounds on the way: the next call is found, they settle as what they began with, and calls on other objects are blocked
+-- rounds on the way: the next call is found, they settle as what they began with, what fitted fits, and calls on other objects are blocked
 pub record IsUnderWay (fits_state : Kinds → KindNo → Data → Type 0) (fits_args : Kinds → KindNo → OpNo → Data → Type 0) (p : Performs) (before now : Settling) (ready : Option (ℕ × Tried)) (on : Option ObjectId) : Type 0 where
   pub place : next_ready p now.objects now.queue ≡ option_map (λ x. x.0) ready
   pub found : IsFound p now.objects now.queue ready
-  pub fits : AllFit fits_state fits_args now.objects now.queue
+  pub fits : GoOnFitting fits_state fits_args before.objects before.queue now.objects now.queue
   pub same : settled_from p now ≡ settled_from p before
   pub others : OthersBlocked p now.objects now.queue on

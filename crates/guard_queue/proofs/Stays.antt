@@ -1,5 +1,5 @@
--- What stays while the queue settles: each object by its type, and that ids rise.
-use Rattle.std.proofs.Common.{ℕ, Option, None, Some, zero, suc}
+-- What stays while the queue settles: each object by its type, that ids rise, and how many objects there are.
+use Rattle.std.proofs.Common.{◌≡◌, ℕ, ◌+◌, cond, is_some, length, Option, None, Some, ap, ◌∙◌, refl, zero, suc}
 use Rattle.std.specs.Prelude.{slice_get}
 use Rattle.orca_base.specs.declared.ids.ObjectId.{ObjectId}
 use Rattle.value_core.specs.declared.action.Instance.{Instance}
@@ -13,7 +13,7 @@ use Rattle.guard_queue.specs.Fitting.{kinds_of}
 use Rattle.guard_queue.specs.Settles.{Settling, next_ready, objects_if, objects_with, performed, settle_up_to, stepped, tried_in}
 use Rattle.guard_queue.specs.Shown.{Rises}
 use Rattle.guard_queue.proofs.Steps.{with_extends}
-use Rattle.guard_queue.proofs.Writes.{rises_with}
+use Rattle.guard_queue.proofs.Writes.{length_with, rises_with}
 
 performed_extends : (p : Performs) (s : Settling) (at : ℕ) (o : Option Suspended) → ExtendsKinds (kinds_of s.objects) (kinds_of (performed p s at o).objects)
 performed_extends p s at None = λ entry has. has
@@ -50,3 +50,30 @@ stepped_rises p s (Some at) rises = performed_rises p s at (slice_get s.queue at
 pub settled_rises : (p : Performs) (n : ℕ) (s : Settling) → Rises s.objects → Rises (settle_up_to p n s).objects
 settled_rises p zero s rises = rises
 settled_rises p (suc n) s rises = settled_rises p n (stepped p s (next_ready p s.objects s.queue)) (stepped_rises p s (next_ready p s.objects s.queue) rises)
+
+try_length : (objects : Objects) (object : ObjectId) (kept : Instance) (t : Tried) → object_at objects object ≡ Some kept → Rises objects → length (after_try objects object kept t) ≡ length objects
+try_length objects object kept tried.Blocked there rises = refl
+try_length objects object kept (tried.Did guard state reply) there rises =
+    length_with objects object (record { kind = kept.kind; state = state }) rises ∙ ap (λ o. cond (is_some o) (length objects) (length objects + 1)) there
+try_length objects object kept (tried.Broke guard fault) there rises = refl
+
+pub with_length : (objects : Objects) (call : Suspended) (t : Tried) → Rises objects → length (objects_with objects call t) ≡ length objects
+with_length objects call t rises =
+    elim (object_at objects call.object) as (λ o. object_at objects call.object ≡ o → length (objects_if objects call t o) ≡ length objects) [
+      | None ↦ λ is. refl
+      | Some kept ↦ λ is. try_length objects call.object kept t is rises
+    ] refl
+
+performed_length : (p : Performs) (s : Settling) (at : ℕ) (o : Option Suspended) → Rises s.objects → length (performed p s at o).objects ≡ length s.objects
+performed_length p s at None rises = refl
+performed_length p s at (Some call) rises = with_length s.objects call (tried_in p s.objects call) rises
+
+stepped_length : (p : Performs) (s : Settling) (o : Option ℕ) → Rises s.objects → length (stepped p s o).objects ≡ length s.objects
+stepped_length p s None rises = refl
+stepped_length p s (Some at) rises = performed_length p s at (slice_get s.queue at) rises
+
+pub settled_length : (p : Performs) (n : ℕ) (s : Settling) → Rises s.objects → length (settle_up_to p n s).objects ≡ length s.objects
+settled_length p zero s rises = refl
+settled_length p (suc n) s rises =
+    settled_length p n (stepped p s (next_ready p s.objects s.queue)) (stepped_rises p s (next_ready p s.objects s.queue) rises)
+    ∙ stepped_length p s (next_ready p s.objects s.queue) rises

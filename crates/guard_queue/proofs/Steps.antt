@@ -13,7 +13,7 @@ use Rattle.value_core.specs.Fits.{Kinds, ExtendsKinds, KeepsState}
 use Rattle.value_core.specs.Meaning.{Performs}
 use Rattle.value_core.specs.History.{Objects, object_cmp, object_at, with_object, after_try}
 use Rattle.guard_queue.specs.declared.queue.Suspended.{Suspended}
-use Rattle.guard_queue.specs.Fitting.{AllFit, CallFits, CanTry, Fitting, kinds_of}
+use Rattle.guard_queue.specs.Fitting.{CallFits, CanTry, Fitting, kinds_of}
 use Rattle.guard_queue.specs.Settles.{Settling, objects_if, objects_with, performed, taken, settle_up_to, stepped, next_ready, tried_in, tried_at}
 use Rattle.guard_queue.proofs.Lookups.{object_at-with_object, same_place}
 use Rattle.guard_queue.proofs.KindsStay.{kinds_extend}
@@ -111,49 +111,39 @@ with_extends objects call t =
       | Some kept ↦ λ is. after_extends objects call.object kept t is
     ] refl
 
-module _ (fits_state : Kinds → KindNo → Data → Type 0) (fits_args : Kinds → KindNo → OpNo → Data → Type 0) (p : Performs)
-    (keeps : (kinds : Kinds) (kind : KindNo) (op : OpNo) (state args : Data) → fits_state kinds kind state → fits_args kinds kind op args → KeepsState (p.tries kind op state args) (fits_state kinds kind))
-    (states_stay : (kinds more : Kinds) (kind : KindNo) (state : Data) → ExtendsKinds kinds more → fits_state kinds kind state → fits_state more kind state)
-    (args_stay : (kinds more : Kinds) (kind : KindNo) (op : OpNo) (args : Data) → ExtendsKinds kinds more → fits_args kinds kind op args → fits_args more kind op args) where
-  -- a call that fits is tried, and all fits again
-  pub all_fit_with : (objects : Objects) (queue : List Suspended) (call : Suspended) → CallFits fits_args (kinds_of objects) objects call → AllFit fits_state fits_args objects queue
-      → AllFit fits_state fits_args (objects_with objects call (tried_in p objects call)) queue
-  all_fit_with objects queue call one fit =
-      let t = tried_in p objects call in
-      over_more fits_state fits_args states_stay args_stay (kinds_of objects) (kinds_of (objects_with objects call t)) (objects_with objects call t) queue (with_extends objects call t)
-      (with_fits fits_state fits_args (kinds_of objects) p (keeps (kinds_of objects)) objects queue call one fit)
-
+module _ (fits_state : Kinds → KindNo → Data → Type 0) (fits_args : Kinds → KindNo → OpNo → Data → Type 0) (kinds : Kinds) (p : Performs)
+    (keeps : (kind : KindNo) (op : OpNo) (state args : Data) → fits_state kinds kind state → fits_args kinds kind op args → KeepsState (p.tries kind op state args) (fits_state kinds kind)) where
   -- one step
-  stepped_fits : (s : Settling) (o : Option ℕ) → AllFit fits_state fits_args s.objects s.queue → AllFit fits_state fits_args (stepped p s o).objects (stepped p s o).queue
+  stepped_fits : (s : Settling) (o : Option ℕ) → Fitting fits_state fits_args kinds s.objects s.queue → Fitting fits_state fits_args kinds (stepped p s o).objects (stepped p s o).queue
   stepped_fits s None fit = fit
   stepped_fits s (Some at) fit =
-      elim (slice_get s.queue at) as (λ o. slice_get s.queue at ≡ o → AllFit fits_state fits_args (performed p s at o).objects (performed p s at o).queue) [
+      elim (slice_get s.queue at) as (λ o. slice_get s.queue at ≡ o → Fitting fits_state fits_args kinds (performed p s at o).objects (performed p s at o).queue) [
         | None ↦ λ is. fit
         | Some call ↦ λ is.
-            let after = objects_with s.objects call (tried_in p s.objects call) in
-            without_fits fits_state fits_args (kinds_of after) after s.queue at (all_fit_with s.objects s.queue call (fit.calls at call is) fit)
+            without_fits fits_state fits_args kinds (objects_with s.objects call (tried_in p s.objects call)) s.queue at
+            (with_fits fits_state fits_args kinds p keeps s.objects s.queue call (fit.calls at call is) fit)
       ] refl
 
   -- the same, in the words of the contracts
-  pub all_fit_stepped : (s t : Settling) (o : Option ℕ) → t ≡ stepped p s o → AllFit fits_state fits_args s.objects s.queue → AllFit fits_state fits_args t.objects t.queue
-  all_fit_stepped s t o is fit =
-      let P : Settling → Type 0 = λ u. AllFit fits_state fits_args u.objects u.queue in
+  pub fit_stepped : (s t : Settling) (o : Option ℕ) → t ≡ stepped p s o → Fitting fits_state fits_args kinds s.objects s.queue → Fitting fits_state fits_args kinds t.objects t.queue
+  fit_stepped s t o is fit =
+      let P : Settling → Type 0 = λ u. Fitting fits_state fits_args kinds u.objects u.queue in
       subst P (sym is) (stepped_fits s o fit)
 
   -- settling
-  pub settled_fits : (n : ℕ) (s : Settling) → AllFit fits_state fits_args s.objects s.queue → AllFit fits_state fits_args (settle_up_to p n s).objects (settle_up_to p n s).queue
+  pub settled_fits : (n : ℕ) (s : Settling) → Fitting fits_state fits_args kinds s.objects s.queue → Fitting fits_state fits_args kinds (settle_up_to p n s).objects (settle_up_to p n s).queue
   settled_fits zero s fit = fit
   settled_fits (suc n) s fit = settled_fits n (stepped p s (next_ready p s.objects s.queue)) (stepped_fits s (next_ready p s.objects s.queue) fit)
 
 -- a call that fits can be tried
-pub can_try : (fits_state : Kinds → KindNo → Data → Type 0) (fits_args : Kinds → KindNo → OpNo → Data → Type 0) (objects : Objects) (queue : List Suspended) (call : Suspended)
-    → AllFit fits_state fits_args objects queue → CallFits fits_args (kinds_of objects) objects call → CanTry fits_state fits_args objects call.kind call.op call.object call.args
-can_try fits_state fits_args objects queue call fit one =
+pub can_try : (fits_state : Kinds → KindNo → Data → Type 0) (fits_args : Kinds → KindNo → OpNo → Data → Type 0) (kinds : Kinds) (objects : Objects) (queue : List Suspended) (call : Suspended)
+    → Fitting fits_state fits_args kinds objects queue → CallFits fits_args kinds objects call → CanTry fits_state fits_args objects call.kind call.op call.object call.args
+can_try fits_state fits_args kinds objects queue call fit one =
     record {
-      kinds = kinds_of objects;
+      kinds = kinds;
       state = λ kept has.
           let same : kept ≡ one.kept = cc (has, one.exists) in
-          let P : KindNo → Type 0 = λ kind. fits_state (kinds_of objects) kind kept.state in
+          let P : KindNo → Type 0 = λ kind. fits_state kinds kind kept.state in
           subst P (ap (λ (k : Instance). k.kind) same ∙ one.kind) (fit.states call.object kept has);
       args = one.args;
     }

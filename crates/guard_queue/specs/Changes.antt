@@ -10,7 +10,7 @@ use Rattle.value_core.specs.Fits.{Kinds}
 use Rattle.value_core.specs.Meaning.{Performs}
 use Rattle.value_core.specs.History.{Objects, with_object}
 use Rattle.value_core.specs.declared.meaning.Tried.TheVariants as tried
-use Rattle.guard_queue.specs.Fitting.{AllFit}
+use Rattle.guard_queue.specs.Fitting.{Fitting}
 use Rattle.guard_queue.specs.Settles.{Settling, behind, lines_of, settled, settled_from, stands, tried_in}
 use Rattle.guard_queue.specs.declared.settling.Answered.{Answered}
 use Rattle.guard_queue.specs.declared.queue.Suspended.{Suspended}
@@ -29,11 +29,17 @@ queue_changed queue change.Nothing = queue
 queue_changed queue (change.Puts object kept) = queue
 queue_changed queue (change.Joins call) = queue ++ call ∷ []
 
--- all fits after a change
-abbrev pub ChangeFits : (Kinds → KindNo → Data → Type 0) → (Kinds → KindNo → OpNo → Data → Type 0) → Objects → List Suspended → Change →
-    Type 0
-ChangeFits fits_state fits_args objects queue change = AllFit fits_state fits_args (objects_changed objects change)
-    (queue_changed queue change)
+-- over these types all fits before a change and after it
+abbrev pub ChangeFits : (Kinds → KindNo → Data → Type 0) → (Kinds → KindNo → OpNo → Data → Type 0) → Kinds → Objects →
+    List Suspended → Change → Type 0
+ChangeFits fits_state fits_args kinds objects queue change = Fitting fits_state fits_args kinds objects queue
+    × Fitting fits_state fits_args kinds (objects_changed objects change) (queue_changed queue change)
+
+-- over whichever types that is so, these fit
+abbrev pub KeepsFitting : (Kinds → KindNo → Data → Type 0) → (Kinds → KindNo → OpNo → Data → Type 0) → Objects →
+    List Suspended → Change → Objects → List Suspended → Type 0
+KeepsFitting fits_state fits_args objects queue change after left = (kinds : Kinds) →
+    ChangeFits fits_state fits_args kinds objects queue change → Fitting fits_state fits_args kinds after left
 
 -- a call that joins is blocked
 abbrev pub JoinsBlocked : Performs → Objects → Change → Type 0

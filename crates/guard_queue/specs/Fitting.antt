@@ -38,9 +38,15 @@ pub record Fitting (fits_state : Kinds → KindNo → Data → Type 0) (fits_arg
   pub states : (object : ObjectId) (kept : Instance) → object_at objects object ≡ Some kept → fits_state kinds kept.kind kept.state
   pub calls : (at : ℕ) (call : Suspended) → slice_get queue at ≡ Some call → CallFits fits_args kinds objects call
 
--- that, over the types of the objects that exist
-abbrev pub AllFit : (Kinds → KindNo → Data → Type 0) → (Kinds → KindNo → OpNo → Data → Type 0) → Objects → List Suspended → Type 0
-AllFit fits_state fits_args objects queue = Fitting fits_state fits_args (kinds_of objects) objects queue
+-- over some types all fits
+abbrev pub SomeFit : (Kinds → KindNo → Data → Type 0) → (Kinds → KindNo → OpNo → Data → Type 0) → Objects → List Suspended → Type 0
+SomeFit fits_state fits_args objects queue = (kinds : Kinds) × Fitting fits_state fits_args kinds objects queue
+
+-- over whichever types the first ones fit, the others do
+abbrev pub GoOnFitting : (Kinds → KindNo → Data → Type 0) → (Kinds → KindNo → OpNo → Data → Type 0) →
+    Objects → List Suspended → Objects → List Suspended → Type 0
+GoOnFitting fits_state fits_args objects queue after left = (kinds : Kinds) →
+    Fitting fits_state fits_args kinds objects queue → Fitting fits_state fits_args kinds after left
 
 -- the operation can be tried: its object's state and its arguments fit, where the object exists
 pub record CanTry (fits_state : Kinds → KindNo → Data → Type 0) (fits_args : Kinds → KindNo → OpNo → Data → Type 0) (objects : Objects)

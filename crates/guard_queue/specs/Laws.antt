@@ -7,7 +7,7 @@ use Rattle.value_core.specs.Fits.{Kinds, ExtendsKinds}
 use Rattle.value_core.specs.Meaning.{Performs}
 use Rattle.value_core.specs.History.{Objects}
 use Rattle.guard_queue.specs.declared.queue.Suspended.{Suspended}
-use Rattle.guard_queue.specs.Fitting.{AllFit, kinds_of}
+use Rattle.guard_queue.specs.Fitting.{Fitting, kinds_of}
 use Rattle.guard_queue.specs.Settles.{AllBlocked, settled}
 use Rattle.guard_queue.specs.Shown.{Rises}
 
@@ -16,11 +16,11 @@ abbrev pub SettlesBlocked : Performs → Type 0
 SettlesBlocked p = (objects : Objects) (queue : List Suspended) →
     AllBlocked p (settled p objects queue).objects (settled p objects queue).queue
 
--- what fits goes on fitting
+-- what fits goes on fitting, over whichever types
 abbrev pub SettlesFitting : (Kinds → KindNo → Data → Type 0) → (Kinds → KindNo → OpNo → Data → Type 0) → Performs → Type 0
 SettlesFitting fits_state fits_args p =
-    (objects : Objects) (queue : List Suspended) → AllFit fits_state fits_args objects queue
-    → AllFit fits_state fits_args (settled p objects queue).objects (settled p objects queue).queue
+    (kinds : Kinds) (objects : Objects) (queue : List Suspended) → Fitting fits_state fits_args kinds objects queue
+    → Fitting fits_state fits_args kinds (settled p objects queue).objects (settled p objects queue).queue
 
 -- each object stays, by its type
 abbrev pub SettlesTyped : Performs → Type 0

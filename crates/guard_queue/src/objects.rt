@@ -131,6 +131,16 @@ impl Objects {
         })
     }
 
+    /// The objects with their ids, in order.
+    pub fn entries(&self, alloc: Global) -> Result<Vec<(ObjectId, Instance)>, NoMemory>
+        ensures { IfOk result (λ all. all.items ≡ self.now) }
+    {
+        let mut map = entries_copy(&self.shared)?;
+        let mut recent = writes_copy(alloc, &self.recent)?;
+        write_all(&mut map, &mut recent)?;
+        entries_of(alloc, &map)
+    }
+
     // How many objects there are once one with this id was put in.
     fn count_with(&self, object: ObjectId) -> Result<usize, NoMemory>
         ensures { IfOk result (λ n. n ≡ (if is_some (object_at self.now object) then length self.now else length self.now + 1)) }
@@ -245,6 +255,20 @@ fn entries_copy(
     ensures { IfOk result (λ m. shown_objects m.entries ≡ shown_objects map.now.entries) }
 {
     Ok(map.clone()?)
+}
+
+// The objects of a map with their ids, in order.
+fn entries_of(
+    alloc: Global,
+    map: &BTreeMap<ObjectId, Arc<Instance>>,
+) -> Result<Vec<(ObjectId, Instance)>, NoMemory>
+    ensures { IfOk result (λ all. all.items ≡ shown_objects map.now.entries) }
+{
+    let mut all = Vec::new(alloc);
+    for (object, kept) in map.iter() {
+        all.push((*object, kept.copy(alloc)?))?;
+    }
+    Ok(all)
 }
 
 // Equal writes, whose objects are shared.

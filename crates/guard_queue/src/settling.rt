@@ -1,11 +1,13 @@
 //! Settling.
 
 ghost use Rattle.std.specs.Prelude.{◌≡◌, ◌<◌, ◌+◌, length, slice_get, IfOk, OnErr, OnOk, IsSome, option_map};
-ghost use Rattle.value_core.specs.History.{object_at, with_object};
-ghost use Rattle.guard_queue.specs.Changes.{ChangeFits, JoinsBlocked, outcome, after_put};
-ghost use Rattle.guard_queue.specs.Fitting.{AllFit, CanTry, CanTryCall};
+ghost use Rattle.value_core.specs.History.{object_at};
+ghost use Rattle.value_core.specs.Fits.{Kinds};
+ghost use Rattle.guard_queue.specs.Changes.{ChangeFits, JoinsBlocked, KeepsFitting, after_put, outcome};
+ghost use Rattle.guard_queue.specs.Fitting.{CanTry, CanTryCall, GoOnFitting, SomeFit};
 ghost use Rattle.guard_queue.specs.Settles.{AllBlocked, IsFound, answered, next_ready, objects_with, settled, settled_from};
 ghost use Rattle.guard_queue.specs.Settles.{stands, taken, tried_in, tried_on, with_state};
+ghost use Rattle.guard_queue.specs.declared.change.Change.TheVariants.{Puts};
 ghost use Rattle.guard_queue.specs.Rounds.{IsTriedAt, OthersBlocked, settling_of};
 
 use crate::change::Change;
@@ -31,11 +33,11 @@ pub fn settle<P: Performer>(
     objects: &mut Objects,
     queue: &mut Queue,
 ) -> Result<Vec<Answered>, NoMemory>
-    requires { AllFit (P.fits_state performer.now) (P.fits_args performer.now) objects.old queue.old }
+    requires { SomeFit (P.fits_state performer.now) (P.fits_args performer.now) objects.old queue.old }
     ensures ok { IfOk result (λ a. stands objects.new queue.new a ≡ settled (P.performs performer.now) objects.old queue.old) }
     ensures blocked { OnOk result (AllBlocked (P.performs performer.now) objects.new queue.new) }
     ensures err { OnErr result ((objects.new ≡ objects.old) × (queue.new ≡ queue.old)) }
-    ensures fits { AllFit (P.fits_state performer.now) (P.fits_args performer.now) objects.new queue.new }
+    ensures fits { GoOnFitting (P.fits_state performer.now) (P.fits_args performer.now) objects.old queue.old objects.new queue.new }
 {
     let mut rounds = Rounds {
         objects: objects.copy(alloc)?,
@@ -60,14 +62,15 @@ pub fn settle_after<P: Performer>(
     change: Change,
     lines: Vec<Answered>,
 ) -> Result<Vec<Answered>, NoMemory>
-    requires fits { AllFit (P.fits_state performer.now) (P.fits_args performer.now) objects.old queue.old }
-    requires changed { ChangeFits (P.fits_state performer.now) (P.fits_args performer.now) objects.old queue.old change }
+    requires fits { (kinds : Kinds) ×
+        ChangeFits (P.fits_state performer.now) (P.fits_args performer.now) kinds objects.old queue.old change }
     requires blocked { AllBlocked (P.performs performer.now) objects.old queue.old }
     requires joins { JoinsBlocked (P.performs performer.now) objects.old change }
     ensures ok { IfOk result (λ a. stands objects.new queue.new a ≡ outcome (P.performs performer.now) objects.old queue.old change lines) }
     ensures blocked { AllBlocked (P.performs performer.now) objects.new queue.new }
     ensures err { OnErr result ((objects.new ≡ objects.old) × (queue.new ≡ queue.old)) }
-    ensures fits { AllFit (P.fits_state performer.now) (P.fits_args performer.now) objects.new queue.new }
+    ensures fits { KeepsFitting (P.fits_state performer.now) (P.fits_args performer.now) objects.old queue.old change
+        objects.new queue.new }
 {
     match change {
         Change::Nothing => Ok(lines),
@@ -159,11 +162,11 @@ fn settle_with<P: Performer>(
     kept: Instance,
     lines: Vec<Answered>,
 ) -> Result<Vec<Answered>, NoMemory>
-    requires fits { AllFit (P.fits_state by.now) (P.fits_args by.now) (with_object objects.old object kept) queue.old }
+    requires fits { (kinds : Kinds) × ChangeFits (P.fits_state by.now) (P.fits_args by.now) kinds objects.old queue.old (Puts object kept) }
     requires blocked { AllBlocked (P.performs by.now) objects.old queue.old }
     ensures ok { IfOk result (λ a. stands objects.new queue.new a ≡ after_put (P.performs by.now) objects.old object kept queue.old lines) }
     ensures blocked { OnOk result (AllBlocked (P.performs by.now) objects.new queue.new) }
-    ensures fits { OnOk result (AllFit (P.fits_state by.now) (P.fits_args by.now) objects.new queue.new) }
+    ensures fits { KeepsFitting (P.fits_state by.now) (P.fits_args by.now) objects.old queue.old (Puts object kept) objects.new queue.new }
     ensures err { OnErr result ((objects.new ≡ objects.old) × (queue.new ≡ queue.old)) }
 {
     if !queue.has_on(object) {
@@ -199,11 +202,12 @@ impl Rounds {
         performer: &P,
         on: Option<ObjectId>,
     ) -> Result<(), NoMemory>
-        requires fits { AllFit (P.fits_state performer.now) (P.fits_args performer.now) self.old.objects self.old.queue }
+        requires fits { SomeFit (P.fits_state performer.now) (P.fits_args performer.now) self.old.objects self.old.queue }
         requires others { OthersBlocked (P.performs performer.now) self.old.objects self.old.queue on }
         ensures ok { OnOk result (settling_of self.new ≡ settled_from (P.performs performer.now) (settling_of self.old)) }
         ensures blocked { OnOk result (AllBlocked (P.performs performer.now) self.new.objects self.new.queue) }
-        ensures fits { OnOk result (AllFit (P.fits_state performer.now) (P.fits_args performer.now) self.new.objects self.new.queue) }
+        ensures fits { OnOk result (GoOnFitting (P.fits_state performer.now) (P.fits_args performer.now) self.old.objects self.old.queue
+            self.new.objects self.new.queue) }
     {
         let mut ready = self.find_ready(alloc, performer, on)?;
         'rounds: while let Some((at, tried)) = ready {
@@ -249,7 +253,7 @@ impl Rounds {
         performer: &P,
         on: Option<ObjectId>,
     ) -> Result<Option<(usize, Tried)>, NoMemory>
-        requires fits { AllFit (P.fits_state performer.now) (P.fits_args performer.now) self.now.objects self.now.queue }
+        requires fits { SomeFit (P.fits_state performer.now) (P.fits_args performer.now) self.now.objects self.now.queue }
         requires others { OthersBlocked (P.performs performer.now) self.now.objects self.now.queue on }
         ensures place { IfOk result (λ r. next_ready (P.performs performer.now) self.now.objects self.now.queue ≡ option_map (λ x. x.0) r) }
         ensures tried { IfOk result (λ r. IsFound (P.performs performer.now) self.now.objects self.now.queue r) }
@@ -271,7 +275,7 @@ impl Rounds {
         on: Option<ObjectId>,
         at: usize,
     ) -> Result<Tried, NoMemory>
-        requires fits { AllFit (P.fits_state performer.now) (P.fits_args performer.now) self.now.objects self.now.queue }
+        requires fits { SomeFit (P.fits_state performer.now) (P.fits_args performer.now) self.now.objects self.now.queue }
         requires others { OthersBlocked (P.performs performer.now) self.now.objects self.now.queue on }
         requires place { at < length self.now.queue }
         ensures { IfOk result (λ t. IsTriedAt (P.performs performer.now) self.now.objects self.now.queue at t) }

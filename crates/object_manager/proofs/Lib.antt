@@ -1,4 +1,7 @@
 pub mod Acting
-pub mod Always
+pub mod Fitted
 pub mod Lasting
 pub mod Apart
+pub mod Singles
+pub mod Whole
+pub mod Settled

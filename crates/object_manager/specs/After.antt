@@ -15,17 +15,23 @@ use Rattle.value_core.specs.declared.meaning.Making.{Making}
 use Rattle.value_core.specs.declared.meaning.Making.TheVariants as making
 use Rattle.value_core.specs.declared.meaning.Tried.{Tried}
 use Rattle.value_core.specs.declared.meaning.Tried.TheVariants as tried
+use Rattle.value_core.specs.Fits.{Kinds}
 use Rattle.value_core.specs.Meaning.{Performs}
 use Rattle.value_core.specs.History.{Objects, after_making, forked, output_kind, output_object}
 use Rattle.guard_queue.specs.declared.queue.Suspended.{Suspended}
 use Rattle.guard_queue.specs.Settles.{Settling, answered, objects_with, settled, tried_in}
 
--- one member's copies: the objects, the suspended calls, the number of processes, and how many entries were applied
+-- one member's copies: the replicated objects, the suspended calls on them, the number of processes, and how many entries were
+-- applied
 pub record Copied : Type 0 where
   pub objects : Objects
   pub queue : List Suspended
   pub processes : ℕ
   pub applied : ℕ
+  -- the single objects that were made, with their types; those that are kept here, and the calls suspended on these
+  pub singles : Kinds
+  pub own : Objects
+  pub waits : List Suspended
 
 -- before the first entry: the output object, and process 0
 abbrev pub opening_copies : Copied
@@ -34,6 +40,9 @@ opening_copies = record {
   queue = [];
   processes = 1;
   applied = 0;
+  singles = [];
+  own = [];
+  waits = [];
 }
 
 -- what a making answers
@@ -56,31 +65,26 @@ as_call message kind op object args = record {
   args = args;
 }
 
--- a call, by what its try gave: blocked it joins the queue, else it is performed or faults
-abbrev pub called : Copied → Suspended → Tried → Settling
-called c call tried.Blocked = record { objects = c.objects; queue = c.queue ++ call ∷ []; lines = [] }
-called c call (tried.Did guard state reply) =
+-- a call on objects, by what its try gave: blocked it joins the queue, else it is performed or faults
+abbrev pub called_in : Objects → List Suspended → Suspended → Tried → Settling
+called_in objects queue call tried.Blocked = record { objects = objects; queue = queue ++ call ∷ []; lines = [] }
+called_in objects queue call (tried.Did guard state reply) =
     record {
-      objects = objects_with c.objects call (tried.Did guard state reply);
-      queue = c.queue;
+      objects = objects_with objects call (tried.Did guard state reply);
+      queue = queue;
       lines = answered call
           (tried.Did guard state reply) ∷ [];
     }
-called c call (tried.Broke guard fault) =
+called_in objects queue call (tried.Broke guard fault) =
     record {
-      objects = objects_with c.objects call (tried.Broke guard fault);
-      queue = c.queue;
+      objects = objects_with objects call (tried.Broke guard fault);
+      queue = queue;
       lines = answered call
           (tried.Broke guard fault) ∷ [];
     }
 
--- a call that is tried
-abbrev pub called_by : Performs → Copied → Suspended → Settling
-called_by p c call = called c call (tried_in p c.objects call)
-
--- the objects after a make
-abbrev pub after_made : Performs → Copied → KindNo → ObjectId → Objects
-after_made p c kind object = after_making c.objects kind object (p.made kind)
+abbrev pub called : Copied → Suspended → Tried → Settling
+called c call t = called_in c.objects c.queue call t
 
 -- what the message itself does: a make adds the object, or none where it faults; a call is tried
 abbrev pub acted_by : Performs → Copied → Message → Action → Settling
@@ -107,7 +111,7 @@ settled_after p s = settled p s.objects s.queue
 
 -- the copies after one message: a fork adds one to the number of processes
 abbrev pub after : Performs → Copied → Message → Copied
-after p c message = record {
+after p c message = record c {
   objects = (settled_after p (acted p c message)).objects;
   queue = (settled_after p (acted p c message)).queue;
   processes = c.processes + length (forked message.action);

@@ -1,4 +1,5 @@
 -- What is so of copies by their definitions, whatever performs the operations.
+use Rattle.std.specs.Prelude.{◌≡◌, ◌-◌, Bool, [], length}
 use Rattle.orca_base.specs.declared.ids.KindNo.{KindNo}
 use Rattle.orca_base.specs.declared.ids.OpNo.{OpNo}
 use Rattle.value_core.specs.Datum.{Data}
@@ -9,9 +10,11 @@ use Rattle.guard_queue.specs.Fitting.{kinds_of}
 use Rattle.guard_queue.specs.Settles.{AllBlocked}
 use Rattle.guard_queue.specs.Shown.{Rises}
 use Rattle.object_manager.specs.After.{Copied, after}
-use Rattle.object_manager.specs.Applies.{Applies, CopiesFit}
+use Rattle.object_manager.specs.Applies.{Applies, AppliesSingle, CopiesBlocked, CopiesFit}
+use Rattle.object_manager.specs.Limits.{made_objects}
+use Rattle.object_manager.specs.Singles.{AreCounted, after_passed, after_single, kinds_at}
 
--- after a message each suspended call is blocked
+-- after a message each suspended call on a replicated object is blocked
 abbrev pub AfterBlocked : Performs → Type 0
 AfterBlocked p = (c : Copied) (message : Message) → AllBlocked p (after p c message).objects (after p c message).queue
 
@@ -24,8 +27,38 @@ AfterFitting fits_state fits_args p =
 -- each object stays, by its type
 abbrev pub AfterTyped : (Kinds → KindNo → OpNo → Data → Type 0) → Performs → Type 0
 AfterTyped fits_args p = (c : Copied) (message : Message) → Applies fits_args c message.action →
-    ExtendsKinds (kinds_of c.objects) (kinds_of (after p c message).objects)
+    ExtendsKinds (kinds_at c) (kinds_at (after p c message))
 
 -- ids that rise go on rising
 abbrev pub AfterRising : Performs → Type 0
 AfterRising p = (c : Copied) (message : Message) → Rises c.objects → Rises (after p c message).objects
+
+-- what stays of copies, and what goes on: all fits, each suspended call is blocked, what is kept here was counted, and each
+-- object stays by its type
+pub record GoesOn (fits_state : Kinds → KindNo → Data → Type 0) (fits_args : Kinds → KindNo → OpNo → Data → Type 0) (p : Performs)
+    (before now : Copied) : Type 0 where
+  pub fits : CopiesFit fits_state fits_args now
+  pub blocked : CopiesBlocked p now
+  pub counted : AreCounted now.own now.singles
+  pub types : ExtendsKinds (kinds_at before) (kinds_at now)
+
+-- so it is after an entry that makes a single object
+abbrev pub PassedGoesOn : (Kinds → KindNo → Data → Type 0) → (Kinds → KindNo → OpNo → Data → Type 0) → Performs → Type 0
+PassedGoesOn fits_state fits_args p = (keeps : Bool) (c : Copied) (message : Message) → CopiesFit fits_state fits_args c →
+    CopiesBlocked p c → AreCounted c.own c.singles → Applies fits_args c message.action →
+    GoesOn fits_state fits_args p c (after_passed p keeps c message)
+
+-- and after a call on a single object
+abbrev pub SingleGoesOn : (Kinds → KindNo → Data → Type 0) → (Kinds → KindNo → OpNo → Data → Type 0) → Performs → Type 0
+SingleGoesOn fits_state fits_args p = (c : Copied) (message : Message) → CopiesFit fits_state fits_args c → CopiesBlocked p c →
+    AreCounted c.own c.singles → AppliesSingle fits_args c message.action →
+    GoesOn fits_state fits_args p c (after_single p c message)
+
+-- with no single object the types and the number of objects made are those of the objects, and no message makes one
+pub record IsPlain (p : Performs) (c : Copied) (message : Message) : Type 0 where
+  pub types : kinds_at c ≡ kinds_of c.objects
+  pub made : made_objects c ≡ length c.objects - 1
+  pub none : (after p c message).singles ≡ []
+
+abbrev pub WithoutSingles : Performs → Type 0
+WithoutSingles p = (c : Copied) (message : Message) → c.singles ≡ [] → IsPlain p c message

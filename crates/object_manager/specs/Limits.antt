@@ -1,5 +1,5 @@
 -- The limits of a run that an entry can meet.
-use Rattle.std.specs.Prelude.{◌≡◌, ℕ, ◌-◌, ◌≤◌, length}
+use Rattle.std.specs.Prelude.{◌≡◌, ℕ, ◌+◌, ◌-◌, leb, length, Option, None, Some, if◌then◌else◌}
 use Rattle.orca_base.specs.declared.what.What.{What}
 use Rattle.orca_base.specs.declared.what.What.TheVariants as what
 use Rattle.value_core.specs.declared.action.Action.{Action}
@@ -7,7 +7,6 @@ use Rattle.value_core.specs.declared.action.Action.TheVariants as action
 use Rattle.value_core.specs.declared.meaning.Making.{Making}
 use Rattle.value_core.specs.declared.meaning.Making.TheVariants as making
 use Rattle.value_core.specs.Meaning.{Performs}
-use Rattle.value_core.specs.History.{Objects}
 use Rattle.object_manager.specs.After.{Copied}
 use Rattle.object_manager.specs.declared.copies.ApplyError.{ApplyError}
 use Rattle.object_manager.specs.declared.copies.ApplyError.TheVariants as refused
@@ -19,33 +18,28 @@ most_objects = 4096
 abbrev pub most_processes : ℕ
 most_processes = 256
 
--- how many objects were made: all but the output object, which is always there
-abbrev pub made_objects : Objects → ℕ
-made_objects objects = length objects - 1
+-- how many objects were made: the replicated ones but the output object, which is always there, and the single ones
+abbrev pub made_objects : Copied → ℕ
+made_objects c = length c.objects - 1 + length c.singles
 
--- a making that doesn't fault would make one object more than a run may have
-abbrev pub MakesTooMany : Objects → Making → Type 0
-MakesTooMany objects (making.Made state) = most_objects ≤ made_objects objects
-MakesTooMany objects (making.Broke fault) = ⊥
+-- the limit of objects with its number, where one more would pass it; a making that faults makes none
+abbrev pub objects_limit : Copied → Making → Option (What × ℕ)
+objects_limit c (making.Made state) = if leb most_objects (made_objects c) then Some (what.Objects, most_objects) else None
+objects_limit c (making.Broke fault) = None
 
--- the message would make the 4,097th object or the 257th process
-abbrev pub IsTooMany : Performs → Copied → Action → What → ℕ → Type 0
-IsTooMany p c (action.Make kind object) w number = MakesTooMany c.objects (p.made kind) × (w ≡ what.Objects) × (number ≡ most_objects)
-IsTooMany p c (action.Fork process args place_on) w number = (most_processes ≤ c.processes) × (w ≡ what.Processes) ×
-    (number ≡ most_processes)
-IsTooMany p c (action.Call kind op object args) w number = ⊥
-IsTooMany p c action.Ended w number = ⊥
-IsTooMany p c (action.Faulted fault) w number = ⊥
+-- the limit of processes with its number, where one more would pass it
+abbrev pub processes_limit : ℕ → Option (What × ℕ)
+processes_limit processes = if leb most_processes processes then Some (what.Processes, most_processes) else None
 
--- the message makes none too many
-abbrev pub IsWithin : Performs → Copied → Action → Type 0
-IsWithin p c action = (w : What) (number : ℕ) → IsTooMany p c action w number → ⊥
+-- the limit that the message would pass: it would make the 4,097th object or the 257th process
+abbrev pub too_many : Performs → Copied → Action → Option (What × ℕ)
+too_many p c (action.Make kind object) = objects_limit c (p.made kind)
+too_many p c (action.Fork process args place_on) = processes_limit c.processes
+too_many p c (action.Call kind op object args) = None
+too_many p c action.Ended = None
+too_many p c (action.Faulted fault) = None
 
--- one more process would be too many
-abbrev pub IsForkLimit : ℕ → What → ℕ → Type 0
-IsForkLimit processes w number = (most_processes ≤ processes) × (w ≡ what.Processes) × (number ≡ most_processes)
-
--- Q of the limit, where that is why the message wasn't applied
-abbrev pub IfLimit : ApplyError → (What → ℕ → Type 0) → Type 0
-IfLimit (refused.Limit w number) Q = Q w number
-IfLimit refused.NoMemory Q = Unit {0}
+-- where a limit is why a message wasn't applied, it is this one
+abbrev pub IfLimit : ApplyError → Option (What × ℕ) → Type 0
+IfLimit (refused.Limit w number) passed = passed ≡ Some (w, number)
+IfLimit refused.NoMemory passed = Unit {0}

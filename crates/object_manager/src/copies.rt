@@ -1,30 +1,26 @@
 //! One member's copies.
 
-ghost use Rattle.std.specs.Prelude.{◌≡◌, ◌<◌, ◌≤◌, ◌^◌, ◌-◌, ◌+◌, ◌↔◌, ◌∷◌, [], List, IfOk, IfErr, OnOk, OnErr, IsTrue, None, Some, length};
-ghost use Rattle.value_core.specs.History.{Objects as Held, after_making, forked, object_at, output_kind, output_object};
-ghost use Rattle.guard_queue.specs.Changes.{JoinsBlocked, objects_changed, queue_changed};
-ghost use Rattle.guard_queue.specs.Fitting.{CallFits, OperationFits, kind_at, kinds_of};
-ghost use Rattle.guard_queue.specs.declared.queue.Suspended.{Suspended};
-ghost use Rattle.guard_queue.specs.Settles.{AllBlocked, lines_of, tried_on, tried_in, with_state};
+ghost use Rattle.std.specs.Prelude.{◌≡◌, ◌<◌, ◌≤◌, ◌^◌, ◌-◌, ◌↔◌, IfOk, IfErr, OnOk, OnErr, IsTrue, None, if◌then◌else◌, length};
+ghost use Rattle.value_core.specs.History.{forked, output_kind, output_object, with_object};
+ghost use Rattle.guard_queue.specs.Changes.{JoinsBlocked};
+ghost use Rattle.guard_queue.specs.Fitting.{kind_at};
+ghost use Rattle.guard_queue.specs.Settles.{lines_of, tried_on};
 ghost use Rattle.guard_queue.specs.Waits.{IsWaiting};
-ghost use Rattle.value_core.specs.Meaning.{Performs};
-ghost use Rattle.object_manager.specs.After.{acted, after, after_made, called_by, lines_after, making_reply, opening_copies};
-ghost use Rattle.object_manager.specs.Viewed.{StatesFit};
-ghost use Rattle.object_manager.specs.Applies.{ActFits, Applies, CopiesFit};
+ghost use Rattle.object_manager.specs.After.{acted, after, lines_after, opening_copies};
 ghost use Rattle.object_manager.specs.Acts.{acts};
-ghost use Rattle.object_manager.specs.Limits.{IfLimit, IsForkLimit, IsTooMany, IsWithin, MakesTooMany, most_objects, most_processes};
-ghost use Rattle.value_core.specs.declared.action.Action.TheVariants.{Make};
-ghost use Rattle.value_core.specs.declared.action.Reply.TheVariants.{Done};
+ghost use Rattle.object_manager.specs.Applies.{Applies, AppliesSingle, CopiesBlocked, CopiesFit};
+ghost use Rattle.object_manager.specs.Limits.{IfLimit, made_objects, most_objects, most_processes, objects_limit, processes_limit, too_many};
+ghost use Rattle.object_manager.specs.Singles.{AreCounted, IsCounted, IsMake, after_passed, after_single, counted_by, kept_by, lines_single, side};
+ghost use Rattle.object_manager.specs.Viewed.{ReadFits};
 ghost use Rattle.object_manager.specs.declared.copies.ApplyError.TheVariants.{NoMemory as Without};
 
+use crate::acts::{Acted, answer_of, call_of, call_on, plain_line, put_made};
 use crate::view::View;
-use guard_queue::{
-    Answered, Change, Objects, Queue, Suspended, perform, settle_after, try_call, try_on,
-};
+use guard_queue::{Answered, Change, Objects, Queue, settle_after, try_on};
 use orca_base::{KindNo, NoMemory, OBJECTS, ObjectId, OpNo, PROCESSES, ProcessNo, What};
 use std::alloc::Global;
 use std::marker::Model;
-use value_core::{Action, Instance, Line, Making, Message, Parts, Performer, Reply, Tried};
+use value_core::{Action, Instance, Making, Message, Parts, Performer, Reply, Tried};
 
 /// Why a message wasn't applied.
 #[derive(Clone, Copy, Debug, PartialEq, Eq)]
@@ -43,13 +39,17 @@ impl From<NoMemory> for ApplyError {
     }
 }
 
-/// One member's objects, suspended calls, number of processes and number of applied entries.
+/// One member's copies: the replicated objects and the suspended calls on them, the number of processes and of applied entries, the
+/// single objects that were made, those of them that are kept here, and the suspended calls on these.
 #[derive(Drop)]
 pub struct Copies {
     objects: Objects,
     queue: Queue,
     processes: u16,
     applied: u64,
+    singles: Vec<(ObjectId, KindNo)>,
+    own: Objects,
+    waits: Queue,
 }
 
 impl Model for Copies {
@@ -62,22 +62,27 @@ impl Model for Copies {
 
     ghost coded = { Prim.hlevel (codes, data_code) };
 
-    ghost view = { λ c. record { objects = c.objects; queue = c.queue; processes = c.processes; applied = c.applied } };
+    ghost view = { λ c. record {
+      objects = c.objects;
+      queue = c.queue;
+      processes = c.processes;
+      applied = c.applied;
+      singles = c.singles.items;
+      own = c.own;
+      waits = c.waits;
+    } };
 
-    ghost use Rattle.std.specs.Prelude.{◌≡◌, ◌≤◌, Some};
-    ghost use Rattle.value_core.specs.History.{output_kind, output_object};
-    ghost use Rattle.guard_queue.specs.Fitting.{kind_at};
+    ghost use Rattle.object_manager.specs.Whole.{IsWhole};
 
-    // The output object is always among the objects, by its type, and there are no more processes than a run may have.
-    ghost invariant = { λ c. (kind_at c.objects output_object ≡ Some output_kind) × (c.processes ≤ 256) };
-}
-
-/// What a message does of itself, before it is done.
-#[derive(Drop)]
-struct Acted {
-    change: Change,
-    lines: Vec<Answered>,
-    forks: u16,
+    ghost invariant = { λ c. IsWhole (record {
+      objects = c.objects;
+      queue = c.queue;
+      processes = c.processes;
+      applied = c.applied;
+      singles = c.singles.items;
+      own = c.own;
+      waits = c.waits;
+    }) };
 }
 
 impl Copies {
@@ -96,6 +101,9 @@ impl Copies {
             queue: Queue::new(alloc),
             processes: 1,
             applied: 0,
+            singles: Vec::new(alloc),
+            own: Objects::new(alloc)?,
+            waits: Queue::new(alloc),
         })
     }
 
@@ -108,10 +116,13 @@ impl Copies {
             queue: self.queue.copy(alloc)?,
             processes: self.processes,
             applied: self.applied,
+            singles: Vec::from_slice(alloc, &self.singles)?,
+            own: self.own.copy(alloc)?,
+            waits: self.waits.copy(alloc)?,
         })
     }
 
-    /// The objects. The output object is always among them.
+    /// The replicated objects. The output object is always among them.
     pub fn objects(&self) -> &Objects
         ensures objects { result.now ≡ self.now.objects }
         ensures output { kind_at result.now output_object ≡ Some output_kind }
@@ -119,9 +130,25 @@ impl Copies {
         &self.objects
     }
 
+    /// The single objects that are kept here. Each was counted, by its type.
+    pub fn own(&self) -> &Objects
+        ensures objects { result.now ≡ self.now.own }
+        ensures counted { AreCounted result.now self.now.singles }
+    {
+        &self.own
+    }
+
+    /// Whether the object was counted as single.
+    pub fn is_counted(&self, object: ObjectId) -> bool
+        ensures { IsTrue result ↔ IsCounted self.now.singles object }
+    {
+        is_among(&self.singles, object)
+    }
+
     /// The number of processes, process 0 counted.
     pub fn processes(&self) -> u16
         ensures processes { result ≡ self.now.processes }
+        ensures some { 1 ≤ result }
         ensures few { result ≤ most_processes }
     {
         self.processes
@@ -134,14 +161,21 @@ impl Copies {
         self.applied
     }
 
-    /// Whether the process has a suspended call.
+    /// Whether the process has a suspended call on a replicated object.
     pub fn is_suspended(&self, process: ProcessNo) -> bool
         ensures { IsTrue result ↔ IsWaiting self.now.queue process }
     {
         self.queue.has(process)
     }
 
-    /// What a try of the operation gives on these copies.
+    /// Whether the process has a suspended call on a single object that is kept here.
+    pub fn is_waiting(&self, process: ProcessNo) -> bool
+        ensures { IsTrue result ↔ IsWaiting self.now.waits process }
+    {
+        self.waits.has(process)
+    }
+
+    /// What a try of the operation gives on the replicated objects.
     pub fn read<P: Performer>(
         &self,
         alloc: Global,
@@ -151,14 +185,13 @@ impl Copies {
         object: ObjectId,
         args: &Parts,
     ) -> Result<Tried, NoMemory>
-        requires fits { StatesFit (P.fits_state performer.now) self.now.objects }
-        requires call { OperationFits (P.fits_args performer.now) (kinds_of self.now.objects) self.now.objects kind op object args.now }
+        requires { ReadFits (P.fits_state performer.now) (P.fits_args performer.now) self.now.objects kind op object args.now }
         ensures { IfOk result (λ t. t ≡ tried_on (P.performs performer.now) self.now.objects kind op object args.now) }
     {
         try_on(alloc, performer, &self.objects, kind, op, object, args)
     }
 
-    /// A snapshot of the objects, which stays as it is while the copies go on. It costs some counts.
+    /// A snapshot of the replicated objects, which stays as it is while the copies go on. It costs some counts.
     pub fn view(&self, alloc: Global) -> Result<View, NoMemory>
         ensures { IfOk result (λ v. v ≡ record { objects = self.now.objects; place = self.now.applied }) }
     {
@@ -177,14 +210,14 @@ impl Copies {
         message: &Message,
     ) -> Result<Vec<Answered>, ApplyError>
         requires fits { CopiesFit (P.fits_state performer.now) (P.fits_args performer.now) self.old }
-        requires blocked { AllBlocked (P.performs performer.now) self.old.objects self.old.queue }
+        requires blocked { CopiesBlocked (P.performs performer.now) self.old }
         requires applies { Applies (P.fits_args performer.now) self.old message.now.action }
         requires room { self.old.applied < 2 ^ 64 - 1 }
         ensures after { OnOk result (self.new ≡ after (P.performs performer.now) self.old message.now) }
         ensures lines { IfOk result (λ all. lines_of all.items ≡ lines_after (P.performs performer.now) self.old message.now) }
-        ensures blocked { AllBlocked (P.performs performer.now) self.new.objects self.new.queue }
-        ensures within { OnOk result (IsWithin (P.performs performer.now) self.old message.now.action) }
-        ensures limit { IfErr result (λ e. IfLimit e (IsTooMany (P.performs performer.now) self.old message.now.action)) }
+        ensures blocked { CopiesBlocked (P.performs performer.now) self.new }
+        ensures within { OnOk result (too_many (P.performs performer.now) self.old message.now.action ≡ None) }
+        ensures limit { IfErr result (λ e. IfLimit e (too_many (P.performs performer.now) self.old message.now.action)) }
         ensures err { OnErr result (self.new ≡ self.old) }
         ensures fits { CopiesFit (P.fits_state performer.now) (P.fits_args performer.now) self.new }
     {
@@ -202,7 +235,70 @@ impl Copies {
         Ok(lines)
     }
 
-    /// What the message itself does, before the queue settles. Nothing is changed yet.
+    /// One more entry is applied, which makes a single object, where each suspended call is blocked: the object is counted, and
+    /// its state is kept here exactly where `keeps` is true. The replicated objects and the calls on them stay.
+    ///
+    /// Limit comes where the message would make the 4,097th object, as in `apply`.
+    pub fn pass_make<P: Performer>(
+        &mut self,
+        alloc: Global,
+        performer: &P,
+        message: &Message,
+        keeps: bool,
+    ) -> Result<Vec<Answered>, ApplyError>
+        requires make { IsMake message.now.action }
+        requires fits { CopiesFit (P.fits_state performer.now) (P.fits_args performer.now) self.old }
+        requires blocked { CopiesBlocked (P.performs performer.now) self.old }
+        requires applies { Applies (P.fits_args performer.now) self.old message.now.action }
+        requires room { self.old.applied < 2 ^ 64 - 1 }
+        ensures after { OnOk result (self.new ≡ after_passed (P.performs performer.now) keeps self.old message.now) }
+        ensures lines { IfOk result (λ all. lines_of all.items ≡ (acted (P.performs performer.now) self.old message.now).lines) }
+        ensures blocked { CopiesBlocked (P.performs performer.now) self.new }
+        ensures within { OnOk result (too_many (P.performs performer.now) self.old message.now.action ≡ None) }
+        ensures limit { IfErr result (λ e. IfLimit e (too_many (P.performs performer.now) self.old message.now.action)) }
+        ensures err { OnErr result (self.new ≡ self.old) }
+        ensures fits { CopiesFit (P.fits_state performer.now) (P.fits_args performer.now) self.new }
+    {
+        let Action::Make { kind, object } = &message.action else {
+            unreachable!()
+        };
+        let applied = self.applied + 1;
+        let making = self.make(alloc, performer, *kind)?;
+        let lines = plain_line(alloc, message, answer_of(&making))?;
+        self.count(alloc, *kind, *object, making, keeps)?;
+        self.applied = applied;
+        Ok(lines)
+    }
+
+    /// A call on a single object that is kept here, where each suspended call is blocked: it is tried, or joins those that wait
+    /// here, and then these settle. The lines are in the order in which they ran. The call is no entry.
+    pub fn call_single<P: Performer>(
+        &mut self,
+        alloc: Global,
+        performer: &P,
+        message: &Message,
+    ) -> Result<Vec<Answered>, NoMemory>
+        requires fits { CopiesFit (P.fits_state performer.now) (P.fits_args performer.now) self.old }
+        requires blocked { CopiesBlocked (P.performs performer.now) self.old }
+        requires call { AppliesSingle (P.fits_args performer.now) self.old message.now.action }
+        ensures after { OnOk result (self.new ≡ after_single (P.performs performer.now) self.old message.now) }
+        ensures lines { IfOk result (λ all. lines_of all.items ≡ lines_single (P.performs performer.now) self.old message.now) }
+        ensures blocked { CopiesBlocked (P.performs performer.now) self.new }
+        ensures err { OnErr result (self.new ≡ self.old) }
+        ensures fits { CopiesFit (P.fits_state performer.now) (P.fits_args performer.now) self.new }
+    {
+        let acted = self.act_single(alloc, performer, message)?;
+        Ok(settle_after(
+            alloc,
+            performer,
+            &mut self.own,
+            &mut self.waits,
+            acted.change,
+            acted.lines,
+        )?)
+    }
+
+    // What the message itself does, before the queue settles. Nothing is changed yet.
     fn act<P: Performer>(
         &self,
         alloc: Global,
@@ -211,17 +307,17 @@ impl Copies {
     ) -> Result<Acted, ApplyError>
         requires fits { CopiesFit (P.fits_state performer.now) (P.fits_args performer.now) self.now }
         requires applies { Applies (P.fits_args performer.now) self.now message.now.action }
-        ensures acted { IfOk result (λ a. acts self.now a.change a.lines ≡ acted (P.performs performer.now) self.now message.now) }
+        ensures acted { IfOk result (λ a. acts self.now.objects self.now.queue a.change a.lines
+            ≡ acted (P.performs performer.now) self.now message.now) }
         ensures joins { IfOk result (λ a. JoinsBlocked (P.performs performer.now) self.now.objects a.change) }
         ensures forks { IfOk result (λ a. a.forks ≡ length (forked message.now.action)) }
-        ensures within { OnOk result (IsWithin (P.performs performer.now) self.now message.now.action) }
-        ensures limit { IfErr result (λ e. IfLimit e (IsTooMany (P.performs performer.now) self.now message.now.action)) }
-        ensures fits { IfOk result (λ a. ActFits (P.fits_state performer.now) (P.fits_args performer.now) self.now a.change) }
+        ensures within { OnOk result (too_many (P.performs performer.now) self.now message.now.action ≡ None) }
+        ensures limit { IfErr result (λ e. IfLimit e (too_many (P.performs performer.now) self.now message.now.action)) }
     {
         let (reply, change, forks) = match &message.action {
             Action::Make { kind, object } => {
-                let (reply, change) = self.make(alloc, performer, *kind, *object)?;
-                (reply, change, 0)
+                let making = self.make(alloc, performer, *kind)?;
+                (answer_of(&making), put_made(*kind, *object, making), 0)
             }
             Action::Fork { .. } => {
                 self.can_fork()?;
@@ -233,69 +329,100 @@ impl Copies {
                 object,
                 args,
             } => {
-                let call = Suspended {
-                    process: message.process,
-                    call: message.call,
-                    kind: *kind,
-                    op: *op,
-                    object: *object,
-                    args: args.copy(alloc)?,
-                };
-                return Ok(self.call(alloc, performer, call)?);
+                let call = call_of(alloc, message, *kind, *op, *object, args)?;
+                return Ok(call_on(alloc, performer, &self.objects, call)?);
             }
             Action::Ended | Action::Faulted { .. } => unreachable!(),
         };
-        let line = Line {
-            process: message.process,
-            call: message.call,
-            action: message.action.copy(alloc)?,
-            guard: 0,
-            reply,
-        };
         Ok(Acted {
             change,
-            lines: one_line(alloc, line)?,
+            lines: plain_line(alloc, message, reply)?,
             forks,
         })
     }
 
-    /// What a make answers, and the object that it puts in, where its making doesn't fault.
+    // What a call on a single object itself does, before those that wait settle. Nothing is changed yet.
+    fn act_single<P: Performer>(
+        &self,
+        alloc: Global,
+        performer: &P,
+        message: &Message,
+    ) -> Result<Acted, NoMemory>
+        requires fits { CopiesFit (P.fits_state performer.now) (P.fits_args performer.now) self.now }
+        requires call { AppliesSingle (P.fits_args performer.now) self.now message.now.action }
+        ensures acted { IfOk result (λ a. acts self.now.own self.now.waits a.change a.lines
+            ≡ acted (P.performs performer.now) (side self.now) message.now) }
+        ensures joins { IfOk result (λ a. JoinsBlocked (P.performs performer.now) self.now.own a.change) }
+    {
+        let Action::Call {
+            kind,
+            op,
+            object,
+            args,
+        } = &message.action
+        else {
+            unreachable!()
+        };
+        let call = call_of(alloc, message, *kind, *op, *object, args)?;
+        Ok(call_on(alloc, performer, &self.own, call)?)
+    }
+
+    // A single object that was made is counted, and kept here where that is asked.
+    fn count(
+        &mut self,
+        alloc: Global,
+        kind: KindNo,
+        object: ObjectId,
+        making: Making,
+        keeps: bool,
+    ) -> Result<(), NoMemory>
+        requires { objects_limit self.old making ≡ None }
+        ensures ok { OnOk result (self.new ≡ record self.old {
+          singles = counted_by making kind object self.old.singles;
+          own = kept_by keeps making kind object self.old.own;
+        }) }
+        ensures err { OnErr result (self.new ≡ self.old) }
+    {
+        let Making::Made { state } = making else {
+            return Ok(());
+        };
+        let own = kept_if(alloc, &self.own, keeps, object, Instance { kind, state })?;
+        self.singles.push((object, kind))?;
+        self.own = own;
+        Ok(())
+    }
+
+    // What a making gives, where a run may have one object more or it faults.
     fn make<P: Performer>(
         &self,
         alloc: Global,
         performer: &P,
         kind: KindNo,
-        object: ObjectId,
-    ) -> Result<(Reply, Change), ApplyError>
-        requires fits { CopiesFit (P.fits_state performer.now) (P.fits_args performer.now) self.now }
-        requires absent { object_at self.now.objects object ≡ None }
-        ensures reply { IfOk result (λ r. r.0 ≡ making_reply ((P.performs performer.now).made kind)) }
-        ensures put { IfOk result (λ r. objects_changed self.now.objects r.1 ≡ after_made (P.performs performer.now) self.now kind object) }
-        ensures queue { IfOk result (λ r. queue_changed self.now.queue r.1 ≡ self.now.queue) }
-        ensures joins { IfOk result (λ r. JoinsBlocked (P.performs performer.now) self.now.objects r.1) }
-        ensures within { OnOk result (MakesTooMany self.now.objects ((P.performs performer.now).made kind) → ⊥) }
-        ensures limit { IfErr result (λ e. IfLimit e (IsTooMany (P.performs performer.now) self.now (Make kind object))) }
-        ensures fits { IfOk result (λ r. ActFits (P.fits_state performer.now) (P.fits_args performer.now) self.now r.1) }
+    ) -> Result<Making, ApplyError>
+        ensures making { IfOk result (λ making. making ≡ (P.performs performer.now).made kind) }
+        ensures within { OnOk result (objects_limit self.now ((P.performs performer.now).made kind) ≡ None) }
+        ensures limit { IfErr result (λ e. IfLimit e (objects_limit self.now ((P.performs performer.now).made kind))) }
     {
         match performer.make(alloc, kind)? {
-            Making::Broke { fault } => Ok((Reply::Broke { fault }, Change::Nothing)),
-            Making::Made { .. } if self.objects.len() > OBJECTS as usize => {
-                Err(ApplyError::Limit {
-                    what: What::Objects,
-                    number: u64::from(OBJECTS),
-                })
-            }
-            Making::Made { state } => {
-                let kept = Instance { kind, state };
-                Ok((Reply::Done, Change::Puts { object, kept }))
-            }
+            Making::Made { .. } if self.is_full() => Err(ApplyError::Limit {
+                what: What::Objects,
+                number: u64::from(OBJECTS),
+            }),
+            making => Ok(making),
         }
     }
 
-    /// Whether one more process may be there.
+    // Whether as many objects were made as a run may have.
+    fn is_full(&self) -> bool
+        ensures { IsTrue result ↔ (most_objects ≤ made_objects self.now) }
+    {
+        self.objects.len() + self.singles.len() > OBJECTS as usize
+    }
+
+    // Whether one more process may be there.
     fn can_fork(&self) -> Result<(), ApplyError>
-        ensures within { OnOk result (self.now.processes < most_processes) }
-        ensures limit { IfErr result (λ e. IfLimit e (IsForkLimit self.now.processes)) }
+        ensures within { OnOk result (processes_limit self.now.processes ≡ None) }
+        ensures limit { IfErr result (λ e. IfLimit e (processes_limit self.now.processes)) }
     {
         if u32::from(self.processes) >= PROCESSES {
             return Err(ApplyError::Limit {
@@ -305,57 +432,34 @@ impl Copies {
         }
         Ok(())
     }
+}
 
-    /// The call is tried: blocked it joins the queue, else it is performed or faults.
-    fn call<P: Performer>(
-        &self,
-        alloc: Global,
-        performer: &P,
-        call: Suspended,
-    ) -> Result<Acted, NoMemory>
-        requires fits { CopiesFit (P.fits_state performer.now) (P.fits_args performer.now) self.now }
-        requires operation { CallFits (P.fits_args performer.now) (kinds_of self.now.objects) self.now.objects call }
-        ensures acted { IfOk result (λ a. acts self.now a.change a.lines ≡ called_by (P.performs performer.now) self.now call) }
-        ensures joins { IfOk result (λ a. JoinsBlocked (P.performs performer.now) self.now.objects a.change) }
-        ensures forks { IfOk result (λ a. a.forks ≡ 0) }
-        ensures fits { IfOk result (λ a. ActFits (P.fits_state performer.now) (P.fits_args performer.now) self.now a.change) }
-    {
-        match try_call(alloc, performer, &self.objects, &call)? {
-            Tried::Blocked => Ok(Acted {
-                change: Change::Joins { call },
-                lines: Vec::new(alloc),
-                forks: 0,
-            }),
-            tried => {
-                let object = call.object;
-                let (line, state) = perform(&self.objects, call, tried);
-                Ok(Acted {
-                    change: put(object, state),
-                    lines: one_line(alloc, line)?,
-                    forks: 0,
-                })
-            }
+// The objects with this one put in, where that is asked.
+fn kept_if(
+    alloc: Global,
+    own: &Objects,
+    keeps: bool,
+    object: ObjectId,
+    kept: Instance,
+) -> Result<Objects, NoMemory>
+    ensures { IfOk result (λ o. o ≡ (if keeps then with_object own.now object kept else own.now)) }
+{
+    if !keeps {
+        return own.copy(alloc);
+    }
+    let mut after = own.copy(alloc)?;
+    after.put(alloc, object, kept)?;
+    Ok(after)
+}
+
+// Whether there is a pair with this object.
+fn is_among(pairs: &[(ObjectId, KindNo)], object: ObjectId) -> bool
+    ensures { IsTrue result ↔ IsCounted pairs.now object }
+{
+    for pair in pairs {
+        if pair.0 == object {
+            return true;
         }
     }
-}
-
-/// The change that puts a state in, where there is one.
-fn put(object: ObjectId, state: Option<Instance>) -> Change
-    ensures objects { (objects : Held) → objects_changed objects result ≡ with_state objects object state }
-    ensures queue { (queue : List Suspended) → queue_changed queue result ≡ queue }
-    ensures joins { (p : Performs) (objects : Held) → JoinsBlocked p objects result }
-{
-    match state {
-        None => Change::Nothing,
-        Some(kept) => Change::Puts { object, kept },
-    }
-}
-
-/// The one line of an entry's own action.
-fn one_line(alloc: Global, line: Line) -> Result<Vec<Answered>, NoMemory>
-    ensures { IfOk result (λ all. lines_of all.items ≡ line ∷ []) }
-{
-    let mut lines = Vec::new(alloc);
-    lines.push(Answered { line })?;
-    Ok(lines)
+    false
 }

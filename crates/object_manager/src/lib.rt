@@ -5,6 +5,7 @@
 //! on `guard_queue`, and knows nothing of packets, members or the text of a program.
 #![tactic(auto)]
 
+mod acts;
 mod copies;
 mod laws;
 mod view;

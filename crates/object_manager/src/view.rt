@@ -1,8 +1,8 @@
 //! Snapshots of copies.
 
-ghost use Rattle.std.specs.Prelude.{◌≡◌, ◌↔◌, IfOk, IsTrue};
-ghost use Rattle.guard_queue.specs.Fitting.{OperationFits, kinds_of};
-ghost use Rattle.object_manager.specs.Viewed.{StatesFit};
+ghost use Rattle.std.specs.Prelude.{◌≡◌, ◌↔◌, IfOk, IsTrue, is_some};
+ghost use Rattle.value_core.specs.History.{object_at};
+ghost use Rattle.object_manager.specs.Viewed.{ReadFits};
 ghost use Rattle.guard_queue.specs.Settles.{tried_on};
 
 use guard_queue::{Objects, try_on};
@@ -11,7 +11,7 @@ use std::alloc::Global;
 use std::marker::Model;
 use value_core::{Parts, Performer, Tried};
 
-/// A snapshot of one member's objects, with the number of entries that its copies had applied. It stays as it is while the
+/// A snapshot of one member's replicated objects, with the number of entries that its copies had applied. It stays as it is while the
 /// copies go on.
 #[derive(Drop)]
 pub struct View {
@@ -53,6 +53,23 @@ impl View {
         &self.objects
     }
 
+    /// Whether the object is replicated, and was there. A single object is in no snapshot.
+    pub fn holds(&self, object: ObjectId) -> bool
+        ensures { result ≡ is_some (object_at self.now.objects object) }
+    {
+        self.objects.get(object).is_some()
+    }
+
+    /// An equal snapshot. It costs some counts.
+    pub fn copy(&self, alloc: Global) -> Result<View, NoMemory>
+        ensures { IfOk result (λ v. v ≡ self.now) }
+    {
+        Ok(View {
+            objects: self.objects.copy(alloc)?,
+            place: self.place,
+        })
+    }
+
     /// What a try of the operation gives on the snapshot.
     pub fn read<P: Performer>(
         &self,
@@ -63,8 +80,7 @@ impl View {
         object: ObjectId,
         args: &Parts,
     ) -> Result<Tried, NoMemory>
-        requires fits { StatesFit (P.fits_state performer.now) self.now.objects }
-        requires call { OperationFits (P.fits_args performer.now) (kinds_of self.now.objects) self.now.objects kind op object args.now }
+        requires { ReadFits (P.fits_state performer.now) (P.fits_args performer.now) self.now.objects kind op object args.now }
         ensures { IfOk result (λ t. t ≡ tried_on (P.performs performer.now) self.now.objects kind op object args.now) }
     {
         try_on(alloc, performer, &self.objects, kind, op, object, args)

@@ -1,8 +1,7 @@
 //! Worked entries on copies of pools and flags.
 
 ghost use Rattle.std.specs.Prelude.{IfOk};
-ghost use Rattle.object_manager.specs.Viewed.{StatesFit};
-ghost use Rattle.bag_copies.specs.Fits.{BagState, FitsAll};
+ghost use Rattle.bag_copies.specs.Fits.{FitsAll, ViewFits};
 
 use bag_copies::{
     Refused, call, entry, fork, fork_many, make, make_flags, object, opened, read, read_view,
@@ -165,7 +164,7 @@ fn reads(
 
 // What an await of this number gives on a snapshot.
 fn awaits(alloc: Global, view: &View, number: i64) -> Result<Answer, Refused>
-    requires { StatesFit BagState view.now.objects }
+    requires { ViewFits view.now.objects }
 {
     let (kind, op) = AWAIT;
     let tried = read_view(
@@ -320,6 +319,8 @@ fn view_stays_as_it_is(rt: HostRuntime) -> Result<(), Fail> {
     assert_eq!(rt; awaits(rt.alloc(), &after, 5)?, Answer::Done);
     assert!(rt; !before.same(&after));
     assert_eq!(rt; before.objects().len(), 2);
+    assert!(rt; before.holds(object(1)) && !before.holds(object(2)));
+    assert!(rt; before.copy(rt.alloc())?.same(&before));
     Ok(())
 }
 

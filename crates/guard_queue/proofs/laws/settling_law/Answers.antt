@@ -13,7 +13,7 @@ returns g c =
     let p = g.P.Performer.performs m in
     record {
       blocked = λ objects queue. settled_blocked p (record { objects = objects; queue = queue; lines = [] });
-      fits = λ objects queue fit. settled_fits (g.P.Performer.fits_state m) (g.P.Performer.fits_args m) p (g.met.P.Performer.keeps_fit m) (g.met.P.Performer.state_stays_fit m) (g.met.P.Performer.args_stay_fit m) (length queue) (record { objects = objects; queue = queue; lines = [] }) fit;
+      fits = λ kinds objects queue fit. settled_fits (g.P.Performer.fits_state m) (g.P.Performer.fits_args m) kinds p (g.met.P.Performer.keeps_fit m kinds) (length queue) (record { objects = objects; queue = queue; lines = [] }) fit;
       types = λ objects queue. settled_extends p (length queue) (record { objects = objects; queue = queue; lines = [] });
       ids = λ objects queue rises. settled_rises p (length queue) (record { objects = objects; queue = queue; lines = [] }) rises;
       once = λ objects queue. (settles p objects queue, λ end ends. one_end p end (settled p objects queue) (record { objects = objects; queue = queue; lines = [] }) ends (settles p objects queue));

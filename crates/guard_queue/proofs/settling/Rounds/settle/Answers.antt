@@ -4,7 +4,7 @@ use Rattle.guard_queue.specs.Rounds.{OthersBlocked, settling_of}
 use Rattle.guard_queue.specs.Settles.{Settling, next_ready, stepped}
 use Rattle.guard_queue.proofs.Blocked.{others_stepped, step_length}
 use Rattle.guard_queue.proofs.Rounds.{all_blocked, no_round, round}
-use Rattle.guard_queue.proofs.Steps.{all_fit_stepped, settle_step}
+use Rattle.guard_queue.proofs.Steps.{fit_stepped, settle_step}
 use Rattle.guard_queue.proofs.settling.Rounds.settle.Goals as goal
 
 pub find_ready-requires-in-Some-clause-fits : goal.find_ready-requires-in-Some-clause-fits
@@ -15,7 +15,8 @@ find_ready-requires-in-Some-clause-fits g c =
     let t : Settling = settling_of c.round.new.self in
     let invariant = c.rounds.invariant in
     let next : t ≡ stepped p s (next_ready p s.objects s.queue) = round p s t c.rounds.ready c.in-Some.at c.in-Some.tried c.in-Some.is invariant.place invariant.found (c.in_ok-round.ensures {u = tt}) in
-    all_fit_stepped (g.P.Performer.fits_state m) (g.P.Performer.fits_args m) p (g.met.P.Performer.keeps_fit m) (g.met.P.Performer.state_stays_fit m) (g.met.P.Performer.args_stay_fit m) s t (next_ready p s.objects s.queue) next invariant.fits
+    let kinds = c.requires.fits.0 in
+    (kinds, fit_stepped (g.P.Performer.fits_state m) (g.P.Performer.fits_args m) kinds p (g.met.P.Performer.keeps_fit m kinds) s t (next_ready p s.objects s.queue) next (invariant.fits kinds c.requires.fits.1))
 
 pub find_ready-requires-in-Some-clause-others : goal.find_ready-requires-in-Some-clause-others
 find_ready-requires-in-Some-clause-others g c =
@@ -60,7 +61,7 @@ rounds-preserved g c =
     record {
       place = ready.place;
       found = ready.tried;
-      fits = all_fit_stepped (g.P.Performer.fits_state m) (g.P.Performer.fits_args m) p (g.met.P.Performer.keeps_fit m) (g.met.P.Performer.state_stays_fit m) (g.met.P.Performer.args_stay_fit m) s t (next_ready p s.objects s.queue) next invariant.fits;
+      fits = λ kinds fit. fit_stepped (g.P.Performer.fits_state m) (g.P.Performer.fits_args m) kinds p (g.met.P.Performer.keeps_fit m kinds) s t (next_ready p s.objects s.queue) next (invariant.fits kinds fit);
       same = sym (settle_step p (length t.queue) (length s.queue) s t less next) ∙ invariant.same;
       others = subst (λ (u : Settling). OthersBlocked p u.objects u.queue c.args.on) (sym one) (others_stepped p s c.args.on c.in-Some.at at invariant.others);
     }
