@@ -1,8 +1,8 @@
 //! Trees: how expressions are grouped, how nesting is counted, and what a unit prints.
 
-ghost use Rattle.std.specs.Prelude.{◌≡◌, true, IfOk};
+ghost use Rattle.std.specs.Prelude.{IfOk};
 ghost use Rattle.std.specs.List.{All};
-ghost use Rattle.parse_units.specs.Refused.{HasRoom};
+ghost use Rattle.orca_lexer.specs.Tokens.{HasRoom};
 
 use orca_base::{NESTING, Place, Refusal};
 use orca_lexer::{Token, tokens};
@@ -12,18 +12,6 @@ use parse_units::{ParseError, parse, parse_law};
 use std::alloc::Global;
 use std::test::Fail;
 
-// Whether a token's slice is one, and the place behind it has a number.
-fn has_room(token: &Token) -> bool
-    ensures { result ≡ true → HasRoom token.now }
-{
-    token.start <= token.end
-        && token
-            .at
-            .column
-            .checked_add(token.end - token.start)
-            .is_some()
-}
-
 // The tokens of a text.
 fn tokens_of(alloc: Global, text: &str) -> Result<Vec<Token>, Fail>
     ensures { IfOk result (λ v. All HasRoom v.items) }
@@ -31,17 +19,10 @@ fn tokens_of(alloc: Global, text: &str) -> Result<Vec<Token>, Fail>
     if text.len() > 1_000_000 {
         return Err("too long".into());
     }
-    let Ok(found) = tokens(alloc, text.as_bytes()) else {
-        return Err("no tokens".into());
-    };
-    let mut kept = Vec::new(alloc);
-    'tokens: for token in found {
-        if !has_room(&token) {
-            return Err("no room".into());
-        }
-        kept.push(token)?;
+    match tokens(alloc, text.as_bytes()) {
+        Ok(found) => Ok(found),
+        Err(_) => Err("no tokens".into()),
     }
-    Ok(kept)
 }
 
 // The unit that a text is.
