@@ -1,10 +1,10 @@
 //! Statements, by recursive descent.
 
 ghost use Rattle.std.specs.Prelude.{◌≡◌, ◌≤◌, ◌∷◌, ◌++◌, [], length, IfOk};
-ghost use Rattle.orca_lexer.specs.declared.token.Keyword.TheVariants.{KeyFor, KeyIf, KeyRepeat, KeyThen, KeyWhile};
-ghost use Rattle.orca_lexer.specs.declared.token.Symbol.TheVariants.{Semicolon};
+ghost use Rattle.orca_lexer.specs.declared.token.Keyword.TheVariants.{KeyDo, KeyFor, KeyIf, KeyOd, KeyRepeat, KeyThen, KeyUntil, KeyWhile};
+ghost use Rattle.orca_lexer.specs.declared.token.Symbol.TheVariants.{Range as RangeSign, Semicolon};
 ghost use Rattle.orca_lexer.specs.declared.token.TokenKind.TheVariants.{Key, Sign};
-ghost use Rattle.orca_grammar.specs.Forms.{◌⨾◌, Statement as StatementPhrase};
+ghost use Rattle.orca_grammar.specs.Forms.{◌⨾◌, Nested, Expression as ExpressionPhrase, Statement as StatementPhrase};
 ghost use Rattle.orca_grammar.specs.Grammar.{nest_at, read};
 ghost use Rattle.orca_grammar.specs.Reading.{comes, is_any};
 ghost use Rattle.orca_grammar.specs.Rules as rules;
@@ -204,47 +204,84 @@ fn otherwise(alloc: Global, depth: u32, tokens: &[Token]) -> Parsed<'_, Arm>
     Ok((Arm::Otherwise { body }, rest))
 }
 
-// `while` with its test and its body.
+// What stands between `while`, or the `..` of a `for`, and its `od`: the test or the last value, and the body.
 #[cycle(statements)]
 #[tactic(auto, unfolding(orca_grammar::specs::Rules::while_rest))]
+fn loop_rest(
+    alloc: Global,
+    depth: u32,
+    tokens: &[Token],
+) -> Parsed<'_, (Expression, Vec<Statement>)>
+    ensures { Parses
+        (λ x. marks.expression x.0 ++ word (Key KeyDo) ∷ (marks.statements x.1.items ++ word (Key KeyOd) ∷ [])) result
+        (read depth rules.while_rest tokens.now) }
+{
+    let (first, rest) = expression(alloc, depth, tokens)?;
+    let rest = key(rest, Keyword::KeyDo)?;
+    let (body, rest) = statements(alloc, depth, rest)?;
+    let rest = key(rest, Keyword::KeyOd)?;
+    Ok(((first, body), rest))
+}
+
+// `while` with its test and its body.
+#[cycle(statements)]
 fn while_statement(alloc: Global, depth: u32, tokens: &[Token]) -> Parsed<'_, Statement>
     ensures { Parses marks.statement result (phrase StatementPhrase depth (rules.key_at KeyWhile ⨾ rules.while_rest) tokens.now) }
 {
     let (at, rest) = key_at(tokens, Keyword::KeyWhile)?;
-    let (test, rest) = expression(alloc, depth, rest)?;
-    let rest = key(rest, Keyword::KeyDo)?;
-    let (body, rest) = statements(alloc, depth, rest)?;
-    let rest = key(rest, Keyword::KeyOd)?;
+    let ((test, body), rest) = loop_rest(alloc, depth, rest)?;
     Ok((while_loop(at, test, body), rest))
+}
+
+// The bounds of a `for`, and its body.
+#[cycle(statements)]
+fn range_rest(alloc: Global, depth: u32, tokens: &[Token]) -> Parsed<'_, (Range, Vec<Statement>)>
+    ensures { Parses (λ x. marks.expression x.0.low ++ word (Sign RangeSign) ∷
+        (marks.expression x.0.high ++ word (Key KeyDo) ∷ (marks.statements x.1.items ++ word (Key KeyOd) ∷ []))) result
+        (read depth (Nested ExpressionPhrase ⨾ rules.sign RangeSign ⨾ rules.while_rest) tokens.now) }
+{
+    let (low, rest) = expression(alloc, depth, tokens)?;
+    let rest = sign(rest, Symbol::Range)?;
+    let ((high, body), rest) = loop_rest(alloc, depth, rest)?;
+    Ok(((Range { low, high }, body), rest))
 }
 
 // `for` with its name, its bounds and its body.
 #[cycle(statements)]
-#[tactic(auto, unfolding(orca_grammar::specs::Rules::for_rest))]
+#[tactic(auto, unfolding(orca_grammar::specs::Rules::for_rest, orca_grammar::specs::Rules::while_rest))]
 fn for_statement(alloc: Global, depth: u32, tokens: &[Token]) -> Parsed<'_, Statement>
     ensures { Parses marks.statement result (phrase StatementPhrase depth (rules.key_at KeyFor ⨾ rules.for_rest) tokens.now) }
 {
     let (at, rest) = key_at(tokens, Keyword::KeyFor)?;
     let (name, rest) = name(alloc, rest)?;
     let rest = key(rest, Keyword::KeyIn)?;
-    let (low, rest) = expression(alloc, depth, rest)?;
-    let rest = sign(rest, Symbol::Range)?;
-    let (high, rest) = expression(alloc, depth, rest)?;
-    let rest = key(rest, Keyword::KeyDo)?;
-    let (body, rest) = statements(alloc, depth, rest)?;
-    let rest = key(rest, Keyword::KeyOd)?;
-    Ok((for_loop(at, name, Range { low, high }, body), rest))
+    let ((range, body), rest) = range_rest(alloc, depth, rest)?;
+    Ok((for_loop(at, name, range, body), rest))
+}
+
+// The body of a `repeat`, and its test.
+#[cycle(statements)]
+#[tactic(auto, unfolding(orca_grammar::specs::Rules::repeat_rest))]
+fn repeat_rest(
+    alloc: Global,
+    depth: u32,
+    tokens: &[Token],
+) -> Parsed<'_, (Vec<Statement>, Expression)>
+    ensures { Parses (λ x. marks.statements x.0.items ++ word (Key KeyUntil) ∷ marks.expression x.1) result
+        (read depth rules.repeat_rest tokens.now) }
+{
+    let (body, rest) = statements(alloc, depth, tokens)?;
+    let rest = key(rest, Keyword::KeyUntil)?;
+    let (test, rest) = expression(alloc, depth, rest)?;
+    Ok(((body, test), rest))
 }
 
 // `repeat` with its body and its test.
 #[cycle(statements)]
-#[tactic(auto, unfolding(orca_grammar::specs::Rules::repeat_rest))]
 fn repeat_statement(alloc: Global, depth: u32, tokens: &[Token]) -> Parsed<'_, Statement>
     ensures { Parses marks.statement result (phrase StatementPhrase depth (rules.key_at KeyRepeat ⨾ rules.repeat_rest) tokens.now) }
 {
     let (at, rest) = key_at(tokens, Keyword::KeyRepeat)?;
-    let (body, rest) = statements(alloc, depth, rest)?;
-    let rest = key(rest, Keyword::KeyUntil)?;
-    let (test, rest) = expression(alloc, depth, rest)?;
+    let ((body, test), rest) = repeat_rest(alloc, depth, rest)?;
     Ok((repeat_loop(at, body, test), rest))
 }

@@ -33,14 +33,23 @@ decreases-when l = 16 * l.depth + 3
 abbrev pub decreases-otherwise : goal.decreases-otherwise
 decreases-otherwise l = 16 * l.depth + 3
 
+abbrev pub decreases-loop_rest : goal.decreases-loop_rest
+decreases-loop_rest l = 16 * l.depth + 3
+
 abbrev pub decreases-while_statement : goal.decreases-while_statement
-decreases-while_statement l = 16 * l.depth + 3
+decreases-while_statement l = 16 * l.depth + 4
+
+abbrev pub decreases-range_rest : goal.decreases-range_rest
+decreases-range_rest l = 16 * l.depth + 4
 
 abbrev pub decreases-for_statement : goal.decreases-for_statement
-decreases-for_statement l = 16 * l.depth + 3
+decreases-for_statement l = 16 * l.depth + 5
+
+abbrev pub decreases-repeat_rest : goal.decreases-repeat_rest
+decreases-repeat_rest l = 16 * l.depth + 3
 
 abbrev pub decreases-repeat_statement : goal.decreases-repeat_statement
-decreases-repeat_statement l = 16 * l.depth + 3
+decreases-repeat_statement l = 16 * l.depth + 4
 
 abbrev pub decreases-statements : goal.decreases-statements
 decreases-statements l = 16 * l.depth + 2
