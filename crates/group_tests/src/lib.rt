@@ -14,4 +14,6 @@ mod plain;
 #[cfg(test)]
 mod seats;
 #[cfg(test)]
+mod submissions;
+#[cfg(test)]
 mod windows;
