@@ -8,3 +8,4 @@ pub mod Ordering
 pub mod Receiving
 pub mod Noting
 pub mod AskedFor
+pub mod Ticking

@@ -5,3 +5,4 @@ pub mod Told
 pub mod Bodies
 pub mod ByOwn
 pub mod AtWork
+pub mod Ticks

@@ -17,6 +17,8 @@ mod reset;
 mod sends;
 mod sequencer;
 mod submissions;
+mod timer;
 
 pub use member::{Config, Member};
 pub use sends::{Letter, Sends};
+pub use timer::Timed;

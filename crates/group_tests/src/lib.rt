@@ -16,4 +16,6 @@ mod seats;
 #[cfg(test)]
 mod submissions;
 #[cfg(test)]
+mod timers;
+#[cfg(test)]
 mod windows;
