@@ -2,3 +2,10 @@ pub mod Growing
 pub mod OnLists
 pub mod Kept
 pub mod Standing
+pub mod Working
+pub mod Rows
+pub mod Ordering
+pub mod Receiving
+pub mod Noting
+pub mod AskedFor
+pub mod Ticking

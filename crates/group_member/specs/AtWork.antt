@@ -1,7 +1,6 @@
 -- A state and the packets that it has sent so far, which stand for a step of the rules at work.
-use Rattle.std.specs.Prelude.{ℕ, zero, suc, List, [], ◌∷◌, ◌++◌, ◌≡◌, ◌==◌, if◌then◌else◌, map}
+use Rattle.std.specs.Prelude.{ℕ, List, ◌≡◌, map}
 use Rattle.orca_base.specs.declared.ids.MessageId.{MessageId}
-use Rattle.group_packets.specs.declared.packet.Packet.{Packet}
 use Rattle.group_rules.specs.Messages.{Group}
 use Rattle.group_rules.specs.Member.{Member as RulesMember}
 use Rattle.group_rules.specs.OnWire.{Posted, posts_of}
@@ -33,9 +32,3 @@ abbrev pub Does : {B R : Type 0} → (B → MessageId) → (B → ℕ) → Membe
 Does {B} name bytes old new sends row =
     (nodes resilience which : ℕ) (m : RulesMember B) → StandsFor (group_of name bytes nodes resilience) which old m →
     AtWork (group_of name bytes nodes resilience) which new sends (row (group_of name bytes nodes resilience) which m)
-
--- a packet to each other member below n, in increasing order
-abbrev pub others_below : {B R : Type 0} → ℕ → ℕ → Packet B R → List (Letter B R)
-others_below zero me packet = []
-others_below (suc n) me packet = if n == me then others_below n me packet else others_below n me packet ++
-    record { to = n; packet = packet } ∷ []

@@ -1,4 +1,8 @@
 pub mod LastCalls
+pub mod Noting
 pub mod StandsFor
+pub mod Told
+pub mod Bodies
 pub mod ByOwn
 pub mod AtWork
+pub mod Ticks

@@ -47,6 +47,15 @@ pub record IsMember {B R : Type 0} (s : Member B R) : Type 0 where
   pub kept : length s.window.items ≤ WINDOW
   pub small : s.applied < 2 ^ 62
 
+-- it is the same member, and its numbers are the same
+pub record HasNumbersOf {B R : Type 0} (old new : Member B R) : Type 0 where
+  pub config : new.config ≡ old.config
+  pub me : new.me ≡ old.me
+  pub installed : new.installed ≡ old.installed
+  pub promised : new.promised ≡ old.promised
+  pub accepted : new.accepted ≡ old.accepted
+  pub applied : new.applied ≡ old.applied
+
 -- it is this member of the group, and its state is that of the rules, but for the purged entries, also those of kept answers, and for what
 -- maps say beyond the members
 pub record StandsFor {B R : Type 0} (g : Group B) (which : ℕ) (s : Member B R) (m : RulesMember B) : Type 0 where

@@ -1,8 +1,8 @@
 //! The state of a member, and what can be read of it.
 
-ghost use Rattle.std.specs.Prelude.{◌≡◌, ◌%◌, ◌<◌, not, ◌&&◌, IfOk};
+ghost use Rattle.std.specs.Prelude.{◌≡◌, ◌==◌, ◌%◌, ◌<◌, not, ◌&&◌, length, IfOk};
 ghost use Rattle.group_member.specs.LastCalls.{group_of};
-ghost use Rattle.group_member.specs.StandsFor.{Follows, IsMember, StandsFor, Tells};
+ghost use Rattle.group_member.specs.StandsFor.{Follows, HasNumbersOf, IsMember, StandsFor, Tells};
 ghost use Rattle.group_member.specs.ByOwn.{active_by, leads_by};
 ghost use Rattle.group_rules.specs.Member.{leads, opening_member};
 ghost use Rattle.group_rules.specs.Steps.{is_empty};
@@ -105,6 +105,7 @@ impl<B: Body> Member<B> {
     pub fn copy(&self, alloc: Global) -> Result<Member<B>, NoMemory>
         ensures row { IfOk result (λ copied. Follows B.id_of B.length_of self.now copied (λ g which m. m)) }
         ensures member { IfOk result (λ copied. IsMember self.now → IsMember copied) }
+        ensures numbers { IfOk result (HasNumbersOf self.now) }
     {
         Ok(Member {
             config: self.config,
@@ -206,7 +207,14 @@ impl<B: Body> Member<B> {
         requires { IsMember self.now }
         ensures { Tells B.id_of B.length_of self.now (λ g which m. result ≡ (leads g which m && not (is_empty m.waiting))) }
     {
-        self.leads() && !self.waiting.is_empty()
+        self.leads() && !self.none_waits()
+    }
+
+    // Whether no message waits for room.
+    pub(crate) fn none_waits(&self) -> bool
+        ensures { result ≡ (length self.now.waiting.items == 0) }
+    {
+        self.waiting.is_empty()
     }
 
     // Whether it stands in the incarnation that it promised, and isn't outside.

@@ -91,7 +91,7 @@ impl<B: Body> Member<B> {
 }
 
 // The place of a member's answer, or how many answers there are where it has none.
-fn place_of<B: Body>(answers: &[(u8, Join<B>)], from: u8) -> usize
+pub(crate) fn place_of<B: Body>(answers: &[(u8, Join<B>)], from: u8) -> usize
     ensures { result ≡ position_or_len (λ answer. answer.0 == from) answers.now }
 {
     for (place, answer) in answers.iter().enumerate() {

@@ -14,4 +14,8 @@ mod plain;
 #[cfg(test)]
 mod seats;
 #[cfg(test)]
+mod submissions;
+#[cfg(test)]
+mod timers;
+#[cfg(test)]
 mod windows;
