@@ -1,18 +1,30 @@
-//! The definitions of histories, computed on a worked example.
+//! The definitions of histories and of command lines, computed on worked examples.
 
-ghost use Rattle.std.specs.Prelude.{◌≡◌, ◌∷◌, []};
-ghost use Rattle.value_core.specs.History.{Legal, output_of};
-ghost use Rattle.orca_meaning.specs.Executions.{HasEnded};
+ghost use Rattle.std.specs.Prelude.{◌≡◌, ◌∷◌, [], Some};
+ghost use Rattle.command_line.specs.Command.{Command};
+ghost use Rattle.value_core.specs.History.{HasEnded, Legal, output_of};
 ghost use Rattle.orca_meaning.specs.Program.{computes_of, performs_of};
 ghost use Rattle.acceptance.specs.OneCell.{book, book_of, one_cell};
+ghost use Rattle.acceptance.specs.Words as words;
 
 /// The four lines of the one cell's history are a history of its program, after which its process has ended; they write 6
 /// and a line feed. With another call number, guard or value of the third line they are none.
 pub fn one_cell_law()
     ensures legal { Legal (performs_of one_cell) (computes_of one_cell) book }
-    ensures ended { HasEnded one_cell book }
+    ensures ended { HasEnded (performs_of one_cell) (computes_of one_cell) book (record { 0 = 0 }) }
     ensures output { output_of book ≡ 54 ∷ 10 ∷ [] }
     ensures call { Legal (performs_of one_cell) (computes_of one_cell) (book_of 3 0 6) → ⊥ }
     ensures guard { Legal (performs_of one_cell) (computes_of one_cell) (book_of 2 1 6) → ⊥ }
     ensures value { Legal (performs_of one_cell) (computes_of one_cell) (book_of 2 0 7) → ⊥ }
+{}
+
+/// What command lines ask for, one of each command: the words in full, with what isn't said filled in.
+pub fn command_rows()
+    ensures check { Command words.check_line ≡ Some words.check_asked }
+    ensures run { Command words.run_line ≡ Some words.run_asked }
+    ensures code { Command words.code_line ≡ Some words.code_asked }
+    ensures choice { Command words.choice_line ≡ Some words.choice_asked }
+    ensures replay { Command words.replay_line ≡ Some words.replay_asked }
+    ensures make { Command words.make_line ≡ Some words.make_asked }
+    ensures join { Command words.join_line ≡ Some words.join_asked }
 {}

@@ -140,6 +140,11 @@ fn has_lines(kept: &Kept, lines: &[Line]) -> bool {
     }
 }
 
+// Whether the one process has ended.
+fn has_ended(kept: &Kept) -> bool {
+    matches!(kept.processes.as_slice(), [main] if matches!(main.standing, ProcessStanding::Ended))
+}
+
 // Whether the one cell printed 6 and kept its four lines.
 fn is_one_cell(alloc: Global, ended: &Ended, printed: &[u8]) -> Result<bool, AllocError> {
     let lines = four_lines(alloc)?;
@@ -148,7 +153,7 @@ fn is_one_cell(alloc: Global, ended: &Ended, printed: &[u8]) -> Result<bool, All
             ended.status == 0
                 && printed == b"6\n".as_slice()
                 && has_lines(kept, &lines)
-                && matches!(kept.processes.as_slice(), [main] if matches!(main.standing, ProcessStanding::Ended))
+                && has_ended(kept)
         }
         None => false,
     })
@@ -189,7 +194,7 @@ fn faults_from_outside(rt: HostRuntime) -> Result<(), Fail> {
     assert_eq!(rt; out.bytes(), b"orca: cannot read one.orca\n".as_slice());
     assert!(rt; ended.kept.is_none());
 
-    // The sink's first call fails: the line is in the book, and its text was not written.
+    // The sink's first call fails: the whole run is kept, and nothing was written.
     let failing = [1].to_vec(alloc)?;
     let mut shelf = MemoryShelf::new(files(alloc, "one.orca", ONE.as_bytes())?, Vec::new(alloc));
     let mut out = MemorySink::new(alloc, failing);
@@ -197,7 +202,7 @@ fn faults_from_outside(rt: HostRuntime) -> Result<(), Fail> {
     assert_eq!(rt; ended.status, 10);
     assert_eq!(rt; out.bytes().len(), 0);
     let kept = ended.kept.as_ref().ok_or("nothing kept")?;
-    assert!(rt; has_lines(kept, &four_lines(alloc)?));
+    assert!(rt; has_lines(kept, &four_lines(alloc)?) && has_ended(kept));
 
     // A refusal's line can't be written either.
     let failing = [1].to_vec(alloc)?;
@@ -206,6 +211,23 @@ fn faults_from_outside(rt: HostRuntime) -> Result<(), Fail> {
     let ended = run_over(alloc, &mut shelf, &mut out)?;
     assert_eq!(rt; ended.status, 10);
     assert!(rt; ended.kept.is_none());
+    Ok(())
+}
+
+// A program that writes 1, 2 and 3. Whichever write fails, those before it stand there, and the run of four lines is whole.
+#[test]
+fn a_failed_write_leaves_the_run_whole(rt: HostRuntime) -> Result<(), Fail> {
+    let alloc = rt.alloc();
+    let text = ONE.replace(alloc, "X$Assign(6); WriteLine(X$Value());", "WriteLine(1); WriteLine(2); WriteLine(3);")?;
+    for (failing, printed) in [(1, ""), (2, "1\n"), (3, "1\n2\n")] {
+        let mut shelf = MemoryShelf::new(files(alloc, "one.orca", text.as_bytes())?, Vec::new(alloc));
+        let mut out = MemorySink::new(alloc, [failing].to_vec(alloc)?);
+        let ended = run_over(alloc, &mut shelf, &mut out)?;
+        assert_eq!(rt; ended.status, 10);
+        assert_eq!(rt; out.bytes(), printed.as_bytes());
+        let kept = ended.kept.as_ref().ok_or("nothing kept")?;
+        assert!(rt; kept.book.len() == 4 && has_ended(kept));
+    }
     Ok(())
 }
 

@@ -1,6 +1,6 @@
--- The texts that are printed where help or the version is asked for.
-use Rattle.std.specs.Prelude.{ℕ, List, Option, Some, None}
-use Rattle.command_line.specs.declared.texts.TheConstants.{VERSION, HELP, CHECK_HELP, RUN_HELP, CODE_HELP, CHOICE_HELP, REPLAY_HELP, MAKE_HELP, JOIN_HELP}
+-- The texts that are printed where help or the version is asked for (docs/FORMATS.md, The program).
+use Rattle.std.specs.Prelude.{ℕ, List, [], ◌∷◌, ◌++◌, Option, Some, None, codes}
+use Rattle.command_line.specs.declared.texts.TheConstants.{HELP, CHECK_HELP, RUN_HELP, CODE_HELP, CHOICE_HELP, REPLAY_HELP, MAKE_HELP, JOIN_HELP}
 use Rattle.command_line.specs.declared.request.CommandName.{CommandName}
 use Rattle.command_line.specs.declared.request.CommandName.TheVariants.{Check, Run, Code, Choice, Replay, Make, Join}
 
@@ -15,6 +15,6 @@ help_of (Some Replay) = REPLAY_HELP.now
 help_of (Some Make) = MAKE_HELP.now
 help_of (Some Join) = JOIN_HELP.now
 
--- the name and the version
+-- the name and the version, on one line
 unfoldable pub version_line : List ℕ
-version_line = VERSION.now
+version_line = codes "orca 0.1.0" ++ 10 ∷ []

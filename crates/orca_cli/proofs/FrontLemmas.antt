@@ -134,22 +134,22 @@ unit_shallow text tokens ms has parsed fits d =
 -- ---- refusals
 
 -- a refusal whose words were written, or for which there was no memory
-pub said_reads : (text words : List ℕ) (at : Place) (m : Result (Vec ℕ Global) NoMemory) (r : Refusal FrontFault) → front.IsRefused text at words → (front.IsTooDeep text → ⊥) → IfOk m (λ v. v.items ≡ words) → IfOk m (λ v. r ≡ Because (faults.Refused at v)) → OnErr m (r ≡ Without) → Reads text (Err r)
-said_reads text words at (Ok v) r refused shallow is said lacking = subst (λ (f : Refusal FrontFault). Reads text (Err f)) (sym said) (subst (front.IsRefused text at) (sym is) refused, shallow)
+pub said_reads : (text words : List ℕ) (at : Place) (m : Result (Vec ℕ Global) NoMemory) (r : Refusal FrontFault) → front.IsFaulty text at words → (front.IsTooDeep text → ⊥) → IfOk m (λ v. v.items ≡ words) → IfOk m (λ v. r ≡ Because (faults.Refused at v)) → OnErr m (r ≡ Without) → Reads text (Err r)
+said_reads text words at (Ok v) r refused shallow is said lacking = subst (λ (f : Refusal FrontFault). Reads text (Err f)) (sym said) (subst (front.IsFaulty text at) (sym is) refused, shallow)
 said_reads text words at (Err e) r refused shallow is said lacking = subst (λ (f : Refusal FrontFault). Reads text (Err f)) (sym lacking) tt
 
-pub of_token : (text : List ℕ) (at : Place) (t : Token) → IsSyntactic text (Syntax at (OfToken t)) → front.IsRefused text at (codes "unexpected '" ++ (slice_range text t.start t.end ++ codes "'"))
+pub of_token : (text : List ℕ) (at : Place) (t : Token) → IsSyntactic text (Syntax at (OfToken t)) → front.IsFaulty text at (codes "unexpected '" ++ (slice_range text t.start t.end ++ codes "'"))
 of_token text at t s =
     let r = s.refused in
-    subst (λ (p : Place). front.IsRefused text p (codes "unexpected '" ++ (slice_range text t.start t.end ++ codes "'"))) (sym r.3) (front.token s.tokens r.0 r.1 t s.has r.2)
+    subst (λ (p : Place). front.IsFaulty text p (codes "unexpected '" ++ (slice_range text t.start t.end ++ codes "'"))) (sym r.3) (front.token s.tokens r.0 r.1 t s.has r.2)
 
 pub token_shallow : (text : List ℕ) (at : Place) (t : Token) → IsSyntactic text (Syntax at (OfToken t)) → front.IsTooDeep text → ⊥
 token_shallow text at t s = let r = s.refused in unexpected_shallow text s.tokens r.0 (t ∷ r.1) s.has r.2
 
-pub of_end : (text : List ℕ) (at : Place) → IsSyntactic text (Syntax at End) → front.IsRefused text at (codes "unexpected end of text")
+pub of_end : (text : List ℕ) (at : Place) → IsSyntactic text (Syntax at End) → front.IsFaulty text at (codes "unexpected end of text")
 of_end text at s =
     let r = s.refused in
-    subst (λ (p : Place). front.IsRefused text p (codes "unexpected end of text")) (sym r.2) (front.end s.tokens r.0 s.has r.1)
+    subst (λ (p : Place). front.IsFaulty text p (codes "unexpected end of text")) (sym r.2) (front.end s.tokens r.0 s.has r.1)
 
 pub end_shallow : (text : List ℕ) (at : Place) → IsSyntactic text (Syntax at End) → front.IsTooDeep text → ⊥
 end_shallow text at s = let r = s.refused in unexpected_shallow text s.tokens r.0 [] s.has r.1

@@ -1,6 +1,5 @@
 -- What the front end says of a text: the small program that it is, or why it is none (docs/FORMATS.md, Refusals).
-use Rattle.std.specs.Prelude.{ℕ, ◌≤◌, List, [], ◌∷◌, ◌++◌, length, Result, Ok, Err, slice_range, codes}
-use Rattle.orca_base.specs.declared.limits.TheConstants.{SOURCE_BYTES}
+use Rattle.std.specs.Prelude.{ℕ, List, [], ◌∷◌, ◌++◌, Result, Ok, Err, slice_range, codes}
 use Rattle.orca_base.specs.declared.place.Place.{Place}
 use Rattle.orca_base.specs.declared.refusal.Refusal.{Refusal}
 use Rattle.orca_base.specs.declared.refusal.Refusal.TheVariants.{Because, NoMemory}
@@ -20,21 +19,21 @@ use Rattle.orca_cli.specs.declared.front.FrontFault.{FrontFault}
 use Rattle.orca_cli.specs.declared.front.FrontFault.TheVariants.{Refused, TooNested, NotYet}
 
 -- the text is that of this small program: the text has a syntax, which is one alone, and that is the program's
-pub record IsProgram (text : List ℕ) (p : SmallProgram) : Type 0 where
+pub record IsSmallText (text : List ℕ) (p : SmallProgram) : Type 0 where
   pub syntax : Syntax
   pub has : HasSyntax text syntax
   pub small : IsSmallSyntax syntax p
 
--- why a text is refused, the place, and what is said of it
-pub data IsRefused (text : List ℕ) : Place → List ℕ → Type 0 where
+-- why a text is no unit, the place, and what is said of it
+pub data IsFaulty (text : List ℕ) : Place → List ℕ → Type 0 where
   -- it has no tokens
-  lexical : (error : LexError) → lexer.IsRefusal text error → IsRefused text error.at (message_of error.rule)
+  lexical : (error : LexError) → lexer.IsRefusal text error → IsFaulty text error.at (message_of error.rule)
   -- a token with which no unit goes on
   token : (tokens front rest : List Token) (t : Token) → Tokens text tokens → IsUnexpected tokens front (t ∷ rest) →
-      IsRefused text t.at (codes "unexpected '" ++ (slice_range text t.start t.end ++ codes "'"))
+      IsFaulty text t.at (codes "unexpected '" ++ (slice_range text t.start t.end ++ codes "'"))
   -- the text's end, where no unit ends
   end : (tokens front : List Token) → Tokens text tokens → IsUnexpected tokens front [] →
-      IsRefused text (end_of_text tokens) (codes "unexpected end of text")
+      IsFaulty text (end_of_text tokens) (codes "unexpected end of text")
 
 -- a token of the text stands in more than NESTING nested phrases
 pub record IsTooDeep (text : List ℕ) : Type 0 where
@@ -45,11 +44,6 @@ pub record IsTooDeep (text : List ℕ) : Type 0 where
   pub has : Tokens text tokens
   pub nested : IsTooNested tokens front token rest
 
--- the text is as long, and nests as deep, as a text may
-pub record IsInLimits (text : List ℕ) : Type 0 where
-  pub bytes : length text ≤ SOURCE_BYTES
-  pub shallow : IsTooDeep text → ⊥
-
 -- the text has a syntax, and that is no small program's
 pub record IsNotSmall (text : List ℕ) : Type 0 where
   pub syntax : Syntax
@@ -58,8 +52,8 @@ pub record IsNotSmall (text : List ℕ) : Type 0 where
 
 -- what was read of a text, or why nothing was
 abbrev pub Reads : List ℕ → Result SmallProgram (Refusal FrontFault) → Type 0
-Reads text (Ok p) = IsProgram text p × (IsTooDeep text → ⊥)
-Reads text (Err (Because (Refused at words))) = IsRefused text at words.items × (IsTooDeep text → ⊥)
+Reads text (Ok p) = IsSmallText text p × (IsTooDeep text → ⊥)
+Reads text (Err (Because (Refused at words))) = IsFaulty text at words.items × (IsTooDeep text → ⊥)
 Reads text (Err (Because TooNested)) = IsTooDeep text
 Reads text (Err (Because NotYet)) = IsNotSmall text × (IsTooDeep text → ⊥)
 Reads text (Err NoMemory) = Unit {0}

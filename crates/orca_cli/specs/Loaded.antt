@@ -1,21 +1,32 @@
--- What was read of a file, or why nothing was, fits what is in it.
-use Rattle.std.specs.Prelude.{◌≡◌, ℕ, ◌<◌, ◌≤◌, List, length, Option, Some, None, Result, Ok, Err}
+-- What was read of a file, or why nothing was, fits what is told of it.
+use Rattle.std.specs.Prelude.{◌≡◌, ℕ, ◌<◌, List, length, Option, Some, None, IfSome, Result, Ok, Err}
 use Rattle.orca_base.specs.declared.limits.TheConstants.{SOURCE_BYTES}
 use Rattle.orca_base.specs.declared.refusal.Refusal.{Refusal}
 use Rattle.orca_base.specs.declared.refusal.Refusal.TheVariants.{Because, NoMemory}
+use Rattle.orca_io.specs.Files.{File, content_of}
 use Rattle.small_program.specs.declared.tree.SmallProgram.{SmallProgram}
+use Rattle.orca_cli.specs.declared.front.FrontFault.{FrontFault}
 use Rattle.orca_cli.specs.declared.load.LoadFault.{LoadFault}
 use Rattle.orca_cli.specs.declared.load.LoadFault.TheVariants.{Absent, TooLong, Failed, Text}
 use Rattle.orca_cli.specs.Front.{Reads}
+use Rattle.orca_cli.specs.Sources.{IsRead}
 
--- the file has a text of this kind
-abbrev pub Contains : Option (List ℕ) → (List ℕ → Type 0) → Type 0
-Contains content P = (text : List ℕ) × (content ≡ Some text) × P text
+-- the file isn't there
+abbrev pub IsAbsent : Option (List File) → List ℕ → Type 0
+IsAbsent told file = IfSome told (λ files. content_of files file ≡ None)
 
-abbrev pub Loads : Option (List ℕ) → Result SmallProgram (Refusal LoadFault) → Type 0
-Loads content (Ok p) = Contains content (λ text. (length text ≤ SOURCE_BYTES) × Reads text (Ok p))
-Loads content (Err (Because Absent)) = content ≡ None
-Loads content (Err (Because TooLong)) = Contains content (λ text. SOURCE_BYTES < length text)
-Loads content (Err (Because Failed)) = Unit {0}
-Loads content (Err (Because (Text fault))) = Contains content (λ text. (length text ≤ SOURCE_BYTES) × Reads text (Err (Because fault)))
-Loads content (Err NoMemory) = Unit {0}
+-- it is longer than a text may be
+abbrev pub IsTooLong : Option (List File) → List ℕ → Type 0
+IsTooLong told file = IfSome told (λ files. (text : List ℕ) × (content_of files file ≡ Some text) × (SOURCE_BYTES < length text))
+
+-- its text was read, and this of it
+abbrev pub ReadsOf : Option (List File) → List ℕ → Result SmallProgram (Refusal FrontFault) → Type 0
+ReadsOf told file result = (text : List ℕ) × IsRead told (file, text) × Reads text result
+
+abbrev pub Loads : Option (List File) → List ℕ → Result SmallProgram (Refusal LoadFault) → Type 0
+Loads told file (Ok p) = ReadsOf told file (Ok p)
+Loads told file (Err (Because Absent)) = IsAbsent told file
+Loads told file (Err (Because TooLong)) = IsTooLong told file
+Loads told file (Err (Because Failed)) = Unit {0}
+Loads told file (Err (Because (Text fault))) = ReadsOf told file (Err (Because fault))
+Loads told file (Err NoMemory) = Unit {0}

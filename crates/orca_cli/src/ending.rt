@@ -1,6 +1,6 @@
 //! How the program ends where it says a line, and runs nothing.
 
-ghost use Rattle.std.specs.Prelude.{◌≡◌, ◌≢◌, ◌<◌, None, IfOk, OnErr};
+ghost use Rattle.std.specs.Prelude.{◌≡◌, ◌≢◌, ◌<◌, ◌≤◌, None, IfOk, OnErr};
 ghost use Rattle.orca_io.specs.Causes.{Rose};
 ghost use Rattle.orca_cli.specs.Printed.{Grew, Ends, EndsAs, HasStopped};
 
@@ -16,6 +16,7 @@ pub fn said<K: Sink>(out: &mut K, line: Result<Vec<u8>, NoMemory>, status: u8) -
     ensures status { EndsAs status result.status }
     ensures printed { IfOk line (λ l. Grew (K.told out.old) (K.told out.new) (Ends status result.status l.items)) }
     ensures silent { OnErr line ((result.status ≡ NO_MEMORY) × (K.told out.new ≡ K.told out.old)) }
+    ensures later { K.faults out.old ≤ K.faults out.new }
     ensures failed { result.status ≡ WRITE_FAULT → Rose (K.faults out.old) (K.faults out.new) }
     ensures stopped { K.faults out.old < K.faults out.new → HasStopped result.status }
 {
@@ -31,6 +32,7 @@ fn printed<K: Sink>(out: &mut K, line: Result<Vec<u8>, NoMemory>, status: u8) ->
     ensures status { EndsAs status result }
     ensures printed { IfOk line (λ l. Grew (K.told out.old) (K.told out.new) (Ends status result l.items)) }
     ensures silent { OnErr line ((result ≡ NO_MEMORY) × (K.told out.new ≡ K.told out.old)) }
+    ensures later { K.faults out.old ≤ K.faults out.new }
     ensures failed { result ≡ WRITE_FAULT → Rose (K.faults out.old) (K.faults out.new) }
     ensures stopped { K.faults out.old < K.faults out.new → HasStopped result }
 {

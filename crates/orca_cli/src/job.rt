@@ -2,9 +2,9 @@
 
 ghost use Rattle.std.specs.Prelude.{◌≡◌, map, option_map, string_bytes, IfOk};
 ghost use Rattle.command_line.specs.Asked.{asked_of};
-ghost use Rattle.orca_cli.specs.Job.{built, deed_of, deed_in, only_file};
+ghost use Rattle.orca_cli.specs.Job.{built, deed_of, deed_in, run_built};
 
-use command_line::{Request, help, read_words, version};
+use command_line::{Request, RunOptions, help, read_words, version};
 use orca_base::{NoMemory, Refusal};
 use std::alloc::Global;
 
@@ -12,9 +12,15 @@ use std::alloc::Global;
 #[derive(Clone, Copy, Debug)]
 pub enum Job<'a> {
     /// It says this, and no more.
-    Says { text: &'static str },
-    /// It runs the program in this file.
-    Runs { file: &'a str },
+    Says {
+        text: &'static str,
+    },
+    /// It runs the program in this file, with these options, over the wire that this script tells.
+    Runs {
+        options: RunOptions,
+        script: Option<&'a str>,
+        file: &'a str,
+    },
 }
 
 /// What the program does for the words, or none where they are no command or ask for what is not built yet.
@@ -35,7 +41,11 @@ fn job_built<'a>(words: &[String], request: &Request<'a>) -> Option<Job<'a>>
     match request {
         Request::Help { of } => Some(Job::Says { text: help(*of) }),
         Request::Version => Some(Job::Says { text: version() }),
-        Request::Run { files, .. } => file_alone(words, files),
+        Request::Run {
+            options,
+            script,
+            files,
+        } => run_built(words, *options, *script, files),
         Request::Check { .. }
         | Request::Code { .. }
         | Request::Choice { .. }
@@ -46,11 +56,21 @@ fn job_built<'a>(words: &[String], request: &Request<'a>) -> Option<Job<'a>>
 }
 
 // The run of the file, where the words have nothing else.
-fn file_alone<'a>(words: &[String], files: &[&'a str]) -> Option<Job<'a>>
-    ensures { option_map deed_of result ≡ only_file (map string_bytes words.now) (map (λ s. s.now) files.now) }
+fn run_built<'a>(
+    words: &[String],
+    options: RunOptions,
+    script: Option<&'a str>,
+    files: &[&'a str],
+) -> Option<Job<'a>>
+    ensures { option_map deed_of result ≡ run_built (map string_bytes words.now) options (option_map (λ s. s.now) script.entry)
+        (map (λ s. s.now) files.now) }
 {
     match files {
-        [file] if words.len() == 2 => Some(Job::Runs { file }),
+        [file] if words.len() == 2 => Some(Job::Runs {
+            options,
+            script,
+            file,
+        }),
         _ => None,
     }
 }

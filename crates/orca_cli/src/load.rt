@@ -1,9 +1,8 @@
 //! The program in a file.
 
-ghost use Rattle.std.specs.Prelude.{◌≡◌, ◌≤◌, ◌<◌, ◌^◌, length, Err, IfOk, IfSome};
+ghost use Rattle.std.specs.Prelude.{◌≡◌, ◌≤◌, ◌<◌, ◌^◌, length, Err, IfOk};
 ghost use Rattle.orca_base.specs.declared.refusal.Refusal.TheVariants.{Because};
 ghost use Rattle.orca_io.specs.Causes.{Rose};
-ghost use Rattle.orca_io.specs.Files.{content_of};
 ghost use Rattle.small_program.specs.Scope.{IsScoped};
 ghost use Rattle.orca_cli.specs.Loaded.{Loads};
 
@@ -26,13 +25,13 @@ pub enum LoadFault {
     Text { fault: FrontFault },
 }
 
-/// The small program in a file.
+/// The small program in a file. The file is read whole before its text is looked at.
 pub fn load<F: Shelf>(
     alloc: Global,
     shelf: &mut F,
     file: &str,
 ) -> Result<SmallProgram, Refusal<LoadFault>>
-    ensures loads { IfSome (F.told shelf.old) (λ files. Loads (content_of files file.now) result) }
+    ensures loads { Loads (F.told shelf.old) file.now result }
     ensures scoped { IfOk result (λ p. IsScoped p) }
     ensures numbered { IfOk result (λ p. length p.operations < 2 ^ 16) }
     ensures listed { IfOk result (λ p. length p.fields < 2 ^ 32) }

@@ -3,9 +3,10 @@
 ghost use Rattle.std.specs.Prelude.{◌≡◌, ◌⊎◌, ◌≤◌, ◌<◌, ◌∷◌, [], List, length, IfOk, IfSome, MatchOption, OnOk, OnErr, IsErrOf};
 ghost use Rattle.orca_io.specs.Causes.{Rose};
 ghost use Rattle.orca_io.specs.Sinks.{Puts};
-ghost use Rattle.value_core.specs.History.{output_by, output_of};
-ghost use Rattle.orca_meaning.specs.Executions.{Follows, HasEnded};
-ghost use Rattle.orca_cli.specs.Headline.{IsRun, IsRunEnd, standing_at};
+ghost use Rattle.value_core.specs.History.{HasEnded, output_by, output_of};
+ghost use Rattle.orca_meaning.specs.Executions.{Follows};
+ghost use Rattle.orca_meaning.specs.Program.{computes_of, performs_of};
+ghost use Rattle.orca_cli.specs.Headline.{IsAlone, IsRun, Stops, main_process, run_status, standing_at};
 ghost use Rattle.orca_cli.specs.Printed.{Grew, HasStopped, WroteOf};
 ghost use Rattle.orca_cli.specs.Lines.{line_with};
 
@@ -56,33 +57,39 @@ fn put_some<K: Sink>(out: &mut K, text: &[u8]) -> Result<(), SinkFault>
     out.put(text)
 }
 
-// Performs the program's actions one by one. Each line is in the book before its text is put, so that what was put is
-// never more than what the book writes.
-fn run<K: Sink>(
+// Performs the program's actions one by one, to its end. After want of memory the book has the lines so far.
+fn run(
     alloc: Global,
     machine: &TreeMachine,
-    out: &mut K,
     execution: &mut Execution,
     book: &mut Vec<Line>,
-) -> Result<(), SinkFault>
-    requires begins { Follows machine.now.program execution.old book.old.items }
-    requires empty { book.old.items ≡ [] }
+) -> Result<(), NoMemory>
+    requires { Follows machine.now.program execution.old book.old.items }
     ensures followed { Follows machine.now.program execution.new book.new.items }
-    ensures finished { OnOk result (HasEnded machine.now.program book.new.items) }
-    ensures wrote { Grew (K.told out.old) (K.told out.new) (WroteOf result (output_of book.new.items)) }
-    ensures later { K.faults out.old ≤ K.faults out.new }
-    ensures failed { IsErrOf result SinkFault.Failed → Rose (K.faults out.old) (K.faults out.new) }
-    ensures quiet { OnOk result (K.faults out.new ≡ K.faults out.old) }
+    ensures finished { OnOk result
+        (HasEnded (performs_of machine.now.program) (computes_of machine.now.program) book.new.items main_process) }
 {
     'lines: loop {
         book.reserve(1)?;
         let Some(line) = execution.step(alloc, machine)? else {
             return Ok(());
         };
-        let text = output(alloc, &line.action);
         add(book, line);
-        put_some(out, &text?)?;
     }
+}
+
+// Prints what the lines of a book write, one put a line, up to the first that fails.
+fn print_book<K: Sink>(alloc: Global, out: &mut K, book: &[Line]) -> Result<(), SinkFault>
+    ensures wrote { Grew (K.told out.old) (K.told out.new) (WroteOf result (output_of book.now)) }
+    ensures later { K.faults out.old ≤ K.faults out.new }
+    ensures failed { IsErrOf result SinkFault.Failed → Rose (K.faults out.old) (K.faults out.new) }
+    ensures quiet { OnOk result (K.faults out.new ≡ K.faults out.old) }
+{
+    'lines: for line in book {
+        let text = output(alloc, &line.action)?;
+        put_some(out, &text)?;
+    }
+    Ok(())
 }
 
 // Where a process stands that has come to an action.
@@ -98,51 +105,44 @@ fn standing_at(action: Action) -> ProcessStanding
     }
 }
 
-// The status of a run that stopped, and where its process then stands. Where memory lacks for its next action, that is all that is
-// said.
-fn stopped(
+// Where the process stands behind a run. Where memory lacks for its next action, that is all that is said.
+fn standing(
     alloc: Global,
     machine: &TreeMachine,
     execution: &Execution,
-    fault: SinkFault,
-) -> (u8, ProcessStanding)
-    ensures { (lines : List Line) → Follows machine.now.program execution.now lines
-        → IsRunEnd machine.now.program lines (Err fault) result.0 result.1 }
-{
-    let next = execution.next(alloc, machine);
-    match fault {
-        SinkFault::Failed => match next {
-            Ok(action) => (WRITE_FAULT, standing_at(action)),
-            Err(_) => (NO_MEMORY, ProcessStanding::Busy),
-        },
-        SinkFault::NoMemory => match next {
-            Ok(action) => (NO_MEMORY, standing_at(action)),
-            Err(_) => (NO_MEMORY, ProcessStanding::Busy),
-        },
-    }
-}
-
-// The status of a run, and where its process then stands.
-fn ended(
-    alloc: Global,
-    machine: &TreeMachine,
-    execution: &Execution,
-    run: Result<(), SinkFault>,
-) -> (u8, ProcessStanding)
-    ensures { (lines : List Line) → Follows machine.now.program execution.now lines
-        → IsRunEnd machine.now.program lines run result.0 result.1 }
+    run: &Result<(), NoMemory>,
+) -> ProcessStanding
+    ensures { (book : List Line) → Follows machine.now.program execution.now book
+        → OnOk run.now (HasEnded (performs_of machine.now.program) (computes_of machine.now.program) book main_process)
+        → Stops (performs_of machine.now.program) (computes_of machine.now.program) book run.now result }
 {
     match run {
-        Ok(()) => (FINISHED, ProcessStanding::Ended),
-        Err(fault) => stopped(alloc, machine, execution, fault),
+        Ok(()) => ProcessStanding::Ended,
+        Err(_) => match execution.next(alloc, machine) {
+            Ok(action) => standing_at(action),
+            Err(_) => ProcessStanding::Busy,
+        },
     }
 }
 
-/// Runs a program, and keeps its book and its process. Nothing is kept where there is no memory for the list of processes
-/// or for the first of them, before the run begins.
+// The status of a run and of what was written of its book.
+fn run_status(run: Result<(), NoMemory>, printed: Result<(), SinkFault>) -> u8
+    ensures { result ≡ run_status run printed }
+{
+    match (run, printed) {
+        (Err(_), _) | (Ok(()), Err(SinkFault::NoMemory)) => NO_MEMORY,
+        (Ok(()), Err(SinkFault::Failed)) => WRITE_FAULT,
+        (Ok(()), Ok(())) => FINISHED,
+    }
+}
+
+/// Runs a program, keeps its book and its process, and prints what the book writes once the run is over. Nothing is kept where
+/// there is no memory for the list of processes or for the first of them, before the run begins.
 pub fn run_kept<K: Sink>(alloc: Global, machine: &TreeMachine, out: &mut K) -> Ended
     ensures kept { MatchOption result.kept ((result.status ≡ NO_MEMORY) × (K.told out.new ≡ K.told out.old))
-        (λ k. IsRun machine.now.program k result.status (K.told out.old) (K.told out.new)) }
+        (λ k. IsRun (performs_of machine.now.program) (computes_of machine.now.program) k result.status (K.told out.old) (K.told out.new)
+        × IsAlone (performs_of machine.now.program) (computes_of machine.now.program) k result.status) }
+    ensures later { K.faults out.old ≤ K.faults out.new }
     ensures failed { result.status ≡ WRITE_FAULT → Rose (K.faults out.old) (K.faults out.new) }
     ensures stopped { K.faults out.old < K.faults out.new → HasStopped result.status }
 {
@@ -153,8 +153,9 @@ pub fn run_kept<K: Sink>(alloc: Global, machine: &TreeMachine, out: &mut K) -> E
         return nothing();
     };
     let mut book = Vec::new(alloc);
-    let run = run(alloc, machine, out, &mut execution, &mut book);
-    let (status, standing) = ended(alloc, machine, &execution, run);
+    let run = run(alloc, machine, &mut execution, &mut book);
+    let standing = standing(alloc, machine, &execution, &run);
+    let printed = print_book(alloc, out, &book);
     let main = ProcessEnd {
         node: 0,
         replies: execution.into_replies(),
@@ -163,7 +164,7 @@ pub fn run_kept<K: Sink>(alloc: Global, machine: &TreeMachine, out: &mut K) -> E
     };
     add(&mut processes, main);
     Ended {
-        status,
+        status: run_status(run, printed),
         kept: Some(Kept { book, processes }),
     }
 }

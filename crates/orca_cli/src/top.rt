@@ -1,14 +1,17 @@
 //! The top call.
 
-ghost use Rattle.std.specs.Prelude.{◌≡◌, ◌<◌, ◌≤◌, ℕ, List, None, Option, Err, length, map, IfNone, IfSome, string_bytes};
+ghost use Rattle.std.specs.Prelude.{◌≡◌, ◌<◌, ◌≤◌, ◌∷◌, [], ℕ, List, None, Option, Err, map, IfNone, IfSome, string_bytes};
 ghost use Rattle.orca_base.specs.declared.refusal.Refusal.TheVariants.{Because};
 ghost use Rattle.orca_io.specs.Causes.{Rose};
 ghost use Rattle.orca_io.specs.Files.{File};
 ghost use Rattle.small_program.specs.declared.tree.SmallProgram.{SmallProgram};
-ghost use Rattle.orca_cli.specs.Endings.{IsAnswer, Runs};
+ghost use Rattle.orca_meaning.specs.Program.{computes_of, performs_of};
+ghost use Rattle.orca_cli.specs.Endings.{IsAnswer};
 ghost use Rattle.orca_cli.specs.Front.{Reads};
-ghost use Rattle.orca_cli.specs.Headline.{IsNamed, IsRun};
+ghost use Rattle.orca_cli.specs.Headline.{IsAlone, IsNamed, IsRun};
+ghost use Rattle.orca_cli.specs.Job.{Word};
 ghost use Rattle.orca_cli.specs.Printed.{HasStopped};
+ghost use Rattle.orca_cli.specs.Sources.{Runs};
 
 use crate::ending::{nothing, said};
 use crate::front::FrontFault;
@@ -21,7 +24,7 @@ use crate::lines::{
 use crate::load::{LoadFault, load};
 use crate::run::run_kept;
 use crate::statuses::{ABSENT, FINISHED, LIMIT, NOT_YET, READ_FAULT, REFUSED, USAGE, WRITE_FAULT};
-use orca_base::{Refusal, SOURCE_BYTES};
+use orca_base::Refusal;
 use orca_io::{Shelf, Sink};
 use orca_meaning::TreeMachine;
 use std::alloc::Global;
@@ -33,7 +36,7 @@ use std::alloc::Global;
 /// are no command or ask for what is not built, `READ_FAULT` and `ABSENT` where the file can't be read or isn't there, `LIMIT` exactly
 /// where it is longer than `SOURCE_BYTES` or nests beyond `NESTING` levels, `REFUSED` where its text has no tokens or is no unit, `NOT_YET`
 /// where it can't be run yet, `WRITE_FAULT` where a write failed and `NO_MEMORY` where memory lacked. Each refusal prints its line; a run
-/// prints what its history writes.
+/// prints what its history writes, once it is over.
 pub fn orca_main<F: Shelf, K: Sink>(
     alloc: Global,
     words: &[String],
@@ -44,17 +47,23 @@ pub fn orca_main<F: Shelf, K: Sink>(
     ensures refused { IfNone result.kept (IsAnswer (map string_bytes words.now) (F.told shelf.old)
         (Rose (F.faults shelf.old) (F.faults shelf.new)) (K.told out.old) (K.told out.new) result.status) }
 
-    // A kept run is one of the program in the file, a history of it in the source's meaning, and what it writes was printed.
+    // A kept run is one of the program that the words name, a history of it in the source's meaning, and what it writes was printed. It
+    // has one process, which has ended where the run finished and where a write failed.
     ensures headline { IfSome result.kept (λ k. (p : SmallProgram) × IsNamed (map string_bytes words.now) (F.told shelf.old) p
-        × IsRun p k result.status (K.told out.old) (K.told out.new)) }
+        × IsRun (performs_of p) (computes_of p) k result.status (K.told out.old) (K.told out.new)
+        × IsAlone (performs_of p) (computes_of p) k result.status) }
 
     // A write fault is told only where the sink's count of faults rose; and where it rose, that or want of memory is told.
     ensures write_fault { result.status ≡ WRITE_FAULT → Rose (K.faults out.old) (K.faults out.new) }
     ensures stopped { K.faults out.old < K.faults out.new → HasStopped result.status }
     ensures same { F.told shelf.new ≡ F.told shelf.old }
+
+    // The counts of faults don't fall.
+    ensures read { F.faults shelf.old ≤ F.faults shelf.new }
+    ensures written { K.faults out.old ≤ K.faults out.new }
 {
     let file = match job_of(alloc, words) {
-        Ok(Some(Job::Runs { file })) => file,
+        Ok(Some(Job::Runs { file, .. })) => file,
         Ok(Some(Job::Says { text })) => return said(out, whole(alloc, text), FINISHED),
         Ok(None) => return said(out, usage_line(alloc), USAGE),
         Err(_) => return nothing(),
@@ -74,9 +83,9 @@ pub fn orca_main<F: Shelf, K: Sink>(
 // Prints why a text gave no program.
 fn refused_text<K: Sink>(alloc: Global, file: &str, out: &mut K, fault: FrontFault) -> Ended
     ensures none { result.kept ≡ None }
-    ensures said { (words : List (List ℕ)) (told : Option (List File))
-        → Runs words told file.now (λ text. (length text ≤ SOURCE_BYTES) × Reads text (Err (Because fault)))
-        → IsAnswer words told ⊥ (K.told out.old) (K.told out.new) result.status }
+    ensures said { (words : List Word) (told : Option (List File)) (text : List ℕ) → Runs words told ((file.now, text) ∷ [])
+        → Reads text (Err (Because fault)) → IsAnswer words told ⊥ (K.told out.old) (K.told out.new) result.status }
+    ensures later { K.faults out.old ≤ K.faults out.new }
     ensures failed { result.status ≡ WRITE_FAULT → Rose (K.faults out.old) (K.faults out.new) }
     ensures stopped { K.faults out.old < K.faults out.new → HasStopped result.status }
 {

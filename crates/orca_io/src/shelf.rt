@@ -1,9 +1,9 @@
 //! Files that are read whole.
 
 ghost use Rattle.std.specs.Prelude.{◌≡◌, ◌≤◌, ◌↔◌, ℕ, List, [], Option, None, Some, Contains};
-ghost use Rattle.std.specs.Prelude.{IfOk, IfSome, IsErrOf, OnOk, vec_len, map, string_bytes};
+ghost use Rattle.std.specs.Prelude.{IfOk, IfSome, IsErrOf, vec_len, map, string_bytes};
 ghost use Rattle.orca_io.specs.declared.shelf.ShelfFault.TheVariants.{NoMemory as Without};
-ghost use Rattle.orca_io.specs.Causes.{Rose, counted};
+ghost use Rattle.orca_io.specs.Causes.{counted};
 ghost use Rattle.orca_io.specs.Files.{File, content_of, files_of, Reads};
 
 use std::alloc::{AllocError, AllocFailed, Global};
@@ -63,14 +63,14 @@ pub trait Shelf {
 
     /// All of a file's bytes, if there are at most `limit`.
     ///
-    /// Of two files of one name the first is read. `Failed` comes only where the count of faults rose in this call, and the
-    /// count stays where the bytes were read.
+    /// Of two files of one name the first is read. The count of faults rises by one where the answer is `Failed`, and stays
+    /// otherwise.
     fn read_all(&mut self, alloc: Global, name: &str, limit: u32) -> Result<Vec<u8>, ShelfFault>
         ensures reads { IfSome (told self.old) (λ files. Reads (λ v. v.items) (content_of files name.now) limit result) }
         ensures same { told self.new ≡ told self.old }
         ensures later { faults self.old ≤ faults self.new }
-        ensures failed { IsErrOf result ShelfFault.Failed → Rose (faults self.old) (faults self.new) }
-        ensures quiet { OnOk result (faults self.new ≡ faults self.old) }
+        ensures failed { IsErrOf result ShelfFault.Failed → faults self.new ≡ counted (faults self.old) }
+        ensures quiet { (IsErrOf result ShelfFault.Failed → ⊥) → faults self.new ≡ faults self.old }
 
         // A shelf that tells nothing keeps to the limit too.
         ensures within { IfOk result (λ v. vec_len v ≤ limit) };
@@ -136,8 +136,8 @@ impl Shelf for MemoryShelf {
         ensures reads { IfSome (told_files self.old) (λ files. Reads (λ v. v.items) (content_of files name.now) limit result) }
         ensures same { told_files self.new ≡ told_files self.old }
         ensures later { failed_reads self.old ≤ failed_reads self.new }
-        ensures failed { IsErrOf result ShelfFault.Failed → Rose (failed_reads self.old) (failed_reads self.new) }
-        ensures quiet { OnOk result (failed_reads self.new ≡ failed_reads self.old) }
+        ensures failed { IsErrOf result ShelfFault.Failed → failed_reads self.new ≡ counted (failed_reads self.old) }
+        ensures quiet { (IsErrOf result ShelfFault.Failed → ⊥) → failed_reads self.new ≡ failed_reads self.old }
         ensures within { IfOk result (λ v. vec_len v ≤ limit) }
 
         // Exactly the calls with the given numbers fail.

@@ -3,7 +3,7 @@
 ghost use Rattle.std.specs.Prelude.{◌≡◌, ◌≤◌, ◌↔◌, ◌++◌, ℕ, List, [], Option, None, Some, Contains};
 ghost use Rattle.std.specs.Prelude.{IsErrOf, OnOk, OnErr};
 ghost use Rattle.orca_io.specs.declared.sink.SinkFault.TheVariants.{NoMemory as Without};
-ghost use Rattle.orca_io.specs.Causes.{Rose, counted};
+ghost use Rattle.orca_io.specs.Causes.{counted};
 ghost use Rattle.orca_io.specs.Sinks.{Puts};
 
 use std::alloc::{AllocError, AllocFailed, Global};
@@ -55,13 +55,13 @@ pub trait Sink {
 
     /// Puts a piece at the end.
     ///
-    /// After `Failed` a prefix of the piece was put, and after `NoMemory` nothing. `Failed` comes only where the count of
-    /// faults rose in this call, and it stays where the piece was put.
+    /// After `Failed` a prefix of the piece was put, and after `NoMemory` nothing. The count of faults rises by one where the answer
+    /// is `Failed`, and stays otherwise.
     fn put(&mut self, piece: &[u8]) -> Result<(), SinkFault>
         ensures puts { Puts (told self.old) (told self.new) piece.now result }
         ensures later { faults self.old ≤ faults self.new }
-        ensures failed { IsErrOf result SinkFault.Failed → Rose (faults self.old) (faults self.new) }
-        ensures quiet { OnOk result (faults self.new ≡ faults self.old) };
+        ensures failed { IsErrOf result SinkFault.Failed → faults self.new ≡ counted (faults self.old) }
+        ensures quiet { (IsErrOf result SinkFault.Failed → ⊥) → faults self.new ≡ faults self.old };
 }
 
 /// A sink in memory. The calls of `put` that have the given numbers fail before they put anything.
@@ -119,8 +119,8 @@ impl Sink for MemorySink {
     fn put(&mut self, piece: &[u8]) -> Result<(), SinkFault>
         ensures puts { Puts (told_bytes self.old) (told_bytes self.new) piece.now result }
         ensures later { failed_writes self.old ≤ failed_writes self.new }
-        ensures failed { IsErrOf result SinkFault.Failed → Rose (failed_writes self.old) (failed_writes self.new) }
-        ensures quiet { OnOk result (failed_writes self.new ≡ failed_writes self.old) }
+        ensures failed { IsErrOf result SinkFault.Failed → failed_writes self.new ≡ counted (failed_writes self.old) }
+        ensures quiet { (IsErrOf result SinkFault.Failed → ⊥) → failed_writes self.new ≡ failed_writes self.old }
 
         // Exactly the calls with the given numbers fail, and put nothing.
         ensures fails { IsErrOf result SinkFault.Failed ↔ Contains (failing_writes self.old) (writes_so_far self.new) }
@@ -203,8 +203,8 @@ impl<W: Write> Sink for WriterSink<W> {
     fn put(&mut self, piece: &[u8]) -> Result<(), SinkFault>
         ensures puts { Puts None None piece.now result }
         ensures later { faults_of self.old ≤ faults_of self.new }
-        ensures failed { IsErrOf result SinkFault.Failed → Rose (faults_of self.old) (faults_of self.new) }
-        ensures quiet { OnOk result (faults_of self.new ≡ faults_of self.old) }
+        ensures failed { IsErrOf result SinkFault.Failed → faults_of self.new ≡ counted (faults_of self.old) }
+        ensures quiet { (IsErrOf result SinkFault.Failed → ⊥) → faults_of self.new ≡ faults_of self.old }
 
         // What the writer says that it holds grows by the piece.
         ensures written { OnOk result (Appends (W.contents (writer_of self.old)) (W.contents (writer_of self.new)) piece.now) }

@@ -15,7 +15,7 @@ use Rattle.small_program.specs.declared.tree.OperationBody.TheVariants.{Returns,
 use Rattle.small_program.specs.declared.tree.SmallProgram.{SmallProgram}
 use Rattle.value_core.specs.Datum.{Datum, Data, list_of}
 use Rattle.value_core.specs.Datum as datum
-use Rattle.value_core.specs.History.{Answers, Configuration, IsStep, Performed, after_line, after_try, forked, objects_after, opening, output_kind, output_object, Process}
+use Rattle.value_core.specs.History.{Answers, Configuration, HasEnded, IsStep, Performed, after_line, after_try, forked, objects_after, opening, output_kind, output_object, Process}
 use Rattle.value_core.specs.declared.action.Action.{Action}
 use Rattle.value_core.specs.declared.action.Action.TheVariants as action
 use Rattle.value_core.specs.declared.action.Line.{Line}
@@ -30,8 +30,8 @@ use Rattle.value_core.specs.declared.processor.Halt.{Halt}
 use Rattle.value_core.specs.declared.processor.Halt.TheVariants as halt
 use Rattle.value_core.specs.Lawful.{FitsAction, RepliesFit}
 use Rattle.value_core.proofs.HistoryLemmas.{after_lines-push, LegalFrom-push}
-use Rattle.orca_meaning.specs.Operations.{Name, body_tried, operation_tried, parameters_of, tries_of}
-use Rattle.orca_meaning.specs.Processes.{doing_of, first_object, small_kind}
+use Rattle.orca_meaning.specs.Operations.{Name, body_tried, operation_tried, parameters_of, small_kind, tries_of}
+use Rattle.orca_meaning.specs.Processes.{doing_of, first_object}
 use Rattle.orca_meaning.specs.Program.{performs_of, computes_of}
 use Rattle.orca_meaning.specs.Known.{IsKnown, IsKnownDoing}
 use Rattle.orca_meaning.specs.Stages.{Stands}
@@ -39,7 +39,7 @@ use Rattle.orca_meaning.specs.Fitting.{FitsArgs, FitsReply, FitsState}
 use Rattle.orca_meaning.specs.Ranges.{AreInRange}
 use Rattle.orca_meaning.specs.FitLaws.{made_fit, tries_keep, tries_reply}
 use Rattle.orca_meaning.specs.HeadLaws.{BodiesFit, CallsFit}
-use Rattle.orca_meaning.specs.Executions.{Follows, HasEnded, HasFitting, IsFaultless, configuration_with, main_process, objects_with, outcome_of, state_or, tried_outcome}
+use Rattle.orca_meaning.specs.Executions.{Follows, HasFitting, IsFaultless, configuration_with, main_process, objects_with, outcome_of, state_or, tried_outcome}
 use Rattle.orca_meaning.specs.declared.execution.Execution.{Execution}
 use Rattle.orca_meaning.specs.declared.execution.Outcome.{Outcome}
 use Rattle.orca_meaning.specs.declared.process.SmallProcess.{SmallProcess}
@@ -72,7 +72,7 @@ did_right program op args state after guard reply small bodies fits given is fin
   faultless = fine;
   made = inr (after, refl);
   state = subst (λ (t : Tried). KeepsState t (FitsState program small_kind)) is (tries_keep program args state small small_kind op fits given);
-  reply = subst (λ (t : Tried). RepliesWell t (FitsReply program small_kind op)) is (tries_reply program args state small_kind op bodies fits);
+  reply = subst (λ (t : Tried). RepliesWell t (FitsReply program small_kind op)) is (tries_reply program args state small_kind op bodies fits given);
 }
 
 body_outcome : (program : SmallProgram) (op : OpNo) (args state : Data) (parameters : List Name) (body : OperationBody) → AreInRange program → BodiesFit program → FitsState program small_kind state → FitsArgs program small_kind op args →
@@ -247,7 +247,7 @@ module _ (program : SmallProgram) (small : AreInRange program) (calls : CallsFit
       not_at_end action.Ended over some = none-some o (sym some)
       not_at_end (action.Faulted fault) over some = none-some o (sym some)
 
-  pub ends : None ≡ outcome_of program old.object act → HasEnded program lines
+  pub ends : None ≡ outcome_of program old.object act → HasEnded (performs_of program) (computes_of program) lines main_process
   ends is =
       let over : (act ≡ action.Ended) ⊎ ((fault : _) × (act ≡ action.Faulted fault)) = subst (λ (x : Option Outcome). IsOutcome program old.object act x) (sym is) outcome in
       elim over [

@@ -45,10 +45,12 @@ module _ (program : SmallProgram) (number : ProcessNo) where
   as_known doing.Busy fit = absurd fit
   as_known (doing.At (action.Make kind id)) fit = absurd fit
   as_known (doing.At (action.Call kind op id args)) fit = elim fit.0 [
-    | inl output ↦ inl (record { kind_is = output.0; object_is = output.1 })
+    | inl output ↦
+        let given = subst (λ (k : KindNo). FitsArgs program k op args) output.0 fit.1 in
+        inl (record { kind_is = output.0; op_is = given.0; object_is = output.1 })
     | inr own ↦
         let given = subst (λ (k : KindNo). FitsArgs program k op args) own.0 fit.1 in
-        inr (record { kind_is = own.0; op_is = inside op (list_of args) (slice_get program.operations op.0) refl given; object_is = own.1 })
+        inr (record { kind_is = own.0; op_is = inside op (list_of args) (slice_get program.operations op.0) refl given.1; object_is = own.1 })
   ]
   as_known (doing.At (action.Fork process args place_on)) fit = absurd fit
   as_known (doing.At action.Ended) fit = tt

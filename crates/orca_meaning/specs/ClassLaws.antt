@@ -1,5 +1,5 @@
 -- Which operations are reads, and that a read leaves the state as it is.
-use Rattle.std.specs.Prelude.{◌≡◌, ◌==◌, Bool, true, false, List, Option, None, Some, slice_get, if◌then◌else◌}
+use Rattle.std.specs.Prelude.{◌≡◌, ◌==◌, Bool, true, false, List, [], ◌∷◌, Option, None, Some, slice_get, if◌then◌else◌}
 use Rattle.orca_base.specs.declared.ids.KindNo.{KindNo}
 use Rattle.orca_base.specs.declared.ids.OpNo.{OpNo}
 use Rattle.small_program.specs.declared.tree.Operation.{Operation}
@@ -17,7 +17,8 @@ module _ (program : SmallProgram) (args state : Data) where
   body_read : (parameters : List Name) (body : OperationBody) → class_in body ≡ Reads →
       KeepsState (body_tried program.fields parameters (list_of args) (list_of state) body) (λ after. after ≡ state)
   body_read parameters (Returns field) reads = data_of-list_of state
-  body_read parameters (Assigns assignments) reads = absurd cc
+  body_read parameters (Assigns []) reads = data_of-list_of state
+  body_read parameters (Assigns (a ∷ assignments)) reads = absurd cc
 
   operation_read : (o : Option Operation) → class_at o ≡ Reads →
       KeepsState (operation_tried program.fields (list_of args) (list_of state) o) (λ after. after ≡ state)

@@ -1,5 +1,5 @@
 -- An execution of a small program on one member stands for a configuration.
-use Rattle.std.specs.Prelude.{◌≡◌, ◌⊎◌, ◌==◌, List, [], ◌∷◌, Option, None, Some, IfSome, length, slice_get, if◌then◌else◌}
+use Rattle.std.specs.Prelude.{◌≡◌, ◌⊎◌, ◌==◌, List, [], ◌∷◌, Option, None, Some, IfSome, length, if◌then◌else◌}
 use Rattle.std.specs.List.{All}
 use Rattle.orca_base.specs.declared.ids.KindNo.{KindNo}
 use Rattle.orca_base.specs.declared.ids.OpNo.{OpNo}
@@ -7,7 +7,7 @@ use Rattle.orca_base.specs.declared.ids.ProcessNo.{ProcessNo}
 use Rattle.small_program.specs.declared.tree.SmallProgram.{SmallProgram}
 use Rattle.value_core.specs.Datum.{Data}
 use Rattle.value_core.specs.Datum as datum
-use Rattle.value_core.specs.History.{Configuration, HasEnded as ProcessHasEnded, Legal, Objects, Process, after_lines, opening, output_kind, output_object, processes_of}
+use Rattle.value_core.specs.History.{Configuration, Legal, Objects, after_lines, opening, output_kind, output_object}
 use Rattle.value_core.specs.Lawful.{RepliesFit}
 use Rattle.value_core.specs.declared.action.Action.{Action}
 use Rattle.value_core.specs.declared.action.Action.TheVariants as action
@@ -18,9 +18,8 @@ use Rattle.value_core.specs.declared.meaning.Making.{Making}
 use Rattle.value_core.specs.declared.meaning.Making.TheVariants as making
 use Rattle.value_core.specs.declared.meaning.Tried.{Tried}
 use Rattle.value_core.specs.declared.meaning.Tried.TheVariants as tried
-use Rattle.orca_meaning.specs.Operations.{making_of, tries_of}
-use Rattle.value_core.specs.declared.meaning.Doing.TheVariants as doing
-use Rattle.orca_meaning.specs.Processes.{doing_of, first_object, small_kind}
+use Rattle.orca_meaning.specs.Operations.{making_of, small_kind, tries_of}
+use Rattle.orca_meaning.specs.Processes.{first_object}
 use Rattle.orca_meaning.specs.Program.{performs_of, computes_of}
 use Rattle.orca_meaning.specs.Fitting.{FitsArgs, FitsReply, FitsState}
 use Rattle.orca_meaning.specs.Stages.{Stands}
@@ -97,13 +96,3 @@ pub record Follows (program : SmallProgram) (e : Execution) (lines : List Line) 
   pub made : (e.replies.items ≡ []) ⊎ ((state : Data) × (e.object ≡ Some state))
   pub state : IfSome e.object (FitsState program small_kind)
   pub replies : RepliesFit (computes_of program) (FitsReply program) (record { 0 = 0 }) main_process datum.none e.replies.items
-
--- the process has ended after these lines
-abbrev pub HasEnded : SmallProgram → List Line → Type 0
-HasEnded program lines = ProcessHasEnded (performs_of program) (computes_of program) lines main_process
-
--- the process is at an action after these lines
-pub record IsAt (program : SmallProgram) (lines : List Line) (act : Action) : Type 0 where
-  pub process : Process
-  pub exists : slice_get (processes_of (performs_of program) (computes_of program) lines) 0 ≡ Some process
-  pub at : doing_of program main_process process.replies ≡ doing.At act

@@ -25,7 +25,7 @@ use Rattle.value_core.specs.Fits.{IfMade, KeepsState, RepliesWell}
 use Rattle.value_core.specs.declared.action.Reply.TheVariants as answer
 use Rattle.value_core.specs.declared.meaning.Making.TheVariants as making
 use Rattle.value_core.specs.declared.meaning.Tried.TheVariants as tried
-use Rattle.orca_meaning.specs.Operations.{Name, after_assignments, body_tried, making_of, opening_assignments, opening_value, opening_values, operand_value, operation_tried, parameters_of, place_in, tries_of, value_at, value_or, with_value}
+use Rattle.orca_meaning.specs.Operations.{Name, after_assignments, body_tried, making_of, opening_assignments, opening_value, opening_values, operand_value, operation_tried, parameters_of, place_in, small_kind, tries_of, value_at, value_or, with_value}
 use Rattle.value_core.specs.Integers.{IsInteger}
 use Rattle.orca_meaning.specs.Fitting.{AreFields, FitsArgs, FitsHead, FitsOperation, FitsReply, FitsResult, FitsResultOf, FitsState, FitsWriting, has_result}
 use Rattle.orca_meaning.specs.HeadLaws.{BodiesFit, returns}
@@ -83,18 +83,18 @@ opening_in_range Absent small = All-nil AssignmentInRange
 opening_in_range (Begins assignments) small = small
 
 pub made_fit : (program : SmallProgram) → AreInRange program → (kind : KindNo) → IfMade (making_of program kind) (FitsState program kind)
-made_fit program small kind = by_kind (kind.0 == 0)
+made_fit program small kind = by_kind (kind.0 == small_kind.0)
   where
     values : List Datum
     values = after_assignments program.fields [] [] (opening_assignments program.opening) (opening_values program.fields)
 
     by_kind : (b : Bool) →
-        IfMade (making.Made (if b then datum.none else data_of values))
-        (λ state. MatchBool b (state ≡ datum.none) (AreFields program.fields (list_of state)))
-    by_kind true = refl
-    by_kind false = as_data program.fields values
+        IfMade (making.Made (if b then data_of values else datum.none))
+        (λ state. MatchBool b (AreFields program.fields (list_of state)) (state ≡ datum.none))
+    by_kind true = as_data program.fields values
         (assigned_fits program.fields [] [] (opening_assignments program.opening) (opening_values program.fields)
         (opening_in_range program.opening small.0) (All-nil IsInteger) (opening_fits program.fields))
+    by_kind false = refl
 
 module _ (program : SmallProgram) (args state : Data) where
   body_keeps : (kind : HeadKind) (body : OperationBody) → BodyInRange body → FitsHead kind (list_of args) →
@@ -119,14 +119,18 @@ module _ (program : SmallProgram) (args state : Data) where
 
   pub tries_keep : AreInRange program → (kind : KindNo) (op : OpNo) → FitsState program kind state → FitsArgs program kind op args →
       KeepsState (tries_of program kind op state args) (FitsState program kind)
-  tries_keep small kind op fits given = by_kind (kind.0 == 0) fits given
+  tries_keep small kind op fits given = by_kind (kind.0 == 0) given
     where
-      by_kind : (b : Bool) → MatchBool b (state ≡ datum.none) (AreFields program.fields (list_of state)) →
-          MatchBool b ((op.0 ≡ 0) × FitsWriting (list_of args)) (FitsOperation (slice_get program.operations op.0) (list_of args)) →
+      by_kind : (b : Bool) →
+          MatchBool b ((op.0 ≡ 0) × FitsWriting (list_of args))
+          ((kind ≡ small_kind) × FitsOperation (slice_get program.operations op.0) (list_of args)) →
           KeepsState (if b then tried.Did 0 state answer.Done else operation_tried program.fields (list_of args) (list_of state)
-          (slice_get program.operations op.0)) (λ after. MatchBool b (after ≡ datum.none) (AreFields program.fields (list_of after)))
-      by_kind true none writes = none
-      by_kind false fields takes = operation_keeps (slice_get program.operations op.0) (in_range_at small op.0) takes fields
+          (slice_get program.operations op.0)) (FitsState program kind)
+      by_kind true writes = fits
+      by_kind false takes = subst (λ (k : KindNo). KeepsState (operation_tried program.fields (list_of args) (list_of state)
+          (slice_get program.operations op.0)) (FitsState program k)) (sym takes.0)
+          (operation_keeps (slice_get program.operations op.0) (in_range_at small op.0) takes.1
+          (subst (λ (k : KindNo). FitsState program k state) takes.0 fits))
 
   body_replies : (kind : HeadKind) (body : OperationBody) → has_result kind ≡ returns body → AreFields program.fields (list_of state) →
       RepliesWell (body_tried program.fields (parameters_of kind) (list_of args) (list_of state) body) (FitsResult kind)
@@ -151,13 +155,16 @@ module _ (program : SmallProgram) (args state : Data) where
       by_body (Returns field) h = h
       by_body (Assigns assignments) h = h
 
-  pub tries_reply : (kind : KindNo) (op : OpNo) → BodiesFit program → FitsState program kind state →
+  pub tries_reply : (kind : KindNo) (op : OpNo) → BodiesFit program → FitsState program kind state → FitsArgs program kind op args →
       RepliesWell (tries_of program kind op state args) (FitsReply program kind op)
-  tries_reply kind op bodies fits = by_kind (kind.0 == 0) fits
+  tries_reply kind op bodies fits given = by_kind (kind.0 == 0) given
     where
-      by_kind : (b : Bool) → MatchBool b (state ≡ datum.none) (AreFields program.fields (list_of state)) →
+      by_kind : (b : Bool) →
+          MatchBool b ((op.0 ≡ 0) × FitsWriting (list_of args))
+          ((kind ≡ small_kind) × FitsOperation (slice_get program.operations op.0) (list_of args)) →
           RepliesWell (if b then tried.Did 0 state answer.Done else operation_tried program.fields (list_of args) (list_of state)
           (slice_get program.operations op.0))
           (λ reply. MatchBool b (FitsResult Plain reply) (FitsResultOf (slice_get program.operations op.0) reply))
-      by_kind true none = refl
-      by_kind false fields = operation_replies (slice_get program.operations op.0) (λ x is. bodies op.0 x is) fields
+      by_kind true writes = refl
+      by_kind false takes = operation_replies (slice_get program.operations op.0) (λ x is. bodies op.0 x is)
+          (subst (λ (k : KindNo). FitsState program k state) takes.0 fits)

@@ -16,15 +16,15 @@ use Rattle.value_core.specs.View.{datum_of}
 use Rattle.value_core.specs.declared.action.Reply.{Reply}
 use Rattle.value_core.specs.declared.action.Reply.TheVariants as answer
 use Rattle.value_core.specs.Sound.{IsCode, IsShort}
-use Rattle.orca_meaning.specs.Operations.{Name}
+use Rattle.orca_meaning.specs.Operations.{Name, small_kind}
 
 -- an integer for each field
 abbrev pub AreFields : List Name → List Datum → Type 0
 AreFields fields values = (length values ≡ length fields) × All IsInteger values
 
--- the state of an object: the output object has no fields
+-- the state of an object: one of another type than the program's, as the output object, has no fields
 abbrev pub FitsState : SmallProgram → KindNo → Data → Type 0
-FitsState program kind state = MatchBool (kind.0 == 0) (state ≡ datum.none) (AreFields program.fields (list_of state))
+FitsState program kind state = MatchBool (kind.0 == small_kind.0) (AreFields program.fields (list_of state)) (state ≡ datum.none)
 
 -- one integer where the head has a parameter, else none
 abbrev pub FitsHead : HeadKind → List Datum → Type 0
@@ -40,10 +40,10 @@ FitsOperation (Some operation) args = FitsHead operation.head.kind args
 abbrev pub FitsWriting : List Datum → Type 0
 FitsWriting args = (codes : List ℕ) × All IsCode codes × IsShort codes × (args ≡ datum.text codes ∷ [])
 
--- the arguments of an operation: the output object has one, `WriteLine`
+-- the arguments of an operation: the output object has one, `WriteLine`, and no type has others than its own
 abbrev pub FitsArgs : SmallProgram → KindNo → OpNo → Data → Type 0
 FitsArgs program kind op args = MatchBool (kind.0 == 0) ((op.0 ≡ 0) × FitsWriting (list_of args))
-    (FitsOperation (slice_get program.operations op.0) (list_of args))
+    ((kind ≡ small_kind) × FitsOperation (slice_get program.operations op.0) (list_of args))
 
 -- a small program has one text, `OrcaMain`, without parameters
 abbrev pub FitsText : TextNo → Data → Type 0

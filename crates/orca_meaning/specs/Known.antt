@@ -10,11 +10,13 @@ use Rattle.value_core.specs.declared.action.Action.{Action}
 use Rattle.value_core.specs.declared.action.Action.TheVariants as action
 use Rattle.value_core.specs.declared.meaning.Doing.{Doing}
 use Rattle.value_core.specs.declared.meaning.Doing.TheVariants as doing
-use Rattle.orca_meaning.specs.Processes.{small_kind, first_object}
+use Rattle.orca_meaning.specs.Operations.{small_kind}
+use Rattle.orca_meaning.specs.Processes.{first_object}
 
 -- a call of `WriteLine`
 pub record IsWriting (kind : KindNo) (op : OpNo) (object : ObjectId) : Type 0 where
   pub kind_is : kind ≡ output_kind
+  pub op_is : op.0 ≡ 0
   pub object_is : object ≡ output_object
 
 -- a call of an operation that the program has, on the process's object

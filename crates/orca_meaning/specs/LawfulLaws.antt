@@ -24,7 +24,8 @@ use Rattle.value_core.specs.declared.action.Reply.{Reply}
 use Rattle.value_core.specs.declared.action.Reply.TheVariants as answer
 use Rattle.value_core.specs.declared.meaning.Doing.{Doing}
 use Rattle.value_core.specs.declared.meaning.Doing.TheVariants as doing
-use Rattle.orca_meaning.specs.Processes.{all_stating, doing_of, first_object, invocation, number_in, small_kind, text_of, writing}
+use Rattle.orca_meaning.specs.Operations.{small_kind}
+use Rattle.orca_meaning.specs.Processes.{all_stating, doing_of, first_object, invocation, number_in, text_of, writing}
 use Rattle.orca_meaning.specs.Program.{computes_of}
 use Rattle.value_core.specs.Integers.{IsInteger}
 use Rattle.orca_meaning.specs.Fitting.{FitsArgs, FitsHead, FitsOperation, FitsReply, FitsResultOf, FitsText, has_result}
@@ -93,7 +94,7 @@ module _ (program : SmallProgram) (number : ProcessNo) where
   invokes : (name : List ℕ) (args : Data) (test : HeadKind → Bool) → ((kind : HeadKind) → test kind ≡ true → FitsHead kind (list_of args)) →
       head_passes program.operations name test ≡ true → IsFitDoing program number (doing.At (invocation program number name args))
   invokes name args test so passed =
-      (inr (refl, refl), head_fits test (list_of args) so (slice_get program.operations (number_in program.operations name)) passed)
+      (inr (refl, refl), (refl, head_fits test (list_of args) so (slice_get program.operations (number_in program.operations name)) passed))
 
   writes : (v : Datum) → IsInteger v → IsFitDoing program number (doing.At (writing (text_of v)))
   writes v integer = (inl (refl, refl), (refl, (text_of v, text_codes v integer, text_short v integer, refl)))

@@ -81,16 +81,18 @@ abbrev pub operation_tried : List Name → List Datum → List Datum → Option 
 operation_tried fields args state None = tried.Blocked
 operation_tried fields args state (Some operation) = body_tried fields (parameters_of operation.head.kind) args state operation.body
 
--- a try of an operation: the output object has one, `WriteLine`, which always succeeds and has no state to change
+-- a try of an operation: the output object has one, `WriteLine`, which always succeeds and has no state to change. Of an
+-- object type or an operation that the program doesn't have it says nothing that counts: its arguments fit none (Fitting.antt)
 abbrev pub tries_of : SmallProgram → KindNo → OpNo → Data → Data → Tried
 tries_of program kind op state args =
     if kind.0 == 0 then tried.Did 0 state answer.Done
     else operation_tried program.fields (list_of args) (list_of state) (slice_get program.operations op.0)
 
--- an operation that returns a field is a read; `WriteLine` is a write, and so is one that the program doesn't have
+-- an operation is a read where it assigns nothing; `WriteLine` is a write, and so is one that the program doesn't have
 abbrev pub class_in : OperationBody → Class
 class_in (Returns field) = Reads
-class_in (Assigns assignments) = Writes
+class_in (Assigns []) = Reads
+class_in (Assigns (a ∷ assignments)) = Writes
 
 abbrev pub class_at : Option Operation → Class
 class_at None = Writes
@@ -108,8 +110,14 @@ opening_assignments (Begins assignments) = assignments
 abbrev pub opening_values : List Name → List Datum
 opening_values fields = map (λ _. opening_value) fields
 
--- the making of an object: its fields open, and the opening part runs. The output object has no fields
+-- the program's object type, the one that is declared
+abbrev pub small_kind : KindNo
+small_kind = record { 0 = 1 }
+
+-- the making of an object: its fields open, and the opening part runs. An object of another type, as the output object, has
+-- no fields
 abbrev pub making_of : SmallProgram → KindNo → Making
 making_of program kind =
-    making.Made (if kind.0 == 0 then datum.none
-    else data_of (after_assignments program.fields [] [] (opening_assignments program.opening) (opening_values program.fields)))
+    making.Made (if kind.0 == small_kind.0
+    then data_of (after_assignments program.fields [] [] (opening_assignments program.opening) (opening_values program.fields))
+    else datum.none)

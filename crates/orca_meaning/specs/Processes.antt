@@ -4,7 +4,6 @@
 use Rattle.std.specs.Prelude.{ℕ, pos, List, [], ◌∷◌, Option, position, unwrap_or}
 use Rattle.std.specs.Str.{bytes_eq}
 use Rattle.std.specs.Fmt.{signed_decimal}
-use Rattle.orca_base.specs.declared.ids.KindNo.{KindNo}
 use Rattle.orca_base.specs.declared.ids.ProcessNo.{ProcessNo}
 use Rattle.orca_base.specs.declared.ids.ObjectId.{ObjectId}
 use Rattle.small_program.specs.declared.tree.Argument.{Argument}
@@ -23,7 +22,7 @@ use Rattle.value_core.specs.declared.action.Reply.{Reply}
 use Rattle.value_core.specs.declared.action.Reply.TheVariants as answer
 use Rattle.value_core.specs.declared.meaning.Doing.{Doing}
 use Rattle.value_core.specs.declared.meaning.Doing.TheVariants as doing
-use Rattle.orca_meaning.specs.Operations.{Name}
+use Rattle.orca_meaning.specs.Operations.{Name, small_kind}
 
 -- the first place of the operation of a name, from 0
 abbrev pub operation_place : List Operation → Name → Option ℕ
@@ -32,10 +31,6 @@ operation_place operations name = position (λ o. bytes_eq o.head.name name) ope
 -- the number of an operation: how many stand before it
 abbrev pub number_in : List Operation → Name → ℕ
 number_in operations name = unwrap_or (operation_place operations name) 0
-
--- the program's object type, the one that is declared
-abbrev pub small_kind : KindNo
-small_kind = record { 0 = 1 }
 
 -- the object that a process makes first
 abbrev pub first_object : ProcessNo → ObjectId

@@ -20,6 +20,7 @@ use Rattle.value_core.specs.Integers.{IsInteger, IsWord, integers_sound}
 use Rattle.value_core.specs.Sound.{AreSound, AreSoundArguments, IsCode, IsShort, IsSound, IsSoundReply}
 use Rattle.value_core.specs.declared.action.Reply.{Reply}
 use Rattle.value_core.specs.declared.action.Reply.TheVariants as answer
+use Rattle.orca_meaning.specs.Operations.{small_kind}
 use Rattle.orca_meaning.specs.Processes.{text_of}
 use Rattle.orca_meaning.specs.Fitting.{AreFields, FitsArgs, FitsHead, FitsOperation, FitsReply, FitsResult, FitsResultOf, FitsState, FitsText, FitsWriting}
 
@@ -59,11 +60,11 @@ empty_sound values is = subst AreSound (sym (ap data_of is) ∙ data_of-list_of 
 -- a state that fits is sound
 pub states_sound : (program : SmallProgram) → length program.fields < 2 ^ 32 → (kind : KindNo) (state : Data) →
     FitsState program kind state → AreSound state
-states_sound program few kind state fits = by_kind (kind.0 == 0) fits
+states_sound program few kind state fits = by_kind (kind.0 == small_kind.0) fits
   where
-    by_kind : (b : Bool) → MatchBool b (state ≡ datum.none) (AreFields program.fields (list_of state)) → AreSound state
-    by_kind true is = subst AreSound (sym is) none_sound
-    by_kind false fields = integers_sound state fields.1 (let long = fields.0 in omega (arith, long, few))
+    by_kind : (b : Bool) → MatchBool b (AreFields program.fields (list_of state)) (state ≡ datum.none) → AreSound state
+    by_kind true fields = integers_sound state fields.1 (let long = fields.0 in omega (arith, long, few))
+    by_kind false is = subst AreSound (sym is) none_sound
 
 few_arguments : (args : Data) (list : List Datum) → length list ≤ 1 → list_of args ≡ list → AreSound args → AreSoundArguments args
 few_arguments args list one is sound = let long : length (list_of args) ≡
@@ -85,11 +86,11 @@ pub arguments_sound : (program : SmallProgram) (kind : KindNo) (op : OpNo) (args
 arguments_sound program kind op args fits = by_kind (kind.0 == 0) fits
   where
     by_kind : (b : Bool) →
-        MatchBool b ((op.0 ≡ 0) × FitsWriting (list_of args)) (FitsOperation (slice_get program.operations op.0) (list_of args)) →
-        AreSoundArguments args
+        MatchBool b ((op.0 ≡ 0) × FitsWriting (list_of args))
+        ((kind ≡ small_kind) × FitsOperation (slice_get program.operations op.0) (list_of args)) → AreSoundArguments args
     by_kind true (number, (codes, all, short, is)) = few_arguments args (datum.text codes ∷ []) (omega arith) is
         (written_sound args codes all short is)
-    by_kind false takes = operation_sound (slice_get program.operations op.0) args takes
+    by_kind false takes = operation_sound (slice_get program.operations op.0) args takes.1
 
 -- and so are the arguments of the text
 pub text_sound : (text : TextNo) (args : Data) → FitsText text args → AreSoundArguments args

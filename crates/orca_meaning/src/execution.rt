@@ -1,12 +1,12 @@
 //! A small program's execution on one member, line by line.
 
 ghost use Rattle.std.specs.Prelude.{◌≡◌, ◌<◌, ◌+◌, ◌*◌, ◌∷◌, ◌++◌, [], List, length, IfOk, IfSome, MatchOption, OnErr, OnSome};
-ghost use Rattle.value_core.specs.History.{replies_of};
+ghost use Rattle.value_core.specs.History.{HasEnded, IsAt, replies_of};
 ghost use Rattle.value_core.specs.declared.action.Line.{Line};
 ghost use Rattle.small_program.specs.declared.tree.SmallProgram.{SmallProgram};
-ghost use Rattle.orca_meaning.specs.Executions.{Follows, HasEnded, HasFitting, IsAt, making_outcome, object_outcome, outcome_of, state_or, tried_outcome};
+ghost use Rattle.orca_meaning.specs.Executions.{Follows, HasFitting, main_process, making_outcome, object_outcome, outcome_of, state_or, tried_outcome};
 ghost use Rattle.orca_meaning.specs.Fitting.{FitsArgs, FitsState};
-ghost use Rattle.orca_meaning.specs.Processes.{small_kind};
+ghost use Rattle.orca_meaning.specs.Operations.{small_kind};
 ghost use Rattle.orca_meaning.specs.Program.{computes_of, performs_of};
 
 use crate::machine::TreeMachine;
@@ -136,7 +136,8 @@ impl Execution {
         requires { (lines : List Line) × Follows machine.now.program self.old lines }
         ensures line { IfOk result
             (λ r. (lines : List Line) → Follows machine.now.program self.old lines →
-            MatchOption r (HasEnded machine.now.program lines × Follows machine.now.program self.new lines)
+            MatchOption r (HasEnded (performs_of machine.now.program) (computes_of machine.now.program) lines main_process
+            × Follows machine.now.program self.new lines)
             (λ line. Follows machine.now.program self.new (lines ++ line ∷ []))) }
 
         // A program makes at most a line for its object and two for each statement, so the lines come to an end.
@@ -172,7 +173,8 @@ impl Execution {
     /// The action at which the process is behind the lines that were followed. It was not performed.
     pub fn next(&self, alloc: Global, machine: &TreeMachine) -> Result<Action, NoMemory>
         ensures { IfOk result
-            (λ act. (lines : List Line) → Follows machine.now.program self.now lines → IsAt machine.now.program lines act) }
+            (λ act. (lines : List Line) → Follows machine.now.program self.now lines
+            → IsAt (performs_of machine.now.program) (computes_of machine.now.program) lines main_process act) }
     {
         self.process.next(alloc, &machine.program)
     }

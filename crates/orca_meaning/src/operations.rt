@@ -14,6 +14,9 @@ use small_program::{
 use std::alloc::Global;
 use value_core::{Class, Making, ObjectState, Parts, Reply, Tried, Value};
 
+// The object type that a small program declares.
+pub(crate) const SMALL: KindNo = KindNo(1);
+
 // The place of a name among names.
 fn place(names: &[Text], name: &Text) -> Option<usize>
     ensures { result ≡ place_in names.now name.now }
@@ -96,8 +99,9 @@ fn assigned(
     Ok(state)
 }
 
-/// What a try of an operation gives, by the object's state and the arguments (specs/Operations.antt). The number must be one
-/// of the object type's operations: else the try is blocked. No state is changed.
+/// What a try of an operation gives, by the object's state and the arguments (specs/Operations.antt). The object type and the
+/// operation are the program's, or the output object and its operation 0: of other numbers the answer has no meaning. No state
+/// is changed.
 pub fn perform(
     alloc: Global,
     program: &SmallProgram,
@@ -121,7 +125,7 @@ pub fn perform(
     }
 }
 
-/// Whether an operation may change its object: one that returns a field may not (specs/Operations.antt).
+/// Whether an operation may change its object: one that assigns nothing may not (specs/Operations.antt).
 pub fn class(program: &SmallProgram, kind: KindNo, op: OpNo) -> Class
     ensures { result ≡ class_of program.now kind op }
 {
@@ -140,6 +144,7 @@ fn class_in(body: &OperationBody) -> Class
 {
     match body {
         OperationBody::Returns { .. } => Class::Reads,
+        OperationBody::Assigns { assignments } if assignments.as_slice().is_empty() => Class::Reads,
         OperationBody::Assigns { .. } => Class::Writes,
     }
 }
@@ -208,11 +213,12 @@ fn state_after(
     Ok(Parts::from_vec(assigned(alloc, fields, kind, args, assignments, state)?))
 }
 
-/// What the making of the program's object gives (specs/Operations.antt): its fields open, and the opening part runs.
+/// What the making of an object gives (specs/Operations.antt): its fields open, and the opening part runs. An object of another
+/// type than the program's has no fields.
 pub fn make(alloc: Global, program: &SmallProgram, kind: KindNo) -> Result<Making, NoMemory>
     ensures { IfOk result (λ making. making ≡ making_of program.now kind) }
 {
-    if kind.0 == 0 {
+    if kind != SMALL {
         return Ok(Making::Made {
             state: no_values(alloc),
         });

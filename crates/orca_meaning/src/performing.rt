@@ -33,7 +33,7 @@ impl Performer for TreeMachine {
     ghost keeps_fit = { λ m kinds kind op state args fits given. tries_keep m.program args state m.ranged kind op fits given };
 
     ghost replies_fit = { λ m kinds kind op state args fits given. tries_reply m.program args state kind op
-        (∥∥₁_elim m.scoped (BodiesFit-prop m.program) (bodies_fit m.program)) fits };
+        (∥∥₁_elim m.scoped (BodiesFit-prop m.program) (bodies_fit m.program)) fits given };
 
     ghost reads_keep = { λ m kinds kind op state args reads fits given. read_keeps m.program args state kind op reads };
 

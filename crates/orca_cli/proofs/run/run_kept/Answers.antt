@@ -1,39 +1,48 @@
-use Rattle.std.proofs.Common.{◌≡◌, List, [], ◌∷◌, ◌++◌, ap, ◌∙◌, sym, subst, refl}
+use Rattle.std.proofs.Common.{◌≡◌, List, [], ◌∷◌, ◌++◌, ap, inl, ◌∙◌, sym, subst, refl}
+use Rattle.value_core.specs.History.{Configuration, output_of}
 use Rattle.value_core.specs.declared.action.Line.{Line}
 use Rattle.orca_meaning.specs.Executions.{Follows}
+use Rattle.orca_meaning.specs.Program.{computes_of, performs_of}
 use Rattle.orca_cli.specs.declared.kept.ProcessEnd.{ProcessEnd}
-use Rattle.orca_cli.proofs.CliLemmas.{run_ends, run_failed, run_finished, run_lacked, run_quiet, run_status, run_stopped}
+use Rattle.orca_cli.specs.Headline.{Stops}
+use Rattle.orca_cli.proofs.RunLemmas.{each_number, stands_ended, stands_left, stands_right, stands_unwritten, status_ends, status_failed, status_printed, status_quiet}
 use Rattle.orca_cli.proofs.run.run_kept.Goals as goal
 
-pub run-run-requires-clause-begins : goal.run-run-requires-clause-begins
-run-run-requires-clause-begins g c =
+pub run-run-requires : goal.run-run-requires
+run-run-requires g c =
     subst (λ (lines : List Line). Follows c.args.machine.now.program c.in-Ok-start.execution lines) (sym c.new-book.ensures.items) c.in-Ok-start.ensures
 
 pub returns-clause-kept : goal.returns-clause-kept
 returns-clause-kept g c =
-    let main : ProcessEnd = record { node = 0; replies = c.into_replies.result; turns = 0; standing = c.ended-status.result.1 } in
+    let p = performs_of c.args.machine.now.program in
+    let q = computes_of c.args.machine.now.program in
+    let book = c.run-run.new.book.items in
+    let follows = c.run-run.ensures.followed in
+    let main : ProcessEnd = record { node = 0; replies = c.into_replies.result; turns = 0; standing = c.standing-standing.result } in
     let one : c.add.new.list.items ≡ main ∷ [] = c.add.ensures ∙ ap (λ (l : List ProcessEnd). l ++ main ∷ []) c.in-Ok.ensures.items in
-    let ends = c.ended-status.ensures c.run-run.new.book.items c.run-run.ensures.followed in
-    record {
-      legal = c.run-run.ensures.followed.legal;
-      processes = (
-        main,
-        one,
-        record {
-          node = refl;
-          turns = refl;
-          replies = c.into_replies.ensures c.args.machine.now.program c.run-run.new.book.items c.run-run.ensures.followed;
-          ended = run_finished c.args.machine.now.program c.run-run.new.book.items c.run-run.result c.ended-status.result.0 c.ended-status.result.1 _ ends c.run-run.ensures.finished;
-          stopped = run_stopped c.args.machine.now.program c.run-run.new.book.items c.run-run.result c.ended-status.result.0 c.ended-status.result.1 ends;
-          lacked = run_lacked c.args.machine.now.program c.run-run.new.book.items c.run-run.result c.ended-status.result.0 c.ended-status.result.1 ends;
-        },
-      );
-      ends = run_status c.args.machine.now.program c.run-run.new.book.items c.run-run.result c.ended-status.result.0 c.ended-status.result.1 ends;
-      printed = run_ends c.args.machine.now.program c.run-run.new.book.items c.run-run.result c.ended-status.result.0 c.ended-status.result.1 _ _ _ ends c.run-run.ensures.wrote;
-    }
+    let stops : Stops p q book c.run-run.result c.standing-standing.result = c.standing-standing.ensures book follows c.run-run.ensures.finished in
+    let replies = c.into_replies.ensures c.args.machine.now.program book follows in (
+      record {
+        legal = follows.legal;
+        processes = each_number p q book _ main _ one (ap (λ (x : Configuration). x.processes) follows.configuration)
+            (record { replies = inl replies; standing = stands_right p q book _ _ stops });
+        ends = rw c.run_status.ensures (status_ends _ _);
+        printed = rw c.run_status.ensures (status_printed c.run-run.result c.print_book-printed.result _ _ (output_of book) (rw c.deref.ensures.value at c.print_book-printed.ensures.wrote));
+      },
+      record {
+        end = main;
+        one = one;
+        node = refl;
+        turns = refl;
+        replies = replies;
+        ended = λ finished. stands_ended p q book _ c.print_book-printed.result _ stops (sym c.run_status.ensures ∙ finished);
+        unwritten = λ ten. stands_unwritten p q book _ c.print_book-printed.result _ stops (sym c.run_status.ensures ∙ ten);
+        lacked = λ twelve. stands_left p q book _ _ stops;
+      },
+    )
 
 pub returns-clause-failed : goal.returns-clause-failed
-returns-clause-failed g c = run_failed c.args.machine.now.program c.run-run.new.book.items c.run-run.result c.ended-status.result.0 c.ended-status.result.1 _ (c.ended-status.ensures c.run-run.new.book.items c.run-run.ensures.followed) c.run-run.ensures.failed
+returns-clause-failed g c = λ ten. status_failed c.run-run.result c.print_book-printed.result _ c.print_book-printed.ensures.failed (sym c.run_status.ensures ∙ ten)
 
 pub returns-clause-stopped : goal.returns-clause-stopped
-returns-clause-stopped g c = run_quiet c.args.machine.now.program c.run-run.new.book.items c.run-run.result c.ended-status.result.0 c.ended-status.result.1 _ _ (c.ended-status.ensures c.run-run.new.book.items c.run-run.ensures.followed) c.run-run.ensures.quiet
+returns-clause-stopped g c = λ rose. rw c.run_status.ensures (status_quiet c.run-run.result c.print_book-printed.result _ _ c.print_book-printed.ensures.quiet rose)
