@@ -139,7 +139,7 @@ impl Performer for Bags {
 
     fn make(&self, alloc: Global, kind: KindNo) -> Result<Making, NoMemory> {
         if kind.0 == 1 {
-            let state = pool::one(alloc, Value::Array(Parts::new(alloc)))?;
+            let state = pool::one_array(alloc, Parts::new(alloc))?;
             Ok(Making::Made { state })
         } else if kind.0 == 2 {
             let state = pool::one(alloc, Value::Int(0))?;

@@ -1,5 +1,5 @@
-//! Tests of the objects' floor: values, entries on copies of pools and flags, single objects, and the calls of the copies and of
-//! the queue.
+//! Tests of the objects' floor: values, entries on copies of pools and flags, single objects, the calls of the copies and of the
+//! queue, and what may go to another thread.
 //!
 //! They stand here, so that the crates below have none. Nothing stands on it.
 #![tactic(auto)]
@@ -8,6 +8,8 @@
 mod calls;
 #[cfg(test)]
 mod entries;
+#[cfg(test)]
+mod sent;
 #[cfg(test)]
 mod singles;
 #[cfg(test)]

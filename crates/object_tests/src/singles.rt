@@ -40,7 +40,7 @@ fn passes(
 fn calls(
     alloc: Global,
     copies: &mut Copies,
-    (process, line): (u16, u64),
+    caller: (u16, u64),
     operation: (KindNo, OpNo),
     number: u32,
     argument: i64,
@@ -48,10 +48,11 @@ fn calls(
     requires { FitsAll copies.old }
     ensures { FitsAll copies.new }
 {
+    let (process, number_of_line) = caller;
     let message = call(
         alloc,
         process,
-        line,
+        number_of_line,
         operation,
         object(number),
         Some(argument),

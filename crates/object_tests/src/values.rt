@@ -4,7 +4,7 @@ use orca_base::{CallNo, FaultKind, KindNo, NoMemory, ObjectId, OpNo, ProcessNo, 
 use std::alloc::{AllocError, Global};
 use std::process::Abort;
 use std::test::Fail;
-use value_core::{Action, Instance, Line, Message, Parts, Reply, TextValue, Value};
+use value_core::{Action, BoxedParts, Instance, Line, Message, Parts, Reply, TextValue, Value};
 
 // A list of integers.
 fn integers(alloc: Global, numbers: &[i64]) -> Result<Parts, NoMemory> {
@@ -18,7 +18,8 @@ fn integers(alloc: Global, numbers: &[i64]) -> Result<Parts, NoMemory> {
 // The set of 1 and 2, and the string `ab`.
 fn nested(alloc: Global) -> Result<Parts, NoMemory> {
     let mut parts = Parts::new(alloc);
-    parts.push(Value::Set(integers(alloc, &[1, 2])?))?;
+    let set = BoxedParts::new(alloc, integers(alloc, &[1, 2])?)?;
+    parts.push(Value::Set(set))?;
     parts.push(Value::Text(TextValue::from_str(alloc, "ab")?))?;
     Ok(parts)
 }
@@ -72,7 +73,7 @@ fn lists_rise(rt: HostRuntime) -> Result<(), Fail> {
     let mut values = Vec::new(rt.alloc());
     for make in 0..4 {
         for numbers in &lists {
-            let parts = integers(rt.alloc(), numbers)?;
+            let parts = BoxedParts::new(rt.alloc(), integers(rt.alloc(), numbers)?)?;
             values.push(match make {
                 0 => Value::Array(parts),
                 1 => Value::Fields(parts),
@@ -111,6 +112,18 @@ fn parts_grow_and_shrink(rt: HostRuntime) -> Result<(), Fail> {
     parts.set(1, Value::Int(9));
     assert!(rt; parts.get(1) == Some(&Value::Int(9)));
     assert_eq!(rt; parts.into_vec().len(), 2);
+    Ok(())
+}
+
+#[test]
+fn boxed_values_change_where_they_stand(rt: HostRuntime) -> Result<(), Fail> {
+    let mut boxed = BoxedParts::new(rt.alloc(), integers(rt.alloc(), &[1, 3])?)?;
+    assert_eq!(rt; boxed.as_parts().len(), 2);
+    boxed.as_parts_mut().set(0, Value::Int(9));
+    assert!(rt; boxed.into_parts().get(0) == Some(&Value::Int(9)));
+    let text = TextValue::from_str(rt.alloc(), "ab")?;
+    assert!(rt; text.as_str() == "ab");
+    assert!(rt; text.into_text().is_text("ab"));
     Ok(())
 }
 

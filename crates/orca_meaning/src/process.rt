@@ -16,7 +16,7 @@ use orca_base::{FaultKind, KindNo, NoMemory, ObjectId, OpNo, ProcessNo, Text};
 use small_program::{Argument, Call, Operation, SmallProgram};
 use std::alloc::Global;
 use std::mem;
-use value_core::{Action, Parts, Reply, Value};
+use value_core::{Action, Parts, Reply, TextValue, Value};
 
 /// Where a process stands: before its object is made, at a statement, at a statement whose argument has come, or ended by
 /// a fault. Statements are counted from 0.
@@ -290,7 +290,7 @@ fn writing(alloc: Global, value: &Value) -> Result<Action, NoMemory>
             process: 0,
             number: 0,
         },
-        args: single(alloc, Value::Text(text))?,
+        args: single(alloc, Value::Text(TextValue::new(alloc, text)?))?,
     })
 }
 

@@ -6,7 +6,7 @@ use Rattle.value_core.specs.Sizes.{count_of_all, count_of}
 use Rattle.value_core.specs.View.{datum_of, data_in}
 use Rattle.value_core.specs.declared.value.Value.{Value}
 use Rattle.value_core.specs.declared.value.Value.TheVariants.{Int, Truth, Char, Enum, Text, Array, Fields, Set, Bag, Object}
-use Rattle.value_core.specs.declared.value.Parts.TheDeep.{deep-Value}
+use Rattle.value_core.specs.declared.value.BoxedParts.TheDeep.{deep-Value}
 
 deep_le : (v : Value) → deep-Value v ≤ count_of (datum_of v)
 deep_le (Int z) = omega arith

@@ -15,3 +15,4 @@ pub mod OrderLaws
 pub mod Fits
 pub mod Goes
 pub mod Lawful
+pub mod Lending

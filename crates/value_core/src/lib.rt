@@ -12,12 +12,13 @@ mod message;
 mod order;
 mod performer;
 mod processor;
+mod text;
 mod value;
 
 pub use action::{Action, Class, Instance, Line, Reply};
 pub use meaning::{Doing, Making, Tried};
 pub use message::Message;
-pub use orca_base::Text as TextValue;
 pub use performer::Performer;
 pub use processor::{Halt, Processor};
-pub use value::{ObjectState, Parts, Value};
+pub use text::TextValue;
+pub use value::{BoxedParts, ObjectState, Parts, Value};

@@ -2,18 +2,21 @@
 
 ghost use Rattle.std.specs.Prelude.{◌≡◌, ◌↔◌, ◌<◌, ◌≤◌, ◌++◌, ◌∷◌, [], Some, length, map, slice_get, slice_set, insert, remove, option_map, IsTrue, IfOk, OnOk, OnErr};
 ghost use Rattle.std.specs.Option.{option_copied};
+ghost use Rattle.std.specs.Borrow.{sem};
 ghost use Rattle.value_core.specs.Datum.{list_of};
+ghost use Rattle.value_core.specs.Lending.{LendsParts};
 ghost use Rattle.value_core.specs.View.{datum_of};
 ghost use Rattle.value_core.specs.Order.{tag, datum_cmp, data_cmp};
 ghost use Rattle.value_core.specs.Lengths.{told_length, value_length, values_length};
 
-use orca_base::{NoMemory, ObjectId, Text};
+use crate::text::TextValue;
+use orca_base::{NoMemory, ObjectId};
 use std::alloc::Global;
 use std::cmp::Ordering;
 use std::marker::Model;
 use std::mem;
 
-/// A value of the language.
+/// A value of the language, in 16 bytes: a string and a list stand behind one pointer.
 #[cycle(value)]
 #[derive(Debug, Drop)]
 pub enum Value {
@@ -26,18 +29,20 @@ pub enum Value {
     /// An enumeration's value, by its number from 0.
     Enum(u16),
     /// A string.
-    Text(Text),
+    Text(TextValue),
     /// An array, its parts from the low bound on.
-    Array(Parts),
+    Array(BoxedParts),
     /// A record, its fields in order of declaration.
-    Fields(Parts),
+    Fields(BoxedParts),
     /// A set, its elements rising.
-    Set(Parts),
+    Set(BoxedParts),
     /// A bag, its elements never falling.
-    Bag(Parts),
+    Bag(BoxedParts),
     /// The name of an object.
     Object(ObjectId),
 }
+
+const _: () = prove!(mem::size_of::<Value>() == 16);
 
 /// A list of values, which clauses see as `Data` of specs/.
 #[cycle(value)]
@@ -48,6 +53,13 @@ pub struct Parts {
 
 /// The values of an object's fields, in order of declaration.
 pub type ObjectState = Parts;
+
+/// A list of values behind one pointer, as values hold it. Clauses see it as `Data` of specs/, as the list itself.
+#[cycle(value)]
+#[derive(Debug, Drop)]
+pub struct BoxedParts {
+    parts: Box<Parts>,
+}
 
 impl Model for Parts {
     ghost use Rattle.value_core.specs.Datum.{Data};
@@ -68,6 +80,26 @@ impl Model for Parts {
     ghost use Rattle.value_core.specs.Falls.{most_le};
 
     ghost size_decreases = { λ p h. Prim.omega (arith, most_le p.items.items) };
+}
+
+impl Model for BoxedParts {
+    ghost use Rattle.value_core.specs.Datum.{Data};
+    ghost use Rattle.value_core.specs.Code.{data_code};
+
+    ghost Value = { Data };
+
+    ghost coded = { data_code };
+
+    ghost use Rattle.std.specs.Prelude.{◌+◌};
+    ghost use Rattle.value_core.specs.Sizes.{count_of_all};
+
+    ghost view = { λ b. b.parts.value };
+
+    ghost size = { λ w. count_of_all w + 1 };
+
+    ghost use Rattle.std.proofs.Common.{arith};
+
+    ghost size_decreases = { λ b h. Prim.omega arith };
 }
 
 impl Parts {
@@ -216,6 +248,47 @@ impl Parts {
     }
 }
 
+impl BoxedParts {
+    /// This list, put behind a pointer.
+    pub fn new(alloc: Global, parts: Parts) -> Result<BoxedParts, NoMemory>
+        ensures { IfOk result (λ b. b ≡ parts) }
+    {
+        Ok(BoxedParts {
+            parts: Box::new(alloc, parts)?,
+        })
+    }
+
+    /// The list itself. It takes no memory.
+    pub fn into_parts(self) -> Parts
+        ensures { result ≡ self }
+    {
+        Box::into_inner(self.parts)
+    }
+
+    /// The list itself.
+    pub fn as_parts(&self) -> &Parts
+        ensures { result.now ≡ self.now }
+    {
+        &self.parts
+    }
+
+    /// The list itself, to be changed where it stands.
+    pub fn as_parts_mut(&mut self) -> &mut Parts
+        ensures* writes_back { sem 𝓛 (LendsParts self.entry result) }
+        ensures value { result.now ≡ self.old }
+    {
+        &mut self.parts
+    }
+
+    /// An equal list.
+    #[cycle(copies)]
+    pub fn copy(&self, alloc: Global) -> Result<BoxedParts, NoMemory>
+        ensures { IfOk result (λ b. b ≡ self.now) }
+    {
+        BoxedParts::new(alloc, self.parts.copy(alloc)?)
+    }
+}
+
 impl Value {
     /// An equal value.
     #[cycle(copies)]
@@ -247,7 +320,7 @@ impl Value {
             Value::Enum(_) => 3,
             Value::Text(text) => told(text.as_bytes().len()).saturating_add(5),
             Value::Array(parts) | Value::Fields(parts) | Value::Set(parts) | Value::Bag(parts) => {
-                parts.byte_length().saturating_add(5)
+                parts.as_parts().byte_length().saturating_add(5)
             }
             Value::Object(_) => 7,
         }
@@ -265,10 +338,10 @@ impl Value {
             (Value::Char(one), Value::Char(two)) => one.cmp(two),
             (Value::Enum(one), Value::Enum(two)) => one.cmp(two),
             (Value::Text(one), Value::Text(two)) => one.as_bytes().cmp(two.as_bytes()),
-            (Value::Array(one), Value::Array(two)) => one.compare(two),
-            (Value::Fields(one), Value::Fields(two)) => one.compare(two),
-            (Value::Set(one), Value::Set(two)) => one.compare(two),
-            (Value::Bag(one), Value::Bag(two)) => one.compare(two),
+            (Value::Array(one), Value::Array(two)) => one.as_parts().compare(two.as_parts()),
+            (Value::Fields(one), Value::Fields(two)) => one.as_parts().compare(two.as_parts()),
+            (Value::Set(one), Value::Set(two)) => one.as_parts().compare(two.as_parts()),
+            (Value::Bag(one), Value::Bag(two)) => one.as_parts().compare(two.as_parts()),
             (Value::Object(one), Value::Object(two)) => one.cmp(two),
             _ => self.tag().cmp(&other.tag()),
         }

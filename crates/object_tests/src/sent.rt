@@ -1,0 +1,34 @@
+//! What values are made of, and what is made of values, may be handed to another thread.
+
+use std::test::Fail;
+use value_core::{
+    Action, BoxedParts, Class, Doing, Halt, Instance, Line, Making, Message, Parts, Reply,
+    TextValue, Tried, Value,
+};
+
+// Asks that values of this type may be handed to another thread.
+fn may_be_sent<T: Send>() {}
+
+#[test]
+fn values_may_be_sent(_rt: HostRuntime) -> Result<(), Fail> {
+    may_be_sent::<Value>();
+    may_be_sent::<TextValue>();
+    may_be_sent::<Parts>();
+    may_be_sent::<BoxedParts>();
+    may_be_sent::<Instance>();
+    Ok(())
+}
+
+#[test]
+fn actions_and_lines_may_be_sent(_rt: HostRuntime) -> Result<(), Fail> {
+    may_be_sent::<Action>();
+    may_be_sent::<Class>();
+    may_be_sent::<Reply>();
+    may_be_sent::<Line>();
+    may_be_sent::<Message>();
+    may_be_sent::<Making>();
+    may_be_sent::<Tried>();
+    may_be_sent::<Doing>();
+    may_be_sent::<Halt>();
+    Ok(())
+}
