@@ -218,9 +218,16 @@ fn faults_from_outside(rt: HostRuntime) -> Result<(), Fail> {
 #[test]
 fn a_failed_write_leaves_the_run_whole(rt: HostRuntime) -> Result<(), Fail> {
     let alloc = rt.alloc();
-    let text = ONE.replace(alloc, "X$Assign(6); WriteLine(X$Value());", "WriteLine(1); WriteLine(2); WriteLine(3);")?;
+    let text = ONE.replace(
+        alloc,
+        "X$Assign(6); WriteLine(X$Value());",
+        "WriteLine(1); WriteLine(2); WriteLine(3);",
+    )?;
     for (failing, printed) in [(1, ""), (2, "1\n"), (3, "1\n2\n")] {
-        let mut shelf = MemoryShelf::new(files(alloc, "one.orca", text.as_bytes())?, Vec::new(alloc));
+        let mut shelf = MemoryShelf::new(
+            files(alloc, "one.orca", text.as_bytes())?,
+            Vec::new(alloc),
+        );
         let mut out = MemorySink::new(alloc, [failing].to_vec(alloc)?);
         let ended = run_over(alloc, &mut shelf, &mut out)?;
         assert_eq!(rt; ended.status, 10);
