@@ -1,5 +1,5 @@
 -- What makes and calls of single objects do. A single object is kept by one member, its owner, with the calls that are suspended
--- on it; every other member counts it, by its type (docs/LANGUAGE.md, Histories).
+-- on it; every member counts it, by its type (docs/RUNTIME.md, One member's copies).
 use Rattle.std.specs.Prelude.{◌≡◌, ◌+◌, Bool, List, [], ◌∷◌, ◌++◌, Some, if◌then◌else◌}
 use Rattle.std.specs.List.{Any, Contains}
 use Rattle.orca_base.specs.declared.ids.KindNo.{KindNo}

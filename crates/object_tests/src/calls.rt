@@ -1,7 +1,6 @@
 //! Calls of the objects and of the queue that no entry makes.
 
-use crate::entries::{Answer, enter, line, start, told_of};
-use bag_copies::{make, object, settle_alone};
+use bag_copies::object;
 use bag_performer::Bags;
 use guard_queue::{Objects, Queue, Suspended};
 use orca_base::{CallNo, NoMemory, ProcessNo};
@@ -81,31 +80,5 @@ fn queue_in_order(rt: HostRuntime) -> Result<(), Fail> {
     assert!(rt; !queue.has(ProcessNo(1)));
     assert!(rt; queue.has(ProcessNo(2)));
     assert_eq!(rt; twin.len(), 2);
-    Ok(())
-}
-
-#[test]
-fn entries_in_order(rt: HostRuntime) -> Result<(), Fail> {
-    let alloc = rt.alloc();
-    let mut objects = Objects::new(alloc)?;
-    for number in [2, 1, 2] {
-        objects.put(alloc, object(number), flag(alloc, 7)?)?;
-    }
-    let entries = objects.entries(alloc)?;
-    assert_eq!(rt; entries.len(), 2);
-    assert!(rt; entries[0].0 == object(1) && entries[1].0 == object(2));
-    assert!(rt; entries[1].1.is(&flag(alloc, 7)?));
-    Ok(())
-}
-
-#[test]
-fn queue_settles_by_itself(rt: HostRuntime) -> Result<(), Fail> {
-    let alloc = rt.alloc();
-    let mut copies = start(alloc)?;
-    enter(alloc, &mut copies, &make(0, 0, Bags::FLAG, object(1)))?;
-    let ready = settle_alone(alloc, &copies, waits(alloc, 3, 0)?)?;
-    assert!(rt; told_of(alloc, &ready)?.as_slice() == [line(3, 0, 1, Answer::Done)].as_slice());
-    let blocked = settle_alone(alloc, &copies, waits(alloc, 3, 9)?)?;
-    assert!(rt; blocked.is_empty());
     Ok(())
 }

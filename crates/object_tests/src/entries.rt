@@ -319,8 +319,6 @@ fn view_stays_as_it_is(rt: HostRuntime) -> Result<(), Fail> {
     assert_eq!(rt; awaits(rt.alloc(), &after, 5)?, Answer::Done);
     assert!(rt; !before.same(&after));
     assert_eq!(rt; before.objects().len(), 2);
-    assert!(rt; before.holds(object(1)) && !before.holds(object(2)));
-    assert!(rt; before.copy(rt.alloc())?.same(&before));
     Ok(())
 }
 

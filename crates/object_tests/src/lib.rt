@@ -1,5 +1,4 @@
-//! Tests of the objects' floor: values, entries on copies of pools and flags, single objects, and the calls of the copies and of
-//! the queue.
+//! Tests of the objects' floor: values, entries on copies of pools and flags, and the calls of the copies and of the queue.
 //!
 //! They stand here, so that the crates below have none. Nothing stands on it.
 #![tactic(auto)]
@@ -8,7 +7,5 @@
 mod calls;
 #[cfg(test)]
 mod entries;
-#[cfg(test)]
-mod singles;
 #[cfg(test)]
 mod values;
