@@ -2,7 +2,6 @@ use Rattle.std.proofs.Common.{◌≡◌, ◌∷◌, ◌++◌, ◌∙◌, [], Lis
 use Rattle.std.specs.Prelude.{IsTrue}
 use Rattle.value_core.specs.History.{Objects}
 use Rattle.guard_queue.specs.declared.queue.Suspended.{Suspended}
-use Rattle.bag_performer.specs.Fitting.{FitsArgs}
 use Rattle.bag_copies.specs.Fits.{HasObject}
 use Rattle.bag_copies.proofs.One.{one_fits}
 use Rattle.bag_copies.proofs.entries.settle_alone.Goals as goal
