@@ -8,4 +8,6 @@
 #[cfg(test)]
 mod lexemes;
 #[cfg(test)]
+mod linking;
+#[cfg(test)]
 mod trees;

@@ -26,7 +26,7 @@ fn tokens_of(alloc: Global, text: &str) -> Result<Vec<Token>, Fail>
 }
 
 // The unit that a text is.
-fn unit_of(alloc: Global, text: &str) -> Result<Unit, Fail> {
+pub fn unit_of(alloc: Global, text: &str) -> Result<Unit, Fail> {
     let tokens = tokens_of(alloc, text)?;
     match parse(alloc, tokens.as_slice()) {
         Ok(unit) => Ok(unit),
