@@ -88,7 +88,7 @@ fn one(alloc: Global, value: Value) -> Result<Parts, AllocError> {
 }
 
 // The four lines of the one cell's history: it is made, is assigned 6, gives 6, and 6 is written.
-fn four_lines(alloc: Global) -> Result<Vec<Line>, AllocError> {
+fn four_lines(alloc: Global) -> Result<Vec<Line>, Fail> {
     let make = Action::Make {
         kind: KindNo(1),
         object: cell(),
@@ -146,7 +146,7 @@ fn has_ended(kept: &Kept) -> bool {
 }
 
 // Whether the one cell printed 6 and kept its four lines.
-fn is_one_cell(alloc: Global, ended: &Ended, printed: &[u8]) -> Result<bool, AllocError> {
+fn is_one_cell(alloc: Global, ended: &Ended, printed: &[u8]) -> Result<bool, Fail> {
     let lines = four_lines(alloc)?;
     Ok(match &ended.kept {
         Some(kept) => {
