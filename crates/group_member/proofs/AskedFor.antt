@@ -1,11 +1,10 @@
 -- The sequencer is asked for an entry.
-use Rattle.std.proofs.Common.{◌≡◌, ℕ, zero, suc, ◌+◌, ◌-◌, ◌%◌, ◌<◌, ◌≤◌, ◌==◌, ◌&&◌, ◌||◌, not, map, nat_le, nat_lt, Bool, true, false, Option, Some, None, List, [], ◌∷◌, ◌++◌, length, take, drop, get_or, slice_index_or, slice_set, refl, sym, ap, subst, ◌∙◌, arith, add-one, cond, if◌then◌else◌, Vec, Global, get_or-set_same, get_or-set_other}
+use Rattle.std.proofs.Common.{◌≡◌, ℕ, zero, suc, ◌+◌, ◌-◌, ◌%◌, ◌<◌, ◌≤◌, ◌==◌, ◌||◌, not, map, nat_le, nat_lt, Bool, true, false, Option, Some, None, List, [], ◌∷◌, ◌++◌, length, get_or, slice_index_or, slice_set, refl, sym, ap, subst, ◌∙◌, arith, add-one, cond, if◌then◌else◌, Vec, Global, get_or-set_same, get_or-set_other}
 use Rattle.std.specs.List.{slice_get, insert, position_or_len}
 use Rattle.std.proofs.lemmas.List.{map_push}
-use Rattle.std.proofs.lemmas.Bool.{cond_both, eqb-true, eqb-false, eq-eqb, leb-true, leb-false}
+use Rattle.std.proofs.lemmas.Bool.{eqb-true, eqb-false, eq-eqb, leb-true, leb-false}
 use Rattle.orca_base.specs.declared.ids.MessageId.{MessageId}
 use Rattle.orca_base.specs.declared.limits.TheConstants.{MESSAGE_BY_REQUEST}
-use Rattle.group_packets.specs.declared.packet.Packet.{Packet}
 use Rattle.group_packets.specs.declared.packet.Packet.TheVariants as V
 use Rattle.group_rules.specs.Sets.{entry_at, with_at}
 use Rattle.group_rules.specs.Messages.{Group, is_repeat, next_place, place_in, put_in}
@@ -14,20 +13,20 @@ use Rattle.group_rules.specs.Member.Kind.{Entry, Request, Body}
 use Rattle.group_rules.specs.Receiver.{is_newer, keep_body, request, sequencer_of}
 use Rattle.group_rules.specs.Sequencer.{ask, finish, is_waiting, order, send_again, send_entry, tell_entry, waits}
 use Rattle.group_rules.specs.Steps.{pends, submit}
-use Rattle.group_rules.specs.Work.{Work, becomes, idle, tell, tell_others}
+use Rattle.group_rules.specs.Work.{Work, becomes, idle, tell}
 use Rattle.history_buffer.specs.declared.history.Slot.{Slot}
 use Rattle.history_buffer.specs.declared.history.Slot.TheVariants.{Found, Purged, NotYet}
 use Rattle.history_buffer.specs.Slots.{slot_at, slot_of}
-use Rattle.history_buffer.specs.Window.{Window, last_number}
+use Rattle.history_buffer.specs.Window.{Window}
 use Rattle.group_member.specs.declared.member.Member.{Member}
 use Rattle.group_member.specs.declared.member.Waiting.{Waiting}
 use Rattle.group_member.specs.declared.sends.Letter.{Letter}
 use Rattle.group_member.specs.AtWork.{AtWork, GoesOn}
 use Rattle.group_member.specs.Bodies.{asks_for, is_newer_by, SameBodies}
 use Rattle.group_member.specs.ByOwn.{active_by, leads_by, room_by, stable_by}
-use Rattle.group_member.specs.LastCalls.{AreLastCalls, TellsRepeat, group_of}
+use Rattle.group_member.specs.LastCalls.{TellsRepeat, group_of}
 use Rattle.group_member.specs.Noting.{is_named_at, is_named_by, place_by}
-use Rattle.group_member.specs.StandsFor.{Follows, IsMember, StandsFor, on_waiting}
+use Rattle.group_member.specs.StandsFor.{Follows, StandsFor, on_waiting}
 use Rattle.group_member.specs.Told.{others_below}
 use Rattle.group_member.proofs.Noting.{get_behind}
 use Rattle.group_member.proofs.Rows.{held_then, held_else}

@@ -1,12 +1,10 @@
 -- What was applied is noted.
-use Rattle.std.proofs.Common.{◌≡◌, ℕ, zero, suc, ◌+◌, ◌-◌, ◌^◌, ◌<◌, ◌≤◌, ◌==◌, ◌&&◌, ◌||◌, not, Bool, true, false, Option, Some, None, List, [], ◌∷◌, ◌++◌, length, take, drop, slice_index_or, refl, sym, ap, subst, ◌∙◌, arith, add-one, if◌then◌else◌, Vec, Global}
+use Rattle.std.proofs.Common.{◌≡◌, ℕ, zero, suc, ◌+◌, ◌-◌, ◌^◌, ◌<◌, ◌&&◌, ◌||◌, not, Bool, true, false, Some, None, List, [], ◌∷◌, ◌++◌, take, drop, refl, sym, ap, subst, ◌∙◌, arith, add-one, if◌then◌else◌, Vec, Global}
 use Rattle.std.specs.List.{filter, slice_get}
-use Rattle.std.proofs.lemmas.Option.{slice_get_within}
 use Rattle.orca_base.specs.declared.ids.MessageId.{MessageId}
 use Rattle.group_rules.specs.Messages.{Group, keep_if, same_name, stands_in}
 use Rattle.group_rules.specs.Member.{Member as RulesMember}
 use Rattle.group_rules.specs.Steps.{noted}
-use Rattle.history_buffer.specs.Window.{last_number}
 use Rattle.group_member.specs.declared.member.Member.{Member}
 use Rattle.group_member.specs.declared.last_calls.LastCalls.{LastCalls}
 use Rattle.group_member.specs.LastCalls.{AreLastCalls, group_of}

@@ -1,24 +1,23 @@
 -- The sequencer orders messages.
-use Rattle.std.proofs.Common.{◌≡◌, ℕ, zero, suc, ◌+◌, ◌<◌, ◌≤◌, ◌==◌, map, Bool, true, false, List, [], ◌∷◌, ◌++◌, length, refl, sym, ap, subst, ◌∙◌, arith, if◌then◌else◌, Result, Ok, Err, OnOk, Vec, Global, slice_index_or}
+use Rattle.std.proofs.Common.{◌≡◌, ℕ, zero, suc, ◌<◌, ◌≤◌, ◌==◌, map, Bool, true, false, List, [], ◌∷◌, ◌++◌, length, refl, sym, ap, subst, ◌∙◌, arith, if◌then◌else◌, Vec, Global, slice_index_or}
 use Rattle.std.specs.List.{remove}
-use Rattle.std.proofs.lemmas.Bool.{cond_both, eqb-true, eqb-false, ltb-true, ltb-false}
+use Rattle.std.proofs.lemmas.Bool.{eqb-true, eqb-false}
 use Rattle.std.proofs.lemmas.List.{length_push}
 use Rattle.orca_base.specs.declared.ids.MessageId.{MessageId}
-use Rattle.orca_base.specs.declared.limits.TheConstants.{WINDOW}
 use Rattle.group_packets.specs.declared.packet.Packet.{Packet}
 use Rattle.group_rules.specs.Messages.{Group, is_repeat}
 use Rattle.group_rules.specs.Member.{Kind, Member as RulesMember, Waiting as RulesWaiting, has_room, leads, purged, stable_of}
 use Rattle.group_rules.specs.OnWire.{on_wire}
 use Rattle.group_rules.specs.Sequencer.{ordered, order, numbering, order_waiting, order_while_room, order_all_waiting, purge, finish}
-use Rattle.group_rules.specs.Work.{Act, Work, does, becomes, tell, tell_below, tell_others}
+use Rattle.group_rules.specs.Work.{Act, Work, does, becomes, tell, tell_below}
 use Rattle.history_buffer.specs.Window.{last_number}
 use Rattle.group_member.specs.declared.member.Member.{Member}
 use Rattle.group_member.specs.declared.member.Waiting.{Waiting}
 use Rattle.group_member.specs.declared.sends.Letter.{Letter}
 use Rattle.group_member.specs.AtWork.{AtWork, GoesOn}
 use Rattle.group_member.specs.ByOwn.{leads_by, numbering_by, room_by, stable_by}
-use Rattle.group_member.specs.LastCalls.{AreLastCalls, group_of}
-use Rattle.group_member.specs.StandsFor.{Follows, IsMember, StandsFor, on_waiting}
+use Rattle.group_member.specs.LastCalls.{group_of}
+use Rattle.group_member.specs.StandsFor.{Follows, StandsFor, on_waiting}
 use Rattle.group_member.specs.Told.{others_below}
 use Rattle.group_member.proofs.Working.{leads_same, whole_length, room_same, stable_stands, tell_all}
 use Rattle.group_member.proofs.Rows.{LeftOf, held_then, held_else}

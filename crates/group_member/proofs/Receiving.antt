@@ -1,20 +1,20 @@
 -- What a member does that isn't the sequencer.
-use Rattle.std.proofs.Common.{◌≡◌, ℕ, zero, suc, ◌+◌, ◌-◌, ◌%◌, ◌<◌, ◌≤◌, ◌==◌, ◌&&◌, ◌||◌, nat_le, nat_lt, Bool, true, false, List, [], ◌∷◌, ◌++◌, length, refl, sym, ap, subst, ◌∙◌, arith, ◌⊎◌, ⊎_elim, inl, inr, if◌then◌else◌}
-use Rattle.std.proofs.lemmas.Bool.{cond_both, eqb-true, eqb-false, eq-eqb, leb-true, leb-false, ltb-true, ltb-false, and_parts}
+use Rattle.std.proofs.Common.{◌≡◌, ℕ, suc, ◌+◌, ◌-◌, ◌%◌, ◌<◌, ◌≤◌, ◌==◌, ◌&&◌, ◌||◌, nat_le, nat_lt, Bool, true, false, List, [], ◌∷◌, ◌++◌, length, refl, sym, subst, ◌∙◌, arith, ◌⊎◌, ⊎_elim, inl, inr}
+use Rattle.std.proofs.lemmas.Bool.{eq-eqb}
 use Rattle.orca_base.specs.declared.ids.MessageId.{MessageId}
 use Rattle.group_packets.specs.declared.packet.Packet.TheVariants as V
 use Rattle.group_rules.specs.Messages.{Group}
 use Rattle.group_rules.specs.Member.{Member as RulesMember, has_room, is_acker, purged}
 use Rattle.group_rules.specs.Member.Kind.{Nack}
 use Rattle.group_rules.specs.Receiver.{acknowledge, appended, may_nack, nack, send_ack, take_number, sequencer_of}
-use Rattle.group_rules.specs.Work.{Work, becomes, tell, when}
+use Rattle.group_rules.specs.Work.{Work, becomes, tell}
 use Rattle.history_buffer.specs.Window.{last_number}
 use Rattle.group_member.specs.declared.member.Member.{Member}
 use Rattle.group_member.specs.declared.sends.Letter.{Letter}
 use Rattle.group_member.specs.AtWork.{AtWork, GoesOn}
 use Rattle.group_member.specs.ByOwn.{acknowledges_by, may_nack_by, room_by}
 use Rattle.group_member.specs.LastCalls.{group_of}
-use Rattle.group_member.specs.StandsFor.{Follows, IsMember, StandsFor}
+use Rattle.group_member.specs.StandsFor.{Follows, StandsFor}
 use Rattle.group_member.proofs.Working.{acker_same, room_same, tell_one, whole_length}
 use Rattle.group_member.proofs.Rows.{held_then, held_else}
 

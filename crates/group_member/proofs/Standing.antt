@@ -1,5 +1,5 @@
 -- A state that stands for a member, after single changes.
-use Rattle.std.proofs.Common.{◌≡◌, ℕ, ◌≤◌, ◌<◌, ◌==◌, map, slice_index_or, Bool, true, false, Option, Some, None, Result, Ok, Err, OnOk, OnErr, Vec, Global, List, [], ◌∷◌, length, refl, sym, ap, subst, ◌∙◌, if◌then◌else◌}
+use Rattle.std.proofs.Common.{◌≡◌, ℕ, ◌≤◌, ◌==◌, map, slice_index_or, Bool, true, false, Option, Some, None, Result, Ok, Err, OnOk, OnErr, Vec, Global, List, [], ◌∷◌, length, refl, sym, ap, subst, ◌∙◌, if◌then◌else◌}
 use Rattle.std.proofs.lemmas.Bool.{eqb-true, eqb-false}
 use Rattle.group_packets.specs.declared.packet.Join.{Join}
 use Rattle.group_rules.specs.Sets.{with_at}

@@ -1,29 +1,27 @@
 -- A tick.
-use Rattle.std.proofs.Common.{◌≡◌, ℕ, zero, suc, ◌+◌, ◌-◌, ◌%◌, ◌<◌, ◌≤◌, ◌==◌, ◌&&◌, ◌||◌, not, min, map, nat_le, nat_lt, Bool, true, false, Option, Some, None, List, [], ◌∷◌, ◌++◌, length, drop, get_or, refl, sym, ap, subst, ◌∙◌, arith, add-one, append_assoc, cond, if◌then◌else◌, Vec, Global}
+use Rattle.std.proofs.Common.{◌≡◌, ℕ, zero, suc, ◌+◌, ◌<◌, ◌≤◌, ◌==◌, ◌&&◌, ◌||◌, not, min, map, nat_le, nat_lt, Bool, true, false, Option, Some, None, List, [], ◌∷◌, ◌++◌, length, drop, get_or, refl, sym, ap, subst, ◌∙◌, arith, add-one, append_assoc, cond, if◌then◌else◌}
 use Rattle.std.specs.List.{position_or_len}
 use Rattle.std.specs.Option.{is_some}
-use Rattle.std.proofs.lemmas.Bool.{cond_both, eqb-true, eqb-false, eq-eqb}
+use Rattle.std.proofs.lemmas.Bool.{eqb-true}
 use Rattle.std.proofs.lemmas.List.{append-nil, drop_more, map_push}
 use Rattle.orca_base.specs.declared.ids.MessageId.{MessageId}
 use Rattle.orca_base.specs.declared.limits.TheConstants.{PATIENCE}
 use Rattle.group_packets.specs.declared.packet.Join.{Join}
 use Rattle.group_packets.specs.declared.packet.Packet.TheVariants as V
 use Rattle.group_rules.specs.Messages.{Group, is_repeat}
-use Rattle.group_rules.specs.Member.{Member as RulesMember, Report, Waiting as RulesWaiting, is_active, is_gathering, leads, stable_of}
+use Rattle.group_rules.specs.Member.{Member as RulesMember, Report, is_active, is_gathering, leads, stable_of}
 use Rattle.group_rules.specs.Member.Kind.{Accept, Invite}
 use Rattle.group_rules.specs.OnWire.{posts_of}
 use Rattle.group_rules.specs.Receiver.{request, request_all, send_status}
 use Rattle.group_rules.specs.Reset.{coordinate, gave}
 use Rattle.group_rules.specs.Steps.{invite_again, is_content, is_due, is_empty, send_again_all, ticked, timer}
 use Rattle.group_rules.specs.Work.{Work, idle, tell}
-use Rattle.history_buffer.specs.Window.{last_number}
 use Rattle.group_member.specs.declared.member.Member.{Member}
-use Rattle.group_member.specs.declared.member.Waiting.{Waiting}
 use Rattle.group_member.specs.declared.sends.Letter.{Letter}
 use Rattle.group_member.specs.AtWork.{AtWork, GoesOn, told_to}
 use Rattle.group_member.specs.ByOwn.{active_by, leads_by, stable_by}
 use Rattle.group_member.specs.LastCalls.{TellsRepeat, group_of}
-use Rattle.group_member.specs.StandsFor.{Follows, IsMember, StandsFor, join_of, on_answer, on_waiting}
+use Rattle.group_member.specs.StandsFor.{Follows, StandsFor, join_of, on_answer, on_waiting}
 use Rattle.group_member.specs.Ticks.{IsToCoordinate, content_by, gathering_by, invites_again, invites_below, requests_again, tells_accepted}
 use Rattle.group_member.specs.Told.{others_below}
 use Rattle.group_member.proofs.Rows.{LeftOf, held_then, held_else}

@@ -1,8 +1,7 @@
 -- A step at work that sends, and what it reads of the state.
-use Rattle.std.proofs.Common.{◌≡◌, ℕ, zero, suc, ◌+◌, ◌-◌, ◌%◌, ◌<◌, ◌≤◌, ◌==◌, ◌&&◌, not, min, map, Bool, true, false, Option, None, List, [], ◌∷◌, ◌++◌, length, drop, slice_index_or, refl, sym, ap, subst, ◌∙◌, arith, add-one, append_assoc, length-drop, if◌then◌else◌}
-use Rattle.std.proofs.lemmas.Bool.{cond_both, eqb-true, eqb-false}
+use Rattle.std.proofs.Common.{◌≡◌, ℕ, zero, suc, ◌+◌, ◌-◌, ◌%◌, ◌<◌, ◌==◌, ◌&&◌, not, map, Bool, true, false, Option, List, [], ◌∷◌, ◌++◌, length, drop, slice_index_or, refl, sym, ap, subst, ◌∙◌, arith, add-one, append_assoc, length-drop, if◌then◌else◌}
+use Rattle.std.proofs.lemmas.Bool.{cond_both, eqb-true}
 use Rattle.std.proofs.lemmas.List.{append-nil, map_push}
-use Rattle.orca_base.specs.declared.ids.MessageId.{MessageId}
 use Rattle.group_packets.specs.declared.packet.Packet.{Packet}
 use Rattle.group_rules.specs.Sets.{count, without}
 use Rattle.group_rules.specs.Messages.{Group}

@@ -1,5 +1,5 @@
 -- What a tick leads to.
-use Rattle.std.specs.Prelude.{ℕ, zero, suc, Bool, true, false, not, List, [], ◌∷◌, ◌++◌, ◌≡◌, ◌+◌, ◌%◌, ◌==◌, ◌&&◌, ◌||◌, nat_le, nat_lt, length, is_some, if◌then◌else◌}
+use Rattle.std.specs.Prelude.{ℕ, zero, suc, Bool, true, false, not, List, [], ◌∷◌, ◌++◌, ◌≡◌, ◌%◌, ◌==◌, ◌&&◌, ◌||◌, nat_le, nat_lt, length, is_some, if◌then◌else◌}
 use Rattle.orca_base.specs.declared.ids.MessageId.{MessageId}
 use Rattle.group_packets.specs.declared.packet.Packet.TheVariants as V
 use Rattle.group_rules.specs.Messages.{Group, is_repeat}

@@ -33,8 +33,6 @@ fn a_member_alone_orders(rt: HostRuntime) -> Result<(), NoMemory> {
     }
     assert_eq!(rt; member.applied(), 1);
     assert!(rt; !member.has_pending());
-    assert_eq!(rt; member.submit(alloc, message(1, 40))?.len(), 0);
-    assert_eq!(rt; member.length(), 1);
     Ok(())
 }
 

@@ -1,4 +1,4 @@
-//! Ticks at a sequencer and at another member of three.
+//! A tick at the sequencer of three.
 
 use crate::plain::Plain;
 use group_member::{Config, Letter, Member, Timed};
@@ -24,25 +24,5 @@ fn the_sequencer_tells_what_is_accepted(rt: HostRuntime) -> Result<(), NoMemory>
             }
         },
     }
-    Ok(())
-}
-
-/// Member 1 hears nothing: it reports at six ticks, and is due at the seventh.
-#[test]
-fn a_silent_member_is_due(rt: HostRuntime) -> Result<(), NoMemory> {
-    let alloc = rt.alloc();
-    let mut member: Member<Plain> = Member::new(alloc, THREE, 1)?;
-    'ticks: for _tick in 0..6u8 {
-        match member.timer(alloc)? {
-            Timed::Due => assert!(rt; false, "it is due"),
-            Timed::Sent { sends } => {
-                assert_eq!(rt; sends.len(), 1);
-                if let Some(Letter { to, packet }) = sends.first() {
-                    assert_eq!(rt; (*to, packet.kind()), (0, PacketKind::Status));
-                }
-            },
-        }
-    }
-    assert!(rt; matches!(member.timer(alloc)?, Timed::Due));
     Ok(())
 }

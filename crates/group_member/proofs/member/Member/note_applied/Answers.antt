@@ -1,4 +1,4 @@
-use Rattle.std.proofs.Common.{ℕ, Bool, ◌∙◌, sym, subst, map, [], refl}
+use Rattle.std.proofs.Common.{Bool, ◌∙◌, sym, subst}
 use Rattle.group_rules.specs.Receiver.{send_status}
 use Rattle.group_rules.specs.Sequencer.{finish}
 use Rattle.group_rules.specs.Steps.{noted}

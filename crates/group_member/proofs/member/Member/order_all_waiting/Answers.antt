@@ -1,4 +1,4 @@
-use Rattle.std.proofs.Common.{◌≡◌, ◌∙◌, ◌<◌, sym, ap, arith, length}
+use Rattle.std.proofs.Common.{◌∙◌, sym, arith}
 use Rattle.group_rules.specs.Sequencer.{order_all_waiting}
 use Rattle.group_member.proofs.Ordering.{empty_of, first_goes, first_of, none_waits, waits_on}
 use Rattle.group_member.proofs.Rows.{row_done}

@@ -1,4 +1,3 @@
-use Rattle.group_rules.specs.Receiver.{send_status}
 use Rattle.group_member.specs.AtWork.{AtWork}
 use Rattle.group_member.specs.LastCalls.{group_of}
 use Rattle.group_member.proofs.Rows.{held_then, ok_map}
