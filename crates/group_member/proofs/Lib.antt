@@ -9,3 +9,6 @@ pub mod Receiving
 pub mod Noting
 pub mod AskedFor
 pub mod Ticking
+pub mod Accepting
+pub mod Resending
+pub mod Arriving

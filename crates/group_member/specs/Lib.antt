@@ -6,3 +6,5 @@ pub mod Bodies
 pub mod ByOwn
 pub mod AtWork
 pub mod Ticks
+pub mod Behind
+pub mod Packets

@@ -12,6 +12,8 @@ mod packets;
 #[cfg(test)]
 mod plain;
 #[cfg(test)]
+mod received;
+#[cfg(test)]
 mod seats;
 #[cfg(test)]
 mod submissions;
