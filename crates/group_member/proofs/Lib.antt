@@ -12,3 +12,5 @@ pub mod Ticking
 pub mod Accepting
 pub mod Resending
 pub mod Arriving
+pub mod OfMembers
+pub mod Installing

@@ -8,3 +8,5 @@ pub mod AtWork
 pub mod Ticks
 pub mod Behind
 pub mod Packets
+pub mod Laws
+pub mod Installs

@@ -9,7 +9,9 @@
 mod acks;
 mod asking;
 mod behind;
+mod installed;
 mod last_calls;
+mod law;
 mod lists;
 mod member;
 mod notes;
@@ -21,6 +23,7 @@ mod sequencer;
 mod submissions;
 mod timer;
 
+pub use law::standing_law;
 pub use member::{Config, Member};
 pub use sends::{Letter, Sends};
 pub use timer::Timed;
