@@ -14,3 +14,4 @@ pub mod Resending
 pub mod Arriving
 pub mod OfMembers
 pub mod Installing
+pub mod Coordinating

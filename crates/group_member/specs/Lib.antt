@@ -10,3 +10,4 @@ pub mod Behind
 pub mod Packets
 pub mod Laws
 pub mod Installs
+pub mod TakesOver

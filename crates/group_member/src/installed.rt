@@ -1,9 +1,10 @@
 //! What an install makes anew.
 
-ghost use Rattle.std.specs.Prelude.{◌≡◌, ◌+◌, ◌<◌, ◌≤◌, All, IfOk, OnOk, length, ℕ};
+ghost use Rattle.std.specs.Prelude.{◌≡◌, ◌%◌, ◌+◌, ◌<◌, ◌≤◌, All, IfOk, OnErr, OnOk, length, ℕ};
 ghost use Rattle.group_member.specs.AtWork.{GoesOn};
 ghost use Rattle.group_member.specs.Installs.{acks_log, CanInstall, Installs, is_in, NotesAll, TakesLog, with_log};
 ghost use Rattle.group_member.specs.StandsFor.{IsMember, test_of};
+ghost use Rattle.group_member.specs.TakesOver.{InstallsOver};
 ghost use Rattle.group_rules.specs.Reset.{take_news};
 ghost use Rattle.history_buffer.specs.Window.{window};
 ghost use Rattle.orca_base.specs.declared.limits.TheConstants.{WINDOW};
@@ -18,8 +19,46 @@ use orca_base::{Body, Items, NoMemory};
 use std::alloc::Global;
 
 impl<B: Body> Member<B> {
+    /// It installs what a reset decided: the coordinator takes over the log with what it heard of the others' applied numbers,
+    /// another member has the log then, and `heard` is for the coordinator alone. The row is told for whichever log the news
+    /// carries.
+    pub fn install(
+        &mut self,
+        alloc: Global,
+        news: News<B>,
+        heard: &[(u8, u64)],
+    ) -> Result<Sends<B>, NoMemory>
+        requires member { IsMember self.old }
+        requires can { CanInstall self.old news }
+        requires most { news.incarnation % self.old.config.nodes ≡ self.old.me → self.old.accepted ≤ news.accepted }
+        ensures coordinator { news.incarnation % self.old.config.nodes ≡ self.old.me →
+            IfOk result (λ sends. InstallsOver B.id_of B.length_of news heard.now self.old self.new sends.items) }
+        ensures elsewhere { (news.incarnation % self.old.config.nodes ≡ self.old.me → ⊥) →
+            IfOk result
+            (λ sends. Installs B.id_of B.length_of news self.old self.new sends.items
+            (λ g which. take_news g which news.incarnation news.accepted news.base)) }
+        ensures member { IsMember self.new }
+        ensures err { OnErr result (self.new ≡ self.old) }
+    {
+        let mut next = self.copy(alloc)?;
+        let coordinator = (news.incarnation % self.config.nodes as u64) as u8;
+        if coordinator == self.me {
+            let sends = next.take_over(alloc, news, heard)?;
+            *self = next;
+            return Ok(sends);
+        }
+        let sends = next.take_news(alloc, news)?;
+        *self = next;
+        Ok(sends)
+    }
+
     // It has the log that the news carries, and so many entries of that are accepted.
-    fn take_log(&mut self, alloc: Global, news: News<B>, accepted: u64) -> Result<(), NoMemory>
+    pub(crate) fn take_log(
+        &mut self,
+        alloc: Global,
+        news: News<B>,
+        accepted: u64,
+    ) -> Result<(), NoMemory>
         requires member { IsMember self.old }
         requires can { CanInstall self.old news }
         requires applied { self.old.applied ≤ accepted }

@@ -3,7 +3,7 @@
 //! The floor above uses `Member`, whose clauses say of each call: for each member of the rules that the state stood for, it
 //! then stands for that of the row, and what is sent is what the row posts, in order. It stands on `group_rules`, whose rows
 //! it cites, and on `history_buffer`, whose window keeps the log's entries behind the purged ones. After want of memory a
-//! member is as it was. Which incarnation is coordinated or joined isn't judged here. What a reset installs has no call yet.
+//! member is as it was. Which incarnation is coordinated or joined isn't judged here.
 #![tactic(auto)]
 
 mod acks;
@@ -21,6 +21,7 @@ mod reset;
 mod sends;
 mod sequencer;
 mod submissions;
+mod takeover;
 mod timer;
 
 pub use law::standing_law;
