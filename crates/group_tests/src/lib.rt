@@ -6,6 +6,8 @@
 #![tactic(auto)]
 
 #[cfg(test)]
+mod installs;
+#[cfg(test)]
 mod members;
 #[cfg(test)]
 mod packets;
