@@ -39,7 +39,7 @@ entry_here log zero l = absurd (omega arith)
 entry_here log (suc n) l = let e : suc n - 1 ≡ n = omega arith in rw e refl
 
 -- beyond the base it is that of the log
-entry_kept : {B R : Type 0} {g : Group B} {which : ℕ} {s : Member B R} {m : RulesMember B} (n : ℕ) → s.window.base < n → StandsFor g which s m → entry_at m.log n ≡ slice_get s.window.items (n - s.window.base - 1)
+pub entry_kept : {B R : Type 0} {g : Group B} {which : ℕ} {s : Member B R} {m : RulesMember B} (n : ℕ) → s.window.base < n → StandsFor g which s m → entry_at m.log n ≡ slice_get s.window.items (n - s.window.base - 1)
 entry_kept {s = s} {m} n l h =
     let b = h.base in
     let e : m.base + (n - s.window.base - 1) ≡ n - 1 = omega arith in

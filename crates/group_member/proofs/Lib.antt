@@ -9,3 +9,9 @@ pub mod Receiving
 pub mod Noting
 pub mod AskedFor
 pub mod Ticking
+pub mod Accepting
+pub mod Resending
+pub mod Arriving
+pub mod OfMembers
+pub mod Installing
+pub mod Coordinating

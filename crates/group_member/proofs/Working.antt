@@ -89,7 +89,7 @@ pub tell_one : {B R : Type 0} {g : Group B} {which : ℕ} {s : Member B R} {sent
     → AtWork g which s (sent ++ record { to = to; packet = packet } ∷ []) (tell which k kind to v)
 tell_one {B} {R} {g} {v = v} k kind to packet is h = record { state = h.state; sends = rw (is, h.sends) (sym (map_push told_to (posts_of g.nodes v.acts) _)) }
 
-tell_state : {B : Type 0} (n m k : ℕ) (kind : Kind B) (v : Work B) → (tell_below n m k kind v).state ≡ v.state
+pub tell_state : {B : Type 0} (n m k : ℕ) (kind : Kind B) (v : Work B) → (tell_below n m k kind v).state ≡ v.state
 tell_state zero m k kind v = refl
 tell_state (suc n) m k kind v = cond_both (n == m) (tell_below n m k kind v) (tell m k kind n (tell_below n m k kind v)) (λ (u : Work _). u.state ≡ v.state) (λ e. tell_state n m k kind v) (λ e. tell_state n m k kind v)
 

@@ -6,3 +6,8 @@ pub mod Bodies
 pub mod ByOwn
 pub mod AtWork
 pub mod Ticks
+pub mod Behind
+pub mod Packets
+pub mod Laws
+pub mod Installs
+pub mod TakesOver

@@ -3,22 +3,28 @@
 //! The floor above uses `Member`, whose clauses say of each call: for each member of the rules that the state stood for, it
 //! then stands for that of the row, and what is sent is what the row posts, in order. It stands on `group_rules`, whose rows
 //! it cites, and on `history_buffer`, whose window keeps the log's entries behind the purged ones. After want of memory a
-//! member is as it was. Which incarnation is coordinated or joined isn't judged here. What comes in a packet and what a reset
-//! installs have no calls yet; of the packets of one incarnation the rows of Entry and Accept stand, without one.
+//! member is as it was. Which incarnation is coordinated or joined isn't judged here.
 #![tactic(auto)]
 
+mod acks;
 mod asking;
+mod behind;
+mod installed;
 mod last_calls;
+mod law;
 mod lists;
 mod member;
 mod notes;
+mod received;
 mod receiver;
 mod reset;
 mod sends;
 mod sequencer;
 mod submissions;
+mod takeover;
 mod timer;
 
+pub use law::standing_law;
 pub use member::{Config, Member};
 pub use sends::{Letter, Sends};
 pub use timer::Timed;

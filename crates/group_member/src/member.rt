@@ -232,6 +232,14 @@ impl<B: Body> Member<B> {
         self.is_active() && self.sequencer() == self.me
     }
 
+    // Whether it is the sequencer of its log's incarnation.
+    pub(crate) fn is_sequencer(&self) -> bool
+        requires { IsMember self.now }
+        ensures { result ≡ (self.now.installed % self.now.config.nodes == self.now.me) }
+    {
+        self.sequencer() == self.me
+    }
+
     // The sequencer of its log's incarnation.
     pub(crate) fn sequencer(&self) -> u8
         requires { IsMember self.now }

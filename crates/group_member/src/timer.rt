@@ -103,7 +103,7 @@ impl<B: Body> Member<B> {
     }
 
     // The others are told how much is accepted.
-    fn tell_accepted(&self, alloc: Global, sends: &mut Sends<B>) -> Result<(), NoMemory>
+    pub(crate) fn tell_accepted(&self, alloc: Global, sends: &mut Sends<B>) -> Result<(), NoMemory>
         requires { IsMember self.now }
         ensures { OnOk result (GoesOn B.id_of B.length_of self.now sends.old.items self.now sends.new.items tells_accepted) }
     {

@@ -6,11 +6,15 @@
 #![tactic(auto)]
 
 #[cfg(test)]
+mod installs;
+#[cfg(test)]
 mod members;
 #[cfg(test)]
 mod packets;
 #[cfg(test)]
 mod plain;
+#[cfg(test)]
+mod received;
 #[cfg(test)]
 mod seats;
 #[cfg(test)]
