@@ -1,5 +1,5 @@
-//! Tests of the objects' floor: values, entries on copies of pools and flags, single objects, the calls of the copies and of the
-//! queue, and what may go to another thread.
+//! Tests of the objects' floor: values, entries on copies of pools and flags, the calls of the copies and of the queue, and
+//! what may go to another thread.
 //!
 //! They stand here, so that the crates below have none. Nothing stands on it.
 #![tactic(auto)]
@@ -10,7 +10,5 @@ mod calls;
 mod entries;
 #[cfg(test)]
 mod sent;
-#[cfg(test)]
-mod singles;
 #[cfg(test)]
 mod values;
