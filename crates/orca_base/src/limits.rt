@@ -33,7 +33,6 @@ pub const PROCESSES: u32 = 256;
 pub const HISTORY_LINES: u32 = 2_000_000;
 
 /// Size of a value: 1, or for a list 1 and the sizes of its parts.
-/// Nothing uses it yet.
 pub const VALUE_SIZE: u32 = 10_000;
 
 /// Characters of a string, whose size is then at most `VALUE_SIZE`.
@@ -55,15 +54,12 @@ pub const BURST_TURNS: u32 = 10_000;
 pub const PARAMETERS: u32 = 255;
 
 /// Members of a group.
-/// Nothing uses it yet.
 pub const NODES: u8 = 16;
 
 /// The greatest resilience degree: less than half of the members may be acknowledgers.
-/// Nothing uses it yet.
 pub const RESILIENCE: u8 = 7;
 
 /// Worker threads of one run.
-/// Nothing uses it yet.
 pub const WORKERS: u8 = 16;
 
 /// Entries that a member's history keeps.

@@ -1,10 +1,10 @@
 use Rattle.orca_syntax.specs.Shown.{syntax_of}
 use Rattle.orca_syntax.proofs.TextOnce.{text_syntax}
-use Rattle.orca_cli.proofs.FrontLemmas.{long_enough, tokens_room, unit_shallow}
+use Rattle.orca_cli.proofs.FrontLemmas.{long_enough, unit_shallow}
 use Rattle.orca_cli.proofs.front.program_of.Goals as goal
 
 pub parse-requires : goal.parse-requires
-parse-requires c = rw c.deref.ensures.value (tokens_room c.args.text.now c.in-Ok.found.items c.requires c.in-Ok.ensures.tokens)
+parse-requires c = rw c.deref.ensures.value c.in-Ok.ensures.room
 
 pub returns-in-Some-clause-reads : goal.returns-in-Some-clause-reads
 returns-in-Some-clause-reads c =
