@@ -16,8 +16,6 @@ mod plain;
 #[cfg(test)]
 mod received;
 #[cfg(test)]
-mod seats;
-#[cfg(test)]
 mod submissions;
 #[cfg(test)]
 mod timers;
