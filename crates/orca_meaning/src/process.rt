@@ -185,12 +185,12 @@ impl SmallProcess {
             (λ act. (replies : List Reply) → Stands program.now self.now.number self.now replies →
             doing_of program.now self.now.number replies ≡ At act) }
     {
-        next_action(alloc, program, self.number, &self.stage)
+        action_at(alloc, program, self.number, &self.stage)
     }
 }
 
 // What a process does next at a stage.
-fn next_action(
+fn action_at(
     alloc: Global,
     program: &SmallProgram,
     number: ProcessNo,

@@ -12,6 +12,6 @@ pub returns-clause-doing : goal.returns-clause-doing
 returns-clause-doing c =
     let program = c.args.program.now in
     let self = c.args.self.now in
-    IfOk-weaker c.next_action.result (λ (act : Action). resumed program self.number self.stage [] ≡ At act)
+    IfOk-weaker c.action_at.result (λ (act : Action). resumed program self.number self.stage [] ≡ At act)
     (λ (act : Action). (replies : List Reply) → Stands program self.number self replies → doing_of program self.number replies ≡ At act)
-    (λ act is replies stands. stands_next program self.number self.stage replies act is stands.1) c.next_action.ensures
+    (λ act is replies stands. stands_next program self.number self.stage replies act is stands.1) c.action_at.ensures

@@ -10,7 +10,7 @@ use Rattle.orca_meaning.specs.Processes.{all_stating}
 use Rattle.orca_meaning.specs.Stages.{first_doing, last_doing, resumed}
 use Rattle.orca_meaning.specs.declared.process.Stage.{Stage}
 use Rattle.orca_meaning.specs.StageLaws.{first_of_calls, last_of_calls}
-use Rattle.orca_meaning.proofs.process.next_action.Goals as goal
+use Rattle.orca_meaning.proofs.process.action_at.Goals as goal
 
 pub returns-in-Calling : goal.returns-in-Calling
 returns-in-Calling c =
