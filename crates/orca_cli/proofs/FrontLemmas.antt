@@ -30,7 +30,7 @@ use Rattle.orca_cli.specs.Front.{Reads, IsSyntactic}
 
 -- a token's slice is one of the text
 pub token_slice : (text : List ℕ) (from : ℕ) (front rest : List Token) (t : Token) → Follow text from (front ++ t ∷ rest) → (t.start ≤ t.end) × (t.end ≤ length text)
-token_slice text from [] rest t f = let some = begins_some text t from f.0 in (omega (arith, some), f.0.within)
+token_slice text from [] rest t f = let some = begins_some text from t f.0 in (omega (arith, some), f.0.within)
 token_slice text from (u ∷ front) rest t f = token_slice text u.end front rest t f.1
 
 pub syntactic_slice : (text : List ℕ) (at : Place) (t : Token) → IsSyntactic text (Syntax at (OfToken t)) → (t.start ≤ t.end) × (t.end ≤ length text)
