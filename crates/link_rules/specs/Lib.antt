@@ -2,4 +2,6 @@ pub mod Units
 pub mod Rules
 pub mod Cycles
 pub mod Linked
+pub mod Told
+pub mod Visible
 pub mod Examples
