@@ -1,11 +1,10 @@
 -- How long spellings are, that they differ as values do, and what is found at a place.
-use Rattle.std.proofs.Common.{◌≡◌, ℕ, zero, suc, ◌+◌, ◌-◌, ◌^◌, ◌<◌, ◌≤◌, List, [], ◌∷◌, ◌++◌, All, length, map, take, drop, Option, Some, None, Result, Ok, Err, refl, sym, ap, subst, ◌∙◌, arith, inl, inr}
+use Rattle.std.proofs.Common.{◌≡◌, ℕ, ◌+◌, ◌-◌, ◌^◌, ◌<◌, ◌≤◌, List, [], ◌∷◌, ◌++◌, All, length, map, take, drop, Result, Ok, Err, refl, sym, ap, subst, ◌∙◌, arith}
 use Rattle.std.specs.Prelude.{IfOk}
 use Rattle.std.specs.List.{AllByRecursion, flat_map}
 use Rattle.std.specs.Str.{IsAscii}
-use Rattle.std.specs.Int.{w16, w32, w64, cast_unsigned, to_be_bytes}
-use Rattle.std.proofs.lemmas.Bool.{cases_lt}
-use Rattle.std.proofs.lemmas.List.{take_at, take-append-drop, length-append, length-take, length-drop}
+use Rattle.std.specs.Int.{w32, to_be_bytes}
+use Rattle.std.proofs.lemmas.List.{take_at, take-append-drop, length-append, length-drop}
 use Rattle.std.proofs.lemmas.List.Concat.{flat_map-cons}
 use Rattle.std.proofs.lemmas.List.Elements.{All-from_recursion}
 use Rattle.std.proofs.lemmas.Str.Ascii.{IsAscii-from_all}
@@ -16,14 +15,14 @@ use Rattle.orca_base.specs.declared.refusal.Refusal.TheVariants.{Because, NoMemo
 use Rattle.value_core.specs.Datum.{Datum, Data, list_of}
 use Rattle.value_core.specs.Datum as datum
 use Rattle.value_core.specs.Lengths.{value_length, values_length}
-use Rattle.value_core.specs.Sound.{AreWellFormed, IsCode, IsSound, IsWellFormed, nesting, nesting_of_all}
+use Rattle.value_core.specs.Sound.{AreWellFormed, IsCode, IsSound, nesting_of_all}
 use Rattle.value_core.specs.View.{datum_of}
 use Rattle.value_core.specs.declared.value.Value.{Value}
 use Rattle.value_bytes.specs.declared.fault.ValueError.{ValueError}
 use Rattle.value_bytes.specs.Spelling.{counted, spelling, spellings}
 use Rattle.value_bytes.specs.Standing.{StandsAt}
 use Rattle.value_bytes.specs.Reading.{◌>>=◌, Gives, number_at, chars_at, found_at, value_at}
-use Rattle.value_bytes.proofs.Fields.{IsBytes, IsBytes-drop, bind_ok, ok_is, Takes, wide32, number_takes}
+use Rattle.value_bytes.proofs.Fields.{IsBytes, IsBytes-drop, bind_ok, ok_is, wide32, number_takes}
 use Rattle.value_bytes.proofs.Values.{Is, chars_take, formed_all, value_takes, value_again}
 
 -- ---- lengths
@@ -68,6 +67,16 @@ one_value v w behind more sound other same =
     ok_is (v, behind) (w, more)
     (sym (value_again 0 VALUE_NESTING v behind (sound.well_formed, sound.shallow)) ∙ ap (value_at 0 VALUE_NESTING) same ∙ value_again 0 VALUE_NESTING w more (other.well_formed, other.shallow)) in
     (ap (λ (p : Datum × List ℕ). p.0) e, ap (λ (p : Datum × List ℕ). p.1) e)
+
+-- ---- what is read from the front
+
+pub read_sound : (end : ℕ) (bytes : List ℕ) (x : Datum × List ℕ) → IsBytes bytes → value_at end VALUE_NESTING bytes ≡ Ok x → IsSound x.0 × (bytes ≡ spelling x.0 ++ x.1)
+read_sound end bytes x fits e =
+    let t = value_takes end VALUE_NESTING bytes x fits e in
+    (record { well_formed = t.1.0; shallow = t.1.1 }, t.0.parts)
+
+pub read_again : (end : ℕ) (v : Datum) (behind : List ℕ) → IsSound v → value_at end VALUE_NESTING (spelling v ++ behind) ≡ Ok (v, behind)
+read_again end v behind sound = value_again end VALUE_NESTING v behind (sound.well_formed, sound.shallow)
 
 -- ---- what is found at a place
 

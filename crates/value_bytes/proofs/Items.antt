@@ -1,8 +1,7 @@
 -- Items one after the other: what is read is spelled so, and what is spelled so is read.
-use Rattle.std.proofs.Common.{◌≡◌, ℕ, zero, suc, ◌-◌, ◌<◌, ◌≤◌, Bool, true, false, cond, List, [], ◌∷◌, ◌++◌, length, Option, Some, None, Result, Ok, Err, refl, sym, ap, subst, ◌∙◌, append_assoc, arith}
+use Rattle.std.proofs.Common.{◌≡◌, ℕ, zero, suc, ◌-◌, Bool, true, cond, List, [], ◌∷◌, ◌++◌, length, Option, Some, Ok, Err, refl, sym, ap, subst, ◌∙◌, append_assoc}
 use Rattle.std.specs.List.{AllByRecursion}
-use Rattle.value_bytes.specs.declared.fault.ValueError.{ValueError}
-use Rattle.value_bytes.specs.declared.fault.ValueError.TheVariants.{Short, BadTag, NotCanonical}
+use Rattle.value_bytes.specs.declared.fault.ValueError.TheVariants.{NotCanonical}
 use Rattle.value_bytes.specs.Reading.{◌>>=◌, Reads, item_at, items_at}
 use Rattle.value_bytes.proofs.Fields.{IsBytes, bind_ok, guard_held, ok_is, Takes, Takes-then}
 

@@ -1,6 +1,5 @@
 -- Reading items one after the other, as a loop does; and a value by its tag.
-use Rattle.std.proofs.Common.{◌≡◌, ℕ, zero, suc, ◌-◌, ◌+◌, ◌≤◌, ◌<◌, Bool, true, List, [], ◌∷◌, ◌++◌, length, Option, Some, None, Result, Ok, Err, refl, sym, ap, ◌∙◌, append_assoc, arith}
-use Rattle.std.specs.Prelude.{slice_get}
+use Rattle.std.proofs.Common.{◌≡◌, ℕ, zero, suc, ◌-◌, ◌+◌, ◌≤◌, ◌<◌, Bool, true, List, [], ◌∷◌, ◌++◌, length, Option, Some, None, Ok, Err, refl, sym, ap, ◌∙◌, append_assoc, arith}
 use Rattle.std.proofs.lemmas.List.{append-nil, length-append, get_or_push}
 use Rattle.std.proofs.lemmas.Option.{slice_get-get_or}
 use Rattle.orca_base.specs.declared.refusal.Refusal.{Refusal}
@@ -8,7 +7,7 @@ use Rattle.orca_base.specs.declared.refusal.Refusal.TheVariants.{Because, NoMemo
 use Rattle.std.specs.Int.{w32}
 use Rattle.value_core.specs.Datum.{Datum, Data, data_of, list_of, data_of-list_of}
 use Rattle.value_bytes.specs.declared.fault.ValueError.{ValueError}
-use Rattle.value_bytes.specs.declared.fault.ValueError.TheVariants.{Short, BadTag, NotCanonical}
+use Rattle.value_bytes.specs.declared.fault.ValueError.TheVariants.{NotCanonical}
 use Rattle.value_bytes.specs.Reading.{◌>>=◌, Reads, Fails, item_at, items_at, last_of, number_at, may_follow, with_tag, list_at, content_at, tag_at, value_at}
 
 -- what was read before, and what is still read

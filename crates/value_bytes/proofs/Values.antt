@@ -1,22 +1,16 @@
 -- The two laws: what is read is sound and spelled so, and what is sound and spelled so is read.
-use Rattle.std.proofs.Common.{◌≡◌, ℕ, ℤ, zero, suc, ◌+◌, ◌-◌, ◌^◌, ◌<◌, ◌≤◌, Bool, true, false, cond, eqb, leb, List, [], ◌∷◌, ◌++◌, ◌⊎◌, All, length, map, take, drop, Option, Some, None, Result, Ok, Err, refl, sym, ap, subst, ◌∙◌, append_assoc, arith, inl, inr}
+use Rattle.std.proofs.Common.{◌≡◌, ℕ, ℤ, zero, suc, ◌-◌, ◌^◌, ◌<◌, ◌≤◌, Bool, true, false, cond, eqb, leb, List, [], ◌∷◌, ◌++◌, ◌⊎◌, All, length, Option, Some, None, Result, Ok, Err, refl, sym, ap, subst, ◌∙◌, append_assoc, arith, inl, inr}
 use Rattle.std.proofs.Math.Facts.{to_z-of_z, of_z-to_z, sfits_to_z, Fits-of_z}
 use Rattle.std.specs.Prelude.{◌&&◌, FitsSigned}
-use Rattle.std.specs.Str.{IsAscii}
 use Rattle.std.specs.List.{AllByRecursion}
-use Rattle.std.specs.List.Sorted.{IsSorted, IsStrictlySortedBy}
-use Rattle.std.specs.Int.{Width, w16, w32, w64, cast_signed, cast_unsigned, from_be_bytes, to_be_bytes}
-use Rattle.std.proofs.lemmas.Bool.{eqb-true, eqb-false, leb-true}
-use Rattle.std.proofs.lemmas.List.{append-nil, length-append}
+use Rattle.std.specs.Int.{w16, w32, w64, cast_signed, cast_unsigned, to_be_bytes}
+use Rattle.std.proofs.lemmas.Bool.{eqb-true, leb-true}
 use Rattle.std.proofs.lemmas.List.Elements.{All-from_recursion, recursion_from_All}
-use Rattle.std.proofs.lemmas.Str.Ascii.{IsAscii-from_all}
 use Rattle.value_core.specs.Datum.{Datum, Data, list_of, data_of, list_of-data_of, data_of-list_of}
 use Rattle.value_core.specs.Datum as datum
-use Rattle.value_core.specs.Order.{datum_cmp}
-use Rattle.value_core.specs.Lengths.{value_length, values_length}
-use Rattle.value_core.specs.Sound.{AreWellFormed, IsCode, IsShort, IsSound, IsWellFormed, nesting, nesting_of_all}
+use Rattle.value_core.specs.Sound.{AreWellFormed, IsCode, IsShort, IsWellFormed, nesting, nesting_of_all}
 use Rattle.value_bytes.specs.declared.fault.ValueError.{ValueError}
-use Rattle.value_bytes.specs.declared.fault.ValueError.TheVariants.{Short, BadTag, NotCanonical}
+use Rattle.value_bytes.specs.declared.fault.ValueError.TheVariants.{BadTag, NotCanonical}
 use Rattle.value_bytes.specs.Spelling.{counted, spelling, spellings}
 use Rattle.value_bytes.specs.Reading.{◌>>=◌, Reads, number_at, byte_at, items_at, may_follow, with_tag, int_at, truth_at, char_at, enumerated_at, chars_at, text_at, object_at, list_at, content_at, tag_at, value_at}
 use Rattle.value_bytes.proofs.Fields.{IsBytes, IsBytes-rest, bind_ok, guard_held, ok_is, Takes, Takes-then, Takes-more, wide16, wide32, wide64, number_takes, number_again, byte_takes, byte_again}

@@ -1,6 +1,6 @@
 -- Reading a value from the front of a list of bytes, with the first fault from the left (docs/LANGUAGE.md, Values). `end` is the number
 -- of bytes given, so that the first byte of `bytes` has the place `end - length bytes`.
-use Rattle.std.specs.Prelude.{◌≡◌, ℕ, zero, suc, ◌+◌, ◌-◌, Bool, true, false, not, ◌&&◌, List, [], ◌∷◌, length, take, drop, Option, Some, None, Result, Ok, Err, nat_lt, nat_le, slice_get, ◌==◌, if◌then◌else◌}
+use Rattle.std.specs.Prelude.{◌≡◌, ℕ, zero, suc, ◌-◌, Bool, true, not, ◌&&◌, List, [], ◌∷◌, length, take, drop, Option, Some, None, Result, Ok, Err, nat_lt, nat_le, slice_get, ◌==◌, if◌then◌else◌}
 use Rattle.std.specs.Ordering.{is_lt}
 use Rattle.std.specs.Int.{Width, w16, w32, w64, byte_len, cast_signed, from_be_bytes}
 use Rattle.orca_base.specs.declared.limits.TheConstants.{VALUE_NESTING}

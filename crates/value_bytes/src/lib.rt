@@ -11,6 +11,6 @@ mod reading;
 mod writing;
 
 pub use fault::ValueError;
-pub use laws::spelling_law;
+pub use laws::{reading_law, spelling_law};
 pub use reading::read_value;
 pub use writing::{push_value, write_value};

@@ -323,6 +323,8 @@ pub fn read_value(alloc: Global, bytes: &[u8], at: u32) -> Result<(Value, u32), 
         MatchRefusal result (λ x. (datum_of x.0 ≡ v) × (x.1 ≡ end)) (λ fault. ⊥) }
     // A fault is the first from the left.
     ensures refused { IfBecause result (λ fault. value_at (length bytes.now) VALUE_NESTING (drop at bytes.now) ≡ Err fault) }
+    // The same in one equation, for readers of longer forms.
+    ensures exact { Gives (λ x. (datum_of x.0, x.1)) result (found_at bytes.now at) }
 {
     find(alloc, bytes, at)
 }

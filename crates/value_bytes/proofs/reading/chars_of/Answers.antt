@@ -1,4 +1,4 @@
-use Rattle.std.proofs.Common.{◌≡◌, subst, sym, ◌∙◌, true}
+use Rattle.std.proofs.Common.{subst, sym, ◌∙◌, true}
 use Rattle.std.proofs.lemmas.Result.{err_from_is_err_and}
 use Rattle.value_bytes.specs.Reading.{Fails, byte_at, chars_at, last_of}
 use Rattle.value_bytes.proofs.Loop.{goes_on, ends, is_done, any_item}

@@ -1,10 +1,9 @@
-use Rattle.std.proofs.Common.{◌≡◌, ◌≤◌, ◌++◌, ◌∷◌, ◌∙◌, ap, sym, length, map, take, arith, List, ℕ}
+use Rattle.std.proofs.Common.{◌≡◌, ◌≤◌, ◌∙◌, ap, length, map, take, arith, List}
 use Rattle.std.proofs.lemmas.List.{take_all}
 use Rattle.std.specs.List.{flat_map}
-use Rattle.value_core.specs.Datum.{list_of}
 use Rattle.value_core.specs.View.{datum_of}
 use Rattle.value_core.specs.declared.value.Value.{Value}
-use Rattle.value_bytes.specs.Spelling.{counted, spelling, spellings}
+use Rattle.value_bytes.specs.Spelling.{spelling, spellings}
 use Rattle.value_bytes.proofs.Facts.{all_written, parts_are}
 use Rattle.value_bytes.proofs.writing.+writes.Goals as goal
 

@@ -1,4 +1,3 @@
-use Rattle.std.proofs.Common.{ap, ◌∙◌, length}
 use Rattle.value_core.specs.View.{datum_of}
 use Rattle.value_bytes.proofs.Facts.{spelled_length}
 use Rattle.value_bytes.proofs.writing.write_value.Goals as goal
