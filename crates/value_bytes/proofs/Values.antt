@@ -38,7 +38,7 @@ int_takes levels end bytes x fits e =
     subst (λ (y : Datum × List ℕ). Behind levels 1 bytes y) (ok_is (datum.int (cast_signed w64 n.0), n.1) x b.2)
     (Takes-more 1 bytes (to_be_bytes w64 (cast_unsigned w64 (cast_signed w64 n.0))) n.1 whole, (sfits_to_z {w = w64} (record { fits = t.1 }), omega arith))
 
-one_bit : (b : ℕ) → b ≤ 1 → cond (eqb b 1) 1 0 ≡ b
+pub one_bit : (b : ℕ) → b ≤ 1 → cond (eqb b 1) 1 0 ≡ b
 one_bit zero h = refl
 one_bit (suc zero) h = refl
 one_bit (suc (suc b)) h = absurd (omega (arith, h))
@@ -84,7 +84,7 @@ object_takes levels end bytes x fits e =
 abbrev pub one : ℕ → List ℕ
 one c = c ∷ []
 
-joined-chars : (t : List ℕ) → joined one t ≡ t
+pub joined-chars : (t : List ℕ) → joined one t ≡ t
 joined-chars [] = refl
 joined-chars (c ∷ t) = ap (λ (r : List ℕ). c ∷ r) (joined-chars t)
 
@@ -121,11 +121,11 @@ text_takes levels end bytes x fits e =
 
 -- ---- lists
 
-joined-data : (w : Data) → joined spelling (list_of w) ≡ spellings w
+pub joined-data : (w : Data) → joined spelling (list_of w) ≡ spellings w
 joined-data datum.none = refl
 joined-data (datum.more v w) = ap (λ (r : List ℕ). spelling v ++ r) (joined-data w)
 
-all_formed : (levels : ℕ) (w : Data) → AllByRecursion (Is levels) (list_of w) → AreWellFormed w × (nesting_of_all w ≤ levels)
+pub all_formed : (levels : ℕ) (w : Data) → AllByRecursion (Is levels) (list_of w) → AreWellFormed w × (nesting_of_all w ≤ levels)
 all_formed levels datum.none each = (tt, omega arith)
 all_formed levels (datum.more v w) each =
     let rest = all_formed levels w each.1 in
@@ -182,7 +182,7 @@ list_takes levels read one tag end bytes x is fits e =
 
 -- ---- any value
 
-chosen : {A : Type 0} (b : Bool) (x y z : A) → cond b x y ≡ z → ((b ≡ true) × (x ≡ z)) ⊎ ((b ≡ false) × (y ≡ z))
+pub chosen : {A : Type 0} (b : Bool) (x y z : A) → cond b x y ≡ z → ((b ≡ true) × (x ≡ z)) ⊎ ((b ≡ false) × (y ≡ z))
 chosen true x y z e = inl (refl, e)
 chosen false x y z e = inr (refl, e)
 
@@ -226,7 +226,7 @@ content_takes levels read one tag end bytes x low high fits e =
       ]
     ]
 
-both_hold : (a b : Bool) → (a && b) ≡ true → (a ≡ true) × (b ≡ true)
+pub both_hold : (a b : Bool) → (a && b) ≡ true → (a ≡ true) × (b ≡ true)
 both_hold true true h = (refl, refl)
 both_hold true false h = absurd cc
 both_hold false b h = absurd cc
@@ -253,7 +253,7 @@ value_takes end (suc levels) bytes x fits e =
 
 -- ---- what is spelled so is read
 
-bound : {A B : Type 0} (r : Result A ValueError) (f : A → Result B ValueError) (x : A) → r ≡ Ok x → (r >>= f) ≡ f x
+pub bound : {A B : Type 0} (r : Result A ValueError) (f : A → Result B ValueError) (x : A) → r ≡ Ok x → (r >>= f) ≡ f x
 bound r f x h = ap (λ q. q >>= f) h
 
 int_again : (end : ℕ) (z : ℤ) (rest : List ℕ) → FitsSigned w64 z → int_at end (to_be_bytes w64 (cast_unsigned w64 z) ++ rest) ≡ Ok (datum.int z, rest)

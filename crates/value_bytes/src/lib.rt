@@ -2,7 +2,8 @@
 //!
 //! `write_value` gives the spelling (`specs/Spelling.antt`), and `read_value` the value whose spelling stands at a place, or the
 //! first fault from the left (`specs/Reading.antt`). What is read is sound and spelled so, and what is sound and spelled so is
-//! read. It stands on `value_core`, and knows nothing of packets.
+//! read. Readers of longer forms find the readers of numbers, bytes and values from the front of a slice here. It stands on
+//! `value_core`, and knows nothing of packets.
 #![tactic(auto)]
 
 mod fault;
@@ -12,5 +13,7 @@ mod writing;
 
 pub use fault::ValueError;
 pub use laws::{reading_law, spelling_law};
-pub use reading::read_value;
+pub use reading::{
+    Read, behind, byte_of, place, read_value, u16_at, u32_at, u64_at, value_in_front,
+};
 pub use writing::{push_value, write_value};

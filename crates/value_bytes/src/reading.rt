@@ -16,17 +16,18 @@ use orca_base::{ObjectId, Refusal, Text, VALUE_NESTING, refuse};
 use std::alloc::Global;
 use value_core::{BoxedParts, Parts, TextValue, Value};
 
-// Something and the bytes after it, or why there is none.
-type Read<'a, T> = Result<(T, &'a [u8]), Refusal<ValueError>>;
+/// Something and the bytes after it, or why there is none.
+pub type Read<'a, T> = Result<(T, &'a [u8]), Refusal<ValueError>>;
 
-// The place of the first of the bytes that are left, where so many were given.
-fn place(end: u32, left: &[u8]) -> u32
+/// The place of the first of the bytes that are left, where so many were given.
+pub fn place(end: u32, left: &[u8]) -> u32
     ensures { result ≡ end - length left.now }
 {
     (end as usize).saturating_sub(left.len()) as u32
 }
 
-fn u16_at(end: u32, bytes: &[u8]) -> Read<'_, u16>
+/// A number of 2 bytes from the front of these, where `end` bytes were given in all, or `Short`.
+pub fn u16_at(end: u32, bytes: &[u8]) -> Read<'_, u16>
     ensures { Gives (λ x. (x.0, x.1.now)) result (number_at w16 end bytes.now) }
 {
     if bytes.len() < 2 {
@@ -37,7 +38,8 @@ fn u16_at(end: u32, bytes: &[u8]) -> Read<'_, u16>
     Ok((number, rest))
 }
 
-fn u32_at(end: u32, bytes: &[u8]) -> Read<'_, u32>
+/// A number of 4 bytes from the front of these, where `end` bytes were given in all, or `Short`.
+pub fn u32_at(end: u32, bytes: &[u8]) -> Read<'_, u32>
     ensures { Gives (λ x. (x.0, x.1.now)) result (number_at w32 end bytes.now) }
 {
     if bytes.len() < 4 {
@@ -48,7 +50,8 @@ fn u32_at(end: u32, bytes: &[u8]) -> Read<'_, u32>
     Ok((number, rest))
 }
 
-fn u64_at(end: u32, bytes: &[u8]) -> Read<'_, u64>
+/// A number of 8 bytes from the front of these, where `end` bytes were given in all, or `Short`.
+pub fn u64_at(end: u32, bytes: &[u8]) -> Read<'_, u64>
     ensures { Gives (λ x. (x.0, x.1.now)) result (number_at w64 end bytes.now) }
 {
     if bytes.len() < 8 {
@@ -61,9 +64,10 @@ fn u64_at(end: u32, bytes: &[u8]) -> Read<'_, u64>
     Ok((number, rest))
 }
 
-// A byte that is no greater than the limit.
+/// A byte that is no greater than the limit from the front of these, where `end` bytes were given in all; else `Short`, or
+/// `NotCanonical` at its place.
 #[tactic(auto, unfolding(crate::specs::Reading::byte_at))]
-fn byte_of(limit: u8, end: u32, bytes: &[u8]) -> Read<'_, u8>
+pub fn byte_of(limit: u8, end: u32, bytes: &[u8]) -> Read<'_, u8>
     ensures { Gives (λ x. (x.0, x.1.now)) result (byte_at limit end bytes.now) }
 {
     match bytes {
@@ -290,6 +294,14 @@ fn value_of(alloc: Global, end: u32, levels: u32, bytes: &[u8]) -> Read<'_, Valu
     content_of(alloc, end, levels - 1, tag, rest)
 }
 
+/// A value from the front of these bytes, where `end` bytes were given in all, or the first fault from the left
+/// (docs/LANGUAGE.md, Values): for readers of longer forms.
+pub fn value_in_front(alloc: Global, end: u32, bytes: &[u8]) -> Read<'_, Value>
+    ensures { Gives (λ x. (datum_of x.0, x.1.now)) result (value_at end VALUE_NESTING bytes.now) }
+{
+    value_of(alloc, end, VALUE_NESTING, bytes)
+}
+
 // The value whose spelling stands at this place, and the place behind it.
 #[tactic(auto, unfolding(crate::specs::Reading::found_at))]
 fn find(alloc: Global, bytes: &[u8], at: u32) -> Result<(Value, u32), Refusal<ValueError>>
@@ -297,12 +309,12 @@ fn find(alloc: Global, bytes: &[u8], at: u32) -> Result<(Value, u32), Refusal<Va
     ensures { Gives (λ x. (datum_of x.0, x.1)) result (found_at bytes.now at) }
 {
     let end = bytes.len() as u32;
-    let (value, rest) = value_of(alloc, end, VALUE_NESTING, behind(bytes, at))?;
+    let (value, rest) = value_in_front(alloc, end, behind(bytes, at))?;
     Ok((value, place(end, rest)))
 }
 
-// The bytes from this place on.
-fn behind(bytes: &[u8], at: u32) -> &[u8]
+/// The bytes from this place on.
+pub fn behind(bytes: &[u8], at: u32) -> &[u8]
     ensures { result.now ≡ drop at bytes.now }
 {
     let at = at as usize;
