@@ -1,7 +1,9 @@
-//! Tests of values in bytes: what is written, what is read back, and each refusal with its place.
+//! Tests of values and packets in bytes: what is written, what is read back, and each refusal with its place.
 //!
 //! They stand here, so that the crates below have none. Nothing stands on it.
 #![tactic(auto)]
 
+#[cfg(test)]
+mod packets;
 #[cfg(test)]
 mod values;
