@@ -1,0 +1,10 @@
+pub mod Passes
+pub mod Singles
+pub mod Book
+pub mod Events
+pub mod Performed
+pub mod Course
+pub mod Promise
+pub mod Fitness
+pub mod Cell
+pub mod Wrong

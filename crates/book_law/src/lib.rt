@@ -1,0 +1,47 @@
+//! The law of the book: what a run performs is a history of its program.
+//!
+//! One ordered list of messages, and what was performed beside it, give the book: all performed operations by place. Beside the
+//! list stand the reads of replicated objects and the calls on single ones, which one member keeps. A run is a course of events
+//! (specs/Course.antt): the list grows, members apply it, processes submit and read, owners take calls. Of the group it uses four
+//! facts of agreement: the list grows only at its end; what a member applies as its entry n + 1 is the list's; an entry was
+//! submitted, and is what its process has out; no message stands in the list twice.
+//!
+//! The floor above uses `book_law` and `every_call_fits`, of any course of events that it is a run of. It stands on the
+//! definitions of `value_core`, `guard_queue` and `object_manager` alone, and its one code is the sort by place. Nothing of packets
+//! or crashes stands in it, nor that anything happens in the end.
+#![tactic(auto)]
+
+ghost use Rattle.book_law.specs.Fitness.{CallsFit};
+ghost use Rattle.book_law.specs.Wrong.{WrongRules};
+ghost use Rattle.book_law.specs.Promise.{CopiesFollow, EntriesStand, LegalBook, RepliesBegin, RepliesReceived, SinglesFollow};
+
+mod placing;
+
+pub use placing::{Placed, sort_by_place};
+use value_core::Processor;
+
+/// The law of every run, whichever objects are single and whatever the program means.
+///
+/// - `legal`: the book is a history of the program.
+/// - `copies`: the replicated objects and the processes of the book up to place n are those of a member's copies after n entries.
+/// - `singles`: each single copy is its object after all lines of the book.
+/// - `replies`: the replies that a process received begin the book's, and are short of them by at most one.
+/// - `received`: where no answer of a single copy is on the way, they are exactly the book's up to the member's number.
+/// - `entries`: an entry leaves copies as `object_manager` says: after a make that passes, or applied.
+/// - `wrong_rules`: six wrong rules make a book of a computed run that is no history, or a single copy that isn't its object.
+pub fn book_law()
+    ensures legal { LegalBook }
+    ensures copies { CopiesFollow }
+    ensures singles { SinglesFollow }
+    ensures replies { RepliesBegin }
+    ensures received { RepliesReceived }
+    ensures entries { EntriesStand }
+    ensures wrong_rules { WrongRules }
+{}
+
+/// In every run of a lawful program each entry may be applied, or passed, at the copies that it meets, what these and the single
+/// copies hold fits, and a process's next call may be tried at each number of entries from its process's place on: on a view, or on
+/// the single copy, which is there. It rests on the laws of the two traits alone. A call of this function does nothing.
+pub fn every_call_fits<P: Processor>(program: &P)
+    ensures { CallsFit (P.performs program.now) (P.computes program.now) (P.fits_state program.now) (P.fits_args program.now) }
+{}
