@@ -39,7 +39,7 @@ use Rattle.book_law.specs.Singles.{Single, waiting, waits}
 use Rattle.book_law.specs.Events.{Calls, In, IsRead, Makes, Runner}
 use Rattle.book_law.proofs.Kept.{IsNext, Kept, Stands}
 use Rattle.book_law.proofs.Lists.{at_push, in_at, in_waits}
-use Rattle.book_law.proofs.Books.{copies_all, copies_keep, cut, up_to_all}
+use Rattle.book_law.proofs.Books.{copies_all, cut, up_to_all}
 use Rattle.book_law.proofs.Courses.{came_sound, next_keeps, pending}
 use Rattle.book_law.proofs.Entries.{Enters, as_received, comes, follows_all, fork_may}
 use Rattle.book_law.proofs.Fitting.{acts, has_kind, history_fits, known, opening_fits, step_fits, unmade}
@@ -382,8 +382,7 @@ every_call single p q fits_state fits_args fits_text fits_reply w laws came = re
       let st = k.stands number.0 x here in
       let i = out_idle single p q w.list w.aside w.owned w.entered (w.applied x.member) number.0 x st (inl free) in
       let m = may_at single p q fits_state fits_args fits_text fits_reply w.list w.aside w.owned w.entered w.applied w.runners number x n kind op object args laws k st i.1 i.0 le next in
-      let g = k.follows n in
-      (
+      let g = k.follows n in (
         kinds_at single p w.list n,
         states_at single p q fits_state fits_args fits_text fits_reply w.list w.aside w.owned w.entered w.applied w.runners n laws output k,
         record { kept = m.kept; exists = sym (g.objects object shared) ∙ m.exists; kind = m.of_kind; args = m.fits },

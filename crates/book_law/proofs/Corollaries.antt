@@ -1,5 +1,5 @@
 -- What a run draws from `Kept`: who is stuck at its end, bursts of reads, what it wrote.
-use Rattle.std.proofs.Common.{◌≡◌, ℕ, suc, ◌≤◌, ◌<◌, ◌==◌, ◌+◌, ◌⊎◌, inl, inr, ⊎_elim, Bool, true, false, Option, Some, None, List, [], ◌∷◌, ◌++◌, length, map, refl, sym, ap, ◌∙◌, arith, subst, append-nil, append_assoc, if◌then◌else◌}
+use Rattle.std.proofs.Common.{◌≡◌, ℕ, suc, ◌≤◌, ◌<◌, ◌+◌, ◌⊎◌, inl, inr, ⊎_elim, false, Option, Some, None, List, [], ◌∷◌, ◌++◌, length, map, refl, sym, ap, ◌∙◌, arith, subst, append-nil, append_assoc}
 use Rattle.std.proofs.lemmas.Bool.{cases_eq, cases_lt}
 use Rattle.std.specs.Prelude.{slice_get}
 use Rattle.orca_base.specs.declared.ids.KindNo.{KindNo}
@@ -14,7 +14,7 @@ use Rattle.value_core.specs.declared.action.Action.TheVariants as action
 use Rattle.value_core.specs.declared.meaning.Doing.TheVariants as doing
 use Rattle.value_core.specs.declared.meaning.Tried.TheVariants as tried
 use Rattle.value_core.specs.Meaning.{Performs, Computes}
-use Rattle.value_core.specs.History.{IsStuck, Objects, Process, most_turns, object_at, objects_of, output_by, output_of}
+use Rattle.value_core.specs.History.{IsStuck, Process, most_turns, object_at, objects_of, output_by, output_of}
 use Rattle.guard_queue.specs.declared.queue.Suspended.{Suspended}
 use Rattle.object_manager.specs.After.{opening_copies}
 use Rattle.book_law.specs.Passes.{Test, after_all, lines_after}
@@ -22,7 +22,7 @@ use Rattle.book_law.specs.Book.{Placed, behind, book, aside_at, up_to}
 use Rattle.book_law.specs.Course.{with_at}
 use Rattle.book_law.specs.Singles.{Single, waiting, waits}
 use Rattle.book_law.specs.Events.{In, Reads, Runner, lines_by, told}
-use Rattle.book_law.proofs.Kept.{Kept, Owns, Stage, Stands}
+use Rattle.book_law.proofs.Kept.{Kept, Stage, Stands}
 use Rattle.book_law.proofs.Kept.Stage.{Free, Sent, Waits, Ran, Told}
 use Rattle.book_law.proofs.Books.{behind_all, book_here, book_push, cut}
 use Rattle.book_law.proofs.Courses.{at_other, at_own}

@@ -1,24 +1,21 @@
 -- Every run keeps `Kept`.
-use Rattle.std.proofs.Common.{◌≡◌, ℕ, suc, ◌+◌, ◌==◌, ◌⊎◌, inl, inr, ⊎_elim, Bool, true, false, Option, Some, None, List, [], ◌∷◌, ◌++◌, length, refl, sym, ap, ◌∙◌, arith, subst, if◌then◌else◌}
-use Rattle.std.specs.Prelude.{slice_get, slice_set, option_map}
+use Rattle.std.proofs.Common.{◌≡◌, ℕ, suc, ◌+◌, ◌==◌, ◌⊎◌, inl, inr, ⊎_elim, Bool, true, false, Option, Some, None, List, [], ◌∷◌, ◌++◌, length, refl, sym, ap, ◌∙◌, subst, if◌then◌else◌}
+use Rattle.std.specs.Prelude.{slice_get, option_map}
 use Rattle.std.proofs.lemmas.Bool.{cases_eq, eq-eqb, eqb-true, ne_eqb}
 use Rattle.value_core.specs.Datum as datum
 use Rattle.value_core.specs.declared.action.Line.{Line}
 use Rattle.value_core.specs.declared.message.Message.{Message}
 use Rattle.value_core.specs.Meaning.{Performs, Computes}
-use Rattle.guard_queue.specs.declared.queue.Suspended.{Suspended}
 use Rattle.object_manager.specs.After.{opening_copies}
 use Rattle.book_law.specs.Passes.{Test, after_all, lines_after}
-use Rattle.book_law.specs.Performed.{placed}
-use Rattle.book_law.specs.Singles.{Single, after_on, as_message, lines_on, singles_by, waiting, waits}
-use Rattle.book_law.specs.Book.{Placed, behind, copies_at}
+use Rattle.book_law.specs.Singles.{as_message, lines_on, waiting, waits}
+use Rattle.book_law.specs.Book.{behind, copies_at}
 use Rattle.book_law.specs.Course.{Came, Course, Next, applying, taking, with_at}
 use Rattle.book_law.specs.Course.Next.{Submits, Orders, Forks, Applies, Reads_at, Takes_call, Hears_answer}
 use Rattle.book_law.specs.Course.Came.{Opens, Then}
 use Rattle.book_law.proofs.Kept.{Promised, Accounted, Kept, Stands}
 use Rattle.book_law.specs.Events.{In, Runner, answering, asking, handed, lines_by, newborn, told, took}
-use Rattle.book_law.proofs.Lists.{in_end, in_left}
-use Rattle.book_law.proofs.Books.{copies_most}
+use Rattle.book_law.proofs.Lists.{in_left}
 use Rattle.book_law.proofs.Stages.{not_both, stage_listed, stage_told}
 use Rattle.book_law.proofs.Entries.{appended, forked_entry, no_number}
 use Rattle.book_law.proofs.Hearing.{answers, applies, heard}

@@ -7,7 +7,6 @@ use Rattle.std.specs.List.{Contains}
 use Rattle.std.proofs.lemmas.List.Elements.{Contains-append_left, Contains-append_right}
 use Rattle.guard_queue.proofs.KindsStay.{contains_here}
 use Rattle.std.proofs.lemmas.Option.{slice_get_within}
-use Rattle.orca_base.specs.declared.ids.KindNo.{KindNo}
 use Rattle.orca_base.specs.declared.ids.ObjectId.{ObjectId}
 use Rattle.orca_base.specs.declared.ids.ProcessNo.{ProcessNo}
 use Rattle.orca_base.specs.declared.ids.CallNo.{CallNo}
@@ -19,7 +18,6 @@ use Rattle.value_core.specs.declared.action.Action.{Action}
 use Rattle.value_core.specs.declared.action.Action.TheVariants as action
 use Rattle.value_core.specs.declared.action.Reply.{Reply}
 use Rattle.value_core.specs.declared.action.Reply.TheVariants as answer
-use Rattle.value_core.specs.declared.meaning.Making.TheVariants as making
 use Rattle.value_core.specs.Performable.{is_performable}
 use Rattle.value_core.specs.Meaning.{Performs, Computes}
 use Rattle.value_core.specs.History.{Configuration, LegalFrom, Process, after_line, after_lines, forked, object_at, objects_after, opening}
@@ -31,13 +29,13 @@ use Rattle.book_law.specs.Course.{MayOrder}
 use Rattle.book_law.specs.Singles.{Single, singles_by, waiting, waits}
 use Rattle.book_law.specs.Events.{Calls, In, Makes, Runner, lines_by, newborn, replies_to}
 use Rattle.book_law.specs.Promise.{Follows}
-use Rattle.book_law.proofs.Kept.{Spares, answer_lines, AllNext, AllOn, AnswerStands, IsKept, Kept, Owns, Reached, Stage, Stands, as_process}
+use Rattle.book_law.proofs.Kept.{Spares, answer_lines, AllNext, AllOn, AnswerStands, IsKept, Kept, Owns, Stage, Stands, as_process}
 use Rattle.book_law.proofs.Kept.Stage.{Free}
 use Rattle.book_law.proofs.Lists.{append_none_left, append_none_right, at_push, in_push, in_waits, lines_by-append, lines_by-none, one, one_other, one_same, waiting-cons}
 use Rattle.book_law.proofs.Processes.{after_fork, after_lines-append, get_end, get_left, legal-append, none_yet, replies_after}
-use Rattle.book_law.proofs.Settling.{Comes, Entered, Going, OnSeen, entered, held, of_entry}
+use Rattle.book_law.proofs.Settling.{Comes, Entered, Going, entered, of_entry}
 use Rattle.book_law.proofs.Books.{behind_all, behind_push, book_push, copies_all, copies_keep, copies_most, copies_push, cut, up_to_all, up_to_keep}
-use Rattle.book_law.proofs.Stages.{none_left, not_both, stage_new, stage_push}
+use Rattle.book_law.proofs.Stages.{none_left, stage_new, stage_push}
 use Rattle.book_law.proofs.Objects.{spared_lines, spares_append}
 use Rattle.book_law.proofs.Inserting.{calls_no_make, calls_one, next_same, through}
 use Rattle.book_law.proofs.Owned.{Added, added, added_counts, added_there, added_waits, counted_by, counted_push, makes_pass, waits-append, waits_at}

@@ -1,30 +1,17 @@
 -- A small run, computed: a call waits, another process's write lets it go on, and a read stands behind both in its place.
-use Rattle.std.proofs.Common.{◌≡◌, ◌==◌, if◌then◌else◌, Bool, true, false, ℕ, zero, suc, ◌⊎◌, inl, inr, ⊎_elim, Option, Some, None, ap, arith, List, [], ◌∷◌, length, refl}
-use Rattle.orca_base.specs.declared.ids.KindNo.{KindNo}
+use Rattle.std.proofs.Common.{◌≡◌, ℕ, inl, ⊎_elim, Option, Some, None, ap, arith, List, [], ◌∷◌, length, refl}
 use Rattle.orca_base.specs.declared.ids.ObjectId.{ObjectId}
 use Rattle.value_core.specs.Datum.{Data}
 use Rattle.value_core.specs.Datum as datum
-use Rattle.value_core.specs.declared.action.Line.{Line}
 use Rattle.value_core.specs.declared.message.Message.{Message}
-use Rattle.value_core.specs.declared.action.Action.{Action}
 use Rattle.value_core.specs.declared.action.Action.TheVariants as action
-use Rattle.value_core.specs.declared.action.Class.TheVariants.{Writes}
 use Rattle.value_core.specs.declared.action.Reply.TheVariants as answer
-use Rattle.value_core.specs.declared.meaning.Making.TheVariants as making
-use Rattle.value_core.specs.declared.meaning.Tried.{Tried}
-use Rattle.value_core.specs.declared.meaning.Tried.TheVariants as tried
-use Rattle.value_core.specs.declared.meaning.Doing.TheVariants as doing
 use Rattle.value_core.specs.declared.action.Reply.{Reply}
-use Rattle.std.specs.Prelude.{IsTrue}
-use Rattle.value_core.specs.Performable.{is_performable}
-use Rattle.value_core.specs.Meaning.{Performs, Computes}
-use Rattle.value_core.specs.declared.action.Instance.{Instance}
-use Rattle.guard_queue.specs.declared.queue.Suspended.{Suspended}
 use Rattle.object_manager.specs.After.{opening_copies}
 use Rattle.book_law.specs.Cell.{at_first, call, cell, computes, fork, kind, line, make, message, performs, single, suspended}
-use Rattle.book_law.specs.Passes.{Test, after_all, counted}
+use Rattle.book_law.specs.Passes.{after_all, counted}
 use Rattle.book_law.specs.Performed.{placed}
-use Rattle.book_law.specs.Singles.{Single, after_on, lines_on, singles_by}
+use Rattle.book_law.specs.Singles.{after_on, lines_on, singles_by}
 use Rattle.value_core.specs.History.{Process, output_kind, output_object}
 use Rattle.book_law.specs.Course.{Came, Course, applying, forking, hearing, opening_course, ordered, submitted, taking}
 use Rattle.book_law.specs.Course.Next.{Submits, Orders, Forks, Applies, Takes_call, Hears_answer}

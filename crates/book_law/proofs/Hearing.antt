@@ -11,14 +11,14 @@ use Rattle.value_core.specs.Meaning.{Performs, Computes}
 use Rattle.object_manager.specs.After.{opening_copies}
 use Rattle.guard_queue.specs.declared.queue.Suspended.{Suspended}
 use Rattle.book_law.specs.Passes.{Test, after_all, lines_after}
-use Rattle.book_law.specs.Book.{Placed, behind, copies_at, aside_at}
+use Rattle.book_law.specs.Book.{Placed, behind, copies_at}
 use Rattle.book_law.specs.Singles.{Single, waiting, waits}
 use Rattle.book_law.specs.Events.{In, Runner, handed, lines_by, replies_to, told, took}
 use Rattle.book_law.proofs.Kept.{answer_lines, AnswerStands, Kept, Reached, Stands, answer_at}
 use Rattle.book_law.proofs.Kept.Stage.{Free}
 use Rattle.book_law.proofs.Lists.{append_none_left, append_none_right, in_waits, lines_by-append}
 use Rattle.book_law.proofs.Books.{behind_next, copies_more, none_later}
-use Rattle.book_law.proofs.Stages.{not_both, stage_ran, stage_told, stage_waits}
+use Rattle.book_law.proofs.Stages.{stage_ran, stage_told, stage_waits}
 use Rattle.book_law.proofs.Owned.{waits_at}
 
 pub mapped : {A B : Type 0} (f : A → B) (o : Option A) (y : B) → option_map f o ≡ Some y → (x : A) × (o ≡ Some x) × (y ≡ f x)

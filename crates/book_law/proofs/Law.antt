@@ -1,5 +1,5 @@
 -- Who keeps `Kept` has a legal book.
-use Rattle.std.proofs.Common.{◌≡◌, ℕ, ◌+◌, ◌≤◌, ◌<◌, inl, inr, ⊎_elim, Option, Some, None, List, [], ◌∷◌, ◌++◌, length, drop, refl, sym, ap, ◌∙◌, arith, subst, append-nil, append_assoc}
+use Rattle.std.proofs.Common.{◌≡◌, ℕ, ◌+◌, ◌≤◌, ◌<◌, inr, ⊎_elim, Option, Some, None, List, [], ◌∷◌, ◌++◌, length, drop, refl, sym, ap, ◌∙◌, arith, subst, append-nil, append_assoc}
 use Rattle.std.specs.Prelude.{slice_get}
 use Rattle.std.proofs.lemmas.Bool.{cases_lt}
 use Rattle.std.proofs.lemmas.List.{append_cancel_right, length-append, length-map}
@@ -11,7 +11,7 @@ use Rattle.value_core.specs.History.{Configuration, LegalFrom, Process, after_li
 use Rattle.object_manager.specs.After.{Copied, opening_copies}
 use Rattle.book_law.specs.Passes.{Test, after, after_all, lines_after}
 use Rattle.book_law.specs.Book.{Placed, behind, book, book_from, copies_at, aside_at, up_to}
-use Rattle.book_law.proofs.Kept.{Promised, answer_lines, Kept, Stands, answer_at, as_process}
+use Rattle.book_law.proofs.Kept.{Promised, answer_lines, Kept, Stands, answer_at}
 use Rattle.book_law.specs.Singles.{Single, waiting, waits}
 use Rattle.book_law.specs.Events.{Runner, lines_by, replies_to}
 use Rattle.book_law.proofs.Lists.{lines_by-append}

@@ -1,5 +1,5 @@
 -- Single copies in a list: who waits on them, and what an entry adds.
-use Rattle.std.proofs.Common.{◌≡◌, ℕ, zero, suc, ◌+◌, ◌≤◌, ◌⊎◌, inl, inr, ⊎_elim, Bool, true, false, Option, Some, None, List, [], ◌∷◌, ◌++◌, ◌<◌, length, refl, sym, ap, ◌∙◌, arith, subst, append-nil, append_assoc, if◌then◌else◌}
+use Rattle.std.proofs.Common.{◌≡◌, ℕ, zero, suc, ◌+◌, ◌≤◌, ◌⊎◌, inl, inr, ⊎_elim, Bool, true, false, Some, List, [], ◌∷◌, ◌++◌, refl, sym, ap, ◌∙◌, arith, append-nil, if◌then◌else◌}
 use Rattle.std.specs.Prelude.{slice_get, slice_set, map}
 use Rattle.std.specs.List.{Contains}
 use Rattle.orca_base.specs.declared.ids.KindNo.{KindNo}
@@ -12,7 +12,7 @@ use Rattle.value_core.specs.declared.action.Action.TheVariants as action
 use Rattle.value_core.specs.declared.meaning.Making.{Making}
 use Rattle.value_core.specs.declared.meaning.Making.TheVariants as making
 use Rattle.value_core.specs.Meaning.{Performs}
-use Rattle.value_core.specs.History.{Objects, after_making, object_at, objects_after, with_object}
+use Rattle.value_core.specs.History.{Objects, after_making, object_at, objects_after}
 use Rattle.object_manager.specs.After.{Copied, after as after_applied, opening_copies}
 use Rattle.object_manager.specs.Singles.{after_passed, counted_by as counted_by_making, singles_after}
 use Rattle.book_law.specs.Passes.{Test, after, after_all, counted, is_passed}

@@ -1,5 +1,5 @@
 -- A process reads a replicated object at a place between its own and its member's: what is kept stays kept.
-use Rattle.std.proofs.Common.{inl, inr, ◌⊎◌, ◌≡◌, ℕ, ◌+◌, ◌≤◌, ◌<◌, ⊎_elim, Bool, true, false, Option, Some, None, List, [], ◌∷◌, ◌++◌, length, refl, sym, ap, ◌∙◌, arith, subst, append-nil}
+use Rattle.std.proofs.Common.{inl, inr, ◌≡◌, ℕ, ◌+◌, ◌≤◌, ◌<◌, ⊎_elim, true, false, Option, Some, None, List, [], ◌∷◌, ◌++◌, length, refl, sym, ap, ◌∙◌, arith, subst, append-nil}
 use Rattle.std.specs.Prelude.{slice_get}
 use Rattle.std.proofs.lemmas.Bool.{cases_eq, cases_lt}
 use Rattle.std.proofs.lemmas.List.{length_push}
@@ -9,20 +9,19 @@ use Rattle.value_core.specs.declared.message.Message.{Message}
 use Rattle.value_core.specs.declared.action.Reply.{Reply}
 use Rattle.value_core.specs.declared.action.Action.{Action}
 use Rattle.value_core.specs.Meaning.{Performs, Computes}
-use Rattle.value_core.specs.History.{Configuration, IsStep, Objects, Process, after_line, after_lines, forked, object_at, objects_after, opening}
+use Rattle.value_core.specs.History.{Configuration, IsStep, Process, after_line, after_lines, forked, object_at, objects_after, opening}
 use Rattle.guard_queue.specs.declared.queue.Suspended.{Suspended}
 use Rattle.object_manager.specs.After.{opening_copies}
 use Rattle.book_law.specs.Passes.{Test, after_all}
-use Rattle.book_law.specs.Performed.{placed}
 use Rattle.book_law.specs.Book.{Placed, behind, book, copies_at, up_to}
 use Rattle.book_law.specs.Singles.{Single, waiting, waits}
 use Rattle.book_law.specs.Events.{Calls, In, IsRead, Makes, Reads, Runner, lines_by, replies_to, told}
-use Rattle.book_law.proofs.Kept.{Spares, Kept, Owns, Reached, Stands, answer_at, as_process}
+use Rattle.book_law.proofs.Kept.{Kept, Owns, Stands, answer_at}
 use Rattle.book_law.proofs.Kept.Stage.{Free}
 use Rattle.book_law.proofs.Lists.{in_waits, lines_by-own, reads_by-other}
-use Rattle.book_law.proofs.Processes.{after_length, after_lines-append, after_same, get_some}
+use Rattle.book_law.proofs.Processes.{after_length, after_lines-append, after_same}
 use Rattle.book_law.proofs.Beside.{Beside}
-use Rattle.book_law.proofs.Books.{behind_all, behind_in, by_none, copies_more, copies_most, cut, none_later, placed_by, placed_there, quiet_behind}
+use Rattle.book_law.proofs.Books.{behind_all, behind_in, by_none, copies_more, copies_most, cut, none_later, placed_there, quiet_behind}
 use Rattle.book_law.proofs.Entries.{as_received}
 use Rattle.book_law.proofs.Inserting.{Inserts, calls_no_make, calls_one, inserted_process, inserts_follows, inserts_known, inserts_legal, inserts_whole, next_same, through}
 use Rattle.book_law.proofs.Objects.{agree, performed_on, same_id, spared}

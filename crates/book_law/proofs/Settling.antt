@@ -31,10 +31,10 @@ use Rattle.object_manager.specs.After.{Copied, acted, acted_by, after as after_a
 use Rattle.object_manager.specs.Singles.{after_passed}
 use Rattle.book_law.specs.Passes.{Test, after, is_passed, lines_after}
 use Rattle.book_law.specs.Singles.{waiting}
-use Rattle.book_law.specs.Events.{Calls, In, Makes, lines_by}
+use Rattle.book_law.specs.Events.{Calls, In, lines_by}
 use Rattle.book_law.proofs.Kept.{AllNext, AllOn, IsNext}
 use Rattle.book_law.proofs.Objects.{agree, performed_on, spared}
-use Rattle.book_law.proofs.Lists.{found, in_at, in_push, in_left, in_remove, in_waits, lines_by-append, one, others_apart, waiting-push, waiting-remove}
+use Rattle.book_law.proofs.Lists.{found, in_at, in_push, in_remove, in_waits, lines_by-append, one, others_apart, waiting-push, waiting-remove}
 use Rattle.book_law.proofs.Processes.{after_length, after_other}
 
 -- ---- a call can be performed where it isn't blocked

@@ -1,5 +1,5 @@
 -- A process submits its next action: what is kept stays kept. And the opening.
-use Rattle.std.proofs.Common.{inl, inr, ◌≡◌, ◌+◌, Bool, true, false, ℕ, zero, suc, ⊎_elim, Option, Some, None, List, [], refl, sym, ap, ◌∙◌, arith, subst}
+use Rattle.std.proofs.Common.{inl, ◌≡◌, ◌+◌, true, false, ℕ, zero, suc, ⊎_elim, Option, Some, None, List, [], refl, sym, ap, ◌∙◌, arith, subst}
 use Rattle.std.proofs.lemmas.Bool.{cases_eq}
 use Rattle.value_core.specs.Datum as datum
 use Rattle.value_core.specs.declared.action.Line.{Line}

@@ -1,12 +1,10 @@
 -- The owner of a single copy takes a call: what is kept stays kept.
-use Rattle.std.proofs.Common.{inl, inr, ◌⊎◌, ◌≡◌, ℕ, zero, suc, ◌+◌, ◌≤◌, ◌<◌, ◌-◌, ◌==◌, ⊎_elim, Bool, true, false, Option, Some, None, List, [], ◌∷◌, ◌++◌, length, take, refl, sym, ap, ◌∙◌, arith, subst, append-nil, append_assoc, if◌then◌else◌}
-use Rattle.std.specs.Prelude.{slice_get, slice_set, option_map, map}
+use Rattle.std.proofs.Common.{inl, inr, ◌⊎◌, ◌≡◌, ℕ, suc, ◌+◌, ◌≤◌, ◌<◌, ◌-◌, ◌==◌, ⊎_elim, Bool, true, false, Option, Some, None, List, [], ◌∷◌, ◌++◌, length, take, refl, sym, ap, ◌∙◌, arith, subst, append-nil, if◌then◌else◌}
+use Rattle.std.specs.Prelude.{slice_get, slice_set, option_map}
 use Rattle.std.proofs.lemmas.Bool.{cases_eq, cases_lt, eq-eqb, eqb-true, ne_eqb}
 use Rattle.std.proofs.lemmas.Option.{slice_get_within}
 use Rattle.orca_base.specs.declared.ids.KindNo.{KindNo}
-use Rattle.orca_base.specs.declared.ids.OpNo.{OpNo}
 use Rattle.orca_base.specs.declared.ids.ObjectId.{ObjectId}
-use Rattle.value_core.specs.Datum.{Data}
 use Rattle.value_core.specs.declared.action.Instance.{Instance}
 use Rattle.value_core.specs.declared.action.Line.{Line}
 use Rattle.value_core.specs.declared.message.Message.{Message}
@@ -16,7 +14,7 @@ use Rattle.value_core.specs.declared.action.Action.TheVariants as action
 use Rattle.value_core.specs.declared.meaning.Tried.{Tried}
 use Rattle.value_core.specs.declared.meaning.Tried.TheVariants as tried
 use Rattle.value_core.specs.Meaning.{Performs, Computes}
-use Rattle.value_core.specs.History.{Configuration, Objects, Process, after_call, after_line, after_lines, after_try, forked, object_at, objects_after, opening}
+use Rattle.value_core.specs.History.{Configuration, Objects, after_call, after_line, after_lines, after_try, object_at, objects_after, opening}
 use Rattle.guard_queue.specs.declared.queue.Suspended.{Suspended}
 use Rattle.guard_queue.specs.Settles.{Settling}
 use Rattle.object_manager.specs.After.{Copied, opening_copies}
@@ -25,17 +23,17 @@ use Rattle.std.specs.List.{Contains}
 use Rattle.book_law.specs.Passes.{Test, after_all, counted}
 use Rattle.book_law.specs.Performed.{placed}
 use Rattle.book_law.specs.Singles.{Single, after_on, alone, as_message, kept_or, lines_on, waiting, waits}
-use Rattle.book_law.specs.Book.{Placed, behind, book, copies_at, aside_at, up_to}
-use Rattle.book_law.specs.Events.{Calls, In, Makes, Runner, Takes, answering, lines_by, replies_to}
-use Rattle.book_law.proofs.Kept.{Spares, AllNext, IsKept, IsNext, Kept, Owns, Reached, Stage, Stands, answer_at, as_process}
-use Rattle.book_law.proofs.Lists.{in_push, in_waits, lines_by-append, one, one_other, one_same, waiting-cons}
+use Rattle.book_law.specs.Book.{Placed, behind, book, aside_at, up_to}
+use Rattle.book_law.specs.Events.{Calls, In, Runner, Takes, answering, lines_by, replies_to}
+use Rattle.book_law.proofs.Kept.{Spares, IsKept, Kept, Owns, Stands, answer_at}
+use Rattle.book_law.proofs.Lists.{in_push, in_waits, lines_by-append, one, one_other, one_same}
 use Rattle.book_law.proofs.Processes.{after_lines-append, set_other, set_same}
-use Rattle.book_law.proofs.Settling.{Comes, Going, OnSeen, Ran, ran}
-use Rattle.book_law.proofs.Beside.{Away, Beside}
-use Rattle.book_law.proofs.Books.{behind_all, behind_earlier, behind_in, book_inserts, by_none, copies_more, copies_most, cut, placed_by, placed_here, placed_there}
+use Rattle.book_law.proofs.Settling.{Comes, Going, Ran, ran}
+use Rattle.book_law.proofs.Beside.{Beside}
+use Rattle.book_law.proofs.Books.{behind_all, behind_earlier, behind_in, book_inserts, by_none, copies_most, cut, placed_by, placed_here, placed_there}
 use Rattle.book_law.proofs.Entries.{follows_all, nobody_waits}
 use Rattle.book_law.proofs.Hearing.{mapped}
-use Rattle.book_law.proofs.Inserting.{AllCall, Inserts, all_call_spare, calls_count, calls_one, calls_same, inserted_process, inserts_follows, inserts_known, inserts_legal, inserts_whole, next_same, through}
+use Rattle.book_law.proofs.Inserting.{AllCall, Inserts, all_call_spare, calls_count, calls_same, inserted_process, inserts_follows, inserts_known, inserts_legal, inserts_whole, next_same, through}
 use Rattle.book_law.proofs.Objects.{same_id, spared_lines}
 use Rattle.book_law.proofs.Owned.{map_set, waits_at, waits_set, waits_two}
 use Rattle.book_law.proofs.Reading.{at_place, none_behind}

@@ -1,5 +1,5 @@
 -- Each wrong rule is told apart by the line at which its book stops being a history.
-use Rattle.std.proofs.Common.{◌≡◌, Option, None, Some, List, [], ◌∷◌, length, refl, sym, ap, ◌∙◌, arith}
+use Rattle.std.proofs.Common.{◌≡◌, None, Some, List, [], ◌∷◌, length, refl, sym, ap, ◌∙◌, arith}
 use Rattle.std.specs.Prelude.{slice_get}
 use Rattle.value_core.specs.Datum as datum
 use Rattle.value_core.specs.declared.action.Instance.{Instance}
