@@ -1,7 +1,7 @@
 //! One member's copies.
 
 ghost use Rattle.std.specs.Prelude.{◌≡◌, ◌<◌, ◌≤◌, ◌^◌, ◌-◌, ◌↔◌, IfOk, IfErr, OnOk, OnErr, IsTrue, None, if◌then◌else◌, length};
-ghost use Rattle.value_core.specs.History.{forked, output_kind, output_object, with_object};
+ghost use Rattle.value_core.specs.History.{forked, object_at, output_kind, output_object, with_object};
 ghost use Rattle.guard_queue.specs.Changes.{JoinsBlocked};
 ghost use Rattle.guard_queue.specs.Fitting.{kind_at};
 ghost use Rattle.guard_queue.specs.Settles.{lines_of, tried_on};
@@ -376,7 +376,8 @@ impl Copies {
         making: Making,
         keeps: bool,
     ) -> Result<(), NoMemory>
-        requires { objects_limit self.old making ≡ None }
+        requires limit { objects_limit self.old making ≡ None }
+        requires absent { object_at self.old.objects object ≡ None }
         ensures ok { OnOk result (self.new ≡ record self.old {
           singles = counted_by making kind object self.old.singles;
           own = kept_by keeps making kind object self.old.own;
