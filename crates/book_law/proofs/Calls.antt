@@ -40,7 +40,7 @@ use Rattle.book_law.specs.Events.{Calls, In, IsRead, Makes, Runner}
 use Rattle.book_law.proofs.Kept.{IsNext, Kept, Stands}
 use Rattle.book_law.proofs.Lists.{at_push, in_at, in_waits}
 use Rattle.book_law.proofs.Books.{copies_all, cut, up_to_all}
-use Rattle.book_law.proofs.Courses.{came_sound, next_keeps, pending}
+use Rattle.book_law.proofs.Courses.{came_sound, fresh_of, has_out, next_keeps, pending}
 use Rattle.book_law.proofs.Entries.{Enters, as_received, comes, follows_all, fork_may}
 use Rattle.book_law.proofs.Fitting.{acts, has_kind, history_fits, known, opening_fits, step_fits, unmade}
 use Rattle.book_law.proofs.Ordered.{copies_in_order, is_read}
@@ -264,13 +264,15 @@ came_output single p q w (Then u v came next) = came_output single p q u came
 
 next_applies : (single : Test) (p : Performs) (q : Computes) (fits_state : StateFits) (fits_args : ArgsFit) (fits_text : TextFits) (fits_reply : ReplyFits) (w v : Course) → Laws p q fits_state fits_args fits_text fits_reply → Came single p q w → Next single p q w v → AllApply single p fits_args w.list → AllApply single p fits_args v.list
 next_applies single p q fits_state fits_args fits_text fits_reply w v laws came (Submits j x m here free asks e) all = subst (λ (u : Course). AllApply single p fits_args u.list) (sym e) all
-next_applies single p q fits_state fits_args fits_text fits_reply w v laws came (Orders x r here out new may plain e) all =
+next_applies single p q fits_state fits_args fits_text fits_reply w v laws came (Orders x r here was new may plain e) all =
     let s = came_sound single p q w came in
-    subst (λ (u : Course). AllApply single p fits_args u.list) (sym e) (all_apply-push single p fits_args w.list x (applies_next single p q fits_state fits_args fits_text fits_reply w.list w.aside w.owned w.entered w.applied w.runners x r laws (came_output single p q w came) (record { runner = here; out = out; new = new; may = may }) s.kept) all)
+    let fresh = fresh_of single p q w x s may new in
+    subst (λ (u : Course). AllApply single p fits_args u.list) (sym e) (all_apply-push single p fits_args w.list x (applies_next single p q fits_state fits_args fits_text fits_reply w.list w.aside w.owned w.entered w.applied w.runners x r laws (came_output single p q w came) (record { runner = here; out = has_out single p q w x r s here was fresh; new = fresh; may = may }) s.kept) all)
 next_applies single p q fits_state fits_args fits_text fits_reply w v laws came (Forks x born member was new forks e) all =
     let s = came_sound single p q w came in
-    let h = pending w.entered w.runners w.asked x s.accounted was new in
-    subst (λ (u : Course). AllApply single p fits_args u.list) (sym e) (all_apply-push single p fits_args w.list x (applies_next single p q fits_state fits_args fits_text fits_reply w.list w.aside w.owned w.entered w.applied w.runners x h.0 laws (came_output single p q w came) (record { runner = h.1; out = h.2; new = new; may = fork_may single w.owned x.action born forks }) s.kept) all)
+    let fresh = fresh_of single p q w x s (fork_may single w.owned x.action born forks) new in
+    let h = pending w.entered w.runners w.asked x s.accounted was fresh in
+    subst (λ (u : Course). AllApply single p fits_args u.list) (sym e) (all_apply-push single p fits_args w.list x (applies_next single p q fits_state fits_args fits_text fits_reply w.list w.aside w.owned w.entered w.applied w.runners x h.0 laws (came_output single p q w came) (record { runner = h.1; out = h.2; new = fresh; may = fork_may single w.owned x.action born forks }) s.kept) all)
 next_applies single p q fits_state fits_args fits_text fits_reply w v laws came (Hears m y is e) all = subst (λ (u : Course). AllApply single p fits_args u.list) (sym e) all
 next_applies single p q fits_state fits_args fits_text fits_reply w v laws came (Reads_at j x n line here h e) all = subst (λ (u : Course). AllApply single p fits_args u.list) (sym e) all
 next_applies single p q fits_state fits_args fits_text fits_reply w v laws came (Takes_call i x r call t e) all = subst (λ (u : Course). AllApply single p fits_args u.list) (sym e) all
@@ -284,11 +286,11 @@ all_apply single p q fits_state fits_args fits_text fits_reply w laws (Then u v 
 -- ---- suspended calls on replicated objects
 
 -- each call that the copies behind this list suspend fits
-abbrev Queued : Test → Performs → ArgsFit → List Message → Type 0
+abbrev pub Queued : Test → Performs → ArgsFit → List Message → Type 0
 Queued single p fits_args list = (call : Suspended) → In call (after_all single p opening_copies list).queue
     → OperationFits fits_args (kinds_of (after_all single p opening_copies list).objects ++ counted single p list) (after_all single p opening_copies list).objects call.kind call.op call.object call.args
 
-queued_now : (single : Test) (p : Performs) (q : Computes) (fits_state : StateFits) (fits_args : ArgsFit) (fits_text : TextFits) (fits_reply : ReplyFits) (list : List Message) (aside : List Placed) (owned : List Single) (seen : List Message) (applied : ℕ → ℕ) (runners : ℕ → Option Runner) → Laws p q fits_state fits_args fits_text fits_reply
+pub queued_now : (single : Test) (p : Performs) (q : Computes) (fits_state : StateFits) (fits_args : ArgsFit) (fits_text : TextFits) (fits_reply : ReplyFits) (list : List Message) (aside : List Placed) (owned : List Single) (seen : List Message) (applied : ℕ → ℕ) (runners : ℕ → Option Runner) → Laws p q fits_state fits_args fits_text fits_reply
     → Kept single p q list aside owned seen applied runners → Queued single p fits_args list
 queued_now single p q fits_state fits_args fits_text fits_reply list aside owned seen applied runners laws k call inside =
     let c = after_lines p (opening q) (book single p list aside) in
@@ -311,9 +313,9 @@ queued_push single p fits_args list x now all n = ⊎_elim
 
 next_queued : (single : Test) (p : Performs) (q : Computes) (fits_state : StateFits) (fits_args : ArgsFit) (fits_text : TextFits) (fits_reply : ReplyFits) (w v : Course) → Laws p q fits_state fits_args fits_text fits_reply → Came single p q w → Next single p q w v → AllQueued single p fits_args w.list → AllQueued single p fits_args v.list
 next_queued single p q fits_state fits_args fits_text fits_reply w v laws came (Submits j x m here free asks e) all = subst (λ (u : Course). AllQueued single p fits_args u.list) (sym e) all
-next_queued single p q fits_state fits_args fits_text fits_reply w v laws came (Orders x r here out new may plain e) all =
+next_queued single p q fits_state fits_args fits_text fits_reply w v laws came (Orders x r here was new may plain e) all =
     let u = ordered single p w x r.member in
-    let s = next_keeps single p q w u (Orders x r here out new may plain refl) (came_sound single p q w came) in
+    let s = next_keeps single p q w u (Orders x r here was new may plain refl) (came_sound single p q w came) in
     subst (λ (u : Course). AllQueued single p fits_args u.list) (sym e) (queued_push single p fits_args w.list x (queued_now single p q fits_state fits_args fits_text fits_reply u.list u.aside u.owned u.entered u.applied u.runners laws s.kept) all)
 next_queued single p q fits_state fits_args fits_text fits_reply w v laws came (Forks x born member was new forks e) all =
     let u = forking single p w x born member in

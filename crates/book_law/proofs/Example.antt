@@ -157,7 +157,7 @@ it_came : Came single performs computes w14
 it_came =
     let c0 : Came single performs computes w0 = Opens 0 refl in
     let c1 : Came single performs computes w1 = Then w0 w1 c0 (Submits 0 (runner 0 0 [] 0 None None) (message 0 0 make refl) refl refl (record { process = refl; call = refl; next = refl }) refl) in
-    let c2 : Came single performs computes w2 = Then w1 w2 c1 (Orders (message 0 0 make refl) (runner 0 0 [] 0 (Some (message 0 0 make refl)) None) refl refl (λ h. h) (record { shared = λ o h. absurd h; unmade = λ o h i x is. absurd (cc is) }) refl refl) in
+    let c2 : Came single performs computes w2 = Then w1 w2 c1 (Orders (message 0 0 make refl) (runner 0 0 [] 0 (Some (message 0 0 make refl)) None) refl (inl refl) (λ h. h) (record { shared = λ o h. absurd h; unmade = λ o h i x is. absurd (cc is) }) refl refl) in
     let c3 : Came single performs computes w3 = Then w2 w3 c2 (Applies 0 (message 0 0 make refl) refl refl) in
     let c4 : Came single performs computes w4 = Then w3 w4 c3 (Submits 0 (runner 0 0 (answer.Done ∷ []) 1 None None) (message 0 1 fork refl) refl refl (record { process = refl; call = refl; next = refl }) refl) in
     let c5 : Came single performs computes w5 = Then w4 w5 c4 (Forks (message 0 1 fork refl) born 1 (inl refl) (not_in_one (message 0 1 fork refl) (message 0 0 make refl) (λ f. omega (arith, f))) refl refl) in

@@ -27,3 +27,4 @@ pub mod Replicated
 pub mod Example
 pub mod Resting
 pub mod WrongRules
+pub mod Stuck

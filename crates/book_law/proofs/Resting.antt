@@ -28,7 +28,7 @@ use Rattle.book_law.specs.Events.{Calls, In}
 use Rattle.book_law.proofs.Lists.{in_end, in_left, in_push}
 use Rattle.book_law.proofs.Objects.{in_first, in_second}
 use Rattle.book_law.proofs.Processes.{get_left, set_other, set_same}
-use Rattle.book_law.proofs.Courses.{came_sound}
+use Rattle.book_law.proofs.Courses.{EnteredFrom, came_sound}
 use Rattle.orca_base.specs.declared.ids.ObjectId.{ObjectId}
 
 -- a line of this call is among these
@@ -139,7 +139,7 @@ taken_others p owned aside n i x call other is (inr h) = inr (h.0, in_first h.0 
 
 next_taken : (single : Test) (p : Performs) (q : Computes) (w v : Course) → Next single p q w v → AllTaken single w → AllTaken single v
 next_taken single p q w v (Submits j x m here free asks e) all = subst (λ (u : Course). AllTaken single u) (sym e) all
-next_taken single p q w v (Orders x r here out new may plain e) all = subst (λ (u : Course). AllTaken single u) (sym e) (λ call h is. ⊎_elim
+next_taken single p q w v (Orders x r here was new may plain e) all = subst (λ (u : Course). AllTaken single u) (sym e) (λ call h is. ⊎_elim
     (λ u. more_owned w.owned (singles_by single p r.member (suc (length w.list)) x.action) w.aside call (all call u is))
     (λ u. let f : single call.object ≡ false = may.shared call.object (subst (λ (m : Message). Calls m.action call.object) u refl) in let g : true ≡ false = sym is ∙ f in absurd (cc g))
     (in_push (as_message call) x w.entered h))
@@ -158,35 +158,8 @@ all_taken single p q w (Then u v came next) = next_taken single p q u v next (al
 
 -- ---- what entered
 
--- a message is a call on a single object
-abbrev pub IsSingleCall : Test → Message → Type 0
-IsSingleCall single m = (call : Suspended) × (m ≡ as_message call) × (single call.object ≡ true)
-
-abbrev pub EnteredFrom : Test → Course → Type 0
-EnteredFrom single w = (m : Message) → In m w.entered → In m w.list ⊎ IsSingleCall single m
-
-pushed_from : (single : Test) (list entered : List Message) (x : Message) → ((m : Message) → In m entered → In m list ⊎ IsSingleCall single m) → (m : Message) → In m (entered ++ x ∷ []) → In m (list ++ x ∷ []) ⊎ IsSingleCall single m
-pushed_from single list entered x all m h = ⊎_elim
-    (λ u. ⊎_elim (λ v. inl (in_left m x list v)) (λ v. inr v) (all m u))
-    (λ u. inl (subst (λ (z : Message). In z (list ++ x ∷ [])) (sym u) (in_end x list)))
-    (in_push m x entered h)
-
-next_from : (single : Test) (p : Performs) (q : Computes) (w v : Course) → Next single p q w v → Came single p q w → EnteredFrom single w → EnteredFrom single v
-next_from single p q w v (Submits j x m here free asks e) came all = subst (λ (u : Course). EnteredFrom single u) (sym e) all
-next_from single p q w v (Orders x r here out new may plain e) came all = subst (λ (u : Course). EnteredFrom single u) (sym e) (pushed_from single w.list w.entered x all)
-next_from single p q w v (Forks x born member was new forks e) came all = subst (λ (u : Course). EnteredFrom single u) (sym e) (pushed_from single w.list w.entered x all)
-next_from single p q w v (Applies m y is e) came all = subst (λ (u : Course). EnteredFrom single u) (sym e) all
-next_from single p q w v (Reads_at j x n line here h e) came all = subst (λ (u : Course). EnteredFrom single u) (sym e) all
-next_from single p q w v (Takes_call i x r call t e) came all =
-    let s = came_sound single p q w came in
-    let k = s.kept in
-    let o = k.owns i x t.copy in
-    subst (λ (u : Course). EnteredFrom single u) (sym e) (λ m h. ⊎_elim (λ u. all m u) (λ u. inr (call, u, ap single t.object ∙ o.is)) (in_push m (as_message call) w.entered h))
-next_from single p q w v (Hears_answer j x r here has le e) came all = subst (λ (u : Course). EnteredFrom single u) (sym e) all
-
 pub entered_from : (single : Test) (p : Performs) (q : Computes) (w : Course) → Came single p q w → EnteredFrom single w
-entered_from single p q w (Opens member shared) = λ m h. absurd h
-entered_from single p q w (Then u v came next) = next_from single p q u v next came (entered_from single p q u came)
+entered_from single p q w came = let s = came_sound single p q w came in s.from
 
 -- so a message that calls no single object and isn't in the list hasn't entered
 pub not_entered : (single : Test) (p : Performs) (q : Computes) (w : Course) (x : Message) → Came single p q w → ((o : ObjectId) → Calls x.action o → single o ≡ false) → (In x w.list → ⊥) → In x w.entered → ⊥

@@ -1,10 +1,10 @@
 -- The course of a run: a list of messages that grows at its end, members that apply it, processes that submit and read, owners that
 -- take calls on single copies, in any order of events.
 --
--- It rests on four facts of the group's agreement, which are premises of its events: the list grows only at its end (`Orders`,
--- `Forks`); what a member applies as its entry n + 1 is the list's (`Applies`); an entry was submitted, and is the message that its
--- process has out (`Orders`, `Forks`); and no message stands in the list twice (`new` of both). That accepted entries are never moved
--- is why these hold across resets. Nothing is said of packets, of members that crash, or of what happens in the end.
+-- It uses four facts of the group's agreement, which stand in its events: the list grows only at its end (`Orders`, `Forks`); what a
+-- member applies as its entry n + 1 is the list's (`Applies`); an entry was submitted, and a message stands in the list once (the
+-- premises of `Orders` and `Forks`). They hold across resets, since accepted entries are never moved. Nothing is said of packets, of
+-- members that crash, or of what happens in the end.
 use Rattle.std.specs.Prelude.{◌≡◌, ℕ, suc, ◌==◌, ◌≤◌, false, List, [], ◌∷◌, ◌++◌, length, Option, Some, None, slice_get, slice_set, option_map, if◌then◌else◌}
 use Rattle.orca_base.specs.declared.ids.ObjectId.{ObjectId}
 use Rattle.value_core.specs.Datum as datum
@@ -112,13 +112,13 @@ pub data Next (single : Test) (p : Performs) (q : Computes) (w v : Course) : Typ
   Submits :
       (j : ℕ) (x : Runner) (m : Message) → w.runners j ≡ Some x → x.message ≡ None → Asks q j x m → v ≡ submitted w j x m →
       Next single p q w v
-  -- the message that a process has out, and that is no fork, is the next entry
+  -- a message that was submitted, that the list lacks, and that is no fork, is the next entry
   Orders :
-      (x : Message) (r : Runner) → w.runners x.process.0 ≡ Some r → r.message ≡ Some x → (In x w.entered → ⊥) →
+      (x : Message) (r : Runner) → w.runners x.process.0 ≡ Some r → In x w.asked → (In x w.list → ⊥) →
       MayOrder single w.owned x.action → forked x.action ≡ [] → v ≡ ordered single p w x r.member → Next single p q w v
-  -- a fork that was submitted is the next entry
+  -- so is a fork
   Forks :
-      (x : Message) (born : Process) (member : ℕ) → In x w.asked → (In x w.entered → ⊥) → forked x.action ≡ born ∷ [] →
+      (x : Message) (born : Process) (member : ℕ) → In x w.asked → (In x w.list → ⊥) → forked x.action ≡ born ∷ [] →
       v ≡ forking single p w x born member → Next single p q w v
   -- a member applies its next entry
   Applies : (m : ℕ) (y : Message) → slice_get w.list (w.applied m) ≡ Some y → v ≡ applying single p w m y → Next single p q w v

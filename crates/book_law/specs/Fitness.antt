@@ -1,6 +1,6 @@
 -- What calls on copies ask, and that every run of a lawful program meets it: the conditions of `apply`, `pass_make`, `read` and
 -- `call_single` (docs/RUNTIME.md, One member's copies).
-use Rattle.std.specs.Prelude.{◌≡◌, ◌⊎◌, ◌≤◌, true, false, ℕ, List, Some, None, slice_get}
+use Rattle.std.specs.Prelude.{◌≡◌, ◌⊎◌, ◌≤◌, true, false, ℕ, List, length, Some, None, slice_get}
 use Rattle.orca_base.specs.declared.ids.KindNo.{KindNo}
 use Rattle.orca_base.specs.declared.ids.OpNo.{OpNo}
 use Rattle.orca_base.specs.declared.ids.ProcessNo.{ProcessNo}
@@ -10,16 +10,18 @@ use Rattle.value_core.specs.Fits.{Kinds}
 use Rattle.value_core.specs.declared.message.Message.{Message}
 use Rattle.value_core.specs.declared.action.Action.TheVariants as action
 use Rattle.value_core.specs.declared.meaning.Doing.TheVariants as doing
+use Rattle.value_core.specs.declared.meaning.Tried.TheVariants as tried
 use Rattle.value_core.specs.Meaning.{Performs, Computes}
-use Rattle.value_core.specs.History.{most_turns}
+use Rattle.value_core.specs.History.{IsStuck, most_turns}
 use Rattle.guard_queue.specs.Fitting.{Fitting}
+use Rattle.guard_queue.specs.Settles.{tried_on}
 use Rattle.guard_queue.specs.declared.queue.Suspended.{Suspended}
 use Rattle.object_manager.specs.After.{Copied}
 use Rattle.object_manager.specs.Applies.{Applies}
 use Rattle.object_manager.specs.Singles.{kinds_at}
 use Rattle.object_manager.specs.Viewed.{ReadFits}
 use Rattle.book_law.specs.Passes.{Test}
-use Rattle.book_law.specs.Book.{copies_at}
+use Rattle.book_law.specs.Book.{book, copies_at}
 use Rattle.book_law.specs.Course.{Came, Course}
 use Rattle.book_law.specs.Events.{In, Makes, Runner}
 use Rattle.book_law.specs.Singles.{Single}
@@ -90,3 +92,19 @@ pub record Callable (single : Test) (p : Performs) (q : Computes) (fits_state : 
 abbrev pub CallsFit : Performs → Computes → StateFits → ArgsFit → Type 0
 CallsFit p q fits_state fits_args =
     (single : Test) (w : Course) → Came single p q w → Callable single p q fits_state fits_args w
+
+-- who is stuck where the list is whole and every answer was heard: a process whose message entered, at a member that applied the
+-- whole list; and one whose next call is a read that is blocked on the copies after the whole list
+pub record StuckAtEnd (single : Test) (p : Performs) (q : Computes) (w : Course) : Type 0 where
+  pub waits :
+      (number : ProcessNo) (x : Runner) (m : Message) → w.runners number.0 ≡ Some x → x.message ≡ Some m → In m w.entered →
+      x.answer ≡ None → length w.list ≤ w.applied x.member → IsStuck p q (book single p w.list w.aside) number
+  pub reads :
+      (number : ProcessNo) (x : Runner) (kind : KindNo) (op : OpNo) (object : ObjectId) (args : Data) →
+      w.runners number.0 ≡ Some x → x.message ≡ None → single object ≡ false → CallsNext q number x kind op object args →
+      tried_on p (copies_at single p w.list (length w.list)).objects kind op object args ≡ tried.Blocked →
+      IsStuck p q (book single p w.list w.aside) number
+
+-- so it is in every run, whichever objects are single
+abbrev pub EndsStuck : Performs → Computes → Type 0
+EndsStuck p q = (single : Test) (w : Course) → Came single p q w → StuckAtEnd single p q w

@@ -4,14 +4,14 @@
 //! list stand the reads of replicated objects and the calls on single ones, which one member keeps. A run is a course of events
 //! (specs/Course.antt): the list grows, members apply it, processes submit and read, owners take calls. Of the group it uses four
 //! facts of agreement: the list grows only at its end; what a member applies as its entry n + 1 is the list's; an entry was
-//! submitted, and is what its process has out; no message stands in the list twice.
+//! submitted; no message stands in the list twice.
 //!
 //! The floor above uses `book_law` and `every_call_fits`, of any course of events that it is a run of. It stands on the
 //! definitions of `value_core`, `guard_queue` and `object_manager` alone, and its one code is the sort by place. Nothing of packets
 //! or crashes stands in it, nor that anything happens in the end.
 #![tactic(auto)]
 
-ghost use Rattle.book_law.specs.Fitness.{CallsFit};
+ghost use Rattle.book_law.specs.Fitness.{CallsFit, EndsStuck};
 ghost use Rattle.book_law.specs.Wrong.{WrongRules};
 ghost use Rattle.book_law.specs.Promise.{CopiesFollow, EntriesStand, LegalBook, RepliesBegin, RepliesReceived, SinglesFollow};
 
@@ -39,9 +39,15 @@ pub fn book_law()
     ensures wrong_rules { WrongRules }
 {}
 
-/// In every run of a lawful program each entry may be applied, or passed, at the copies that it meets, what these and the single
-/// copies hold fits, and a process's next call may be tried at each number of entries from its process's place on: on a view, or on
-/// the single copy, which is there. It rests on the laws of the two traits alone. A call of this function does nothing.
+/// In every run of a lawful program:
+///
+/// - `calls`: each entry may be applied, or passed, at the copies that it meets, what these and the single copies hold fits, and a
+///   process's next call may be tried at each number of entries from its process's place on: on a view, or on the single copy, which
+///   is there.
+/// - `stuck`: where the list is whole and every answer was heard, a process is stuck whose message entered or whose read is blocked.
+///
+/// It rests on the laws of the two traits alone. A call of this function does nothing.
 pub fn every_call_fits<P: Processor>(program: &P)
-    ensures { CallsFit (P.performs program.now) (P.computes program.now) (P.fits_state program.now) (P.fits_args program.now) }
+    ensures calls { CallsFit (P.performs program.now) (P.computes program.now) (P.fits_state program.now) (P.fits_args program.now) }
+    ensures stuck { EndsStuck (P.performs program.now) (P.computes program.now) }
 {}
