@@ -9,6 +9,7 @@ use Rattle.value_core.specs.declared.action.Reply.TheVariants as answer
 use Rattle.value_core.specs.declared.action.Reply.{Reply}
 use Rattle.object_manager.specs.After.{opening_copies}
 use Rattle.book_law.specs.Cell.{at_first, call, cell, computes, fork, kind, line, make, message, performs, single, suspended}
+use Rattle.book_law.specs.Example.{IsRun, born, first_line, opened, make_submitted, make_ordered, make_applied, fork_submitted, fork_ordered, fork_applied, wait_submitted, wait_taken, make_followed, fork_followed, mark_submitted, mark_taken, mark_heard, wait_heard, runner, second_line}
 use Rattle.book_law.specs.Passes.{after_all, counted}
 use Rattle.book_law.specs.Performed.{placed}
 use Rattle.book_law.specs.Singles.{after_on, lines_on, singles_by}
@@ -77,65 +78,6 @@ its_own_book = refl
 
 -- ---- that run, from event to event: process 1 calls as its first action
 
-abbrev born : Process
-born = record { text = record { 0 = 1 }; args = datum.none; replies = [] }
-
-abbrev runner : ℕ → ℕ → List Reply → ℕ → Option Message → Option Placed → Runner
-runner member text replies place out answer = record { member = member; text = record { 0 = text }; args = datum.none; replies = replies; place = place; message = out; answer = answer }
-
-abbrev w0 : Course
-w0 = opening_course computes 0
-
-abbrev w1 : Course
-w1 = submitted w0 0 (runner 0 0 [] 0 None None) (message 0 0 make refl)
-
-abbrev w2 : Course
-w2 = ordered single performs w1 (message 0 0 make refl) 0
-
-abbrev w3 : Course
-w3 = applying single performs w2 0 (message 0 0 make refl)
-
-abbrev w4 : Course
-w4 = submitted w3 0 (runner 0 0 (answer.Done ∷ []) 1 None None) (message 0 1 fork refl)
-
-abbrev w5 : Course
-w5 = forking single performs w4 (message 0 1 fork refl) born 1
-
-abbrev w6 : Course
-w6 = applying single performs w5 0 (message 0 1 fork refl)
-
-abbrev w7 : Course
-w7 = submitted w6 0 (runner 0 0 (answer.Done ∷ answer.Done ∷ []) 2 None None) (message 0 2 (call 1) refl)
-
--- the owner takes the first call, which waits
-abbrev w8 : Course
-w8 = taking performs w7 0 at_first (suspended 0 2 1)
-
-abbrev w9 : Course
-w9 = applying single performs w8 1 (message 0 0 make refl)
-
-abbrev w10 : Course
-w10 = applying single performs w9 1 (message 0 1 fork refl)
-
-abbrev w11 : Course
-w11 = submitted w10 1 (runner 1 1 [] 2 None None) (message 1 0 (call 0) refl)
-
--- and then the second, which lets it run
-abbrev w12 : Course
-w12 = taking performs w11 0 (after_on performs at_first (suspended 0 2 1)) (suspended 1 0 0)
-
-abbrev first_line : Placed
-first_line = record { place = 2; line = line 1 0 (call 0) 0 }
-
-abbrev second_line : Placed
-second_line = record { place = 2; line = line 0 2 (call 1) 1 }
-
-abbrev w13 : Course
-w13 = hearing w12 1 (runner 1 1 [] 2 (Some (message 1 0 (call 0) refl)) (Some first_line)) first_line
-
-abbrev w14 : Course
-w14 = hearing w13 0 (runner 0 0 (answer.Done ∷ answer.Done ∷ []) 2 (Some (message 0 2 (call 1) refl)) (Some second_line)) second_line
-
 other_call : (m y : Message) → (m.call.0 ≡ y.call.0 → ⊥) → m ≡ y → ⊥
 other_call m y apart e = apart (ap (λ (x : Message). x.call.0) e)
 
@@ -153,28 +95,29 @@ its_entered h = ⊎_elim (λ e. other_process (message 1 0 (call 0) refl) (messa
     (λ u. not_in_two (message 1 0 (call 0) refl) (message 0 1 fork refl) (message 0 2 (call 1) refl) (λ f. omega (arith, f)) (λ f. omega (arith, f)) u) h
 
 -- it is a run
-it_came : Came single performs computes w14
+it_came : Came single performs computes wait_heard
 it_came =
-    let c0 : Came single performs computes w0 = Opens 0 refl in
-    let c1 : Came single performs computes w1 = Then w0 w1 c0 (Submits 0 (runner 0 0 [] 0 None None) (message 0 0 make refl) refl refl (record { process = refl; call = refl; next = refl }) refl) in
-    let c2 : Came single performs computes w2 = Then w1 w2 c1 (Orders (message 0 0 make refl) (runner 0 0 [] 0 (Some (message 0 0 make refl)) None) refl (inl refl) (λ h. h) (record { shared = λ o h. absurd h; unmade = λ o h i x is. absurd (cc is) }) refl refl) in
-    let c3 : Came single performs computes w3 = Then w2 w3 c2 (Applies 0 (message 0 0 make refl) refl refl) in
-    let c4 : Came single performs computes w4 = Then w3 w4 c3 (Submits 0 (runner 0 0 (answer.Done ∷ []) 1 None None) (message 0 1 fork refl) refl refl (record { process = refl; call = refl; next = refl }) refl) in
-    let c5 : Came single performs computes w5 = Then w4 w5 c4 (Forks (message 0 1 fork refl) born 1 (inl refl) (not_in_one (message 0 1 fork refl) (message 0 0 make refl) (λ f. omega (arith, f))) refl refl) in
-    let c6 : Came single performs computes w6 = Then w5 w6 c5 (Applies 0 (message 0 1 fork refl) refl refl) in
-    let c7 : Came single performs computes w7 = Then w6 w7 c6 (Submits 0 (runner 0 0 (answer.Done ∷ answer.Done ∷ []) 2 None None) (message 0 2 (call 1) refl) refl refl (record { process = refl; call = refl; next = refl }) refl) in
-    let c8 : Came single performs computes w8 = Then w7 w8 c7 (Takes_call 0 at_first (runner 0 0 (answer.Done ∷ answer.Done ∷ []) 2 (Some (message 0 2 (call 1) refl)) None) (suspended 0 2 1)
+    let to_opened : Came single performs computes opened = Opens 0 refl in
+    let to_make_submitted : Came single performs computes make_submitted = Then opened make_submitted to_opened (Submits 0 (runner 0 0 [] 0 None None) (message 0 0 make refl) refl refl (record { process = refl; call = refl; next = refl }) refl) in
+    let to_make_ordered : Came single performs computes make_ordered = Then make_submitted make_ordered to_make_submitted (Orders (message 0 0 make refl) (runner 0 0 [] 0 (Some (message 0 0 make refl)) None) refl (inl refl) (λ h. h) (record { shared = λ o h. absurd h; unmade = λ o h i x is. absurd (cc is) }) refl refl) in
+    let to_make_applied : Came single performs computes make_applied = Then make_ordered make_applied to_make_ordered (Applies 0 (message 0 0 make refl) refl refl) in
+    let to_fork_submitted : Came single performs computes fork_submitted = Then make_applied fork_submitted to_make_applied (Submits 0 (runner 0 0 (answer.Done ∷ []) 1 None None) (message 0 1 fork refl) refl refl (record { process = refl; call = refl; next = refl }) refl) in
+    let to_fork_ordered : Came single performs computes fork_ordered = Then fork_submitted fork_ordered to_fork_submitted (Forks (message 0 1 fork refl) born 1 (inl refl) (not_in_one (message 0 1 fork refl) (message 0 0 make refl) (λ f. omega (arith, f))) refl refl) in
+    let to_fork_applied : Came single performs computes fork_applied = Then fork_ordered fork_applied to_fork_ordered (Applies 0 (message 0 1 fork refl) refl refl) in
+    let to_wait_submitted : Came single performs computes wait_submitted = Then fork_applied wait_submitted to_fork_applied (Submits 0 (runner 0 0 (answer.Done ∷ answer.Done ∷ []) 2 None None) (message 0 2 (call 1) refl) refl refl (record { process = refl; call = refl; next = refl }) refl) in
+    let to_wait_taken : Came single performs computes wait_taken = Then wait_submitted wait_taken to_wait_submitted (Takes_call 0 at_first (runner 0 0 (answer.Done ∷ answer.Done ∷ []) 2 (Some (message 0 2 (call 1) refl)) None) (suspended 0 2 1)
     (record { copy = refl; runner = refl; out = refl; new = not_in_two (message 0 2 (call 1) refl) (message 0 0 make refl) (message 0 1 fork refl) (λ f. omega (arith, f)) (λ f. omega (arith, f)); object = refl; kept = omega arith; after = omega arith }) refl) in
-    let c9 : Came single performs computes w9 = Then w8 w9 c8 (Applies 1 (message 0 0 make refl) refl refl) in
-    let c10 : Came single performs computes w10 = Then w9 w10 c9 (Applies 1 (message 0 1 fork refl) refl refl) in
-    let c11 : Came single performs computes w11 = Then w10 w11 c10 (Submits 1 (runner 1 1 [] 2 None None) (message 1 0 (call 0) refl) refl refl (record { process = refl; call = refl; next = refl }) refl) in
-    let c12 : Came single performs computes w12 = Then w11 w12 c11 (Takes_call 0 (after_on performs at_first (suspended 0 2 1)) (runner 1 1 [] 2 (Some (message 1 0 (call 0) refl)) None) (suspended 1 0 0)
+    let to_make_followed : Came single performs computes make_followed = Then wait_taken make_followed to_wait_taken (Applies 1 (message 0 0 make refl) refl refl) in
+    let to_fork_followed : Came single performs computes fork_followed = Then make_followed fork_followed to_make_followed (Applies 1 (message 0 1 fork refl) refl refl) in
+    let to_mark_submitted : Came single performs computes mark_submitted = Then fork_followed mark_submitted to_fork_followed (Submits 1 (runner 1 1 [] 2 None None) (message 1 0 (call 0) refl) refl refl (record { process = refl; call = refl; next = refl }) refl) in
+    let to_mark_taken : Came single performs computes mark_taken = Then mark_submitted mark_taken to_mark_submitted (Takes_call 0 (after_on performs at_first (suspended 0 2 1)) (runner 1 1 [] 2 (Some (message 1 0 (call 0) refl)) None) (suspended 1 0 0)
     (record { copy = refl; runner = refl; out = refl; new = its_entered; object = refl; kept = omega arith; after = omega arith }) refl) in
-    let c13 : Came single performs computes w13 = Then w12 w13 c12 (Hears_answer 1 (runner 1 1 [] 2 (Some (message 1 0 (call 0) refl)) (Some first_line)) first_line refl refl (omega arith) refl) in
-    Then w13 w14 c13 (Hears_answer 0 (runner 0 0 (answer.Done ∷ answer.Done ∷ []) 2 (Some (message 0 2 (call 1) refl)) (Some second_line)) second_line refl refl (omega arith) refl)
+    let to_mark_heard : Came single performs computes mark_heard = Then mark_taken mark_heard to_mark_taken (Hears_answer 1 (runner 1 1 [] 2 (Some (message 1 0 (call 0) refl)) (Some first_line)) first_line refl refl (omega arith) refl) in
+    Then mark_heard wait_heard to_mark_heard (Hears_answer 0 (runner 0 0 (answer.Done ∷ answer.Done ∷ []) 2 (Some (message 0 2 (call 1) refl)) (Some second_line)) second_line refl refl (omega arith) refl)
 
-its_run_book : book single performs w14.list w14.aside ≡ line 0 0 make 0 ∷ line 0 1 fork 0 ∷ line 1 0 (call 0) 0 ∷ line 0 2 (call 1) 1 ∷ []
-its_run_book = refl
+-- and so it has a book
+pub is_run : IsRun
+is_run = record { came = it_came; book = refl }
 
-its_promise : Promised single performs computes w14.list w14.aside w14.owned w14.applied w14.runners
-its_promise = every_run single performs computes w14 it_came
+its_promise : Promised single performs computes wait_heard.list wait_heard.aside wait_heard.owned wait_heard.applied wait_heard.runners
+its_promise = every_run single performs computes wait_heard it_came

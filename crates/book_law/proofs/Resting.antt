@@ -21,6 +21,7 @@ use Rattle.book_law.specs.Book.{Placed}
 use Rattle.book_law.specs.Passes.{Test}
 use Rattle.book_law.specs.Performed.{placed}
 use Rattle.book_law.specs.Singles.{Single, after_on, alone, as_message, lines_on, singles_by}
+use Rattle.book_law.specs.Promise.{EnteredStands, IsTaken}
 use Rattle.book_law.specs.Course.{Came, Course, Next}
 use Rattle.book_law.specs.Course.Next.{Submits, Orders, Forks, Applies, Reads_at, Takes_call, Hears_answer}
 use Rattle.book_law.specs.Course.Came.{Opens, Then}
@@ -85,12 +86,6 @@ on_rests p x call other h =
     subst (λ (t : Settling). Rests other t) whole (settled_rests p (length s.queue) s other h)
 
 -- ---- every run
-
--- the call waits on a single copy, or its line is among what was performed beside the list
-abbrev pub IsTaken : List Single → List Placed → Suspended → Type 0
-IsTaken owned aside call =
-    ((i : ℕ) × (x : Single) × (slice_get owned i ≡ Some x) × In call x.queue)
-    ⊎ ((r : Placed) × In r aside × (r.line.process ≡ call.process) × (r.line.call ≡ call.call))
 
 abbrev pub AllTaken : Test → Course → Type 0
 AllTaken single w = (call : Suspended) → In (as_message call) w.entered → single call.object ≡ true → IsTaken w.owned w.aside call
@@ -166,3 +161,9 @@ pub not_entered : (single : Test) (p : Performs) (q : Computes) (w : Course) (x 
 not_entered single p q w x came shared new h = ⊎_elim (λ u. new u)
     (λ u. let f : single u.0.object ≡ false = shared u.0.object (subst (λ (m : Message). Calls m.action u.0.object) (sym u.1) refl) in let g : true ≡ false = sym u.2 ∙ f in absurd (cc g))
     (entered_from single p q w came x h)
+
+-- a message that entered is in the list, or it is a call that waits on a single copy or was performed on it
+pub entered_stands : EnteredStands
+entered_stands single p q w came m h = ⊎_elim (λ u. inl u)
+    (λ u. inr (u.0, u.1, u.2, all_taken single p q w came u.0 (subst (λ (z : Message). In z w.entered) u.1 h) u.2))
+    (entered_from single p q w came m h)

@@ -7,4 +7,5 @@ pub mod Course
 pub mod Promise
 pub mod Fitness
 pub mod Cell
+pub mod Example
 pub mod Wrong

@@ -1,17 +1,18 @@
 -- What is promised of every run: its book is legal, and its copies and replies are the book's.
-use Rattle.std.specs.Prelude.{◌≡◌, ℕ, ◌≤◌, false, List, ◌++◌, length, Some, None, slice_get}
+use Rattle.std.specs.Prelude.{◌≡◌, ℕ, ◌≤◌, ◌⊎◌, true, false, List, ◌++◌, length, Some, None, slice_get}
 use Rattle.orca_base.specs.declared.ids.ObjectId.{ObjectId}
 use Rattle.value_core.specs.declared.action.Line.{Line}
 use Rattle.value_core.specs.declared.action.Reply.{Reply}
 use Rattle.value_core.specs.declared.message.Message.{Message}
 use Rattle.value_core.specs.Meaning.{Performs, Computes}
 use Rattle.value_core.specs.History.{Legal, object_at, objects_of, processes_of, replies_of}
+use Rattle.guard_queue.specs.declared.queue.Suspended.{Suspended}
 use Rattle.object_manager.specs.After.{Copied}
-use Rattle.book_law.specs.Book.{book, copies_at, up_to}
+use Rattle.book_law.specs.Book.{Placed, book, copies_at, up_to}
 use Rattle.book_law.specs.Course.{Came, Course}
-use Rattle.book_law.specs.Events.{Runner}
+use Rattle.book_law.specs.Events.{In, Runner}
 use Rattle.book_law.specs.Passes.{Test, after, entry}
-use Rattle.book_law.specs.Singles.{Single}
+use Rattle.book_law.specs.Singles.{Single, as_message}
 
 -- the copies have what a history left: each replicated object, and the number of processes
 pub record Follows (single : Test) (p : Performs) (q : Computes) (lines : List Line) (c : Copied) : Type 0 where
@@ -50,6 +51,19 @@ RepliesReceived =
     (single : Test) (p : Performs) (q : Computes) (w : Course) → Came single p q w →
     (j : ℕ) (x : Runner) → w.runners j ≡ Some x → x.answer ≡ None →
     replies_of p q (up_to single p w.list w.aside (w.applied x.member)) j ≡ x.replies
+
+-- the call waits on a single copy, or its line stands beside the list
+abbrev pub IsTaken : List Single → List Placed → Suspended → Type 0
+IsTaken owned aside call =
+    ((i : ℕ) × (x : Single) × (slice_get owned i ≡ Some x) × In call x.queue)
+    ⊎ ((r : Placed) × In r aside × (r.line.process ≡ call.process) × (r.line.call ≡ call.call))
+
+-- a message that entered is in the list, or it is a call on a single object that waits on its copy or was performed there. So an
+-- owner that takes no call again that waits or that it performed takes none twice
+abbrev pub EnteredStands : Type 0
+EnteredStands =
+    (single : Test) (p : Performs) (q : Computes) (w : Course) → Came single p q w → (m : Message) → In m w.entered →
+    In m w.list ⊎ ((call : Suspended) × (m ≡ as_message call) × (single call.object ≡ true) × IsTaken w.owned w.aside call)
 
 -- the copies after an entry are those after a make of a single object that is kept elsewhere, or after an entry that is applied
 abbrev pub EntriesStand : Type 0

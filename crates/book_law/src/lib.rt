@@ -12,8 +12,10 @@
 #![tactic(auto)]
 
 ghost use Rattle.book_law.specs.Fitness.{CallsFit, EndsStuck};
+ghost use Rattle.book_law.specs.Example.{IsRun};
+ghost use Rattle.book_law.specs.Promise.{CopiesFollow, EnteredStands, EntriesStand, LegalBook};
+ghost use Rattle.book_law.specs.Promise.{RepliesBegin, RepliesReceived, SinglesFollow};
 ghost use Rattle.book_law.specs.Wrong.{WrongRules};
-ghost use Rattle.book_law.specs.Promise.{CopiesFollow, EntriesStand, LegalBook, RepliesBegin, RepliesReceived, SinglesFollow};
 
 mod placing;
 
@@ -28,6 +30,8 @@ use value_core::Processor;
 /// - `replies`: the replies that a process received begin the book's, and are short of them by at most one.
 /// - `received`: where no answer of a single copy is on the way, they are exactly the book's up to the member's number.
 /// - `entries`: an entry leaves copies as `object_manager` says: after a make that passes, or applied.
+/// - `entered`: a message that entered is in the list, or is a call that waits on a single copy or was performed there.
+/// - `run`: a run of a small program, event by event, with its book.
 /// - `wrong_rules`: six wrong rules make a book of a computed run that is no history, or a single copy that isn't its object.
 pub fn book_law()
     ensures legal { LegalBook }
@@ -36,6 +40,8 @@ pub fn book_law()
     ensures replies { RepliesBegin }
     ensures received { RepliesReceived }
     ensures entries { EntriesStand }
+    ensures entered { EnteredStands }
+    ensures run { IsRun }
     ensures wrong_rules { WrongRules }
 {}
 

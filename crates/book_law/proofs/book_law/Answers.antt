@@ -1,6 +1,8 @@
 use Rattle.book_law.proofs.book_law.Goals as goal
 use Rattle.book_law.proofs.Courses.{every_run}
+use Rattle.book_law.proofs.Example.{is_run}
 use Rattle.book_law.proofs.Replicated.{entries_stand}
+use Rattle.book_law.proofs.Resting.{entered_stands}
 use Rattle.book_law.proofs.WrongRules.{wrong_rules}
 
 pub returns : goal.returns
@@ -11,5 +13,7 @@ returns c = record {
   replies = λ single p q w came. let h = every_run single p q w came in h.replies;
   received = λ single p q w came. let h = every_run single p q w came in h.received;
   entries = entries_stand;
+  entered = entered_stands;
+  run = is_run;
   wrong_rules = wrong_rules;
 }
