@@ -27,4 +27,5 @@ pub mod Replicated
 pub mod Example
 pub mod Resting
 pub mod WrongRules
+pub mod Owners
 pub mod Stuck

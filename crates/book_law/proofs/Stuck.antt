@@ -17,10 +17,8 @@ use Rattle.value_core.specs.declared.meaning.Tried.TheVariants as tried
 use Rattle.value_core.specs.Meaning.{Performs, Computes}
 use Rattle.value_core.specs.History.{IsStuck, Objects, object_at}
 use Rattle.guard_queue.specs.declared.queue.Suspended.{Suspended}
-use Rattle.guard_queue.specs.Fitting.{kind_at}
 use Rattle.guard_queue.specs.Settles.{AllBlocked, Settling, settled_from, tried_by, tried_in}
 use Rattle.guard_queue.proofs.Blocked.{at_place, from_places, settled_blocked}
-use Rattle.guard_queue.proofs.KindsAt.{settled_keeps, with_keeps}
 use Rattle.object_manager.specs.After.{Copied, acted, after as after_applied, called, opening_copies}
 use Rattle.object_manager.specs.Singles.{after_passed, after_single, side}
 use Rattle.book_law.specs.Passes.{Test, after, after_all, is_passed}
@@ -33,11 +31,9 @@ use Rattle.book_law.specs.Events.{In, Runner}
 use Rattle.book_law.specs.Fitness.{ArgsFit, Callable, StateFits, StuckAtEnd}
 use Rattle.book_law.proofs.Fits.{Laws, ReplyFits, TextFits}
 use Rattle.book_law.proofs.Kept.{Kept}
-use Rattle.book_law.proofs.Lists.{in_at}
+use Rattle.book_law.proofs.Owners.{there_after}
 use Rattle.book_law.proofs.Processes.{set_same}
 use Rattle.book_law.proofs.Books.{copies_all}
-use Rattle.book_law.proofs.Fitting.{has_kind}
-use Rattle.book_law.proofs.Typed.{at_itself}
 use Rattle.book_law.proofs.Taking.{set_cases}
 use Rattle.book_law.proofs.Courses.{came_sound, next_keeps}
 use Rattle.book_law.proofs.Calls.{every_call, queued_now}
@@ -70,42 +66,14 @@ in_place x (y ∷ xs) (inr h) = let r = in_place x xs h in (suc r.0, r.1)
 abbrev CopyBlocked : Performs → Single → Type 0
 CopyBlocked p x = (call : Suspended) → In call x.queue → p.tries call.kind call.op x.kept.state call.args ≡ tried.Blocked
 
-called_kind : (c : Copied) (call : Suspended) (t : Tried) (q : ObjectId) → kind_at (called c call t).objects q ≡ kind_at c.objects q
-called_kind c call tried.Blocked q = refl
-called_kind c call (tried.Did guard state reply) q = with_keeps c.objects call (tried.Did guard state reply) q
-called_kind c call (tried.Broke guard fault) q = with_keeps c.objects call (tried.Broke guard fault) q
-
 on_blocked : (p : Performs) (x : Single) (call : Suspended) → ((other : Suspended) → In other (after_on p x call).queue → other.object ≡ x.object) → CopyBlocked p (after_on p x call)
 on_blocked p x call its other inside =
-    sym (ap (λ (k : Instance). p.tries other.kind other.op k.state other.args) kept_is) ∙ sym (ap (tried_by p other.kind other.op other.args) (ap (object_at left) (its other inside) ∙ there.1)) ∙ blocked
-  where
-    here : Copied
-    here = side (alone x)
-
-    s : Settling
-    s = called here call (tried_in p here.objects call)
-
-    first : Settling
-    first = record { objects = s.objects; queue = s.queue; lines = [] }
-
-    left : Objects
-    left = (after_single p (alone x) (as_message call)).own
-
-    kinds : kind_at left x.object ≡ Some x.kept.kind
-    kinds = settled_keeps p (length s.queue) first x.object ∙ called_kind here call (tried_in p here.objects call) x.object ∙ ap (λ (o : Option Instance). kind_of o) (at_itself [] x.object x.kept)
-      where
-        kind_of : Option Instance → Option KindNo
-        kind_of None = None
-        kind_of (Some kept) = Some kept.kind
-
-    there : (kept : Instance) × (object_at left x.object ≡ Some kept) × (kept.kind ≡ x.kept.kind)
-    there = has_kind (object_at left x.object) x.kept.kind kinds
-
-    kept_is : there.0 ≡ (after_on p x call).kept
-    kept_is = sym (ap (λ (o : Option Instance). kept_or o x.kept) there.1)
-
-    blocked : tried_in p left other ≡ tried.Blocked
-    blocked = let r = in_place other (after_on p x call).queue inside in at_place p left (after_on p x call).queue (settled_blocked p first) r.0 other r.1
+    let here = side (alone x) in
+    let s = called here call (tried_in p here.objects call) in
+    let left = (after_single p (alone x) (as_message call)).own in
+    let r = in_place other (after_on p x call).queue inside in
+    let blocked : tried_in p left other ≡ tried.Blocked = at_place p left (after_on p x call).queue (settled_blocked p (record { objects = s.objects; queue = s.queue; lines = [] })) r.0 other r.1 in
+    sym (ap (tried_by p other.kind other.op other.args) (ap (object_at left) (its other inside) ∙ there_after p x call)) ∙ blocked
 
 -- ---- in every run
 

@@ -83,7 +83,8 @@ abbrev pub mark_heard : Course
 mark_heard = hearing mark_taken 1 (runner 1 1 [] 2 (Some (message 1 0 (call 0) refl)) (Some first_line)) first_line
 
 abbrev pub wait_heard : Course
-wait_heard = hearing mark_heard 0 (runner 0 0 (answer.Done ∷ answer.Done ∷ []) 2 (Some (message 0 2 (call 1) refl)) (Some second_line)) second_line
+wait_heard =
+    hearing mark_heard 0 (runner 0 0 (answer.Done ∷ answer.Done ∷ []) 2 (Some (message 0 2 (call 1) refl)) (Some second_line)) second_line
 
 abbrev pub run_lines : List Line
 run_lines = line 0 0 make 0 ∷ line 0 1 fork 0 ∷ line 1 0 (call 0) 0 ∷ line 0 2 (call 1) 1 ∷ []

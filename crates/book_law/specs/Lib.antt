@@ -1,5 +1,6 @@
 pub mod Passes
 pub mod Singles
+pub mod Owners
 pub mod Book
 pub mod Events
 pub mod Performed

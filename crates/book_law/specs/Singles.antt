@@ -44,8 +44,7 @@ as_message call = record {
   performable = refl;
 }
 
--- a member that keeps this object alone. By the law that a call is its object's own (`copies_law`, apart) whatever else it keeps
--- changes nothing of what follows
+-- a member that keeps this object alone. That whatever else its owner keeps changes nothing of what follows is a law (Owners.antt)
 abbrev pub alone : Single → Copied
 alone x = record opening_copies { own = (x.object, x.kept) ∷ []; waits = x.queue }
 

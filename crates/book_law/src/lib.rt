@@ -13,6 +13,7 @@
 
 ghost use Rattle.book_law.specs.Fitness.{CallsFit, EndsStuck};
 ghost use Rattle.book_law.specs.Example.{IsRun};
+ghost use Rattle.book_law.specs.Owners.{OwnersDoAlike};
 ghost use Rattle.book_law.specs.Promise.{CopiesFollow, EnteredStands, EntriesStand, LegalBook};
 ghost use Rattle.book_law.specs.Promise.{RepliesBegin, RepliesReceived, SinglesFollow};
 ghost use Rattle.book_law.specs.Wrong.{WrongRules};
@@ -31,6 +32,7 @@ use value_core::Processor;
 /// - `received`: where no answer of a single copy is on the way, they are exactly the book's up to the member's number.
 /// - `entries`: an entry leaves copies as `object_manager` says: after a make that passes, or applied.
 /// - `entered`: a message that entered is in the list, or is a call that waits on a single copy or was performed there.
+/// - `owners`: where an owner keeps a single copy beside others, a call does there what it does to the single copy by itself.
 /// - `run`: a run of a small program, event by event, with its book.
 /// - `wrong_rules`: six wrong rules make a book of a computed run that is no history, or a single copy that isn't its object.
 pub fn book_law()
@@ -41,6 +43,7 @@ pub fn book_law()
     ensures received { RepliesReceived }
     ensures entries { EntriesStand }
     ensures entered { EnteredStands }
+    ensures owners { OwnersDoAlike }
     ensures run { IsRun }
     ensures wrong_rules { WrongRules }
 {}

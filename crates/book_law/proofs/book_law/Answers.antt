@@ -1,6 +1,7 @@
 use Rattle.book_law.proofs.book_law.Goals as goal
 use Rattle.book_law.proofs.Courses.{every_run}
 use Rattle.book_law.proofs.Example.{is_run}
+use Rattle.book_law.proofs.Owners.{owners_do_alike}
 use Rattle.book_law.proofs.Replicated.{entries_stand}
 use Rattle.book_law.proofs.Resting.{entered_stands}
 use Rattle.book_law.proofs.WrongRules.{wrong_rules}
@@ -14,6 +15,7 @@ returns c = record {
   received = λ single p q w came. let h = every_run single p q w came in h.received;
   entries = entries_stand;
   entered = entered_stands;
+  owners = owners_do_alike;
   run = is_run;
   wrong_rules = wrong_rules;
 }
