@@ -20,7 +20,7 @@ use Rattle.book_law.specs.Course.Came.{Opens, Then}
 use Rattle.book_law.proofs.Kept.{Promised}
 use Rattle.book_law.specs.Events.{In, Runner}
 use Rattle.book_law.proofs.Courses.{every_run}
-use Rattle.book_law.proofs.Replicated.{all_replicated}
+use Rattle.book_law.specs.Replicated.{all_replicated}
 use Rattle.book_law.specs.Book.{Placed, book}
 
 -- process 0 makes the cell, forks, and calls operation 1, which waits; process 1 reads at place 3 and at place 2, and adds a mark

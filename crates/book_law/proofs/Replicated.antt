@@ -1,5 +1,5 @@
 -- Which objects are single counts only where they are made; and where none is, the copies are as without single ones.
-use Rattle.std.proofs.Common.{◌≡◌, ℕ, ◌+◌, inl, inr, Bool, true, false, cond, Option, Some, None, List, [], ◌∷◌, ◌++◌, length, take, refl, sym, subst, ap, ◌∙◌, arith, if◌then◌else◌}
+use Rattle.std.proofs.Common.{◌≡◌, ℕ, zero, suc, ◌+◌, inl, inr, Bool, true, false, cond, Option, Some, None, List, [], ◌∷◌, ◌++◌, length, take, refl, sym, subst, ap, ◌∙◌, arith, if◌then◌else◌}
 use Rattle.std.specs.Prelude.{T}
 use Rattle.std.specs.declared.cmp.Ordering.{Ordering}
 use Rattle.std.specs.declared.cmp.Ordering.TheVariants.{Less, Equal, Greater}
@@ -19,6 +19,7 @@ use Rattle.object_manager.specs.After.{Copied, acted, after as after_applied, af
 use Rattle.object_manager.specs.Singles.{after_passed}
 use Rattle.book_law.specs.Passes.{Test, after, after_all, counted, entry, is_passed, lines_after}
 use Rattle.book_law.specs.Book.{Placed, book, book_from, copies_at, aside_at, up_to}
+use Rattle.book_law.specs.Replicated.{ArePlain, IsPlain, SameBooks, SameMakes, TestsAgree, all_replicated}
 use Rattle.book_law.specs.Events.{In, InOrder, Makes}
 use Rattle.book_law.specs.Promise.{Follows}
 use Rattle.book_law.proofs.Ordered.{absent, copies_in_order, is_less, left, ordered_making, ordered_try, right}
@@ -59,10 +60,6 @@ same_after one two p c x same = ap (λ (d : Copied). record d { processes = c.pr
 same_lines : (one two : Test) (p : Performs) (c : Copied) (x : Message) → ((o : ObjectId) → Makes x.action o → one o ≡ two o) → lines_after one p c x ≡ lines_after two p c x
 same_lines one two p c x same = ap (λ b. if b then (acted p c x).lines else lines_applied p c x) (same_passed one two x.action same)
 
--- the tests agree on each object that the list makes
-abbrev pub SameMakes : Test → Test → List Message → Type 0
-SameMakes one two list = (x : Message) → In x list → (o : ObjectId) → Makes x.action o → one o ≡ two o
-
 pub same_copies : (one two : Test) (p : Performs) (c : Copied) (list : List Message) → SameMakes one two list → after_all one p c list ≡ after_all two p c list
 same_copies one two p c [] same = refl
 same_copies one two p c (x ∷ list) same =
@@ -82,9 +79,6 @@ pub same_book : (one two : Test) (p : Performs) (list : List Message) (aside : L
 same_book one two p list aside same = ap (λ (ls : List Line). aside_at 0 aside ++ ls) (same_from one two p opening_copies list aside same)
 
 -- ---- no single object
-
-abbrev pub all_replicated : Test
-all_replicated o = false
 
 none_passed : (a : Action) → is_passed all_replicated a ≡ false
 none_passed (action.Make kind object) = refl
@@ -179,3 +173,17 @@ pub plain_copies : (p : Performs) (q : Computes) (list : List Message) (aside : 
 plain_copies p q list aside n f =
     same_maps (objects_of p q (up_to all_replicated p list aside n)) (copies_at all_replicated p list n).objects (ordered_lines p (opening q) (up_to all_replicated p list aside n) tt) (copies_in_order all_replicated p list n) (λ o. f.objects o refl)
     ∙ ap (λ (c : Copied). c.objects) (plain_all p opening_copies (take n list))
+
+-- ---- tests that agree
+
+in_take : (n : ℕ) (x : Message) (list : List Message) → In x (take n list) → In x list
+in_take zero x list h = absurd h
+in_take (suc n) x [] h = absurd h
+in_take (suc n) x (y ∷ list) (inl e) = inl e
+in_take (suc n) x (y ∷ list) (inr h) = inr (in_take n x list h)
+
+pub tests_agree : TestsAgree
+tests_agree one two p list same = record {
+  copies = λ n. same_copies one two p opening_copies (take n list) (λ x h. same x (in_take n x list h));
+  book = λ aside. same_book one two p list aside same;
+}

@@ -7,6 +7,7 @@ pub mod Performed
 pub mod Course
 pub mod Promise
 pub mod Fitness
+pub mod Replicated
 pub mod Cell
 pub mod Example
 pub mod Wrong

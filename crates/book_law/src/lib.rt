@@ -16,6 +16,7 @@ ghost use Rattle.book_law.specs.Example.{IsRun};
 ghost use Rattle.book_law.specs.Owners.{OwnersDoAlike};
 ghost use Rattle.book_law.specs.Promise.{CopiesFollow, EnteredStands, EntriesStand, LegalBook};
 ghost use Rattle.book_law.specs.Promise.{RepliesBegin, RepliesReceived, SinglesFollow};
+ghost use Rattle.book_law.specs.Replicated.{ArePlain, TestsAgree};
 ghost use Rattle.book_law.specs.Wrong.{WrongRules};
 
 mod placing;
@@ -33,6 +34,8 @@ use value_core::Processor;
 /// - `entries`: an entry leaves copies as `object_manager` says: after a make that passes, or applied.
 /// - `entered`: a message that entered is in the list, or is a call that waits on a single copy or was performed there.
 /// - `owners`: where an owner keeps a single copy beside others, a call does there what it does to the single copy by itself.
+/// - `tests`: tests of what is single that agree on each object that the list makes have the same copies and the same book.
+/// - `plain`: where no object is single, copies are those of `object_manager` after the entries, and the book's objects are theirs.
 /// - `run`: a run of a small program, event by event, with its book.
 /// - `wrong_rules`: six wrong rules make a book of a computed run that is no history, or a single copy that isn't its object.
 pub fn book_law()
@@ -44,6 +47,8 @@ pub fn book_law()
     ensures entries { EntriesStand }
     ensures entered { EnteredStands }
     ensures owners { OwnersDoAlike }
+    ensures tests { TestsAgree }
+    ensures plain { ArePlain }
     ensures run { IsRun }
     ensures wrong_rules { WrongRules }
 {}
