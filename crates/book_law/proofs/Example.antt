@@ -1,24 +1,23 @@
 -- A small run, computed: a call waits, another process's write lets it go on, and a read stands behind both in its place.
-use Rattle.std.proofs.Common.{◌≡◌, ℕ, inl, ⊎_elim, Option, Some, None, ap, arith, List, [], ◌∷◌, length, refl}
+use Rattle.std.proofs.Common.{◌≡◌, inl, ⊎_elim, Some, None, ap, arith, List, [], ◌∷◌, length, refl}
 use Rattle.orca_base.specs.declared.ids.ObjectId.{ObjectId}
 use Rattle.value_core.specs.Datum.{Data}
 use Rattle.value_core.specs.Datum as datum
 use Rattle.value_core.specs.declared.message.Message.{Message}
 use Rattle.value_core.specs.declared.action.Action.TheVariants as action
 use Rattle.value_core.specs.declared.action.Reply.TheVariants as answer
-use Rattle.value_core.specs.declared.action.Reply.{Reply}
 use Rattle.object_manager.specs.After.{opening_copies}
 use Rattle.book_law.specs.Cell.{at_first, call, cell, computes, fork, kind, line, make, message, performs, single, suspended}
 use Rattle.book_law.specs.Example.{IsRun, born, first_line, opened, make_submitted, make_ordered, make_applied, fork_submitted, fork_ordered, fork_applied, wait_submitted, wait_taken, make_followed, fork_followed, mark_submitted, mark_taken, mark_heard, wait_heard, runner, second_line}
 use Rattle.book_law.specs.Passes.{after_all, counted}
 use Rattle.book_law.specs.Performed.{placed}
 use Rattle.book_law.specs.Singles.{after_on, lines_on, singles_by}
-use Rattle.value_core.specs.History.{Process, output_kind, output_object}
-use Rattle.book_law.specs.Course.{Came, Course, applying, forking, hearing, opening_course, ordered, submitted, taking}
+use Rattle.value_core.specs.History.{output_kind, output_object}
+use Rattle.book_law.specs.Course.{Came}
 use Rattle.book_law.specs.Course.Next.{Submits, Orders, Forks, Applies, Takes_call, Hears_answer}
 use Rattle.book_law.specs.Course.Came.{Opens, Then}
 use Rattle.book_law.proofs.Kept.{Promised}
-use Rattle.book_law.specs.Events.{In, Runner}
+use Rattle.book_law.specs.Events.{In}
 use Rattle.book_law.proofs.Courses.{every_run}
 use Rattle.book_law.specs.Replicated.{all_replicated}
 use Rattle.book_law.specs.Book.{Placed, book}

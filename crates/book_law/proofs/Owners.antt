@@ -1,9 +1,7 @@
 -- An owner does to its copies what a call does to the single copy by itself.
-use Rattle.std.proofs.Common.{◌≡◌, Option, Some, None, List, [], ◌∷◌, refl, sym, ap, ◌∙◌, subst, length}
-use Rattle.orca_base.specs.declared.ids.KindNo.{KindNo}
+use Rattle.std.proofs.Common.{◌≡◌, Option, Some, [], refl, sym, ap, ◌∙◌, subst, length}
 use Rattle.orca_base.specs.declared.ids.ObjectId.{ObjectId}
 use Rattle.value_core.specs.declared.action.Instance.{Instance}
-use Rattle.value_core.specs.declared.action.Action.TheVariants as action
 use Rattle.value_core.specs.declared.meaning.Tried.{Tried}
 use Rattle.value_core.specs.declared.meaning.Tried.TheVariants as tried
 use Rattle.value_core.specs.Meaning.{Performs}
@@ -17,7 +15,7 @@ use Rattle.object_manager.specs.After.{Copied, called}
 use Rattle.object_manager.specs.Apart.{AfterAlike}
 use Rattle.object_manager.specs.Singles.{after_single, side}
 use Rattle.object_manager.proofs.Apart.{after_apart}
-use Rattle.book_law.specs.Owners.{DoesAlike, Keeps, OwnersDoAlike}
+use Rattle.book_law.specs.Owners.{OwnersDoAlike}
 use Rattle.book_law.specs.Singles.{Single, after_on, alone, as_message, kept_or}
 use Rattle.book_law.proofs.Fitting.{has_kind}
 use Rattle.book_law.proofs.Typed.{at_itself}
@@ -54,7 +52,7 @@ pub owners_do_alike : OwnersDoAlike
 owners_do_alike p c x call is blocked keeps =
     let m = as_message call in
     let same : object_at (side c).objects call.object ≡ object_at (side (alone x)).objects call.object =
-        ap (object_at c.own) is ∙ keeps.state ∙ sym (at_itself [] x.object x.kept) ∙ ap (object_at (side (alone x)).objects) (sym is) in
+    ap (object_at c.own) is ∙ keeps.state ∙ sym (at_itself [] x.object x.kept) ∙ ap (object_at (side (alone x)).objects) (sym is) in
     let queue : calls_on call.object (side c).queue ≡ x.queue = ap (λ (o : ObjectId). calls_on o c.waits) is ∙ keeps.queue in
     let a = after_apart p (side c) (side (alone x)) m call.kind call.op call.object call.args refl blocked same queue in
     let b : AfterAlike p (side c) (side (alone x)) m x.object = subst (λ (o : ObjectId). AfterAlike p (side c) (side (alone x)) m o) is a in

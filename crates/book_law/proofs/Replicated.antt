@@ -19,7 +19,7 @@ use Rattle.object_manager.specs.After.{Copied, acted, after as after_applied, af
 use Rattle.object_manager.specs.Singles.{after_passed}
 use Rattle.book_law.specs.Passes.{Test, after, after_all, counted, entry, is_passed, lines_after}
 use Rattle.book_law.specs.Book.{Placed, book, book_from, copies_at, aside_at, up_to}
-use Rattle.book_law.specs.Replicated.{ArePlain, IsPlain, SameBooks, SameMakes, TestsAgree, all_replicated}
+use Rattle.book_law.specs.Replicated.{SameMakes, TestsAgree, all_replicated}
 use Rattle.book_law.specs.Events.{In, InOrder, Makes}
 use Rattle.book_law.specs.Promise.{Follows}
 use Rattle.book_law.proofs.Ordered.{absent, copies_in_order, is_less, left, ordered_making, ordered_try, right}

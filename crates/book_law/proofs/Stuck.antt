@@ -1,34 +1,30 @@
 -- Suspended calls are blocked, so whoever waits at the end of a run is stuck.
-use Rattle.std.proofs.Common.{◌≡◌, ◌⊎◌, inl, inr, ⊎_elim, ℕ, zero, suc, ◌+◌, ◌≤◌, Bool, true, false, Option, Some, None, List, [], ◌∷◌, ◌++◌, length, refl, sym, ap, ◌∙◌, arith, subst, if◌then◌else◌}
+use Rattle.std.proofs.Common.{◌≡◌, inl, inr, ⊎_elim, ℕ, zero, suc, Bool, true, false, Some, List, [], ◌∷◌, ◌++◌, length, refl, sym, ap, ◌∙◌, subst, if◌then◌else◌}
 use Rattle.std.specs.Prelude.{slice_get, slice_set}
 use Rattle.orca_base.specs.declared.ids.KindNo.{KindNo}
-use Rattle.orca_base.specs.declared.ids.OpNo.{OpNo}
 use Rattle.orca_base.specs.declared.ids.ProcessNo.{ProcessNo}
 use Rattle.orca_base.specs.declared.ids.ObjectId.{ObjectId}
-use Rattle.value_core.specs.Datum.{Data}
-use Rattle.value_core.specs.declared.action.Instance.{Instance}
 use Rattle.value_core.specs.declared.message.Message.{Message}
 use Rattle.value_core.specs.declared.action.Action.{Action}
 use Rattle.value_core.specs.declared.action.Action.TheVariants as action
 use Rattle.value_core.specs.declared.meaning.Making.{Making}
 use Rattle.value_core.specs.declared.meaning.Making.TheVariants as making
-use Rattle.value_core.specs.declared.meaning.Tried.{Tried}
 use Rattle.value_core.specs.declared.meaning.Tried.TheVariants as tried
 use Rattle.value_core.specs.Meaning.{Performs, Computes}
-use Rattle.value_core.specs.History.{IsStuck, Objects, object_at}
+use Rattle.value_core.specs.History.{IsStuck, object_at}
 use Rattle.guard_queue.specs.declared.queue.Suspended.{Suspended}
-use Rattle.guard_queue.specs.Settles.{AllBlocked, Settling, settled_from, tried_by, tried_in}
+use Rattle.guard_queue.specs.Settles.{AllBlocked, tried_by, tried_in}
 use Rattle.guard_queue.proofs.Blocked.{at_place, from_places, settled_blocked}
 use Rattle.object_manager.specs.After.{Copied, acted, after as after_applied, called, opening_copies}
 use Rattle.object_manager.specs.Singles.{after_passed, after_single, side}
 use Rattle.book_law.specs.Passes.{Test, after, after_all, is_passed}
-use Rattle.book_law.specs.Singles.{Single, after_on, alone, as_message, kept_or, single_of, singles_by}
-use Rattle.book_law.specs.Book.{book, copies_at}
-use Rattle.book_law.specs.Course.{Came, Course, Next, ordered, taking}
+use Rattle.book_law.specs.Singles.{Single, after_on, alone, as_message, single_of, singles_by}
+use Rattle.book_law.specs.Book.{book}
+use Rattle.book_law.specs.Course.{Came, Course, Next, taking}
 use Rattle.book_law.specs.Course.Next.{Submits, Orders, Forks, Applies, Reads_at, Takes_call, Hears_answer}
 use Rattle.book_law.specs.Course.Came.{Opens, Then}
-use Rattle.book_law.specs.Events.{In, Runner}
-use Rattle.book_law.specs.Fitness.{ArgsFit, Callable, StateFits, StuckAtEnd}
+use Rattle.book_law.specs.Events.{In}
+use Rattle.book_law.specs.Fitness.{ArgsFit, StateFits, StuckAtEnd}
 use Rattle.book_law.proofs.Fits.{Laws, ReplyFits, TextFits}
 use Rattle.book_law.proofs.Kept.{Kept}
 use Rattle.book_law.proofs.Owners.{there_after}

@@ -6,13 +6,13 @@
 //! facts of agreement: the list grows only at its end; what a member applies as its entry n + 1 is the list's; an entry was
 //! submitted; no message stands in the list twice.
 //!
-//! The floor above uses `book_law` and `every_call_fits`, of any course of events that it is a run of. It stands on the
-//! definitions of `value_core`, `guard_queue` and `object_manager` alone, and its one code is the sort by place. Nothing of packets
-//! or crashes stands in it, nor that anything happens in the end.
+//! The floor above uses the laws of this file, of whatever course of events it shows to be a run. They stand on the definitions of
+//! `value_core`, `guard_queue` and `object_manager` alone; the one code is the sort by place. Nothing of packets or crashes stands
+//! here, nor that anything happens in the end.
 #![tactic(auto)]
 
-ghost use Rattle.book_law.specs.Fitness.{CallsFit, EndsStuck};
 ghost use Rattle.book_law.specs.Example.{IsRun};
+ghost use Rattle.book_law.specs.Fitness.{CallsFit, EndsStuck};
 ghost use Rattle.book_law.specs.Owners.{OwnersDoAlike};
 ghost use Rattle.book_law.specs.Promise.{CopiesFollow, EnteredStands, EntriesStand, LegalBook};
 ghost use Rattle.book_law.specs.Promise.{RepliesBegin, RepliesReceived, SinglesFollow};
@@ -31,37 +31,48 @@ use value_core::Processor;
 /// - `singles`: each single copy is its object after all lines of the book.
 /// - `replies`: the replies that a process received begin the book's, and are short of them by at most one.
 /// - `received`: where no answer of a single copy is on the way, they are exactly the book's up to the member's number.
-/// - `entries`: an entry leaves copies as `object_manager` says: after a make that passes, or applied.
 /// - `entered`: a message that entered is in the list, or is a call that waits on a single copy or was performed there.
-/// - `owners`: where an owner keeps a single copy beside others, a call does there what it does to the single copy by itself.
-/// - `tests`: tests of what is single that agree on each object that the list makes have the same copies and the same book.
-/// - `plain`: where no object is single, copies are those of `object_manager` after the entries, and the book's objects are theirs.
-/// - `run`: a run of a small program, event by event, with its book.
-/// - `wrong_rules`: six wrong rules make a book of a computed run that is no history, or a single copy that isn't its object.
 pub fn book_law()
     ensures legal { LegalBook }
     ensures copies { CopiesFollow }
     ensures singles { SinglesFollow }
     ensures replies { RepliesBegin }
     ensures received { RepliesReceived }
-    ensures entries { EntriesStand }
     ensures entered { EnteredStands }
+{}
+
+/// What single objects change of copies, and what they leave.
+///
+/// - `entries`: an entry leaves copies as `object_manager` says: after a make of a single object, or applied.
+/// - `owners`: where an owner keeps a single copy beside others, a call does there what it does to the single copy by itself.
+/// - `tests`: tests of what is single that agree on each object that the list makes have the same copies and the same book.
+/// - `plain`: where no object is single, copies are those of `object_manager` after the entries, and the book's objects are theirs.
+pub fn singles_law()
+    ensures entries { EntriesStand }
     ensures owners { OwnersDoAlike }
     ensures tests { TestsAgree }
     ensures plain { ArePlain }
+{}
+
+/// Runs that are computed.
+///
+/// - `run`: a run of a small program, event by event, with its book.
+/// - `wrong_rules`: six wrong rules, each of which gives a book that is no history, or a single copy that isn't its object.
+pub fn example_law()
     ensures run { IsRun }
     ensures wrong_rules { WrongRules }
 {}
 
-/// In every run of a lawful program:
-///
-/// - `calls`: each entry may be applied, or passed, at the copies that it meets, what these and the single copies hold fits, and a
-///   process's next call may be tried at each number of entries from its process's place on: on a view, or on the single copy, which
-///   is there.
-/// - `stuck`: where the list is whole and every answer was heard, a process is stuck whose message entered or whose read is blocked.
-///
-/// It rests on the laws of the two traits alone. A call of this function does nothing.
+/// In every run of a lawful program each entry may be applied, or passed, at the copies that it meets, what these and the single
+/// copies hold fits, and a process's next call may be tried at each number of entries from its process's place on: on a view, or on
+/// the single copy, which is there. It rests on the laws of the two traits alone. A call of this function does nothing.
 pub fn every_call_fits<P: Processor>(program: &P)
-    ensures calls { CallsFit (P.performs program.now) (P.computes program.now) (P.fits_state program.now) (P.fits_args program.now) }
-    ensures stuck { EndsStuck (P.performs program.now) (P.computes program.now) }
+    ensures { CallsFit (P.performs program.now) (P.computes program.now) (P.fits_state program.now) (P.fits_args program.now) }
+{}
+
+/// In every run of a lawful program who waits is stuck: where no answer is on the way to it, a process whose message entered, at a
+/// member that applied the whole list, and one whose read is blocked on the copies after the list. A call of this function does
+/// nothing.
+pub fn stuck_law<P: Processor>(program: &P)
+    ensures { EndsStuck (P.performs program.now) (P.computes program.now) }
 {}
