@@ -380,15 +380,9 @@ every_call single p q fits_state fits_args fits_text fits_reply w laws came = re
       let next = o.next call inside in
       on_single single p q fits_state fits_args fits_text fits_reply w.list w.aside w.owned w.entered w.applied w.runners (w.applied x.owner) call.kind call.op call.object call.args laws k (ap single (o.its call inside) ∙ o.is)
       (may_at single p q fits_state fits_args fits_text fits_reply w.list w.aside w.owned w.entered w.applied w.runners call.process r.0 (w.applied x.owner) call.kind call.op call.object call.args laws k st n.1 n.0 r.2 (waits_doing call r.0 st n.1 n.0 next));
-  reads = λ number x n kind op object args here free le shared next.
-      let st = k.stands number.0 x here in
-      let i = out_idle single p q w.list w.aside w.owned w.entered (w.applied x.member) number.0 x st (inl free) in
-      let m = may_at single p q fits_state fits_args fits_text fits_reply w.list w.aside w.owned w.entered w.applied w.runners number x n kind op object args laws k st i.1 i.0 le next in
-      let g = k.follows n in (
-        kinds_at single p w.list n,
-        states_at single p q fits_state fits_args fits_text fits_reply w.list w.aside w.owned w.entered w.applied w.runners n laws output k,
-        record { kept = m.kept; exists = sym (g.objects object shared) ∙ m.exists; kind = m.of_kind; args = m.fits },
-      );
+  reads = λ number x n kind op object args here free le shared next. let m = may_read number x n kind op object args here free le shared next in (kinds_at single p w.list n, m.states, m.operation);
+  lines = λ number x n kind op object args line here free le shared next class_is h. read_line single p q fits_state fits_args fits_text fits_reply w.list n kind op object args line laws shared
+      (may_read number x n kind op object args here free le shared next) class_is h.is h.kept h.there h.answers;
   calls = λ number x n kind op object args here out le is next.
       let st = k.stands number.0 x here in
       let i = out_idle single p q w.list w.aside w.owned w.entered (w.applied x.member) number.0 x st out in
@@ -413,6 +407,18 @@ every_call single p q fits_state fits_args fits_text fits_reply w laws came = re
 
     output : single output_object ≡ false
     output = came_output single p q w came
+
+    may_read : (number : ProcessNo) (x : Runner) (n : ℕ) (kind : KindNo) (op : OpNo) (object : ObjectId) (args : Data) → w.runners number.0 ≡ Some x → x.message ≡ None → x.place ≤ n → single object ≡ false
+        → q.doing x.text number x.args x.replies most_turns ≡ doing.At (action.Call kind op object args) → MayRead fits_state fits_args (kinds_at single p w.list n) (copies_at single p w.list n).objects kind op object args
+    may_read number x n kind op object args here free le shared next =
+        let st = k.stands number.0 x here in
+        let i = out_idle single p q w.list w.aside w.owned w.entered (w.applied x.member) number.0 x st (inl free) in
+        let m = may_at single p q fits_state fits_args fits_text fits_reply w.list w.aside w.owned w.entered w.applied w.runners number x n kind op object args laws k st i.1 i.0 le next in
+        let g = k.follows n in
+        record {
+          states = states_at single p q fits_state fits_args fits_text fits_reply w.list w.aside w.owned w.entered w.applied w.runners n laws output k;
+          operation = record { kept = m.kept; exists = sym (g.objects object shared) ∙ m.exists; kind = m.of_kind; args = m.fits };
+        }
 
     waits_doing : (call : Suspended) (r : Runner) → (st : Stands single p q w.list w.aside w.owned w.entered (w.applied r.member) call.process.0 r) → r.answer ≡ None → st.awaited ≡ [] → IsNext q (after_lines p (opening q) (book single p w.list w.aside)) call
         → q.doing r.text call.process r.args r.replies most_turns ≡ doing.At (action.Call call.kind call.op call.object call.args)

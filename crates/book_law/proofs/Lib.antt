@@ -27,5 +27,6 @@ pub mod Replicated
 pub mod Example
 pub mod Resting
 pub mod WrongRules
+pub mod Sequence
 pub mod Owners
 pub mod Stuck

@@ -7,12 +7,15 @@ use Rattle.orca_base.specs.declared.ids.ProcessNo.{ProcessNo}
 use Rattle.orca_base.specs.declared.ids.ObjectId.{ObjectId}
 use Rattle.value_core.specs.Datum.{Data}
 use Rattle.value_core.specs.Fits.{Kinds}
+use Rattle.value_core.specs.declared.action.Class.TheVariants.{Reads}
+use Rattle.value_core.specs.declared.action.Instance.{Instance}
+use Rattle.value_core.specs.declared.action.Line.{Line}
 use Rattle.value_core.specs.declared.message.Message.{Message}
 use Rattle.value_core.specs.declared.action.Action.TheVariants as action
 use Rattle.value_core.specs.declared.meaning.Doing.TheVariants as doing
 use Rattle.value_core.specs.declared.meaning.Tried.TheVariants as tried
 use Rattle.value_core.specs.Meaning.{Performs, Computes}
-use Rattle.value_core.specs.History.{IsStuck, most_turns}
+use Rattle.value_core.specs.History.{Answers, IsStuck, most_turns, object_at}
 use Rattle.guard_queue.specs.Fitting.{Fitting}
 use Rattle.guard_queue.specs.Settles.{tried_on}
 use Rattle.guard_queue.specs.declared.queue.Suspended.{Suspended}
@@ -23,7 +26,7 @@ use Rattle.object_manager.specs.Viewed.{ReadFits}
 use Rattle.book_law.specs.Passes.{Test}
 use Rattle.book_law.specs.Book.{book, copies_at}
 use Rattle.book_law.specs.Course.{Came, Course}
-use Rattle.book_law.specs.Events.{In, Makes, Runner}
+use Rattle.book_law.specs.Events.{In, IsRead, Makes, Runner}
 use Rattle.book_law.specs.Singles.{Single}
 
 -- a state fits its object type, and arguments fit an operation
@@ -58,11 +61,19 @@ abbrev pub CallsNext : Computes → ProcessNo → Runner → KindNo → OpNo →
 CallsNext q number x kind op object args =
     q.doing x.text number x.args x.replies most_turns ≡ doing.At (action.Call kind op object args)
 
+-- a line of this call, which a try on the copies gave
+pub record IsLineOf (p : Performs) (c : Copied) (kind : KindNo) (op : OpNo) (object : ObjectId) (args : Data) (line : Line) : Type 0 where
+  pub kept : Instance
+  pub is : line.action ≡ action.Call kind op object args
+  pub there : object_at c.objects object ≡ Some kept
+  pub answers : Answers (p.tries kind op kept.state args) line.guard line.reply
+
 -- what a run's calls ask is met:
 -- `entries`, each entry may be applied, or passed, at the copies that it meets; `shared`, what the copies hold after each number of
 -- entries fits; `singles` and `suspended`, so does what a single copy holds whose owner applied its make; `reads` and `calls`, the
--- next call of a process that isn't out may be tried at each number of entries from the process's place on, on a view or on the
--- single copy, which is there; `unmade`, no process makes a single object again
+-- next call of a process whose message hasn't entered may be tried at each number of entries from the process's place on, on a view
+-- or on the single copy, which is there; `lines`, what the try of a read by its class gives is a line of a read; `unmade`, no process
+-- makes a single object again
 pub record Callable (single : Test) (p : Performs) (q : Computes) (fits_state : StateFits) (fits_args : ArgsFit) (w : Course) :
     Type 0 where
   pub entries : (n : ℕ) (y : Message) → slice_get w.list n ≡ Some y → Applies fits_args (copies_at single p w.list n) y.action
@@ -79,6 +90,12 @@ pub record Callable (single : Test) (p : Performs) (q : Computes) (fits_state : 
       w.runners number.0 ≡ Some x → x.message ≡ None → x.place ≤ n → single object ≡ false →
       CallsNext q number x kind op object args →
       ReadFits fits_state fits_args (copies_at single p w.list n).objects kind op object args
+  pub lines :
+      (number : ProcessNo) (x : Runner) (n : ℕ) (kind : KindNo) (op : OpNo) (object : ObjectId) (args : Data) (line : Line) →
+      w.runners number.0 ≡ Some x → x.message ≡ None → x.place ≤ n → single object ≡ false →
+      CallsNext q number x kind op object args → p.class_of kind op ≡ Reads →
+      IsLineOf p (copies_at single p w.list n) kind op object args line →
+      IsRead single p (copies_at single p w.list n).objects line
   pub calls :
       (number : ProcessNo) (x : Runner) (n : ℕ) (kind : KindNo) (op : OpNo) (object : ObjectId) (args : Data) →
       w.runners number.0 ≡ Some x → IsOut w.entered x → x.place ≤ n → single object ≡ true →

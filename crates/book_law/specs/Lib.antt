@@ -5,6 +5,7 @@ pub mod Book
 pub mod Events
 pub mod Performed
 pub mod Course
+pub mod Sequence
 pub mod Promise
 pub mod Fitness
 pub mod Replicated

@@ -17,6 +17,7 @@ ghost use Rattle.book_law.specs.Owners.{OwnersDoAlike};
 ghost use Rattle.book_law.specs.Promise.{CopiesFollow, EnteredStands, EntriesStand, LegalBook};
 ghost use Rattle.book_law.specs.Promise.{RepliesBegin, RepliesReceived, SinglesFollow};
 ghost use Rattle.book_law.specs.Replicated.{ArePlain, TestsAgree};
+ghost use Rattle.book_law.specs.Sequence.{ArePerformed};
 ghost use Rattle.book_law.specs.Wrong.{WrongRules};
 
 mod placing;
@@ -31,6 +32,8 @@ use value_core::Processor;
 /// - `singles`: each single copy is its object after all lines of the book.
 /// - `replies`: the replies that a process received begin the book's, and are short of them by at most one.
 /// - `received`: where no answer of a single copy is on the way, they are exactly the book's up to the member's number.
+/// - `performed`: what the run performed, in order of events, is the book place by place; so one stable sort makes it
+///   (`sort_by_place`).
 /// - `entered`: a message that entered is in the list, or is a call that waits on a single copy or was performed there.
 pub fn book_law()
     ensures legal { LegalBook }
@@ -38,6 +41,7 @@ pub fn book_law()
     ensures singles { SinglesFollow }
     ensures replies { RepliesBegin }
     ensures received { RepliesReceived }
+    ensures performed { ArePerformed }
     ensures entered { EnteredStands }
 {}
 
