@@ -1,11 +1,11 @@
 -- What a run performed is, place by place, its book.
-use Rattle.std.proofs.Common.{◌≡◌, ℕ, suc, ◌≤◌, ◌<◌, List, [], ◌∷◌, ◌++◌, length, refl, sym, ap, subst, append-nil, arith, ◌∙◌}
+use Rattle.std.proofs.Common.{List, [], ◌∷◌, ◌++◌, sym, subst, append-nil, arith}
 use Rattle.value_core.specs.Meaning.{Performs, Computes}
 use Rattle.book_law.specs.Passes.{Test}
 use Rattle.book_law.specs.Singles.{lines_on}
 use Rattle.book_law.specs.Book.{Placed}
 use Rattle.book_law.specs.Performed.{Performed, placed}
-use Rattle.book_law.specs.Course.{Came, Course, Next}
+use Rattle.book_law.specs.Course.{Course, Next}
 use Rattle.book_law.specs.Course.Next.{Submits, Orders, Forks, Applies, Reads_at, Takes_call, Hears_answer}
 use Rattle.book_law.specs.Course.Came.{Opens, Then}
 use Rattle.book_law.specs.Sequence.{ArePerformed, performed_by, performed_in}
