@@ -21,9 +21,10 @@ use Rattle.value_core.specs.History.{Configuration, Objects, Process, object_at,
 use Rattle.guard_queue.specs.Fitting.{OperationFits, kind_at, kinds_of}
 use Rattle.guard_queue.specs.declared.queue.Suspended.{Suspended}
 use Rattle.object_manager.specs.After.{Copied}
+use Rattle.guard_queue.specs.Shown.{Rises}
 use Rattle.book_law.specs.Passes.{Test, counted}
 use Rattle.book_law.specs.Book.{copies_at}
-use Rattle.book_law.specs.Events.{In, InOrder}
+use Rattle.book_law.specs.Events.{In}
 use Rattle.book_law.specs.Fitness.{ArgsFit, StateFits}
 
 abbrev pub TextFits : Type 1
@@ -56,7 +57,7 @@ IsMade q c object = (object.number ≡ 0) ⊎ ((x : Process) × (slice_get c.pro
 
 -- all fits in a configuration
 pub record Fit (q : Computes) (fits_state : StateFits) (fits_text : TextFits) (fits_reply : ReplyFits) (c : Configuration) : Type 0 where
-  pub order : InOrder c.objects
+  pub order : Rises c.objects
   pub output : kind_at c.objects output_object ≡ Some output_kind
   pub states : (object : ObjectId) (kept : Instance) → object_at c.objects object ≡ Some kept → fits_state (kinds_of c.objects) kept.kind kept.state
   pub made : (object : ObjectId) (kept : Instance) → object_at c.objects object ≡ Some kept → IsMade q c object

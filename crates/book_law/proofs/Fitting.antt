@@ -31,9 +31,10 @@ use Rattle.value_core.specs.Meaning.{Performs, Computes}
 use Rattle.value_core.specs.History.{Answers, Configuration, IsStep, LegalFrom, MakingAnswers, Objects, Performed, Process, after_call, after_line, after_lines, after_making, after_try, forked, object_at, objects_after, opening, output_kind, output_object, with_object}
 use Rattle.guard_queue.specs.Fitting.{kind_at, kind_in, kinds_of}
 use Rattle.guard_queue.proofs.KindsStay.{kinds_extend}
+use Rattle.guard_queue.specs.Shown.{Rises}
 use Rattle.book_law.specs.Fitness.{ArgsFit, StateFits}
 use Rattle.book_law.proofs.Fits.{Fit, IsMade, Laws, ProcessFits, ReplyFits, TextFits}
-use Rattle.book_law.specs.Events.{In, InOrder}
+use Rattle.book_law.specs.Events.{In}
 use Rattle.book_law.proofs.Ordered.{ordered_with}
 use Rattle.book_law.proofs.Processes.{after_cases, after_other, after_own, forked_fresh, with_reply}
 use Rattle.book_law.proofs.Typed.{at_itself, at_with, kind_contained, kind_found, own-push, replies_fit-push}
@@ -49,7 +50,7 @@ has_kind (Some kept) kind e = (kept, refl, let f : kept.kind ≡ kind = cc in f)
 -- ---- the objects after an action
 
 pub record Grown (fits_state : StateFits) (objects after : Objects) (added : Kinds) : Type 0 where
-  pub order : InOrder after
+  pub order : Rises after
   pub extends : ExtendsKinds (kinds_of objects) (kinds_of after)
   pub stays : (o : ObjectId) (kind : KindNo) → kind_at objects o ≡ Some kind → kind_at after o ≡ Some kind
   pub states : (o : ObjectId) (kept : Instance) → object_at after o ≡ Some kept → fits_state (kinds_of after) kept.kind kept.state
@@ -59,7 +60,7 @@ pub record Grown (fits_state : StateFits) (objects after : Objects) (added : Kin
 no_element : {A : Type 0} (x : A) → Contains [] x → ⊥
 no_element x (at, lt, is) = absurd (omega arith)
 
-grown_same : (fits_state : StateFits) (objects : Objects) → InOrder objects → ((o : ObjectId) (kept : Instance) → object_at objects o ≡ Some kept → fits_state (kinds_of objects) kept.kind kept.state) → Grown fits_state objects objects []
+grown_same : (fits_state : StateFits) (objects : Objects) → Rises objects → ((o : ObjectId) (kept : Instance) → object_at objects o ≡ Some kept → fits_state (kinds_of objects) kept.kind kept.state) → Grown fits_state objects objects []
 grown_same fits_state objects order states = record {
   order = order;
   extends = λ entry h. h;
@@ -69,7 +70,7 @@ grown_same fits_state objects order states = record {
   from = λ o kept h. inl (kept, h);
 }
 
-grown_put : (fits_state : StateFits) (objects : Objects) (object : ObjectId) (v : Instance) (added : Kinds) → InOrder objects
+grown_put : (fits_state : StateFits) (objects : Objects) (object : ObjectId) (v : Instance) (added : Kinds) → Rises objects
     → ((kinds more : Kinds) (kind : KindNo) (state : Data) → ExtendsKinds kinds more → fits_state kinds kind state → fits_state more kind state)
     → ((o : ObjectId) (kept : Instance) → object_at objects o ≡ Some kept → fits_state (kinds_of objects) kept.kind kept.state)
     → ((old : Instance) → object_at objects object ≡ Some old → v.kind ≡ old.kind) → fits_state (kinds_of objects) v.kind v.state
@@ -166,7 +167,7 @@ call_replied fits_reply kind op tried.Blocked guard reply well e = absurd e
 call_replied fits_reply kind op (tried.Did g state r) guard reply well e = subst (fits_reply kind op) (sym e.1) well
 call_replied fits_reply kind op (tried.Broke g fault) guard reply well e = subst (fits_reply kind op) (sym e.1) well
 
-call_grown : (fits_state : StateFits) (objects : Objects) (object : ObjectId) (kept : Instance) (t : Tried) → InOrder objects
+call_grown : (fits_state : StateFits) (objects : Objects) (object : ObjectId) (kept : Instance) (t : Tried) → Rises objects
     → ((kinds more : Kinds) (kind : KindNo) (state : Data) → ExtendsKinds kinds more → fits_state kinds kind state → fits_state more kind state)
     → ((o : ObjectId) (kept : Instance) → object_at objects o ≡ Some kept → fits_state (kinds_of objects) kept.kind kept.state)
     → object_at objects object ≡ Some kept → KeepsState t (fits_state (kinds_of objects) kept.kind) → Grown fits_state objects (after_try objects object kept t) []

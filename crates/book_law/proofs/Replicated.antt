@@ -17,10 +17,11 @@ use Rattle.value_core.specs.History.{Configuration, Objects, after_call, after_l
 use Rattle.guard_queue.proofs.Lookups.{exact_objects, object_total}
 use Rattle.object_manager.specs.After.{Copied, acted, after as after_applied, after_all as all_plain, lines_after as lines_applied, opening_copies}
 use Rattle.object_manager.specs.Singles.{after_passed}
+use Rattle.guard_queue.specs.Shown.{Rises}
 use Rattle.book_law.specs.Passes.{Test, after, after_all, counted, entry, is_passed, lines_after}
 use Rattle.book_law.specs.Book.{Placed, book, book_from, copies_at, aside_at, up_to}
 use Rattle.book_law.specs.Replicated.{SameMakes, TestsAgree, all_replicated}
-use Rattle.book_law.specs.Events.{In, InOrder, Makes}
+use Rattle.book_law.specs.Events.{In, Makes}
 use Rattle.book_law.specs.Promise.{Follows}
 use Rattle.book_law.proofs.Ordered.{absent, copies_in_order, is_less, left, ordered_making, ordered_try, right}
 use Rattle.book_law.proofs.Typed.{is_equal}
@@ -114,11 +115,11 @@ absent_self x (e ∷ es) h =
     ∙ absent_self x es (right (is_lt (object_cmp x e.0)) (below_all object_cmp x es) h)
 
 -- an id below the first isn't there
-absent_below : (k : ObjectId) (e : ObjectId × Instance) (es : Objects) → object_cmp k e.0 ≡ Less → InOrder (e ∷ es) → object_at (e ∷ es) k ≡ None
+absent_below : (k : ObjectId) (e : ObjectId × Instance) (es : Objects) → object_cmp k e.0 ≡ Less → Rises (e ∷ es) → object_at (e ∷ es) k ≡ None
 absent_below k e es lt h = ap (λ o. cond (is_eq o) (Some e.1) (object_at es k)) lt ∙ absent k e.0 es lt (left (below_all object_cmp e.0 es) (is_sorted object_cmp es) h)
 
 -- the others have the same, where the first are the same
-others_same : (e : ObjectId × Instance) (v : Instance) (xs ys : Objects) → InOrder (e ∷ xs) → InOrder ((e.0, v) ∷ ys) → ((o : ObjectId) → object_at (e ∷ xs) o ≡ object_at ((e.0, v) ∷ ys) o) → (o : ObjectId) → object_at xs o ≡ object_at ys o
+others_same : (e : ObjectId × Instance) (v : Instance) (xs ys : Objects) → Rises (e ∷ xs) → Rises ((e.0, v) ∷ ys) → ((o : ObjectId) → object_at (e ∷ xs) o ≡ object_at ((e.0, v) ∷ ys) o) → (o : ObjectId) → object_at xs o ≡ object_at ys o
 others_same e v xs ys h g same o = go (is_eq (object_cmp o e.0)) refl
   where
     go : (b : Bool) → is_eq (object_cmp o e.0) ≡ b → object_at xs o ≡ object_at ys o
@@ -128,7 +129,7 @@ others_same e v xs ys h g same o = go (is_eq (object_cmp o e.0)) refl
         ap (object_at xs) f ∙ absent_self e.0 xs (left (below_all object_cmp e.0 xs) (is_sorted object_cmp xs) h)
         ∙ sym (ap (object_at ys) f ∙ absent_self e.0 ys (left (below_all object_cmp e.0 ys) (is_sorted object_cmp ys) g))
 
-pub same_maps : (xs ys : Objects) → InOrder xs → InOrder ys → ((o : ObjectId) → object_at xs o ≡ object_at ys o) → xs ≡ ys
+pub same_maps : (xs ys : Objects) → Rises xs → Rises ys → ((o : ObjectId) → object_at xs o ≡ object_at ys o) → xs ≡ ys
 same_maps [] [] h g same = refl
 same_maps [] (y ∷ ys) h g same = let f : None ≡ Some y.1 = same y.0 ∙ head_there y ys in absurd (cc f)
 same_maps (x ∷ xs) [] h g same = let f : None ≡ Some x.1 = sym (same x.0) ∙ head_there x xs in absurd (cc f)
@@ -141,7 +142,7 @@ same_maps (x ∷ xs) (y ∷ ys) h g same = go (object_cmp x.0 y.0) refl
         let f : x.0 ≡ y.0 = exact_objects x.0 y.0 is in
         let v : Some x.1 ≡ Some y.1 = sym (head_there x xs) ∙ same x.0 ∙ ap (object_at (y ∷ ys)) f ∙ head_there y ys in
         let w : x.1 ≡ y.1 = cc in
-        let g1 : InOrder ((x.0, y.1) ∷ ys) = subst (λ (o : ObjectId). InOrder ((o, y.1) ∷ ys)) (sym f) g in
+        let g1 : Rises ((x.0, y.1) ∷ ys) = subst (λ (o : ObjectId). Rises ((o, y.1) ∷ ys)) (sym f) g in
         let s1 : (o : ObjectId) → object_at (x ∷ xs) o ≡ object_at ((x.0, y.1) ∷ ys) o = subst (λ (i : ObjectId). (o : ObjectId) → object_at (x ∷ xs) o ≡ object_at ((i, y.1) ∷ ys) o) (sym f) same in
         let t : xs ≡ ys = ih (others_same x y.1 xs ys h g1 s1) in
         ap (λ (i : ObjectId). (i, x.1) ∷ xs) f ∙ ap (λ (k : Instance). (y.0, k) ∷ xs) w ∙ ap (λ (r : Objects). y ∷ r) t
@@ -152,18 +153,18 @@ same_maps (x ∷ xs) (y ∷ ys) h g same = go (object_cmp x.0 y.0) refl
 
 -- ---- the objects of a history are in order
 
-ordered_line : (p : Performs) (objects : Objects) (a : Action) → InOrder objects → InOrder (objects_after p objects a)
+ordered_line : (p : Performs) (objects : Objects) (a : Action) → Rises objects → Rises (objects_after p objects a)
 ordered_line p objects (action.Make kind object) h = ordered_making objects kind object (p.made kind) h
 ordered_line p objects (action.Call kind op object args) h = go (object_at objects object)
   where
-    go : (was : Option Instance) → InOrder (after_call p objects kind op object args was)
+    go : (was : Option Instance) → Rises (after_call p objects kind op object args was)
     go None = h
     go (Some kept) = ordered_try objects object kept (p.tries kind op kept.state args) h
 ordered_line p objects (action.Fork text args place_on) h = h
 ordered_line p objects action.Ended h = h
 ordered_line p objects (action.Faulted fault) h = h
 
-pub ordered_lines : (p : Performs) (c : Configuration) (lines : List Line) → InOrder c.objects → InOrder (after_lines p c lines).objects
+pub ordered_lines : (p : Performs) (c : Configuration) (lines : List Line) → Rises c.objects → Rises (after_lines p c lines).objects
 ordered_lines p c [] h = h
 ordered_lines p c (l ∷ lines) h = ordered_lines p (after_line p c l) lines (ordered_line p c.objects l.action h)
 

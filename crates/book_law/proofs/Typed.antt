@@ -23,7 +23,7 @@ use Rattle.value_core.specs.History.{Objects, object_at, object_cmp, with_object
 use Rattle.guard_queue.specs.Fitting.{kind_at, kind_in, kinds_of}
 use Rattle.guard_queue.proofs.KindsStay.{contains_here, contains_there}
 use Rattle.guard_queue.proofs.Lookups.{exact_objects, object_at-with_object, object_total}
-use Rattle.book_law.specs.Events.{InOrder}
+use Rattle.guard_queue.specs.Shown.{Rises}
 use Rattle.book_law.proofs.Ordered.{is_less, left, right}
 
 -- ---- replies
@@ -54,7 +54,7 @@ below_in x k kind (e ∷ es) h (zero, lt, is) =
 below_in x k kind (e ∷ es) h (suc at, lt, is) = below_in x k kind es (right (is_lt (object_cmp x e.0)) (below_all object_cmp x es) h) (at, omega arith, is)
 
 -- among objects in order the type of an id is the one that stands with it
-pub kind_found : (objects : Objects) (object : ObjectId) (kind : KindNo) → InOrder objects → Contains (kinds_of objects) (object, kind) → kind_at objects object ≡ Some kind
+pub kind_found : (objects : Objects) (object : ObjectId) (kind : KindNo) → Rises objects → Contains (kinds_of objects) (object, kind) → kind_at objects object ≡ Some kind
 kind_found [] object kind h (at, lt, is) = absurd (omega arith)
 kind_found (e ∷ es) object kind h (zero, lt, is) =
     let f : e.0 ≡ object = ap (λ (y : ObjectId × KindNo). y.0) is in

@@ -1,6 +1,5 @@
 -- The processes of a run, as they run at their members, and what events ask of them and do to them.
-use Rattle.std.specs.Prelude.{◌≡◌, ℕ, ◌≤◌, ◌⊎◌, ◌==◌, false, List, [], ◌∷◌, ◌++◌, length, map, Option, Some, None, slice_get, if◌then◌else◌, T}
-use Rattle.std.specs.FinMap.Entries.{is_sorted}
+use Rattle.std.specs.Prelude.{◌≡◌, ℕ, ◌≤◌, ◌⊎◌, ◌==◌, false, List, [], ◌∷◌, ◌++◌, length, map, Option, Some, None, slice_get, if◌then◌else◌}
 use Rattle.orca_base.specs.declared.ids.TextNo.{TextNo}
 use Rattle.orca_base.specs.declared.ids.KindNo.{KindNo}
 use Rattle.orca_base.specs.declared.ids.OpNo.{OpNo}
@@ -13,7 +12,7 @@ use Rattle.value_core.specs.declared.action.Action.TheVariants as action
 use Rattle.value_core.specs.declared.action.Reply.{Reply}
 use Rattle.value_core.specs.declared.meaning.Doing.TheVariants as doing
 use Rattle.value_core.specs.Meaning.{Performs, Computes}
-use Rattle.value_core.specs.History.{Objects, Performed, most_turns, object_at, object_cmp, objects_after}
+use Rattle.value_core.specs.History.{Objects, Performed, most_turns, object_at, objects_after}
 use Rattle.guard_queue.specs.declared.queue.Suspended.{Suspended}
 use Rattle.book_law.specs.Passes.{Test}
 use Rattle.book_law.specs.Book.{Placed, copies_at}
@@ -36,9 +35,11 @@ abbrev pub lines_by : ℕ → List Line → List Line
 lines_by j [] = []
 lines_by j (l ∷ ls) = if l.process.0 == j then l ∷ lines_by j ls else lines_by j ls
 
+-- the replies of lines
 abbrev pub replies_to : List Line → List Reply
 replies_to lines = map (λ (l : Line). l.reply) lines
 
+-- it is one of these
 abbrev pub In : {A : Type 0} → A → List A → Type 0
 In x [] = ⊥
 In x (y ∷ ys) = (x ≡ y) ⊎ In x ys
@@ -59,13 +60,9 @@ Makes (action.Fork process args place_on) o = ⊥
 Makes action.Ended o = ⊥
 Makes (action.Faulted fault) o = ⊥
 
--- the objects' ids strictly rise
-abbrev pub InOrder : Objects → Type 0
-InOrder objects = T (is_sorted object_cmp objects)
-
 -- ---- what events ask
 
--- the message is the process's next action
+-- the message is the next action of process j, which is x
 pub record Asks (q : Computes) (j : ℕ) (x : Runner) (m : Message) : Type 0 where
   pub process : m.process.0 ≡ j
   pub call : m.call.0 ≡ length x.replies

@@ -73,7 +73,8 @@ pub record IsLineOf (p : Performs) (c : Copied) (kind : KindNo) (op : OpNo) (obj
 -- entries fits; `singles` and `suspended`, so does what a single copy holds whose owner applied its make; `reads` and `calls`, the
 -- next call of a process whose message hasn't entered may be tried at each number of entries from the process's place on, on a view
 -- or on the single copy, which is there; `lines`, what the try of a read by its class gives is a line of a read; `unmade`, no process
--- makes a single object again
+-- makes a single object again. The copies of the list keep no single object: those that a member keeps stand beside them, and no
+-- condition of entries and reads asks about them
 pub record Callable (single : Test) (p : Performs) (q : Computes) (fits_state : StateFits) (fits_args : ArgsFit) (w : Course) :
     Type 0 where
   pub entries : (n : ℕ) (y : Message) → slice_get w.list n ≡ Some y → Applies fits_args (copies_at single p w.list n) y.action
@@ -110,8 +111,8 @@ abbrev pub CallsFit : Performs → Computes → StateFits → ArgsFit → Type 0
 CallsFit p q fits_state fits_args =
     (single : Test) (w : Course) → Came single p q w → Callable single p q fits_state fits_args w
 
--- who is stuck where the list is whole and every answer was heard: a process whose message entered, at a member that applied the
--- whole list; and one whose next call is a read that is blocked on the copies after the whole list
+-- who waits at the end of a run is stuck: a process whose message entered, where its member applied the whole list and no answer is
+-- on the way; and one whose next call is a read that is blocked on the copies after the whole list
 pub record StuckAtEnd (single : Test) (p : Performs) (q : Computes) (w : Course) : Type 0 where
   pub waits :
       (number : ProcessNo) (x : Runner) (m : Message) → w.runners number.0 ≡ Some x → x.message ≡ Some m → In m w.entered →
