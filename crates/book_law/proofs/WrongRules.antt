@@ -22,8 +22,17 @@ no_number c l process is apart s =
 second : (c : Configuration) (l m : Line) (lines : List Line) → LegalFrom performs computes c (l ∷ m ∷ lines) → IsStep performs computes (after_line performs c l) m
 second c l m lines h = let rest : LegalFrom performs computes (after_line performs c l) (m ∷ lines) = h.1 in rest.0
 
+rest_of : (c : Configuration) (l : Line) (lines : List Line) → LegalFrom performs computes c (l ∷ lines) → LegalFrom performs computes (after_line performs c l) lines
+rest_of c l lines h = h.1
+
 abbrev made : Configuration
 made = after_line performs (opening computes) (line 0 0 make 0)
+
+abbrev forked : Configuration
+forked = after_line performs made (line 0 1 fork 0)
+
+abbrev marked_once : Configuration
+marked_once = after_line performs forked (line 1 0 (call 0) 0)
 
 abbrev main : Process
 main = record { text = record { 0 = 0 }; args = datum.none; replies = answer.Done ∷ [] }
@@ -62,5 +71,9 @@ wrong_rules = record {
   twice = λ h. no_number made (line 0 0 make 0) main refl (λ e. omega (arith, e)) (second (opening computes) (line 0 0 make 0) (line 0 0 make 0) [] h);
   out_of_order = λ h. no_number (opening computes) (line 0 1 fork 0) (record { text = record { 0 = 0 }; args = datum.none; replies = [] }) refl (λ e. omega (arith, e)) h.0;
   below_place = λ h. no_number made (line 0 2 (call 2) 0) main refl (λ e. omega (arith, e)) (second (opening computes) (line 0 0 make 0) (line 0 2 (call 2) 0) (line 0 1 fork 0 ∷ []) h);
+  taken_twice = λ h. no_number marked_once (line 1 0 (call 0) 0) (record { text = record { 0 = 1 }; args = datum.none; replies = answer.Done ∷ [] }) refl (λ e. omega (arith, e))
+      (second forked (line 1 0 (call 0) 0) (line 1 0 (call 0) 0) []
+      (rest_of made (line 0 1 fork 0) (line 1 0 (call 0) 0 ∷ line 1 0 (call 0) 0 ∷ [])
+      (rest_of (opening computes) (line 0 0 make 0) (line 0 1 fork 0 ∷ line 1 0 (call 0) 0 ∷ line 1 0 (call 0) 0 ∷ []) h)));
   keeps_old_state = marked;
 }

@@ -37,6 +37,10 @@ out_of_order = book single performs (message 0 1 fork refl ∷ message 0 0 make 
 abbrev pub below_place : List Line
 below_place = book single performs entries (placed 1 (line 0 2 (call 2) 0 ∷ []))
 
+-- an owner takes a call twice
+abbrev pub taken_twice : List Line
+taken_twice = book single performs entries (placed 2 (line 1 0 (call 0) 0 ∷ line 1 0 (call 0) 0 ∷ []))
+
 -- the single copy keeps its old state
 abbrev pub keeps_old_state : List Line
 keeps_old_state = book single performs entries (placed 2 (line 1 0 (call 0) 0 ∷ []))
@@ -50,4 +54,5 @@ pub record WrongRules : Type 0 where
   pub twice : Legal performs computes twice → ⊥
   pub out_of_order : Legal performs computes out_of_order → ⊥
   pub below_place : Legal performs computes below_place → ⊥
+  pub taken_twice : Legal performs computes taken_twice → ⊥
   pub keeps_old_state : object_at (objects_of performs computes keeps_old_state) cell ≡ Some at_first.kept → ⊥

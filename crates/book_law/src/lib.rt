@@ -61,7 +61,7 @@ pub fn singles_law()
 /// Runs that are computed.
 ///
 /// - `run`: a run of a small program, event by event, with its book.
-/// - `wrong_rules`: six wrong rules, each of which gives a book that is no history, or a single copy that isn't its object.
+/// - `wrong_rules`: seven wrong rules, each of which gives a book that is no history, or a single copy that isn't its object.
 pub fn example_law()
     ensures run { IsRun }
     ensures wrong_rules { WrongRules }
