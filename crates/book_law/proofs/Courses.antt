@@ -70,7 +70,7 @@ pending list runners asked x all was new = ⊎_elim (λ h. absurd (new h)) (λ r
 other_has : (runners : ℕ → Option Runner) (k : ℕ) (v : Option Runner) (m : Message) → (m.process.0 ≡ k → ⊥) → ((x : Runner) × (runners m.process.0 ≡ Some x) × (x.message ≡ Some m)) → (x : Runner) × (with_at runners k v m.process.0 ≡ Some x) × (x.message ≡ Some m)
 other_has runners k v m apart h = (h.0, at_other runners k v m.process.0 apart ∙ h.1, h.2)
 
-one_of : (o : Option Runner) (x y : Runner) → o ≡ Some x → o ≡ Some y → x ≡ y
+pub one_of : (o : Option Runner) (x y : Runner) → o ≡ Some x → o ≡ Some y → x ≡ y
 one_of o x y e f = let g : Some x ≡ Some y = sym e ∙ f in cc
 
 -- a process without a message has none out

@@ -29,4 +29,5 @@ pub mod Resting
 pub mod WrongRules
 pub mod Sequence
 pub mod Owners
+pub mod Makers
 pub mod Stuck

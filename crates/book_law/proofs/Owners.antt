@@ -5,10 +5,10 @@ use Rattle.value_core.specs.declared.action.Instance.{Instance}
 use Rattle.value_core.specs.declared.meaning.Tried.{Tried}
 use Rattle.value_core.specs.declared.meaning.Tried.TheVariants as tried
 use Rattle.value_core.specs.Meaning.{Performs}
-use Rattle.value_core.specs.History.{Objects, object_at}
+use Rattle.value_core.specs.History.{object_at}
 use Rattle.guard_queue.specs.Fitting.{kind_at, kind_in}
 use Rattle.guard_queue.specs.Apart.{calls_on}
-use Rattle.guard_queue.specs.Settles.{Settling, tried_in}
+use Rattle.guard_queue.specs.Settles.{tried_in}
 use Rattle.guard_queue.specs.declared.queue.Suspended.{Suspended}
 use Rattle.guard_queue.proofs.KindsAt.{settled_keeps, with_keeps}
 use Rattle.object_manager.specs.After.{Copied, called}
@@ -25,28 +25,23 @@ called_kind c call tried.Blocked q = refl
 called_kind c call (tried.Did guard state reply) q = with_keeps c.objects call (tried.Did guard state reply) q
 called_kind c call (tried.Broke guard fault) q = with_keeps c.objects call (tried.Broke guard fault) q
 
--- the object is there after a call on it alone
+-- the object is there after a call on it alone, by its type
+kinds_after : (p : Performs) (x : Single) (call : Suspended) → kind_at (after_single p (alone x) (as_message call)).own x.object ≡ Some x.kept.kind
+kinds_after p x call =
+    let here = side (alone x) in
+    let s = called here call (tried_in p here.objects call) in
+    settled_keeps p (length s.queue) (record { objects = s.objects; queue = s.queue; lines = [] }) x.object ∙ called_kind here call (tried_in p here.objects call) x.object
+    ∙ ap (λ (o : Option Instance). kind_in o) (at_itself [] x.object x.kept)
+
 pub there_after : (p : Performs) (x : Single) (call : Suspended) → object_at (after_single p (alone x) (as_message call)).own x.object ≡ Some (after_on p x call).kept
-there_after p x call = there.1 ∙ ap (λ (k : Instance). Some k) kept_is
-  where
-    here : Copied
-    here = side (alone x)
+there_after p x call =
+    let there = has_kind (object_at (after_single p (alone x) (as_message call)).own x.object) x.kept.kind (kinds_after p x call) in
+    let kept_is : there.0 ≡ (after_on p x call).kept = sym (ap (λ (o : Option Instance). kept_or o x.kept) there.1) in
+    there.1 ∙ ap (λ (k : Instance). Some k) kept_is
 
-    s : Settling
-    s = called here call (tried_in p here.objects call)
-
-    left : Objects
-    left = (after_single p (alone x) (as_message call)).own
-
-    kinds : kind_at left x.object ≡ Some x.kept.kind
-    kinds = settled_keeps p (length s.queue) (record { objects = s.objects; queue = s.queue; lines = [] }) x.object ∙ called_kind here call (tried_in p here.objects call) x.object
-        ∙ ap (λ (o : Option Instance). kind_in o) (at_itself [] x.object x.kept)
-
-    there : (kept : Instance) × (object_at left x.object ≡ Some kept) × (kept.kind ≡ x.kept.kind)
-    there = has_kind (object_at left x.object) x.kept.kind kinds
-
-    kept_is : there.0 ≡ (after_on p x call).kept
-    kept_is = sym (ap (λ (o : Option Instance). kept_or o x.kept) there.1)
+pub kind_after : (p : Performs) (x : Single) (call : Suspended) → (after_on p x call).kept.kind ≡ x.kept.kind
+kind_after p x call =
+    let e : Some (after_on p x call).kept.kind ≡ Some x.kept.kind = ap kind_in (sym (there_after p x call)) ∙ kinds_after p x call in cc
 
 pub owners_do_alike : OwnersDoAlike
 owners_do_alike p c x call is blocked keeps =

@@ -7,6 +7,7 @@ pub mod Performed
 pub mod Course
 pub mod Sequence
 pub mod Promise
+pub mod Makers
 pub mod Fitness
 pub mod Replicated
 pub mod Cell

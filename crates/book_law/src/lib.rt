@@ -13,6 +13,7 @@
 
 ghost use Rattle.book_law.specs.Example.{IsRun};
 ghost use Rattle.book_law.specs.Fitness.{CallsFit, EndsStuck};
+ghost use Rattle.book_law.specs.Makers.{CopiesMade, MakesHaveCopies};
 ghost use Rattle.book_law.specs.Owners.{OwnersDoAlike};
 ghost use Rattle.book_law.specs.Promise.{CopiesFollow, EnteredStands, EntriesStand, LegalBook};
 ghost use Rattle.book_law.specs.Promise.{RepliesBegin, RepliesReceived, SinglesFollow};
@@ -48,11 +49,15 @@ pub fn book_law()
 /// What single objects change of copies, and what they leave.
 ///
 /// - `entries`: an entry leaves copies as `object_manager` says: after a make of a single object, or applied.
+/// - `made`: each single copy was made by the entry at its place, of a process at its owner.
+/// - `makes`: each entry that makes a single object has its copy.
 /// - `owners`: where an owner keeps a single copy beside others, a call does there what it does to the single copy by itself.
 /// - `tests`: tests of what is single that agree on each object that the list makes have the same copies and the same book.
 /// - `plain`: where no object is single, copies are those of `object_manager` after the entries, and the book's objects are theirs.
 pub fn singles_law()
     ensures entries { EntriesStand }
+    ensures made { CopiesMade }
+    ensures makes { MakesHaveCopies }
     ensures owners { OwnersDoAlike }
     ensures tests { TestsAgree }
     ensures plain { ArePlain }

@@ -3,12 +3,15 @@ use Rattle.object_manager.specs.After.{opening_copies}
 use Rattle.book_law.specs.Replicated.{all_replicated}
 use Rattle.book_law.proofs.singles_law.Goals as goal
 use Rattle.book_law.proofs.Courses.{every_run}
+use Rattle.book_law.proofs.Makers.{copies_made, makes_have_copies}
 use Rattle.book_law.proofs.Owners.{owners_do_alike}
 use Rattle.book_law.proofs.Replicated.{entries_stand, plain_all, plain_copies, tests_agree}
 
 pub returns : goal.returns
 returns c = record {
   entries = entries_stand;
+  made = copies_made;
+  makes = makes_have_copies;
   owners = owners_do_alike;
   tests = tests_agree;
   plain = λ p q w came n.
