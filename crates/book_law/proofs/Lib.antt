@@ -30,4 +30,5 @@ pub mod WrongRules
 pub mod Sequence
 pub mod Owners
 pub mod Makers
+pub mod Members
 pub mod Stuck

@@ -81,16 +81,16 @@ AllMade list runners owned = (i : ℕ) (x : Single) → slice_get owned i ≡ So
 all_carried : (list more : List Message) (f g : ℕ → Option Runner) (owned : List Single) → ((n : ℕ) (y : Message) → slice_get list n ≡ Some y → slice_get more n ≡ Some y) → Stays f g → AllMade list f owned → AllMade more g owned
 all_carried list more f g owned keeps stays all i x is = carried list more f g x x keeps stays refl refl refl refl (all i x is)
 
-at_split : {A : Type 0} (xs ys : List A) (i : ℕ) (z : A) → slice_get (xs ++ ys) i ≡ Some z → (slice_get xs i ≡ Some z) ⊎ ((k : ℕ) × (slice_get ys k ≡ Some z))
+pub at_split : {A : Type 0} (xs ys : List A) (i : ℕ) (z : A) → slice_get (xs ++ ys) i ≡ Some z → (slice_get xs i ≡ Some z) ⊎ ((k : ℕ) × (slice_get ys k ≡ Some z))
 at_split [] ys i z is = inr (i, is)
 at_split (x ∷ xs) ys zero z is = inl is
 at_split (x ∷ xs) ys (suc i) z is = at_split xs ys i z is
 
 -- what an entry adds
-record Fresh (owner place : ℕ) (a : Action) (z : Single) : Type 0 where
-  makes : a ≡ action.Make z.kept.kind z.object
-  at : z.place ≡ place
-  by : z.owner ≡ owner
+pub record Fresh (owner place : ℕ) (a : Action) (z : Single) : Type 0 where
+  pub makes : a ≡ action.Make z.kept.kind z.object
+  pub at : z.place ≡ place
+  pub by : z.owner ≡ owner
 
 fresh_of : (owner place : ℕ) (object : ObjectId) (kind : KindNo) (m : Making) (k : ℕ) (z : Single) → slice_get (single_of owner place object kind m) k ≡ Some z → Fresh owner place (action.Make kind object) z
 fresh_of owner place object kind (making.Made state) zero z is =
@@ -100,7 +100,7 @@ fresh_of owner place object kind (making.Made state) zero z is =
 fresh_of owner place object kind (making.Made state) (suc k) z is = absurd (cc is)
 fresh_of owner place object kind (making.Broke fault) k z is = absurd (cc is)
 
-fresh_by : (single : Test) (p : Performs) (owner place : ℕ) (a : Action) (k : ℕ) (z : Single) → slice_get (singles_by single p owner place a) k ≡ Some z → Fresh owner place a z
+pub fresh_by : (single : Test) (p : Performs) (owner place : ℕ) (a : Action) (k : ℕ) (z : Single) → slice_get (singles_by single p owner place a) k ≡ Some z → Fresh owner place a z
 fresh_by single p owner place (action.Make kind object) k z = go (single object)
   where
     go : (b : Bool) → slice_get (if b then single_of owner place object kind (p.made kind) else []) k ≡ Some z → Fresh owner place (action.Make kind object) z

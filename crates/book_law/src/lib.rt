@@ -14,6 +14,7 @@
 ghost use Rattle.book_law.specs.Example.{IsRun};
 ghost use Rattle.book_law.specs.Fitness.{CallsFit, EndsStuck};
 ghost use Rattle.book_law.specs.Makers.{CopiesMade, MakesHaveCopies};
+ghost use Rattle.book_law.specs.Members.{MembersHold};
 ghost use Rattle.book_law.specs.Owners.{OwnersDoAlike};
 ghost use Rattle.book_law.specs.Promise.{CopiesFollow, EnteredStands, EntriesStand, LegalBook};
 ghost use Rattle.book_law.specs.Promise.{RepliesBegin, RepliesReceived, SinglesFollow};
@@ -52,6 +53,8 @@ pub fn book_law()
 /// - `made`: each single copy was made by the entry at its place, of a process at its owner.
 /// - `makes`: each entry that makes a single object has its copy.
 /// - `owners`: where an owner keeps a single copy beside others, a call does there what it does to the single copy by itself.
+/// - `members`: each member's copies, as its calls make them, are those of the list after as many entries as it applied, and beside
+///   them exactly the single copies that it owns and whose makes it applied.
 /// - `tests`: tests of what is single that agree on each object that the list makes have the same copies and the same book.
 /// - `plain`: where no object is single, copies are those of `object_manager` after the entries, and the book's objects are theirs.
 pub fn singles_law()
@@ -59,6 +62,7 @@ pub fn singles_law()
     ensures made { CopiesMade }
     ensures makes { MakesHaveCopies }
     ensures owners { OwnersDoAlike }
+    ensures members { MembersHold }
     ensures tests { TestsAgree }
     ensures plain { ArePlain }
 {}

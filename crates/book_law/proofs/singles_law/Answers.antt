@@ -4,6 +4,7 @@ use Rattle.book_law.specs.Replicated.{all_replicated}
 use Rattle.book_law.proofs.singles_law.Goals as goal
 use Rattle.book_law.proofs.Courses.{every_run}
 use Rattle.book_law.proofs.Makers.{copies_made, makes_have_copies}
+use Rattle.book_law.proofs.Members.{members_hold}
 use Rattle.book_law.proofs.Owners.{owners_do_alike}
 use Rattle.book_law.proofs.Replicated.{entries_stand, plain_all, plain_copies, tests_agree}
 
@@ -13,6 +14,7 @@ returns c = record {
   made = copies_made;
   makes = makes_have_copies;
   owners = owners_do_alike;
+  members = members_hold;
   tests = tests_agree;
   plain = λ p q w came n.
       let h = every_run all_replicated p q w came in
