@@ -32,3 +32,4 @@ pub mod Owners
 pub mod Makers
 pub mod Members
 pub mod Stuck
+pub mod Conditions

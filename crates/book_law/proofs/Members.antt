@@ -45,7 +45,7 @@ use Rattle.book_law.proofs.Owners.{owners_do_alike}
 use Rattle.book_law.proofs.Makers.{at_split, copies_made, fresh_by, makes_have_copies}
 
 -- no call on an object is in a queue without one
-on_none : (object : ObjectId) (queue : List Suspended) (at : ℕ) (call : Suspended) → calls_on object queue ≡ [] → slice_get queue at ≡ Some call → call.object ≡ object → ⊥
+pub on_none : (object : ObjectId) (queue : List Suspended) (at : ℕ) (call : Suspended) → calls_on object queue ≡ [] → slice_get queue at ≡ Some call → call.object ≡ object → ⊥
 on_none object [] at call none is e = absurd (cc is)
 on_none object (c ∷ queue) zero call none is e =
     let f : c ≡ call = cc in

@@ -10,6 +10,7 @@ pub mod Promise
 pub mod Makers
 pub mod Members
 pub mod Fitness
+pub mod Conditions
 pub mod Replicated
 pub mod Cell
 pub mod Example

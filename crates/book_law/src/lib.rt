@@ -11,6 +11,7 @@
 //! here, nor that anything happens in the end.
 #![tactic(auto)]
 
+ghost use Rattle.book_law.specs.Conditions.{MembersMeet};
 ghost use Rattle.book_law.specs.Example.{IsRun};
 ghost use Rattle.book_law.specs.Fitness.{CallsFit, EndsStuck};
 ghost use Rattle.book_law.specs.Makers.{CopiesMade, MakesHaveCopies};
@@ -76,11 +77,18 @@ pub fn example_law()
     ensures wrong_rules { WrongRules }
 {}
 
-/// In every run of a lawful program each entry may be applied, or passed, at the copies that it meets, what these and the single
-/// copies hold fits, and a process's next call may be tried at each number of entries from its process's place on: on a view, or on
-/// the single copy, which is there. It rests on the laws of the two traits alone. A call of this function does nothing.
+/// In every run of a lawful program what calls on copies ask is met. It rests on the laws of the two traits alone. A call of this
+/// function does nothing.
+///
+/// - `calls`: each entry may be applied, or passed, at the copies that it meets, what these and the single copies hold fits, and a
+///   process's next call may be tried at each number of entries from its process's place on: on a view, or on the single copy, which
+///   is there.
+/// - `members`: each member's copies meet the conditions of `apply`, `pass_make` and `call_single` at its next entry and at a call that
+///   it takes.
 pub fn every_call_fits<P: Processor>(program: &P)
-    ensures { CallsFit (P.performs program.now) (P.computes program.now) (P.fits_state program.now) (P.fits_args program.now) }
+    ensures calls { CallsFit (P.performs program.now) (P.computes program.now) (P.fits_state program.now) (P.fits_args program.now) }
+    ensures members { MembersMeet (P.performs program.now) (P.computes program.now) (P.fits_state program.now)
+        (P.fits_args program.now) }
 {}
 
 /// In every run of a lawful program who waits is stuck: where no answer is on the way to it, a process whose message entered, at a

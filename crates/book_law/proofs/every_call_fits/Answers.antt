@@ -1,6 +1,7 @@
 use Rattle.book_law.proofs.Fits.{Laws}
 use Rattle.book_law.proofs.every_call_fits.Goals as goal
 use Rattle.book_law.proofs.Calls.{every_call}
+use Rattle.book_law.proofs.Conditions.{members_meet}
 
 pub returns : goal.returns
 returns g c =
@@ -16,4 +17,7 @@ returns g c =
       text_stays_fit = g.met.P.Performer.text_stays_fit m;
       lawful = g.met.P.Processor.lawful m;
     } in
-    λ single w came. every_call single (g.P.Performer.performs m) (g.P.Processor.computes m) (g.P.Performer.fits_state m) (g.P.Performer.fits_args m) (g.P.Performer.fits_text m) (g.P.Performer.fits_reply m) w laws came
+    record {
+      calls = λ single w came. every_call single (g.P.Performer.performs m) (g.P.Processor.computes m) (g.P.Performer.fits_state m) (g.P.Performer.fits_args m) (g.P.Performer.fits_text m) (g.P.Performer.fits_reply m) w laws came;
+      members = λ single w came n. members_meet single (g.P.Performer.performs m) (g.P.Processor.computes m) (g.P.Performer.fits_state m) (g.P.Performer.fits_args m) (g.P.Performer.fits_text m) (g.P.Performer.fits_reply m) w laws came n;
+    }
