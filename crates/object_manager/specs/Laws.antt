@@ -13,6 +13,7 @@ use Rattle.object_manager.specs.After.{Copied, after}
 use Rattle.object_manager.specs.Applies.{Applies, AppliesSingle, CopiesBlocked, CopiesFit}
 use Rattle.object_manager.specs.Limits.{made_objects}
 use Rattle.object_manager.specs.Singles.{AreCounted, after_passed, after_single, kinds_at}
+use Rattle.object_manager.specs.State.{HasNoSingles, state_of}
 
 -- after a message each suspended call on a replicated object is blocked
 abbrev pub AfterBlocked : Performs → Type 0
@@ -68,3 +69,12 @@ pub record IsPlain (p : Performs) (c : Copied) (message : Message) : Type 0 wher
 -- so it is with no single object
 abbrev pub WithoutSingles : Performs → Type 0
 WithoutSingles p = (c : Copied) (message : Message) → c.singles ≡ [] → IsPlain p c message
+
+-- where no object was counted as single, none is kept here and no call waits on one
+abbrev pub NoneKept : (Kinds → KindNo → Data → Type 0) → (Kinds → KindNo → OpNo → Data → Type 0) → Type 0
+NoneKept fits_state fits_args =
+    (c : Copied) → CopiesFit fits_state fits_args c → AreCounted c.own c.singles → c.singles ≡ [] → HasNoSingles c
+
+-- copies without single objects are what their state says
+abbrev pub StatesTell : Type 0
+StatesTell = (c d : Copied) → HasNoSingles c → HasNoSingles d → state_of c ≡ state_of d → c ≡ d

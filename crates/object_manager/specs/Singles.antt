@@ -15,6 +15,7 @@ use Rattle.value_core.specs.Fits.{Kinds}
 use Rattle.value_core.specs.Meaning.{Performs}
 use Rattle.value_core.specs.History.{Objects, after_making, object_at}
 use Rattle.guard_queue.specs.Fitting.{kinds_of}
+use Rattle.guard_queue.specs.Shown.{or_else}
 use Rattle.object_manager.specs.After.{Copied, after, lines_after}
 
 -- the types of all objects, single ones too
@@ -28,6 +29,10 @@ IsCounted singles object = Any (λ (one : ObjectId × KindNo). one.0 ≡ object)
 -- each object that is kept here was counted, by its type
 abbrev pub AreCounted : Objects → Kinds → Type 0
 AreCounted own singles = (object : ObjectId) (kept : Instance) → object_at own object ≡ Some kept → Contains singles (object, kept.kind)
+
+-- both kinds of objects as one
+abbrev pub IsBoth : Objects → Objects → Objects → Type 0
+IsBoth both objects own = (object : ObjectId) → object_at both object ≡ or_else (object_at objects object) (object_at own object)
 
 -- what is kept here, as copies
 abbrev pub side : Copied → Copied

@@ -4,7 +4,7 @@ use Rattle.value_core.specs.History.{Objects}
 use Rattle.guard_queue.specs.declared.queue.Suspended.{Suspended}
 use Rattle.bag_copies.specs.Fits.{HasObject}
 use Rattle.bag_copies.proofs.One.{one_fits}
-use Rattle.bag_copies.proofs.entries.settle_alone.Goals as goal
+use Rattle.bag_copies.proofs.entries.settle_on.Goals as goal
 
 pub settle-requires : goal.settle-requires
 settle-requires c =
