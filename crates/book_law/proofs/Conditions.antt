@@ -20,7 +20,8 @@ use Rattle.object_manager.specs.After.{Copied}
 use Rattle.object_manager.specs.Applies.{Applies}
 use Rattle.object_manager.specs.Singles.{kinds_at}
 use Rattle.book_law.specs.Passes.{Test}
-use Rattle.book_law.specs.Singles.{Single, as_message}
+use Rattle.object_manager.specs.State.{message_of}
+use Rattle.book_law.specs.Singles.{Single}
 use Rattle.book_law.specs.Book.{copies_at}
 use Rattle.book_law.specs.Course.{Came, Course}
 use Rattle.book_law.specs.Events.{In}
@@ -70,9 +71,9 @@ members_meet single p q fits_state fits_args fits_text fits_reply w laws came m 
   applies = λ y is. subst (λ (d : Copied). Applies fits_args d y.action) (sym h.shared) (applies_beside fits_args (copies_at single p w.list n) c.own c.waits y.action (calls.entries n y is));
   takes = λ i x r call t owner.
       let s = k.stands call.process.0 r t.runner in
-      let asks = s.asks (as_message call) t.out in
+      let asks = s.asks (message_of call) t.out in
       let o = k.owns i x t.copy in
-      let may = calls.calls call.process r (w.applied x.owner) call.kind call.op call.object call.args t.runner (inr (as_message call, t.out, t.new)) t.after (ap single t.object ∙ o.is) asks.next in
+      let may = calls.calls call.process r (w.applied x.owner) call.kind call.op call.object call.args t.runner (inr (message_of call, t.out, t.new)) t.after (ap single t.object ∙ o.is) asks.next in
       let g = h.keeps i x t.copy (owner, subst (λ (a : ℕ). x.place ≤ w.applied a) owner t.kept) in
       record {
         kept = x.kept;

@@ -10,7 +10,8 @@ use Rattle.object_manager.specs.After.{opening_copies}
 use Rattle.orca_base.specs.declared.ids.ObjectId.{ObjectId}
 use Rattle.guard_queue.specs.declared.queue.Suspended.{Suspended}
 use Rattle.book_law.specs.Passes.{Test, after_all, lines_after}
-use Rattle.book_law.specs.Singles.{as_message, lines_on, waiting, waits}
+use Rattle.object_manager.specs.State.{message_of}
+use Rattle.book_law.specs.Singles.{lines_on, waiting, waits}
 use Rattle.book_law.specs.Book.{behind, copies_at}
 use Rattle.book_law.specs.Course.{Came, Course, MayOrder, Next, applying, taking, with_at}
 use Rattle.book_law.specs.Course.Next.{Submits, Orders, Forks, Applies, Reads_at, Takes_call, Hears_answer}
@@ -36,7 +37,7 @@ at_other f k v x apart = ap (λ b. if b then v else f x) (ne_eqb x k apart)
 
 -- a message is a call on a single object
 abbrev pub IsSingleCall : Test → Message → Type 0
-IsSingleCall single m = (call : Suspended) × (m ≡ as_message call) × (single call.object ≡ true)
+IsSingleCall single m = (call : Suspended) × (m ≡ message_of call) × (single call.object ≡ true)
 
 abbrev pub EnteredFrom : Test → Course → Type 0
 EnteredFrom single w = (m : Message) → In m w.entered → In m w.list ⊎ IsSingleCall single m
@@ -181,8 +182,8 @@ next_keeps single p q w v (Reads_at j x n line here h e) s =
 next_keeps single p q w v (Takes_call i x r call t e) s =
     subst (λ (u : Course). Sound single p q u) (sym e) (record {
       kept = takes single p q w.list w.aside w.owned w.entered w.applied w.runners (taking p w i x call).runners i x r call t (λ j. refl) s.kept;
-      accounted = accounted_takes w.entered w.runners w.asked (as_message call) (w.applied x.owner) (lines_on p x call) s.accounted;
-      from = let k = s.kept in let o = k.owns i x t.copy in (λ m h. ⊎_elim (λ u. s.from m u) (λ u. inr (call, u, ap single t.object ∙ o.is)) (in_push m (as_message call) w.entered h));
+      accounted = accounted_takes w.entered w.runners w.asked (message_of call) (w.applied x.owner) (lines_on p x call) s.accounted;
+      from = let k = s.kept in let o = k.owns i x t.copy in (λ m h. ⊎_elim (λ u. s.from m u) (λ u. inr (call, u, ap single t.object ∙ o.is)) (in_push m (message_of call) w.entered h));
     })
 next_keeps single p q w v (Hears_answer j x r here has le e) s =
     let k = s.kept in

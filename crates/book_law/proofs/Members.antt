@@ -24,7 +24,8 @@ use Rattle.guard_queue.proofs.Lookups.{object_total}
 use Rattle.object_manager.specs.After.{Copied, acted, after as after_applied, opening_copies}
 use Rattle.object_manager.specs.Singles.{after_passed, after_single, kept_by, own_after, side}
 use Rattle.book_law.specs.Passes.{Test, is_passed}
-use Rattle.book_law.specs.Singles.{Single, after_on, as_message, singles_by}
+use Rattle.object_manager.specs.State.{message_of}
+use Rattle.book_law.specs.Singles.{Single, after_on, singles_by}
 use Rattle.book_law.specs.Owners.{DoesAlike, Keeps}
 use Rattle.book_law.specs.Book.{copies_at}
 use Rattle.book_law.specs.Course.{Came, Course, Next, with_at}
@@ -265,7 +266,7 @@ applied_here single p q w m y c came here h = go (kind_by single p y.action keep
 -- ---- a call that an owner takes
 
 taken_here : (single : Test) (p : Performs) (list : List Message) (owned : List Single) (m n i : ℕ) (x : Single) (call : Suspended) (c : Copied) → slice_get owned i ≡ Some x → IsHere m n x → call.object ≡ x.object
-    → ((a b : ℕ) (y z : Single) → slice_get owned a ≡ Some y → slice_get owned b ≡ Some z → y.object ≡ z.object → a ≡ b) → Holds single p list owned m n c → Holds single p list (slice_set owned i (after_on p x call)) m n (after_single p c (as_message call))
+    → ((a b : ℕ) (y z : Single) → slice_get owned a ≡ Some y → slice_get owned b ≡ Some z → y.object ≡ z.object → a ≡ b) → Holds single p list owned m n c → Holds single p list (slice_set owned i (after_on p x call)) m n (after_single p c (message_of call))
 taken_here single p list owned m n i x call c is here on distinct h = record {
   shared = ap (λ (d : Copied). record d { own = next.own; waits = next.waits }) h.shared;
   keeps = λ a z at_a at. ⊎_elim
@@ -286,19 +287,19 @@ taken_here single p list owned m n i x call c is here on distinct h = record {
       (λ (e : o ≡ x.object). let f : None ≡ Some set.kept = sym none ∙ ap (object_at next.own) e ∙ kept_there in absurd (cc f))
       (λ apart. let u = alike.others o apart in u.1 ∙ h.idle o (sym u.0 ∙ none))
       (same_id o x.object);
-  blocked = let s = acted p (side c) (as_message call) in settled_blocked p (record { objects = s.objects; queue = s.queue; lines = [] });
+  blocked = let s = acted p (side c) (message_of call) in settled_blocked p (record { objects = s.objects; queue = s.queue; lines = [] });
 }
   where
     set : Single
     set = after_on p x call
 
     next : Copied
-    next = after_single p c (as_message call)
+    next = after_single p c (message_of call)
 
     alike : DoesAlike p c x call
     alike = owners_do_alike p c x call on h.blocked (h.keeps i x is here)
 
-    kept_there : object_at (after_single p c (as_message call)).own x.object ≡ Some (after_on p x call).kept
+    kept_there : object_at (after_single p c (message_of call)).own x.object ≡ Some (after_on p x call).kept
     kept_there = let g = alike.keeps in g.state
 
 -- another's copy changes
@@ -347,7 +348,7 @@ next_holds single p q w v (Applies j y here e) m c came h = subst (λ (u : Cours
 next_holds single p q w v (Reads_at j x n line here reads e) m c came h = subst (λ (u : Course). Holds single p u.list u.owned m (u.applied m) c) (sym e) h
 next_holds single p q w v (Takes_call i x r call t e) m c came h = subst (λ (u : Course). Holds single p u.list u.owned m (u.applied m) (copies_by single p q w v (Takes_call i x r call t e) m c)) (sym e) (go (x.owner == m) refl)
   where
-    go : (b : Bool) → (x.owner == m) ≡ b → Holds single p w.list (slice_set w.owned i (after_on p x call)) m (w.applied m) (if b then after_single p c (as_message call) else c)
+    go : (b : Bool) → (x.owner == m) ≡ b → Holds single p w.list (slice_set w.owned i (after_on p x call)) m (w.applied m) (if b then after_single p c (message_of call) else c)
     go true is =
         let s = came_sound single p q w came in
         let k = s.kept in

@@ -16,7 +16,8 @@ use Rattle.object_manager.specs.Apart.{AfterAlike}
 use Rattle.object_manager.specs.Singles.{after_single, side}
 use Rattle.object_manager.proofs.Apart.{after_apart}
 use Rattle.book_law.specs.Owners.{OwnersDoAlike}
-use Rattle.book_law.specs.Singles.{Single, after_on, alone, as_message, kept_or}
+use Rattle.object_manager.specs.State.{message_of}
+use Rattle.book_law.specs.Singles.{Single, after_on, alone, kept_or}
 use Rattle.book_law.proofs.Fitting.{has_kind}
 use Rattle.book_law.proofs.Typed.{at_itself}
 
@@ -26,16 +27,16 @@ called_kind c call (tried.Did guard state reply) q = with_keeps c.objects call (
 called_kind c call (tried.Broke guard fault) q = with_keeps c.objects call (tried.Broke guard fault) q
 
 -- the object is there after a call on it alone, by its type
-kinds_after : (p : Performs) (x : Single) (call : Suspended) → kind_at (after_single p (alone x) (as_message call)).own x.object ≡ Some x.kept.kind
+kinds_after : (p : Performs) (x : Single) (call : Suspended) → kind_at (after_single p (alone x) (message_of call)).own x.object ≡ Some x.kept.kind
 kinds_after p x call =
     let here = side (alone x) in
     let s = called here call (tried_in p here.objects call) in
     settled_keeps p (length s.queue) (record { objects = s.objects; queue = s.queue; lines = [] }) x.object ∙ called_kind here call (tried_in p here.objects call) x.object
     ∙ ap (λ (o : Option Instance). kind_in o) (at_itself [] x.object x.kept)
 
-pub there_after : (p : Performs) (x : Single) (call : Suspended) → object_at (after_single p (alone x) (as_message call)).own x.object ≡ Some (after_on p x call).kept
+pub there_after : (p : Performs) (x : Single) (call : Suspended) → object_at (after_single p (alone x) (message_of call)).own x.object ≡ Some (after_on p x call).kept
 there_after p x call =
-    let there = has_kind (object_at (after_single p (alone x) (as_message call)).own x.object) x.kept.kind (kinds_after p x call) in
+    let there = has_kind (object_at (after_single p (alone x) (message_of call)).own x.object) x.kept.kind (kinds_after p x call) in
     let kept_is : there.0 ≡ (after_on p x call).kept = sym (ap (λ (o : Option Instance). kept_or o x.kept) there.1) in
     there.1 ∙ ap (λ (k : Instance). Some k) kept_is
 
@@ -45,7 +46,7 @@ kind_after p x call =
 
 pub owners_do_alike : OwnersDoAlike
 owners_do_alike p c x call is blocked keeps =
-    let m = as_message call in
+    let m = message_of call in
     let same : object_at (side c).objects call.object ≡ object_at (side (alone x)).objects call.object =
     ap (object_at c.own) is ∙ keeps.state ∙ sym (at_itself [] x.object x.kept) ∙ ap (object_at (side (alone x)).objects) (sym is) in
     let queue : calls_on call.object (side c).queue ≡ x.queue = ap (λ (o : ObjectId). calls_on o c.waits) is ∙ keeps.queue in

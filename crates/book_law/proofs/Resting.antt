@@ -20,7 +20,8 @@ use Rattle.object_manager.specs.Singles.{after_single, side}
 use Rattle.book_law.specs.Book.{Placed}
 use Rattle.book_law.specs.Passes.{Test}
 use Rattle.book_law.specs.Performed.{placed}
-use Rattle.book_law.specs.Singles.{Single, after_on, alone, as_message, lines_on, singles_by}
+use Rattle.object_manager.specs.State.{message_of}
+use Rattle.book_law.specs.Singles.{Single, after_on, alone, lines_on, singles_by}
 use Rattle.book_law.specs.Promise.{EnteredStands, IsTaken}
 use Rattle.book_law.specs.Course.{Came, Course, Next}
 use Rattle.book_law.specs.Course.Next.{Submits, Orders, Forks, Applies, Reads_at, Takes_call, Hears_answer}
@@ -77,7 +78,7 @@ abbrev tried_first : Performs → Single → Suspended → Settling
 tried_first p x call = called (side (alone x)) call (tried_in p (side (alone x)).objects call)
 
 abbrev leaves : Performs → Single → Suspended → Settling
-leaves p x call = record { objects = (after_single p (alone x) (as_message call)).own; queue = (after_single p (alone x) (as_message call)).waits; lines = lines_on p x call }
+leaves p x call = record { objects = (after_single p (alone x) (message_of call)).own; queue = (after_single p (alone x) (message_of call)).waits; lines = lines_on p x call }
 
 on_rests : (p : Performs) (x : Single) (call other : Suspended) → Rests other (tried_first p x call) → Rests other (leaves p x call)
 on_rests p x call other h =
@@ -88,7 +89,7 @@ on_rests p x call other h =
 -- ---- every run
 
 abbrev pub AllTaken : Test → Course → Type 0
-AllTaken single w = (call : Suspended) → In (as_message call) w.entered → single call.object ≡ true → IsTaken w.owned w.aside call
+AllTaken single w = (call : Suspended) → In (message_of call) w.entered → single call.object ≡ true → IsTaken w.owned w.aside call
 
 placed_in : (n : ℕ) (l : Line) (lines : List Line) → In l lines → In (record { place = n; line = l }) (placed n lines)
 placed_in n l [] h = h
@@ -103,10 +104,10 @@ call_by process call none (action.Fork text args place_on) = none
 call_by process call none action.Ended = none
 call_by process call none (action.Faulted fault) = none
 
-same_call : (a b : Suspended) → as_message a ≡ as_message b → a ≡ b
+same_call : (a b : Suspended) → message_of a ≡ message_of b → a ≡ b
 same_call a b e = ap (λ (m : Message). call_by m.process m.call a m.action) e
 
-no_born : (call : Suspended) (x : Message) (born : Process) → forked x.action ≡ born ∷ [] → as_message call ≡ x → ⊥
+no_born : (call : Suspended) (x : Message) (born : Process) → forked x.action ≡ born ∷ [] → message_of call ≡ x → ⊥
 no_born call x born forks e = let f : [] ≡ born ∷ [] = ap (λ (m : Message). forked m.action) e ∙ forks in absurd (cc f)
 
 more_owned : (owned new : List Single) (aside : List Placed) (call : Suspended) → IsTaken owned aside call → IsTaken (owned ++ new) aside call
@@ -137,14 +138,14 @@ next_taken single p q w v (Submits j x m here free asks e) all = subst (λ (u : 
 next_taken single p q w v (Orders x r here was new may plain e) all = subst (λ (u : Course). AllTaken single u) (sym e) (λ call h is. ⊎_elim
     (λ u. more_owned w.owned (singles_by single p r.member (suc (length w.list)) x.action) w.aside call (all call u is))
     (λ u. let f : single call.object ≡ false = may.shared call.object (subst (λ (m : Message). Calls m.action call.object) u refl) in let g : true ≡ false = sym is ∙ f in absurd (cc g))
-    (in_push (as_message call) x w.entered h))
-next_taken single p q w v (Forks x born member was new forks e) all = subst (λ (u : Course). AllTaken single u) (sym e) (λ call h is. ⊎_elim (λ u. all call u is) (λ u. absurd (no_born call x born forks u)) (in_push (as_message call) x w.entered h))
+    (in_push (message_of call) x w.entered h))
+next_taken single p q w v (Forks x born member was new forks e) all = subst (λ (u : Course). AllTaken single u) (sym e) (λ call h is. ⊎_elim (λ u. all call u is) (λ u. absurd (no_born call x born forks u)) (in_push (message_of call) x w.entered h))
 next_taken single p q w v (Applies m y is e) all = subst (λ (u : Course). AllTaken single u) (sym e) all
 next_taken single p q w v (Reads_at j x n line here h e) all = subst (λ (u : Course). AllTaken single u) (sym e) (λ call g is. more_reads w.owned w.aside (record { place = n; line = line } ∷ []) call (all call g is))
 next_taken single p q w v (Takes_call i x r call t e) all = subst (λ (u : Course). AllTaken single u) (sym e) (λ other h is. ⊎_elim
     (λ u. taken_others p w.owned w.aside (w.applied x.owner) i x call other t.copy (all other u is))
     (λ u. taken_set p w.owned w.aside (w.applied x.owner) i x call other t.copy (on_rests p x call other (subst (λ (z : Suspended). Rests z (tried_first p x call)) (sym (same_call other call u)) (called_rests (side (alone x)) call (tried_in p (side (alone x)).objects call)))))
-    (in_push (as_message other) (as_message call) w.entered h))
+    (in_push (message_of other) (message_of call) w.entered h))
 next_taken single p q w v (Hears_answer j x r here has le e) all = subst (λ (u : Course). AllTaken single u) (sym e) all
 
 pub all_taken : (single : Test) (p : Performs) (q : Computes) (w : Course) → Came single p q w → AllTaken single w

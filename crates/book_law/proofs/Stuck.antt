@@ -18,7 +18,8 @@ use Rattle.guard_queue.proofs.Blocked.{at_place, from_places, settled_blocked}
 use Rattle.object_manager.specs.After.{Copied, acted, after as after_applied, called, opening_copies}
 use Rattle.object_manager.specs.Singles.{after_passed, after_single, side}
 use Rattle.book_law.specs.Passes.{Test, after, after_all, is_passed}
-use Rattle.book_law.specs.Singles.{Single, after_on, alone, as_message, single_of, singles_by}
+use Rattle.object_manager.specs.State.{message_of}
+use Rattle.book_law.specs.Singles.{Single, after_on, alone, single_of, singles_by}
 use Rattle.book_law.specs.Book.{book}
 use Rattle.book_law.specs.Course.{Came, Course, Next, taking}
 use Rattle.book_law.specs.Course.Next.{Submits, Orders, Forks, Applies, Reads_at, Takes_call, Hears_answer}
@@ -66,7 +67,7 @@ on_blocked : (p : Performs) (x : Single) (call : Suspended) → ((other : Suspen
 on_blocked p x call its other inside =
     let here = side (alone x) in
     let s = called here call (tried_in p here.objects call) in
-    let left = (after_single p (alone x) (as_message call)).own in
+    let left = (after_single p (alone x) (message_of call)).own in
     let r = in_place other (after_on p x call).queue inside in
     let blocked : tried_in p left other ≡ tried.Blocked = at_place p left (after_on p x call).queue (settled_blocked p (record { objects = s.objects; queue = s.queue; lines = [] })) r.0 other r.1 in
     sym (ap (tried_by p other.kind other.op other.args) (ap (object_at left) (its other inside) ∙ there_after p x call)) ∙ blocked

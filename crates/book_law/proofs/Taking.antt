@@ -22,7 +22,8 @@ use Rattle.object_manager.specs.Singles.{after_single, side}
 use Rattle.std.specs.List.{Contains}
 use Rattle.book_law.specs.Passes.{Test, after_all, counted}
 use Rattle.book_law.specs.Performed.{placed}
-use Rattle.book_law.specs.Singles.{Single, after_on, alone, as_message, kept_or, lines_on, waiting, waits}
+use Rattle.object_manager.specs.State.{message_of}
+use Rattle.book_law.specs.Singles.{Single, after_on, alone, kept_or, lines_on, waiting, waits}
 use Rattle.book_law.specs.Book.{Placed, behind, book, aside_at, up_to}
 use Rattle.book_law.specs.Events.{Calls, In, Runner, Takes, answering, lines_by, replies_to}
 use Rattle.book_law.proofs.Kept.{Spares, IsKept, Kept, Owns, Stands, answer_at}
@@ -91,7 +92,7 @@ pub record Asker (single : Test) (p : Performs) (q : Computes) (list : List Mess
 pub takes : (single : Test) (p : Performs) (q : Computes) (list : List Message) (aside : List Placed) (owned : List Single) (seen : List Message) (applied : ℕ → ℕ) (runners more : ℕ → Option Runner) (i : ℕ) (x : Single) (r : Runner) (call : Suspended) → Takes owned seen applied runners i x r call
     → ((j : ℕ) → more j ≡ option_map (answering (applied x.owner) (lines_by j (lines_on p x call))) (runners j))
     → Kept single p q list aside owned seen applied runners
-    → Kept single p q list (aside ++ placed (applied x.owner) (lines_on p x call)) (slice_set owned i (after_on p x call)) (seen ++ as_message call ∷ []) applied more
+    → Kept single p q list (aside ++ placed (applied x.owner) (lines_on p x call)) (slice_set owned i (after_on p x call)) (seen ++ message_of call ∷ []) applied more
 takes single p q list aside owned seen applied runners more i x r call t hands k = record {
   legal = inserts_legal single p q list aside n lines but who inserts k.legal;
   follows = inserts_follows single p q list aside n lines but who inserts (λ z u. ap single u ∙ o.is) k.follows;
@@ -105,7 +106,7 @@ takes single p q list aside owned seen applied runners more i x r call t hands k
   within = k.within;
   held = λ m lt. placed_there n m aside lines (λ (e : n ≡ m). absurd (let f = within in omega (arith, f, e, lt))) ∙ k.held m lt;
   unborn = λ j m le. placed_by j n m aside lines (lacks_late j le) ∙ k.unborn j m le;
-  listed = λ y u. ⊎_elim (λ v. k.listed y v) (λ v. let f = ap (λ (z : Message). z.process.0) v in let a = s.there in let b = copies_most single p list r.place in omega (arith, f, a, b)) (in_push y (as_message call) seen u);
+  listed = λ y u. ⊎_elim (λ v. k.listed y v) (λ v. let f = ap (λ (z : Message). z.process.0) v in let a = s.there in let b = copies_most single p list r.place in omega (arith, f, a, b)) (in_push y (message_of call) seen u);
   counts = map_set (λ (y : Single). (y.object, y.kept.kind)) owned i x set t.copy (ap (λ (kd : KindNo). (x.object, kd)) (ap (λ (z : Instance). z.kind) kept_is ∙ kept.2)) ∙ k.counts;
   distinct = λ a b y z is there same. ⊎_elim
       (λ u. ⊎_elim (λ v. u.0 ∙ sym v.0) (λ v. u.0 ∙ k.distinct i b x z t.copy v.1 (ap (λ (w : Single). w.object) u.1 ∙ same)) (set_cases owned i b x set z t.copy there))
@@ -114,7 +115,7 @@ takes single p q list aside owned seen applied runners more i x r call t hands k
   known = λ m z kd is u. still m z (inserts_known single p q list aside n lines but who owned inserts (λ z. same_id z x.object) (λ z m le u. (i, x, t.copy, sym u, let a = t.kept in omega (arith, a, le))) k.known m z kd is u);
   owns = λ a y is. ⊎_elim (λ u. subst (λ (z : Single). Owns single p q list (aside ++ placed n lines) more (applied z.owner) z) u.1 mine) (λ u. others a y u.0 u.1) (set_cases owned i a x set y t.copy is);
   stands = λ j z there. let f = mapped (answering n (lines_by j lines)) (runners j) z (sym (hands j) ∙ there) in
-      subst (λ (w : Runner). Stands single p q list (aside ++ placed n lines) (slice_set owned i set) (seen ++ as_message call ∷ []) (applied w.member) j w) (sym f.2) (stand j f.0 f.1 (lines_by j lines) refl);
+      subst (λ (w : Runner). Stands single p q list (aside ++ placed n lines) (slice_set owned i set) (seen ++ message_of call ∷ []) (applied w.member) j w) (sym f.2) (stand j f.0 f.1 (lines_by j lines) refl);
 }
   where
     n : ℕ
@@ -160,7 +161,7 @@ takes single p q list aside owned seen applied runners more i x r call t hands k
     s = k.stands call.process.0 r t.runner
 
     idle : (waiting call.process.0 copies.queue + waits call.process.0 owned ≡ 0) × (s.awaited ≡ []) × (r.answer ≡ None)
-    idle = stage_new seen (as_message call) r.message r.answer (waiting call.process.0 copies.queue + waits call.process.0 owned) s.awaited t.out t.new s.stage
+    idle = stage_new seen (message_of call) r.message r.answer (waiting call.process.0 copies.queue + waits call.process.0 owned) s.awaited t.out t.new s.stage
 
     -- ---- who asks
 
@@ -205,7 +206,7 @@ takes single p q list aside owned seen applied runners more i x r call t hands k
     here_objects = record (side (alone x)) { processes = length c.processes }
 
     leaves : Settling
-    leaves = record { objects = (after_single p (alone x) (as_message call)).own; queue = (after_single p (alone x) (as_message call)).waits; lines = lines_on p x call }
+    leaves = record { objects = (after_single p (alone x) (message_of call)).own; queue = (after_single p (alone x) (message_of call)).waits; lines = lines_on p x call }
 
     spares : Spares x.object later
     spares = o.last n t.kept (omega arith)
@@ -213,9 +214,9 @@ takes single p q list aside owned seen applied runners more i x r call t hands k
     there : object_at c.objects x.object ≡ Some x.kept
     there = sym (ap (λ (d : Configuration). object_at d.objects x.object) ended ∙ spared_lines p c later x.object spares) ∙ o.state
 
-    comes : Comes p q sees c here_objects (as_message call)
+    comes : Comes p q sees c here_objects (message_of call)
     comes =
-        let a = s.asks (as_message call) t.out in
+        let a = s.asks (message_of call) t.out in
         record {
           process = record { text = r.text; args = r.args; replies = r.replies };
           exists = here_now call.process.0 sender;
@@ -230,8 +231,8 @@ takes single p q list aside owned seen applied runners more i x r call t hands k
           once = λ j. let at = waits_at j owned i x t.copy in let u = k.once j in omega (arith, at, u);
         }
 
-    did : Ran p q sees c here_objects (as_message call) (length c.processes + 0) leaves
-    did = ran p q sees c here_objects (as_message call) comes
+    did : Ran p q sees c here_objects (message_of call) (length c.processes + 0) leaves
+    did = ran p q sees c here_objects (message_of call) comes
 
     going : Going p q sees (action.Call call.kind call.op call.object call.args) c (length c.processes + 0) leaves
     going = did.going
@@ -397,16 +398,16 @@ takes single p q list aside owned seen applied runners more i x r call t hands k
 
     -- ---- the processes
 
-    own : (j : ℕ) (z : Runner) → runners j ≡ Some z → call.process.0 ≡ j → z.message ≡ Some (as_message call)
+    own : (j : ℕ) (z : Runner) → runners j ≡ Some z → call.process.0 ≡ j → z.message ≡ Some (message_of call)
     own j z here e =
         let f : Some r ≡ Some z = sym t.runner ∙ ap runners e ∙ here in
         let g : r ≡ z = cc in
-        subst (λ (w : Runner). w.message ≡ Some (as_message call)) g t.out
+        subst (λ (w : Runner). w.message ≡ Some (message_of call)) g t.out
 
-    earlier : (j : ℕ) (z : Runner) → runners j ≡ Some z → (y : Message) → In y (seen ++ as_message call ∷ []) → y.process.0 ≡ j → (y.call.0 < length z.replies) ⊎ (z.message ≡ Some y)
+    earlier : (j : ℕ) (z : Runner) → runners j ≡ Some z → (y : Message) → In y (seen ++ message_of call ∷ []) → y.process.0 ≡ j → (y.call.0 < length z.replies) ⊎ (z.message ≡ Some y)
     earlier j z here y u f =
         let st = k.stands j z here in
-        ⊎_elim (λ v. st.earlier y v f) (λ v. inr (own j z here (ap (λ (w : Message). w.process.0) (sym v) ∙ f) ∙ ap (λ (w : Message). Some w) (sym v))) (in_push y (as_message call) seen u)
+        ⊎_elim (λ v. st.earlier y v f) (λ v. inr (own j z here (ap (λ (w : Message). w.process.0) (sym v) ∙ f) ∙ ap (λ (w : Message). Some w) (sym v))) (in_push y (message_of call) seen u)
 
     after_it : (j : ℕ) (z : Runner) → runners j ≡ Some z → 1 ≤ waiting j x.queue + one call.process.0 j → z.place ≤ n
     after_it j z here le =
@@ -417,7 +418,7 @@ takes single p q list aside owned seen applied runners more i x r call t hands k
         let e = ap (λ (w : Runner). w.place) g in
         omega (arith, h, e)
 
-    stand : (j : ℕ) (z : Runner) → runners j ≡ Some z → (ls : List Line) → lines_by j lines ≡ ls → Stands single p q list (aside ++ placed n lines) (slice_set owned i set) (seen ++ as_message call ∷ []) (applied (answering n ls z).member) j (answering n ls z)
+    stand : (j : ℕ) (z : Runner) → runners j ≡ Some z → (ls : List Line) → lines_by j lines ≡ ls → Stands single p q list (aside ++ placed n lines) (slice_set owned i set) (seen ++ message_of call ∷ []) (applied (answering n ls z).member) j (answering n ls z)
     stand j z here [] none =
         let st = k.stands j z here in
         record {
@@ -431,7 +432,7 @@ takes single p q list aside owned seen applied runners more i x r call t hands k
           early = st.early;
           asks = st.asks;
           earlier = earlier j z here;
-          stage = stage_none seen (as_message call) j z.message z.answer (waiting j copies.queue + waits j owned) (waiting j copies.queue + waits j (slice_set owned i set)) st.awaited (own j z here) (λ m f. let a = st.asks m f in a.process) t.new
+          stage = stage_none seen (message_of call) j z.message z.answer (waiting j copies.queue + waits j owned) (waiting j copies.queue + waits j (slice_set owned i set)) st.awaited (own j z here) (λ m f. let a = st.asks m f in a.process) t.new
               (let a = waits_set j owned i x set t.copy in let h = did.holds j in let e = ap (λ (l : List Line). length l) none in omega (arith, a, h, e)) st.stage;
         }
     stand j z here (l ∷ ls) some =
@@ -439,7 +440,7 @@ takes single p q list aside owned seen applied runners more i x r call t hands k
         let a = waits_set j owned i x set t.copy in
         let h = did.holds j in
         let e = ap (λ (l : List Line). length l) some in
-        let g = stage_line seen (as_message call) j z.message z.answer (waiting j copies.queue + waits j owned) (waiting j copies.queue + waits j (slice_set owned i set)) st.awaited n l ls (own j z here) (λ m f. let a = st.asks m f in a.process) t.new (omega (arith, a, h, e)) st.stage in
+        let g = stage_line seen (message_of call) j z.message z.answer (waiting j copies.queue + waits j owned) (waiting j copies.queue + waits j (slice_set owned i set)) st.awaited n l ls (own j z here) (λ m f. let a = st.asks m f in a.process) t.new (omega (arith, a, h, e)) st.stage in
         let le = after_it j z here (has_lines j (λ none. let f : [] ≡ l ∷ ls = sym none ∙ some in cc f)) in
         let now : slice_get c.processes j ≡ Some (record { text = z.text; args = z.args; replies = z.replies }) = at_place single p q list aside owned seen applied runners j z n st g.1 g.2 le k in
         record {

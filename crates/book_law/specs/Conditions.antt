@@ -7,7 +7,8 @@ use Rattle.guard_queue.specs.declared.queue.Suspended.{Suspended}
 use Rattle.object_manager.specs.After.{Copied}
 use Rattle.object_manager.specs.Applies.{Applies, AppliesSingle, CopiesBlocked, CopiesFit}
 use Rattle.book_law.specs.Passes.{Test}
-use Rattle.book_law.specs.Singles.{Single, as_message}
+use Rattle.object_manager.specs.State.{message_of}
+use Rattle.book_law.specs.Singles.{Single}
 use Rattle.book_law.specs.Course.{Came, Course}
 use Rattle.book_law.specs.Events.{Runner, Takes}
 use Rattle.book_law.specs.Fitness.{ArgsFit, StateFits}
@@ -21,7 +22,7 @@ pub record MemberMeets (p : Performs) (fits_state : StateFits) (fits_args : Args
   pub applies : (y : Message) → slice_get w.list (w.applied m) ≡ Some y → Applies fits_args c y.action
   pub takes :
       (i : ℕ) (x : Single) (r : Runner) (call : Suspended) → Takes w.owned w.entered w.applied w.runners i x r call → x.owner ≡ m →
-      AppliesSingle fits_args c (as_message call).action
+      AppliesSingle fits_args c (message_of call).action
 
 -- so it is of each member in every run
 abbrev pub MembersMeet : Performs → Computes → StateFits → ArgsFit → Type 0

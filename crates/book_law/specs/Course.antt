@@ -18,7 +18,8 @@ use Rattle.object_manager.specs.After.{opening_copies}
 use Rattle.book_law.specs.Book.{Placed, copies_at}
 use Rattle.book_law.specs.Passes.{Test, after_all, lines_after}
 use Rattle.book_law.specs.Performed.{placed}
-use Rattle.book_law.specs.Singles.{Single, after_on, as_message, lines_on, singles_by}
+use Rattle.object_manager.specs.State.{message_of}
+use Rattle.book_law.specs.Singles.{Single, after_on, lines_on, singles_by}
 use Rattle.book_law.specs.Events.{Asks, Calls, In, Makes, Reads, Runner, Takes, answering, asking, handed, lines_by, newborn, told}
 
 -- the ordered messages as far as any member applied them; what was performed beside the list; the single copies, whose owners need
@@ -93,7 +94,7 @@ abbrev pub taking : Performs → Course → ℕ → Single → Suspended → Cou
 taking p w i x call = record w {
   aside = w.aside ++ placed (w.applied x.owner) (lines_on p x call);
   owned = slice_set w.owned i (after_on p x call);
-  entered = w.entered ++ as_message call ∷ [];
+  entered = w.entered ++ message_of call ∷ [];
   runners = λ j. option_map (answering (w.applied x.owner) (lines_by j (lines_on p x call))) (w.runners j);
 }
 

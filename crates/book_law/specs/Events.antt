@@ -16,7 +16,8 @@ use Rattle.value_core.specs.History.{Objects, Performed, most_turns, object_at, 
 use Rattle.guard_queue.specs.declared.queue.Suspended.{Suspended}
 use Rattle.book_law.specs.Passes.{Test}
 use Rattle.book_law.specs.Book.{Placed, copies_at}
-use Rattle.book_law.specs.Singles.{Single, as_message}
+use Rattle.object_manager.specs.State.{message_of}
+use Rattle.book_law.specs.Singles.{Single}
 
 -- a process as it runs at its member: the replies that it received; its place, which is that of its last line, or of the fork that
 -- made it, or 0; its message that isn't answered yet; and that message's line, with its place, where it was performed on a single
@@ -96,8 +97,8 @@ pub record Takes (owned : List Single) (entered : List Message) (applied : ℕ �
     (r : Runner) (call : Suspended) : Type 0 where
   pub copy : slice_get owned i ≡ Some x
   pub runner : runners call.process.0 ≡ Some r
-  pub out : r.message ≡ Some (as_message call)
-  pub new : In (as_message call) entered → ⊥
+  pub out : r.message ≡ Some (message_of call)
+  pub new : In (message_of call) entered → ⊥
   pub object : call.object ≡ x.object
   pub kept : x.place ≤ applied x.owner
   pub after : r.place ≤ applied x.owner

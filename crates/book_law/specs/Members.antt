@@ -11,7 +11,8 @@ use Rattle.guard_queue.specs.Settles.{AllBlocked}
 use Rattle.object_manager.specs.After.{Copied, after as after_applied, opening_copies}
 use Rattle.object_manager.specs.Singles.{after_passed, after_single}
 use Rattle.book_law.specs.Passes.{Test, is_passed}
-use Rattle.book_law.specs.Singles.{Single, as_message}
+use Rattle.object_manager.specs.State.{message_of}
+use Rattle.book_law.specs.Singles.{Single}
 use Rattle.book_law.specs.Owners.{Keeps}
 use Rattle.book_law.specs.Book.{copies_at}
 use Rattle.book_law.specs.Course.{Came, Course, Next}
@@ -35,7 +36,7 @@ copies_by single p q w v (Orders x r here was new may plain is) m c = c
 copies_by single p q w v (Forks x born member was new forks is) m c = c
 copies_by single p q w v (Applies k y here is) m c = if k == m then after_entry single p c y (runs_at m (w.runners y.process.0)) else c
 copies_by single p q w v (Reads_at j x n line here reads is) m c = c
-copies_by single p q w v (Takes_call i x r call takes is) m c = if x.owner == m then after_single p c (as_message call) else c
+copies_by single p q w v (Takes_call i x r call takes is) m c = if x.owner == m then after_single p c (message_of call) else c
 copies_by single p q w v (Hears_answer j x r here has reached is) m c = c
 
 -- and in a run

@@ -8,7 +8,8 @@ use Rattle.guard_queue.specs.Settles.{AllBlocked}
 use Rattle.guard_queue.specs.declared.queue.Suspended.{Suspended}
 use Rattle.object_manager.specs.After.{Copied}
 use Rattle.object_manager.specs.Singles.{after_single, lines_single}
-use Rattle.book_law.specs.Singles.{Single, after_on, as_message, lines_on}
+use Rattle.object_manager.specs.State.{message_of}
+use Rattle.book_law.specs.Singles.{Single, after_on, lines_on}
 
 -- the copies keep the single copy: its state, and the calls suspended on it
 pub record Keeps (c : Copied) (x : Single) : Type 0 where
@@ -18,12 +19,12 @@ pub record Keeps (c : Copied) (x : Single) : Type 0 where
 -- a call performs the lines that it performs on the single copy, and leaves it as it leaves that; every other object that is kept
 -- here, and the calls on it, stay
 pub record DoesAlike (p : Performs) (c : Copied) (x : Single) (call : Suspended) : Type 0 where
-  pub lines : lines_single p c (as_message call) ≡ lines_on p x call
-  pub keeps : Keeps (after_single p c (as_message call)) (after_on p x call)
+  pub lines : lines_single p c (message_of call) ≡ lines_on p x call
+  pub keeps : Keeps (after_single p c (message_of call)) (after_on p x call)
   pub others :
       (id : ObjectId) → (id ≡ x.object → ⊥) →
-      (object_at (after_single p c (as_message call)).own id ≡ object_at c.own id)
-      × (calls_on id (after_single p c (as_message call)).waits ≡ calls_on id c.waits)
+      (object_at (after_single p c (message_of call)).own id ≡ object_at c.own id)
+      × (calls_on id (after_single p c (message_of call)).waits ≡ calls_on id c.waits)
 
 -- so it is where each suspended call of single objects that are kept here is blocked
 abbrev pub OwnersDoAlike : Type 0

@@ -12,7 +12,8 @@ use Rattle.book_law.specs.Book.{Placed, book, copies_at, up_to}
 use Rattle.book_law.specs.Course.{Came, Course}
 use Rattle.book_law.specs.Events.{In, Runner}
 use Rattle.book_law.specs.Passes.{Test, after, entry}
-use Rattle.book_law.specs.Singles.{Single, as_message}
+use Rattle.object_manager.specs.State.{message_of}
+use Rattle.book_law.specs.Singles.{Single}
 
 -- the copies have what a history left: each replicated object, and the number of processes
 pub record Follows (single : Test) (p : Performs) (q : Computes) (lines : List Line) (c : Copied) : Type 0 where
@@ -63,7 +64,7 @@ IsTaken owned aside call =
 abbrev pub EnteredStands : Type 0
 EnteredStands =
     (single : Test) (p : Performs) (q : Computes) (w : Course) → Came single p q w → (m : Message) → In m w.entered →
-    In m w.list ⊎ ((call : Suspended) × (m ≡ as_message call) × (single call.object ≡ true) × IsTaken w.owned w.aside call)
+    In m w.list ⊎ ((call : Suspended) × (m ≡ message_of call) × (single call.object ≡ true) × IsTaken w.owned w.aside call)
 
 -- the copies after an entry are those after a make of a single object that is kept elsewhere, or after an entry that is applied
 abbrev pub EntriesStand : Type 0

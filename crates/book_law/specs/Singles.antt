@@ -1,11 +1,10 @@
 -- Single copies: each is kept by one member, its owner, with the calls that are suspended on it. A copy exists from the moment when
 -- its make enters the list, which some other member may apply before the owner does (docs/RUNTIME.md, One member's copies).
-use Rattle.std.specs.Prelude.{ℕ, ◌+◌, zero, suc, List, [], ◌∷◌, ◌==◌, Option, Some, None, if◌then◌else◌, refl}
+use Rattle.std.specs.Prelude.{ℕ, ◌+◌, zero, suc, List, [], ◌∷◌, ◌==◌, Option, Some, None, if◌then◌else◌}
 use Rattle.orca_base.specs.declared.ids.KindNo.{KindNo}
 use Rattle.orca_base.specs.declared.ids.ObjectId.{ObjectId}
 use Rattle.value_core.specs.declared.action.Instance.{Instance}
 use Rattle.value_core.specs.declared.action.Line.{Line}
-use Rattle.value_core.specs.declared.message.Message.{Message}
 use Rattle.value_core.specs.declared.action.Action.{Action}
 use Rattle.value_core.specs.declared.action.Action.TheVariants as action
 use Rattle.value_core.specs.declared.meaning.Making.{Making}
@@ -15,6 +14,7 @@ use Rattle.value_core.specs.History.{object_at}
 use Rattle.guard_queue.specs.declared.queue.Suspended.{Suspended}
 use Rattle.object_manager.specs.After.{Copied, opening_copies}
 use Rattle.object_manager.specs.Singles.{after_single, lines_single}
+use Rattle.object_manager.specs.State.{message_of}
 use Rattle.book_law.specs.Passes.{Test}
 
 -- a single copy: its object, its owner, the place of its make, its state, and the calls suspended on it
@@ -35,22 +35,13 @@ abbrev pub waits : ℕ → List Single → ℕ
 waits j [] = zero
 waits j (x ∷ xs) = waiting j x.queue + waits j xs
 
--- the message of a call
-abbrev pub as_message : Suspended → Message
-as_message call = record {
-  process = call.process;
-  call = call.call;
-  action = action.Call call.kind call.op call.object call.args;
-  performable = refl;
-}
-
 -- a member that keeps this object alone. That whatever else its owner keeps changes nothing of what follows is a law (Owners.antt)
 abbrev pub alone : Single → Copied
 alone x = record opening_copies { own = (x.object, x.kept) ∷ []; waits = x.queue }
 
 -- the lines of a call on a single copy: its own, and those of the calls that it lets run
 abbrev pub lines_on : Performs → Single → Suspended → List Line
-lines_on p x call = lines_single p (alone x) (as_message call)
+lines_on p x call = lines_single p (alone x) (message_of call)
 
 abbrev pub kept_or : Option Instance → Instance → Instance
 kept_or None kept = kept
@@ -59,8 +50,8 @@ kept_or (Some after) kept = after
 -- the single copy after a call
 abbrev pub after_on : Performs → Single → Suspended → Single
 after_on p x call = record x {
-  kept = kept_or (object_at (after_single p (alone x) (as_message call)).own x.object) x.kept;
-  queue = (after_single p (alone x) (as_message call)).waits;
+  kept = kept_or (object_at (after_single p (alone x) (message_of call)).own x.object) x.kept;
+  queue = (after_single p (alone x) (message_of call)).waits;
 }
 
 -- the single copy that a making gives, where it makes one
