@@ -1,6 +1,7 @@
 //! Performed operations, by place.
 
-ghost use Rattle.std.specs.Prelude.{OnOk};
+ghost use Rattle.std.specs.Prelude.{◌≡◌, OnErr, OnOk};
+ghost use Rattle.std.specs.List.Sorted.{IsPermutation};
 ghost use Rattle.book_law.specs.Performed.{IsBook};
 
 use orca_base::NoMemory;
@@ -16,9 +17,11 @@ pub struct Placed {
 /// Sorts what was performed, in order of events, into the book: whatever list, and whatever stands beside it, it is place by place
 /// (`Performed`), the sorted lines are that book. Operations of one place keep their order.
 ///
-/// Sorting takes memory; where there was none nothing more is said of the operations.
+/// Where there was no memory they stay as they were.
 pub fn sort_by_place(performed: &mut Vec<Placed>) -> Result<(), NoMemory>
-    ensures { OnOk result (IsBook performed.old.items performed.new.items) }
+    ensures book { OnOk result (IsBook performed.old.items performed.new.items) }
+    ensures same { IsPermutation performed.old.items performed.new.items }
+    ensures err { OnErr result (performed.new.items ≡ performed.old.items) }
 {
     performed.sort_by_key(|placed| placed.place)?;
     Ok(())
