@@ -1,5 +1,5 @@
 -- Each definition is that of a unit's module, or one of a declaration.
-use Rattle.std.proofs.Common.{◌≡◌, ℕ, List, ◌∷◌, map, ◌⊎◌, inl, inr, sym, subst}
+use Rattle.std.proofs.Common.{◌≡◌, List, ◌⊎◌, inl, inr, sym, subst}
 use Rattle.std.specs.Prelude.{flat_map}
 use Rattle.std.specs.List.{Contains}
 use Rattle.orca_syntax.specs.Syntax.{Decl}

@@ -1,21 +1,19 @@
 -- The words of a text's syntax are sound, phrase by phrase.
-use Rattle.std.proofs.Common.{◌≡◌, ℕ, List, [], ◌∷◌, ◌++◌, Option, Some, None, subst}
+use Rattle.std.proofs.Common.{ℕ, List, [], ◌∷◌, ◌++◌, Option, Some, None, subst}
 use Rattle.std.specs.Prelude.{IfSome}
 use Rattle.std.specs.List.{AllByRecursion}
-use Rattle.orca_lexer.specs.declared.token.Keyword.TheVariants.{KeyBegin, KeyDo, KeyEnd, KeyFi, KeyOd, KeyOf, KeyThen, KeyUntil}
+use Rattle.orca_lexer.specs.declared.token.Keyword.TheVariants.{KeyBegin, KeyEnd, KeyFi, KeyOd, KeyOf, KeyUntil}
 use Rattle.orca_lexer.specs.declared.token.Symbol.TheVariants.{Becomes, Closes, ClosesIndex, Colon, Comma, Range as RangeSign, Semicolon}
 use Rattle.orca_lexer.specs.declared.token.TokenKind.{TokenKind}
 use Rattle.orca_lexer.specs.declared.token.TokenKind.TheVariants.{Key, Sign}
 use Rattle.orca_lexer.specs.Spelling.{IsSound}
 use Rattle.orca_grammar.specs.Forms.{TypePhrase as TypeNest, Phrase, Chain as ChainOf, End, spelled}
 use Rattle.orca_grammar.proofs.Placed.{spelled_append}
-use Rattle.orca_tree.specs.declared.tree.Name.{Name}
-use Rattle.orca_tree.specs.declared.tree.Bound.{Bound}
 use Rattle.orca_tree.specs.declared.tree.Bound.TheVariants as bounds
 use Rattle.orca_tree.specs.declared.tree.Mode.{Mode}
 use Rattle.orca_tree.specs.declared.tree.Mode.TheVariants as modes
 use Rattle.orca_syntax.specs.Syntax as syn
-use Rattle.orca_syntax.specs.Syntax.{Expr, Links, Step, Path, Exprs, Kind, Stmt, Stmts, Arm, Arms, Variables, TypedName, Parameter, Head, Guard, Body, Operation, Block, Definition, Decl, Syntax}
+use Rattle.orca_syntax.specs.Syntax.{Expr, Links, Step, Path, Exprs, Kind, Stmt, Stmts, Arm, Arms, Parameter, Syntax}
 use Rattle.orca_syntax.specs.Forest.{Forest, none, token, group, flat}
 use Rattle.orca_syntax.specs.Derivation as der
 use Rattle.orca_syntax.specs.TextSyntax.{HasSyntax}
