@@ -5,7 +5,7 @@ use Rattle.std.specs.List.{Contains}
 use Rattle.orca_syntax.specs.Syntax.{Decl}
 use Rattle.link_rules.specs.declared.role.Role.TheVariants.{Module}
 use Rattle.link_rules.specs.Units.{Source, Defined, defined, defined_by, definitions, definitions_of, module_name, module_of}
-use Rattle.link_rules.specs.Declarations.{ComesFromDeclarations, Declared, declarations, declarations_of, IsDefinedBy}
+use Rattle.link_rules.specs.Declarations.{ComesFromDeclarations, Declared, declarations_of, IsDefinedBy}
 use Rattle.link_rules.proofs.Elements.{cons_cases, from_flat_map, from_map, here, in_flat_map, in_map, there}
 
 module _ (us : List Source) (d : Defined) where
