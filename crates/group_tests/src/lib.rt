@@ -6,6 +6,8 @@
 #![tactic(auto)]
 
 #[cfg(test)]
+mod full_windows;
+#[cfg(test)]
 mod installs;
 #[cfg(test)]
 mod members;
@@ -15,6 +17,8 @@ mod packets;
 mod plain;
 #[cfg(test)]
 mod received;
+#[cfg(test)]
+mod resets;
 #[cfg(test)]
 mod seats;
 #[cfg(test)]
