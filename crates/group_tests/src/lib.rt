@@ -10,6 +10,8 @@ mod full_windows;
 #[cfg(test)]
 mod installs;
 #[cfg(test)]
+mod long_messages;
+#[cfg(test)]
 mod members;
 #[cfg(test)]
 mod packets;
