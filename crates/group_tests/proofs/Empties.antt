@@ -1,5 +1,5 @@
 -- Answers that report nothing.
-use Rattle.std.proofs.Common.{◌≡◌, ℕ, ◌≤◌, ◌==◌, Bool, true, false, Option, Some, List, [], length, take, refl, sym, ap, subst, arith, if◌then◌else◌}
+use Rattle.std.proofs.Common.{◌≡◌, ℕ, ◌==◌, Bool, true, false, Some, List, [], take, refl, sym, ap, subst, arith, if◌then◌else◌}
 use Rattle.orca_base.specs.declared.ids.MessageId.{MessageId}
 use Rattle.group_packets.specs.declared.packet.Join.{Join}
 use Rattle.group_rules.specs.Messages.{Group, group_of}

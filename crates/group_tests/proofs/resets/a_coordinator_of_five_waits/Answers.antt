@@ -1,6 +1,5 @@
 use Rattle.std.proofs.Common.{refl, arith}
 use Rattle.group_rules.specs.Member.{opening_member}
-use Rattle.group_rules.specs.Reset.{coordinate}
 use Rattle.group_reset.proofs.Coordinating.{alone_is}
 use Rattle.group_tests.proofs.Empties.{empty_report, may_join}
 use Rattle.group_tests.proofs.resets.a_coordinator_of_five_waits.Goals as goal

@@ -1,6 +1,6 @@
-use Rattle.std.proofs.Common.{refl, arith, Some, None}
+use Rattle.std.proofs.Common.{refl, arith}
 use Rattle.group_rules.specs.Member.{opening_member}
-use Rattle.group_tests.proofs.Empties.{empty_report, may_join}
+use Rattle.group_tests.proofs.Empties.{may_join}
 use Rattle.group_tests.proofs.resets.an_answer_before_the_invitation_is_stale.Goals as goal
 
 pub joined-requires-clause-from : goal.joined-requires-clause-from
