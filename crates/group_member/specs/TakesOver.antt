@@ -2,17 +2,15 @@
 use Rattle.std.specs.Prelude.{ℕ, Bool, false, List, [], ◌∷◌, Option, None, Some, ◌≡◌, ◌<◌, ◌==◌, if◌then◌else◌}
 use Rattle.orca_base.specs.declared.ids.MessageId.{MessageId}
 use Rattle.group_packets.specs.declared.packet.News.{News}
-use Rattle.group_rules.specs.Messages.{Group}
-use Rattle.group_rules.specs.Member.{Member as RulesMember, Report}
+use Rattle.group_rules.specs.Messages.{Group, group_of}
+use Rattle.group_rules.specs.Member.{Report}
 use Rattle.group_rules.specs.Reset.{take_over}
 use Rattle.group_rules.specs.Sequencer.{ask, news_of}
-use Rattle.group_rules.specs.Work.{Work, idle, tell_others}
+use Rattle.group_rules.specs.Work.{Work, tell_others}
 use Rattle.group_member.specs.declared.member.Member.{Member}
 use Rattle.group_member.specs.declared.sends.Letter.{Letter}
 use Rattle.group_member.specs.AtWork.{AtWork}
 use Rattle.group_member.specs.Installs.{Carried}
-use Rattle.group_member.specs.LastCalls.{group_of}
-use Rattle.group_member.specs.StandsFor.{StandsFor}
 
 -- the number that was heard of a member
 abbrev pub heard_in : ℕ → List (ℕ × ℕ) → Option ℕ
@@ -27,13 +25,13 @@ tells_news g which v = tell_others g which v.state.installed (news_of v.state) v
 abbrev pub asks_itself_for : {B : Type 0} → Group B → ℕ → B → Work B → Work B
 asks_itself_for g which x v = ask g which which false x v
 
--- whichever member it stood for, whichever log and members the news carries, and whatever answers the world remembers: state and sends are
--- those of the coordinator's install
+-- whichever step that has sent nothing it stood for, whichever log and members the news carries, and whatever answers the world remembers:
+-- state and sends are those of the coordinator's install
 abbrev pub InstallsOver : {B R : Type 0} → (B → MessageId) → (B → ℕ) → News B R → List (ℕ × ℕ) → Member B R → Member B R →
     List (Letter B R) → Type 0
 InstallsOver {B} name bytes news heard old new sends =
-    (nodes resilience which : ℕ) (m : RulesMember B) (named : ℕ → Bool) (log : List B) (told : ℕ → Option ℕ)
-    (answers : ℕ → Option (Report B)) → StandsFor (group_of name bytes nodes resilience) which old m → Carried nodes news named log m →
+    (nodes resilience which : ℕ) (v : Work B) (named : ℕ → Bool) (log : List B) (told : ℕ → Option ℕ)
+    (answers : ℕ → Option (Report B)) → AtWork (group_of name bytes nodes resilience) which old [] v → Carried nodes news named log v.state →
     ((x : ℕ) → x < nodes → told x ≡ heard_in x heard) →
     AtWork (group_of name bytes nodes resilience) which new sends
-    (take_over (group_of name bytes nodes resilience) which news.incarnation news.accepted news.base named log told answers (idle m))
+    (take_over (group_of name bytes nodes resilience) which news.incarnation news.accepted news.base named log told answers v)
