@@ -117,7 +117,8 @@ fn put_answer<B: Body>(
     ensures ok { OnOk result (PutIn from join answers.old.items answers.new.items) }
     ensures once { OnOk result (AllPairs AreOfTwo answers.old.items → AllPairs AreOfTwo answers.new.items) }
     ensures named { OnOk result
-        ((nodes : ℕ) → from < nodes → All (λ answer. answer.0 < nodes) answers.old.items → All (λ answer. answer.0 < nodes) answers.new.items) }
+        ((nodes : ℕ) → from < nodes → All (λ answer. answer.0 < nodes) answers.old.items
+        → All (λ answer. answer.0 < nodes) answers.new.items) }
     ensures err { OnErr result (answers.new.items ≡ answers.old.items) }
 {
     let kept = answers.as_slice();

@@ -27,8 +27,8 @@ pub record CanTake {M : Type 0} (s : RulesMember M) (kept : Report M) : Type 0 w
 -- so it is with the answer that is kept, where enough answered, and it doesn't begin beyond what the member applied
 abbrev pub CanGather : {M : Type 0} → Group M → RulesMember M → Type 0
 CanGather {M} g s =
-    g.nodes - g.resilience ≤ count g.nodes (gave s.answers) → (kept : Report M) → best g.nodes s.answers ≡ Some kept → kept.base ≤ s.applied →
-    CanTake s kept
+    g.nodes - g.resilience ≤ count g.nodes (gave s.answers) → (kept : Report M) → best g.nodes s.answers ≡ Some kept →
+    kept.base ≤ s.applied → CanTake s kept
 
 -- what comes of the answers: by the one that is kept it installs or gives up, and it waits while fewer than N - r answered
 abbrev pub taken : {M : Type 0} → Option (Report M) → ℕ → Joined
