@@ -1,7 +1,9 @@
 -- Command lines, and what each asks for, written out by hand (docs/FORMATS.md, The program).
-use Rattle.std.specs.Prelude.{ℕ, true, false, List, [], ◌∷◌, Some, None, codes}
+use Rattle.std.specs.Prelude.{ℕ, true, false, List, [], ◌∷◌, ◌++◌, Option, Some, None, codes}
 use Rattle.command_line.specs.Asked.{Asked}
 use Rattle.command_line.specs.Asked as ask
+use Rattle.command_line.specs.Rules.{word_of}
+use Rattle.command_line.specs.declared.request.CommandName.{CommandName}
 
 abbrev pub Words : Type 0
 Words = List (List ℕ)
@@ -61,3 +63,12 @@ join_line = codes "join" ∷ codes "--at" ∷ codes "8" ∷ codes "--script" ∷
 
 abbrev pub join_asked : Asked
 join_asked = ask.join (record { group = record { nodes = 3; resilience = 0 }; at = 8 }) (Some (codes "s.txt")) (codes "a.orca" ∷ [])
+
+-- how a command's line begins in the help on all
+abbrev pub help_line : CommandName → List ℕ
+help_line name = 10 ∷ (codes "  " ++ (word_of name ++ codes " "))
+
+-- how the usage line of a help begins
+abbrev pub usage : Option CommandName → List ℕ
+usage None = codes "usage: orca COMMAND"
+usage (Some name) = codes "usage: orca " ++ word_of name

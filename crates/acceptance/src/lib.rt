@@ -7,4 +7,4 @@ mod rows;
 #[cfg(test)]
 mod tests;
 
-pub use rows::{command_rows, one_cell_law};
+pub use rows::{command_rows, help_rows, one_cell_law};

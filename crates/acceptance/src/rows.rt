@@ -1,7 +1,10 @@
 //! The definitions of histories and of command lines, computed on worked examples.
 
-ghost use Rattle.std.specs.Prelude.{◌≡◌, ◌∷◌, [], Some};
+ghost use Rattle.std.specs.Prelude.{◌≡◌, ◌∷◌, [], None, Option, Some};
+ghost use Rattle.std.specs.Str.Iter.{HasSubslice};
 ghost use Rattle.command_line.specs.Command.{Command};
+ghost use Rattle.command_line.specs.Help.{help_of};
+ghost use Rattle.command_line.specs.declared.request.CommandName.{CommandName};
 ghost use Rattle.value_core.specs.History.{HasEnded, Legal, output_of};
 ghost use Rattle.orca_meaning.specs.Program.{computes_of, performs_of};
 ghost use Rattle.acceptance.specs.OneCell.{book, book_of, one_cell};
@@ -27,4 +30,10 @@ pub fn command_rows()
     ensures replay { Command words.replay_line ≡ Some words.replay_asked }
     ensures make { Command words.make_line ≡ Some words.make_asked }
     ensures join { Command words.join_line ≡ Some words.join_asked }
+{}
+
+/// What help says: among all commands each has a line of its own, and each help has its usage line.
+pub fn help_rows()
+    ensures commands { (name : CommandName) → HasSubslice (help_of None) (words.help_line name) }
+    ensures usage { (of : Option CommandName) → HasSubslice (help_of of) (words.usage of) }
 {}

@@ -214,6 +214,30 @@ fn faults_from_outside(rt: HostRuntime) -> Result<(), Fail> {
     Ok(())
 }
 
+// The shelf's first call fails. It is the file of the words that can't be read, also where another is there; and one that isn't there
+// is told as that.
+#[test]
+fn the_file_that_stops_the_reading_is_named(rt: HostRuntime) -> Result<(), Fail> {
+    let alloc = rt.alloc();
+    for (name, status, line) in [
+        ("one.orca", 8, "orca: cannot read one.orca\n"),
+        ("two.orca", 8, "orca: cannot read two.orca\n"),
+        ("gone.orca", 9, "orca: no file gone.orca\n"),
+    ] {
+        let mut both = files(alloc, "one.orca", ONE.as_bytes())?;
+        both.push((
+            String::from_str(alloc, "two.orca")?,
+            Vec::from_slice(alloc, ONE.as_bytes())?,
+        ))?;
+        let mut shelf = MemoryShelf::new(both, [1].to_vec(alloc)?);
+        let mut out = MemorySink::new(alloc, Vec::new(alloc));
+        let ended = orca_main(alloc, &words(alloc, &["run", name])?, &mut shelf, &mut out);
+        assert_eq!(rt; ended.status, status);
+        assert_eq!(rt; out.bytes(), line.as_bytes());
+    }
+    Ok(())
+}
+
 // A program that writes 1, 2 and 3. Whichever write fails, those before it stand there, and the run of four lines is whole.
 #[test]
 fn a_failed_write_leaves_the_run_whole(rt: HostRuntime) -> Result<(), Fail> {

@@ -49,27 +49,28 @@ pub record IsGroup (group : GroupSize) : Type 0 where
 abbrev pub IsUpTo : ℕ → ℕ → Type 0
 IsUpTo most n = (1 ≤ n) × (n ≤ most)
 
-pub record IsRun (options : RunOptions) : Type 0 where
+-- the numbers of the options of a run are in their ranges; and so of the other commands
+pub record IsRunWithin (options : RunOptions) : Type 0 where
   pub group : IsGroup options.group
   pub workers : IsUpTo WORKERS options.workers
   pub turns : IsUpTo TURNS options.turns
   pub events : IsUpTo EVENTS options.events
 
-pub record IsMake (options : MakeOptions) : Type 0 where
+pub record IsMakeWithin (options : MakeOptions) : Type 0 where
   pub group : IsGroup options.group
   pub workers : IsUpTo WORKERS options.workers
   pub lose : options.lose ≤ PACKETS_LOST
 
-pub record IsJoin (options : JoinOptions) : Type 0 where
+pub record IsJoinWithin (options : JoinOptions) : Type 0 where
   pub group : IsGroup options.group
   pub at : options.at ≤ EVENTS
 
 -- the numbers are in their ranges
 abbrev pub IsWithin : Asked → Type 0
 IsWithin (choice nodes files) = IsUpTo NODES nodes
-IsWithin (run options script files) = IsRun options
-IsWithin (make options number) = IsMake options
-IsWithin (join options script files) = IsJoin options
+IsWithin (run options script files) = IsRunWithin options
+IsWithin (make options number) = IsMakeWithin options
+IsWithin (join options script files) = IsJoinWithin options
 IsWithin _ = Unit {0}
 
 -- ---- what matches ask for

@@ -96,7 +96,7 @@ fn workers(matches: &ArgMatches) -> Option<u8>
 /// The options of `run`.
 pub fn run_options(matches: &ArgMatches) -> Option<RunOptions>
     ensures is { result ≡ asked.run_options_of (rows_of (found_of matches.now)) }
-    ensures range { IfSome result (asked.IsRun) }
+    ensures range { IfSome result (asked.IsRunWithin) }
 {
     Some(RunOptions {
         group: group(matches)?,
@@ -111,7 +111,7 @@ pub fn run_options(matches: &ArgMatches) -> Option<RunOptions>
 /// The options of `make`.
 pub fn make_options(matches: &ArgMatches) -> Option<MakeOptions>
     ensures is { result ≡ asked.make_options_of (rows_of (found_of matches.now)) }
-    ensures range { IfSome result (asked.IsMake) }
+    ensures range { IfSome result (asked.IsMakeWithin) }
 {
     Some(MakeOptions {
         group: group(matches)?,
@@ -134,7 +134,7 @@ pub fn seed(matches: &ArgMatches) -> Option<u64>
 /// The options of `join`.
 pub fn join_options(matches: &ArgMatches) -> Option<JoinOptions>
     ensures is { result ≡ asked.join_options_of (rows_of (found_of matches.now)) }
-    ensures range { IfSome result (asked.IsJoin) }
+    ensures range { IfSome result (asked.IsJoinWithin) }
 {
     Some(JoinOptions {
         group: group(matches)?,

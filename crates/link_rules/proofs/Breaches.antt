@@ -10,9 +10,9 @@ use Rattle.std.proofs.lemmas.Slice.Eq.{bytes_eq-Decides}
 use Rattle.link_rules.specs.declared.role.Role.{Role}
 use Rattle.link_rules.specs.declared.role.Role.TheVariants.{Module, Specification, Implementation, Other}
 use Rattle.link_rules.specs.declared.link_error.LinkError.{LinkError}
-use Rattle.link_rules.specs.Units.{Source, Defined, Import, definitions, imports}
+use Rattle.link_rules.specs.Units.{Source, Defined, definitions, imports}
 use Rattle.link_rules.specs.Rules.{at_definition, at_import, import_cycles, is_defined, is_main, is_on_cycle, is_role, is_taken, is_unimplemented, is_unknown, Links, no_main, repeated, repetitions, unknown_modules, without_implementation, without_main}
-use Rattle.link_rules.specs.Linked.{IsLinked, IsNoBreach, may_share}
+use Rattle.link_rules.specs.Linked.{AreAcyclic, AreDistinct, AreKnown, HasMain, IsLinked, IsNoBreach, may_share}
 use Rattle.link_rules.proofs.Truth.{and_first, and_second, both_true, not_false, not_true}
 use Rattle.link_rules.proofs.Elements.{cons_cases, none_left}
 use Rattle.link_rules.proofs.Ways.{reaches_all}
@@ -34,7 +34,7 @@ map_nil : {X Y : Type 0} (f : X → Y) (xs : List X) → map f xs ≡ [] → xs 
 map_nil f [] e = refl
 map_nil f (x ∷ xs) e = absurd cc
 
-none_of : {X : Type 0} (p : X → Bool) (xs : List X) → filter p xs ≡ [] → (x : X) → Contains xs x → p x ≡ false
+pub none_of : {X : Type 0} (p : X → Bool) (xs : List X) → filter p xs ≡ [] → (x : X) → Contains xs x → p x ≡ false
 none_of p [] e x c = absurd (omega (arith, c.1))
 none_of {X} p (y ∷ ys) e x c = by_test (p y) refl (cons_cases y ys x c) (λ f. none_of p ys f x)
   where
@@ -45,7 +45,7 @@ none_of {X} p (y ∷ ys) e x c = by_test (p y) refl (cons_cases y ys x c) (λ f.
 
 -- ---- definitions of a name
 
-role_is : (r s : Role) → is_role r s ≡ true → s ≡ r
+pub role_is : (r s : Role) → is_role r s ≡ true → s ≡ r
 role_is Module Module e = refl
 role_is Specification Specification e = refl
 role_is Implementation Implementation e = refl
@@ -70,15 +70,15 @@ own_role Implementation = refl
 own_role Other = refl
 
 -- some definition of these is of this name and role
-abbrev Some_of : List Defined → Role → List ℕ → Type 0
+abbrev pub Some_of : List Defined → Role → List ℕ → Type 0
 Some_of ds role n = (d : Defined) × Contains ds d × (d.role ≡ role) × (d.name.text ≡ n)
 
-some_of : (ds : List Defined) (role : Role) (n : List ℕ) → is_defined role n ds ≡ true → Some_of ds role n
+pub some_of : (ds : List Defined) (role : Role) (n : List ℕ) → is_defined role n ds ≡ true → Some_of ds role n
 some_of ds role n h =
     let o = Any-from_list_any (λ (d : Defined). is_role role d.role && bytes_eq d.name.text n) ds h in
     (o.1, (o.0, o.2, o.3), role_is role o.1.role (and_first _ _ o.4), (bytes_eq-Decides o.1.name.text n).0 (and_second _ _ o.4))
 
-is_some_of : (ds : List Defined) (role : Role) (n : List ℕ) → Some_of ds role n → is_defined role n ds ≡ true
+pub is_some_of : (ds : List Defined) (role : Role) (n : List ℕ) → Some_of ds role n → is_defined role n ds ≡ true
 is_some_of ds role n o =
     list_any-from_Any (λ (d : Defined). is_role role d.role && bytes_eq d.name.text n) ds
     (o.1.0, o.0, o.1.1, o.1.2, both_true _ _ (ap (is_role role) o.2 ∙ own_role role) ((bytes_eq-Decides o.0.name.text n).1 o.3))
@@ -86,7 +86,7 @@ is_some_of ds role n o =
 -- ---- the first rule
 
 -- a definition that a later one of this role may not follow
-abbrev bars : Role → List ℕ → Defined → Bool
+abbrev pub bars : Role → List ℕ → Defined → Bool
 bars role n e = not (may_share e.role role) && bytes_eq e.name.text n
 
 -- a or b, over a list and over its rest
@@ -135,7 +135,7 @@ one_more of b Other Specification = first_of_two b (of Specification) (of Implem
 one_more of b Other Implementation = second_of_three b (of Specification) (of Implementation) (of Other)
 one_more of b Other Other = third_of_three b (of Specification) (of Implementation) (of Other)
 
-taken_roles : (role : Role) (n : List ℕ) (ds : List Defined) → is_taken ds role n ≡ taken_by (λ r. is_defined r n ds) role
+pub taken_roles : (role : Role) (n : List ℕ) (ds : List Defined) → is_taken ds role n ≡ taken_by (λ r. is_defined r n ds) role
 taken_roles Module n ds = refl
 taken_roles Specification n ds = refl
 taken_roles Implementation n ds = refl
@@ -147,7 +147,7 @@ nothing_taken Specification = refl
 nothing_taken Implementation = refl
 nothing_taken Other = refl
 
-bars_taken : (role : Role) (n : List ℕ) (ds : List Defined) → taken_by (λ r. is_defined r n ds) role ≡ list_any (bars role n) ds
+pub bars_taken : (role : Role) (n : List ℕ) (ds : List Defined) → taken_by (λ r. is_defined r n ds) role ≡ list_any (bars role n) ds
 bars_taken role n [] = nothing_taken role
 bars_taken role n (e ∷ es) =
     one_more (λ r. is_defined r n es) (bytes_eq e.name.text n) role e.role
@@ -210,7 +210,7 @@ no_repeats before (d ∷ ds) h =
 
 -- ---- the fourth
 
-main_of : (ds : List Defined) → list_any is_main ds ≡ true → (role : Role) × (role ≢ Module) × Some_of ds role (codes "OrcaMain")
+pub main_of : (ds : List Defined) → list_any is_main ds ≡ true → (role : Role) × (role ≢ Module) × Some_of ds role (codes "OrcaMain")
 main_of ds h =
     let o = Any-from_list_any is_main ds h in (
       o.1.role,
@@ -218,13 +218,13 @@ main_of ds h =
       (o.1, (o.0, o.2, o.3), refl, (bytes_eq-Decides o.1.name.text (codes "OrcaMain")).0 (and_second _ _ o.4)),
     )
 
-is_main_of : (ds : List Defined) → (role : Role) × (role ≢ Module) × Some_of ds role (codes "OrcaMain") → list_any is_main ds ≡ true
+pub is_main_of : (ds : List Defined) → (role : Role) × (role ≢ Module) × Some_of ds role (codes "OrcaMain") → list_any is_main ds ≡ true
 is_main_of ds o =
     let d = o.2.0 in
     let other : is_role Module d.role ≡ false = not_true (is_role Module d.role) (λ e. o.1 (sym o.2.2 ∙ role_is Module d.role e)) in
     list_any-from_Any is_main ds (o.2.1.0, d, o.2.1.1, o.2.1.2, both_true _ _ (ap not other) ((bytes_eq-Decides d.name.text (codes "OrcaMain")).1 o.2.3))
 
-main_found : (us : List Source) → without_main us ≡ [] → list_any is_main (definitions us) ≡ true
+pub main_found : (us : List Source) → without_main us ≡ [] → list_any is_main (definitions us) ≡ true
 main_found us e = by_test (list_any is_main (definitions us)) refl
   where
     by_test : (b : Bool) → list_any is_main (definitions us) ≡ b → list_any is_main (definitions us) ≡ true
@@ -240,30 +240,52 @@ module _ (us : List Source) where
   abbrev after_two : List LinkError
   after_two = import_cycles us ++ (without_main us ++ without_implementation us)
 
+  -- each rule by itself
+
+  pub distinct_so : repetitions us ≡ [] → AreDistinct us
+  distinct_so e = pairs_of [] ds (map_nil (at_definition 1) (repeated [] ds) e) (λ i j d lt below. absurd (omega (arith, below)))
+
+  pub known_so : unknown_modules us ≡ [] → AreKnown us
+  known_so e i c =
+      some_of ds Module i.name.text (not_false (is_defined Module i.name.text ds) (none_of (is_unknown ds) (imports us) (map_nil (at_import 2) _ e) i c))
+
+  pub acyclic_so : import_cycles us ≡ [] → AreAcyclic us
+  acyclic_so e i c back = true≢false
+      (sym ((reaches_all us i.name.text i.by).1 back) ∙ none_of (is_on_cycle us) (imports us) (map_nil (at_import 3) _ e) i c)
+
+  pub main_so : without_main us ≡ [] → HasMain us
+  main_so e = main_of ds (main_found us e)
+
+  pub distinct_none : AreDistinct us → repetitions us ≡ []
+  distinct_none h = ap (map (at_definition 1)) (no_repeats [] ds h)
+
+  pub known_none : AreKnown us → unknown_modules us ≡ []
+  known_none h = ap (map (at_import 2)) (none_left (is_unknown ds) (imports us) (λ i c. ap not (is_some_of ds Module i.name.text (h i c))))
+
+  pub acyclic_none : AreAcyclic us → import_cycles us ≡ []
+  acyclic_none h =
+      ap (map (at_import 3))
+      (none_left (is_on_cycle us) (imports us) (λ i c. not_true (is_on_cycle us i) (λ e. h i c ((reaches_all us i.name.text i.by).0 e))))
+
+  pub main_none : HasMain us → without_main us ≡ []
+  main_none h = ap (λ (b : Bool). cond b [] (no_main ∷ [])) (is_main_of ds h)
+
   linked : Links us → IsLinked us
   linked e =
       let rest = nil_right (repetitions us) (unknown_modules us ++ after_two) e in
       let cycles = nil_right (unknown_modules us) after_two rest in
       let last = nil_right (import_cycles us) (without_main us ++ without_implementation us) cycles in
       record {
-        distinct = pairs_of [] ds (map_nil (at_definition 1) (repeated [] ds) (nil_left (repetitions us) _ e)) (λ i j d lt below. absurd (omega (arith, below)));
-        known = λ i c. some_of ds Module i.name.text
-            (not_false (is_defined Module i.name.text ds) (none_of (is_unknown ds) (imports us) (map_nil (at_import 2) _ (nil_left (unknown_modules us) _ rest)) i c));
-        acyclic = λ i c back. true≢false
-            (sym ((reaches_all us i.name.text i.by).1 back) ∙ none_of (is_on_cycle us) (imports us) (map_nil (at_import 3) _ (nil_left (import_cycles us) _ cycles)) i c);
-        main = main_of ds (main_found us (nil_left (without_main us) _ last));
+        distinct = distinct_so (nil_left (repetitions us) _ e);
+        known = known_so (nil_left (unknown_modules us) _ rest);
+        acyclic = acyclic_so (nil_left (import_cycles us) _ cycles);
+        main = main_so (nil_left (without_main us) _ last);
         implemented = λ n o.
             let none = none_of (is_unimplemented ds) ds (map_nil (at_definition 5) _ (nil_right (without_main us) _ last)) o.0 o.1 in
             let specified : is_role Specification o.0.role ≡ true = ap (is_role Specification) o.2 in
             let found = not_false (is_defined Implementation o.0.name.text ds) (sym (ap (λ (b : Bool). b && not (is_defined Implementation o.0.name.text ds)) specified) ∙ none) in
             subst (Some_of ds Implementation) o.3 (some_of ds Implementation o.0.name.text found);
       }
-
-  unknown_none : IsLinked us → (i : Import) → Contains (imports us) i → is_unknown ds i ≡ false
-  unknown_none l i c = ap not (is_some_of ds Module i.name.text (l.known i c))
-
-  cycles_none : IsLinked us → (i : Import) → Contains (imports us) i → is_on_cycle us i ≡ false
-  cycles_none l i c = not_true (is_on_cycle us i) (λ e. l.acyclic i c ((reaches_all us i.name.text i.by).0 e))
 
   implemented_none : IsLinked us → (d : Defined) → Contains ds d → is_unimplemented ds d ≡ false
   implemented_none l d c = not_true (is_unimplemented ds d) (λ e.
@@ -273,10 +295,10 @@ module _ (us : List Source) where
 
   breaks_none : IsLinked us → Links us
   breaks_none l =
-      nil_both (repetitions us) _ (ap (map (at_definition 1)) (no_repeats [] ds l.distinct))
-      (nil_both (unknown_modules us) _ (ap (map (at_import 2)) (none_left (is_unknown ds) (imports us) (unknown_none l)))
-      (nil_both (import_cycles us) _ (ap (map (at_import 3)) (none_left (is_on_cycle us) (imports us) (cycles_none l)))
-      (nil_both (without_main us) _ (ap (λ (b : Bool). cond b [] (no_main ∷ [])) (is_main_of ds l.main))
+      nil_both (repetitions us) _ (distinct_none l.distinct)
+      (nil_both (unknown_modules us) _ (known_none l.known)
+      (nil_both (import_cycles us) _ (acyclic_none l.acyclic)
+      (nil_both (without_main us) _ (main_none l.main)
       (ap (map (at_definition 5)) (none_left (is_unimplemented ds) ds (implemented_none l))))))
 
   pub no_breach : IsNoBreach us

@@ -21,11 +21,27 @@ may_share _ _ = false
 abbrev pub Defines : List Source → Role → List ℕ → Type 0
 Defines us role n = (d : Defined) × Contains (definitions us) d × (d.role ≡ role) × (d.name.text ≡ n)
 
+-- two definitions have different names, or may share theirs
+abbrev pub AreDistinct : List Source → Type 0
+AreDistinct us = AllPairs (λ d e. d.name.text ≡ e.name.text → may_share d.role e.role ≡ true) (definitions us)
+
+-- what is imported is a module
+abbrev pub AreKnown : List Source → Type 0
+AreKnown us = (i : Import) → Contains (imports us) i → Defines us Module i.name.text
+
+-- no import lies on a cycle
+abbrev pub AreAcyclic : List Source → Type 0
+AreAcyclic us = (i : Import) → Contains (imports us) i → Leads (imports us) i.name.text i.by → ⊥
+
+-- a name of the top level is `OrcaMain`
+abbrev pub HasMain : List Source → Type 0
+HasMain us = (role : Role) × (role ≢ Module) × Defines us role (codes "OrcaMain")
+
 pub record IsLinked (us : List Source) : Type 0 where
-  pub distinct : AllPairs (λ d e. d.name.text ≡ e.name.text → may_share d.role e.role ≡ true) (definitions us)
-  pub known : (i : Import) → Contains (imports us) i → Defines us Module i.name.text
-  pub acyclic : (i : Import) → Contains (imports us) i → Leads (imports us) i.name.text i.by → ⊥
-  pub main : (role : Role) × (role ≢ Module) × Defines us role (codes "OrcaMain")
+  pub distinct : AreDistinct us
+  pub known : AreKnown us
+  pub acyclic : AreAcyclic us
+  pub main : HasMain us
   pub implemented : (n : List ℕ) → Defines us Specification n → Defines us Implementation n
 
 -- units break no rule exactly where this is so

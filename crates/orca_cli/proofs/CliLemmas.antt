@@ -1,5 +1,6 @@
 -- What was printed, one put on; and how the program ends where it runs nothing.
 use Rattle.std.proofs.Common.{◌≡◌, ℕ, suc, ◌+◌, ◌<◌, ◌≤◌, true, List, [], ◌∷◌, ◌++◌, length, get_or, take, drop, add-one, drop-cons, Option, Some, None, refl, sym, ap, ◌∙◌, subst, inl, inr, arith, append_assoc, take-append-drop}
+use Rattle.std.specs.List.{All}
 use Rattle.std.specs.Prelude.{◌==◌, Result, Ok, Err, IfNone, IfOk, IfSome, MatchOption, OnErr, option_map}
 use Rattle.std.proofs.lemmas.Bool.Decides.{nat_tests}
 use Rattle.std.proofs.lemmas.List.{append-nil}
@@ -25,7 +26,7 @@ use Rattle.orca_cli.specs.Job.{Word, deed_in, deed_of, runs}
 use Rattle.orca_cli.specs.Lines.{refused_line}
 use Rattle.orca_cli.specs.Loaded.{Loads}
 use Rattle.orca_cli.specs.Printed.{Grew, WroteOf, Ends, EndsAs}
-use Rattle.orca_cli.specs.Sources.{IsProgram, IsRead, IsRefused, IsUnit, NestTooDeep, Reaches, Runs, StopsAt}
+use Rattle.orca_cli.specs.Sources.{HasSources, IsProgram, IsRead, IsRefused, IsUnit, NestTooDeep, Reaches, StopsAt}
 use Rattle.orca_cli.specs.Sources as sources
 
 -- ---- what was printed
@@ -124,16 +125,26 @@ if_none (Some x) P p = tt
 
 -- ---- one file
 
--- the first of the files is the first that wasn't read, or is the one that was
+-- reading stopped at the one file, or it was read
 pub stops_first : (words : List Word) (told : Option (List File)) (options : RunOptions) (script : Option Word) (file : Word) → deed_in words ≡ Some (runs options script (file ∷ [])) → StopsAt words told file
-stops_first words told options script file asked = record { options = options; script = script; before = []; after = []; asked = asked; read = All-nil (IsRead told) }
-
-pub runs_one : (words : List Word) (told : Option (List File)) (options : RunOptions) (script : Option Word) (file text : List ℕ) → deed_in words ≡ Some (runs options script (file ∷ [])) → IsRead told (file, text) → Runs words told ((file, text) ∷ [])
-runs_one words told options script file text asked read = record {
-  options = options;
-  script = script;
+stops_first words told options script file asked = record {
+  deed = runs options script (file ∷ []);
+  before = [];
+  after = [];
   asked = asked;
-  read = All-cons (IsRead told) (file, text) [] read (All-nil (IsRead told));
+  files = refl;
+  read = All-nil (IsRead told SOURCE_BYTES);
+}
+
+read_one : (told : Option (List File)) (file text : List ℕ) → IsRead told SOURCE_BYTES (file, text) → All (IsRead told SOURCE_BYTES) ((file, text) ∷ [])
+read_one told file text read = All-cons (IsRead told SOURCE_BYTES) (file, text) [] read (All-nil (IsRead told SOURCE_BYTES))
+
+pub has_one : (words : List Word) (told : Option (List File)) (options : RunOptions) (script : Option Word) (file text : List ℕ) → deed_in words ≡ Some (runs options script (file ∷ [])) → IsRead told SOURCE_BYTES (file, text) → HasSources words told ((file, text) ∷ [])
+has_one words told options script file text asked read = record {
+  deed = runs options script (file ∷ []);
+  asked = asked;
+  files = refl;
+  read = read_one told file text read;
 }
 
 reaches_first : (source : File) → Reaches (source ∷ []) source
@@ -147,11 +158,14 @@ nested_one file text deep = record { source = (file, text); first = reaches_firs
 
 -- the program in a file that was read is the named one
 pub named : (words : List Word) (told : Option (List File)) (options : RunOptions) (script : Option Word) (file : Word) (p : SmallProgram) → deed_in words ≡ Some (runs options script (file ∷ [])) → Loads told file (Ok p) → IsNamed words told p
-named words told options script file p asked loads = (
-  (file, loads.0) ∷ [],
-  runs_one words told options script file loads.0 asked loads.1,
-  record { source = (file, loads.0); alone = refl; shallow = loads.2.1; small = loads.2.0 },
-)
+named words told options script file p asked loads = record {
+  options = options;
+  script = script;
+  sources = (file, loads.0) ∷ [];
+  asked = asked;
+  read = read_one told file loads.0 loads.1;
+  program = record { source = (file, loads.0); alone = refl; shallow = loads.2.1; small = loads.2.0 };
+}
 
 pub kept_named : (words : List Word) (told : Option (List File)) (p q : SmallProgram) (kept : Option Kept) (Q : Type 0) (R S : SmallProgram → Kept → Type 0) → IsNamed words told p → q ≡ p → MatchOption kept Q (λ k. R q k × S q k) → IfSome kept (λ k. (x : SmallProgram) × IsNamed words told x × R x k × S x k)
 kept_named words told p q None Q R S is same h = tt
@@ -168,7 +182,7 @@ deed_none words found says none = sym says ∙ ap (option_map deed_of) none
 -- ---- what was loaded
 
 -- a file that was read
-pub read_is : (told : Option (List File)) (file text : List ℕ) → IfSome told (λ files. (content_of files file ≡ Some text) × (length text ≤ SOURCE_BYTES)) → length text ≤ SOURCE_BYTES → IsRead told (file, text)
+pub read_is : (told : Option (List File)) (file text : List ℕ) → IfSome told (λ files. (content_of files file ≡ Some text) × (length text ≤ SOURCE_BYTES)) → length text ≤ SOURCE_BYTES → IsRead told SOURCE_BYTES (file, text)
 read_is None file text h bytes = record { content = tt; bytes = bytes }
 read_is (Some files) file text h bytes = record { content = h.0; bytes = bytes }
 
@@ -176,7 +190,7 @@ read_is (Some files) file text h bytes = record { content = h.0; bytes = bytes }
 ending_anyway : (words : List Word) (told : Option (List File)) (rose : Type 0) (status : ℕ) (line : List ℕ) → IsEnding words told ⊥ status line → IsEnding words told rose status line
 ending_anyway words told rose status line (because.said text a) = because.said text a
 ending_anyway words told rose status line (because.usage a) = because.usage a
-ending_anyway words told rose status line (because.unread file a fault) = absurd fault
+ending_anyway words told rose status line (because.unread file a there fault) = absurd fault
 ending_anyway words told rose status line (because.absent file a b) = because.absent file a b
 ending_anyway words told rose status line (because.too_long file a b) = because.too_long file a b
 ending_anyway words told rose status line (because.too_nested files a b) = because.too_nested files a b

@@ -24,13 +24,13 @@ use Rattle.small_program.proofs.Sizes.{tokens_long}
 use Rattle.orca_cli.specs.declared.front.FrontFault.{FrontFault}
 use Rattle.orca_cli.specs.declared.front.FrontFault.TheVariants as faults
 use Rattle.orca_cli.specs.Front as front
-use Rattle.orca_cli.specs.Front.{Reads, IsSyntactic}
+use Rattle.orca_cli.specs.Front.{FitsText, IsSyntactic}
 
 -- ---- slices
 
 -- a token's slice is one of the text
 pub token_slice : (text : List ℕ) (from : ℕ) (front rest : List Token) (t : Token) → Follow text from (front ++ t ∷ rest) → (t.start ≤ t.end) × (t.end ≤ length text)
-token_slice text from [] rest t f = let some = begins_some text t from f.0 in (omega (arith, some), f.0.within)
+token_slice text from [] rest t f = let some = begins_some text from t f.0 in (omega (arith, some), f.0.within)
 token_slice text from (u ∷ front) rest t f = token_slice text u.end front rest t f.1
 
 pub syntactic_slice : (text : List ℕ) (at : Place) (t : Token) → IsSyntactic text (Syntax at (OfToken t)) → (t.start ≤ t.end) × (t.end ≤ length text)
@@ -55,9 +55,9 @@ unit_shallow text tokens ms has parsed fits d =
 -- ---- refusals
 
 -- a refusal whose words were written, or for which there was no memory
-pub said_reads : (text words : List ℕ) (at : Place) (m : Result (Vec ℕ Global) NoMemory) (r : Refusal FrontFault) → front.IsFaulty text at words → (front.IsTooDeep text → ⊥) → IfOk m (λ v. v.items ≡ words) → IfOk m (λ v. r ≡ Because (faults.Refused at v)) → OnErr m (r ≡ Without) → Reads text (Err r)
-said_reads text words at (Ok v) r refused shallow is said lacking = subst (λ (f : Refusal FrontFault). Reads text (Err f)) (sym said) (subst (front.IsFaulty text at) (sym is) refused, shallow)
-said_reads text words at (Err e) r refused shallow is said lacking = subst (λ (f : Refusal FrontFault). Reads text (Err f)) (sym lacking) tt
+pub said_reads : (text words : List ℕ) (at : Place) (m : Result (Vec ℕ Global) NoMemory) (r : Refusal FrontFault) → front.IsFaulty text at words → (front.IsTooDeep text → ⊥) → IfOk m (λ v. v.items ≡ words) → IfOk m (λ v. r ≡ Because (faults.Refused at v)) → OnErr m (r ≡ Without) → FitsText text (Err r)
+said_reads text words at (Ok v) r refused shallow is said lacking = subst (λ (f : Refusal FrontFault). FitsText text (Err f)) (sym said) (subst (front.IsFaulty text at) (sym is) refused, shallow)
+said_reads text words at (Err e) r refused shallow is said lacking = subst (λ (f : Refusal FrontFault). FitsText text (Err f)) (sym lacking) tt
 
 pub of_token : (text : List ℕ) (at : Place) (t : Token) → IsSyntactic text (Syntax at (OfToken t)) → front.IsFaulty text at (codes "unexpected '" ++ (slice_range text t.start t.end ++ codes "'"))
 of_token text at t s =

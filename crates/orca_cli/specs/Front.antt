@@ -50,13 +50,13 @@ pub record IsNotSmall (text : List ℕ) : Type 0 where
   pub has : HasSyntax text syntax
   pub none : (p : SmallProgram) → IsSmallSyntax syntax p → ⊥
 
--- what was read of a text, or why nothing was
-abbrev pub Reads : List ℕ → Result SmallProgram (Refusal FrontFault) → Type 0
-Reads text (Ok p) = IsSmallText text p × (IsTooDeep text → ⊥)
-Reads text (Err (Because (Refused at words))) = IsFaulty text at words.items × (IsTooDeep text → ⊥)
-Reads text (Err (Because TooNested)) = IsTooDeep text
-Reads text (Err (Because NotYet)) = IsNotSmall text × (IsTooDeep text → ⊥)
-Reads text (Err NoMemory) = Unit {0}
+-- the answer fits the text: the program that it is, or why it is none
+abbrev pub FitsText : List ℕ → Result SmallProgram (Refusal FrontFault) → Type 0
+FitsText text (Ok p) = IsSmallText text p × (IsTooDeep text → ⊥)
+FitsText text (Err (Because (Refused at words))) = IsFaulty text at words.items × (IsTooDeep text → ⊥)
+FitsText text (Err (Because TooNested)) = IsTooDeep text
+FitsText text (Err (Because NotYet)) = IsNotSmall text × (IsTooDeep text → ⊥)
+FitsText text (Err NoMemory) = Unit {0}
 
 -- the text has tokens, and they are no unit for this reason
 pub record IsSyntactic (text : List ℕ) (error : ParseError) : Type 0 where

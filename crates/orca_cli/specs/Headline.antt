@@ -1,29 +1,36 @@
 -- The headline: what a run keeps and prints, over the meanings of its program.
-use Rattle.std.specs.Prelude.{◌≡◌, ◌⊎◌, ℕ, List, [], ◌∷◌, ◌++◌, MatchOption, None, Option, Result, Ok, Err, slice_get}
+use Rattle.std.specs.Prelude.{◌≡◌, ◌≢◌, ◌⊎◌, ℕ, List, [], ◌∷◌, ◌++◌, map, MatchOption, None, Option, Some, slice_get}
+use Rattle.std.specs.List.{All}
+use Rattle.command_line.specs.declared.request.RunOptions.{RunOptions}
 use Rattle.orca_base.specs.declared.ids.ProcessNo.{ProcessNo}
-use Rattle.orca_base.specs.declared.refusal.NoMemory.{NoMemory}
+use Rattle.orca_base.specs.declared.limits.TheConstants.{SOURCE_BYTES}
 use Rattle.orca_io.specs.Files.{File}
-use Rattle.orca_io.specs.declared.sink.SinkFault.{SinkFault}
-use Rattle.orca_io.specs.declared.sink.SinkFault.TheVariants as faults
 use Rattle.small_program.specs.declared.tree.SmallProgram.{SmallProgram}
-use Rattle.value_core.specs.History.{HasEnded, HasFaulted, IsAt, Legal, output_of, processes_of, replies_of}
+use Rattle.value_core.specs.History.{Legal, Process, most_turns, output_of, processes_of, replies_of}
 use Rattle.value_core.specs.Meaning.{Computes, Performs}
 use Rattle.value_core.specs.declared.action.Action.{Action}
 use Rattle.value_core.specs.declared.action.Action.TheVariants as action
 use Rattle.value_core.specs.declared.action.Line.{Line}
 use Rattle.value_core.specs.declared.action.Reply.{Reply}
+use Rattle.value_core.specs.declared.meaning.Doing.{Doing}
+use Rattle.value_core.specs.declared.meaning.Doing.TheVariants as doing
 use Rattle.orca_cli.specs.declared.kept.Kept.{Kept}
 use Rattle.orca_cli.specs.declared.kept.ProcessEnd.{ProcessEnd}
 use Rattle.orca_cli.specs.declared.kept.ProcessStanding.{ProcessStanding}
 use Rattle.orca_cli.specs.declared.kept.ProcessStanding.TheVariants as standings
-use Rattle.orca_cli.specs.declared.statuses.TheConstants.{FINISHED, NO_MEMORY, WRITE_FAULT}
-use Rattle.orca_cli.specs.Job.{Word}
+use Rattle.orca_cli.specs.declared.statuses.TheConstants.{FINISHED, WRITE_FAULT}
+use Rattle.orca_cli.specs.Job.{Word, deed_in, runs}
 use Rattle.orca_cli.specs.Printed.{Grew, Ends, EndsAs}
-use Rattle.orca_cli.specs.Sources.{IsProgram, Runs}
+use Rattle.orca_cli.specs.Sources.{IsProgram, IsRead}
 
--- the program is that of the files that the words name
-abbrev pub IsNamed : List Word → Option (List File) → SmallProgram → Type 0
-IsNamed words told p = (sources : List File) × Runs words told sources × IsProgram sources p
+-- the words ask for the run of the program in files, all of which were read, and this is the program in them
+pub record IsNamed (words : List Word) (told : Option (List File)) (p : SmallProgram) : Type 0 where
+  pub options : RunOptions
+  pub script : Option Word
+  pub sources : List File
+  pub asked : deed_in words ≡ Some (runs options script (map (λ s. s.0) sources))
+  pub read : All (IsRead told SOURCE_BYTES) sources
+  pub program : IsProgram sources p
 
 -- where a process stands that has come to an action
 abbrev pub standing_at : Action → ProcessStanding
@@ -31,59 +38,44 @@ standing_at action.Ended = standings.Ended
 standing_at (action.Faulted fault) = standings.Faulted fault
 standing_at act = standings.Waits act
 
--- the replies that a process kept are the history's, or all of these but the last
+-- where a process stands, by what it does next: it ended, or faulted, or waits for the reply to an action; of one that computes, or
+-- whose member crashed, nothing is said
+abbrev pub StandsBy : Doing → ProcessStanding → Type 0
+StandsBy next standings.Ended = next ≡ doing.At action.Ended
+StandsBy next (standings.Faulted fault) = next ≡ doing.At (action.Faulted fault)
+StandsBy next (standings.Waits act) = (next ≡ doing.At act) × (standing_at act ≡ standings.Waits act)
+StandsBy next standings.Busy = Unit {0}
+StandsBy next standings.Crashed = Unit {0}
+
+-- the replies that a process received are the history's, or all of these but the last
 abbrev pub AreReceived : List Reply → List Reply → Type 0
-AreReceived kept replies = (kept ≡ replies) ⊎ ((last : Reply) × (replies ≡ kept ++ last ∷ []))
+AreReceived received replies = (received ≡ replies) ⊎ ((last : Reply) × (replies ≡ received ++ last ∷ []))
 
--- who is said to have ended, or to have faulted, has done so by the history
-abbrev pub IsStanding : Performs → Computes → List Line → ProcessNo → ProcessStanding → Type 0
-IsStanding p q book number standings.Ended = HasEnded p q book number
-IsStanding p q book number (standings.Faulted fault) = HasFaulted p q book number fault
-IsStanding p q book number _ = Unit {0}
-
--- what is kept of a process is the history's
+-- what is kept of a process: it is one of the history, with the history's replies, and stands by what it does next after those that it
+-- received
 pub record IsProcessEnd (p : Performs) (q : Computes) (book : List Line) (number : ProcessNo) (end : ProcessEnd) : Type 0 where
-  pub replies : AreReceived end.replies.items (replies_of p q book number.0)
-  pub standing : IsStanding p q book number end.standing
+  pub process : Process
+  pub exists : slice_get (processes_of p q book) number.0 ≡ Some process
+  pub replies : AreReceived end.replies.items process.replies
+  pub standing : StandsBy (q.doing process.text number process.args end.replies.items most_turns) end.standing
 
--- the kept book is a history of the program, and what is kept of each process is the history's; and what the history writes was
--- printed: all of it with status 0, and a front of it where a write failed or memory lacked
-pub record IsRun (p : Performs) (q : Computes) (k : Kept) (status : ℕ) (old new : Option (List ℕ)) : Type 0 where
+-- The kept book is a history of the program, and the kept processes are the history's. What the history writes was printed, and behind
+-- it what the run says more, with the status that is wanted; where a write failed or memory lacked, a front of both was
+pub record IsRun (p : Performs) (q : Computes) (k : Kept) (wanted : ℕ) (more : List ℕ) (status : ℕ)
+    (old new : Option (List ℕ)) : Type 0 where
   pub legal : Legal p q k.book.items
   pub processes : (number : ProcessNo) → MatchOption (slice_get k.processes.items number.0)
       (slice_get (processes_of p q k.book.items) number.0 ≡ None) (IsProcessEnd p q k.book.items number)
-  pub ends : EndsAs FINISHED status
-  pub printed : Grew old new (Ends FINISHED status (output_of k.book.items))
+  pub ends : EndsAs wanted status
+  pub printed : Grew old new (Ends wanted status (output_of k.book.items ++ more))
 
--- the first process
-abbrev pub main_process : ProcessNo
-main_process = record { 0 = 0 }
-
--- a process stands where the lines of the book leave it: at its next action, which was not performed
-abbrev pub IsLeftBy : Performs → Computes → List Line → ProcessNo → ProcessStanding → Type 0
-IsLeftBy p q book number standing = (act : Action) × IsAt p q book number act × (standing ≡ standing_at act)
-
--- What a run of one process on one member is besides: it takes no turn, and no reply of the history is missing. The run is over before
--- anything is written, so also where a write failed the process has ended; where memory lacked it stands where the book leaves it, or
--- is still computing its next action
-pub record IsAlone (p : Performs) (q : Computes) (k : Kept) (status : ℕ) : Type 0 where
+-- What a run of a small program is besides. It has one process, which takes no turn and received all replies of the history. The run is
+-- over before anything is written: also where a write failed the process has ended. Only where memory lacked it may stand elsewhere
+pub record IsSmallRun (p : Performs) (q : Computes) (k : Kept) (status : ℕ) : Type 0 where
   pub end : ProcessEnd
   pub one : k.processes.items ≡ end ∷ []
   pub node : end.node ≡ 0
   pub turns : end.turns ≡ 0
   pub replies : end.replies.items ≡ replies_of p q k.book.items 0
-  pub ended : status ≡ FINISHED → HasEnded p q k.book.items main_process × (end.standing ≡ standings.Ended)
-  pub unwritten : status ≡ WRITE_FAULT → HasEnded p q k.book.items main_process × (end.standing ≡ standings.Ended)
-  pub lacked : status ≡ NO_MEMORY → IsLeftBy p q k.book.items main_process end.standing ⊎ (end.standing ≡ standings.Busy)
-
--- where the one process stands behind a run, which ended or found no memory
-abbrev pub Stops : Performs → Computes → List Line → Result Unit NoMemory → ProcessStanding → Type 0
-Stops p q book (Ok _) standing = HasEnded p q book main_process × (standing ≡ standings.Ended)
-Stops p q book (Err _) standing = IsLeftBy p q book main_process standing ⊎ (standing ≡ standings.Busy)
-
--- the status of a run and of what was written of its book: want of memory comes first, then a write that failed
-abbrev pub run_status : Result Unit NoMemory → Result Unit SinkFault → ℕ
-run_status (Err _) printed = NO_MEMORY
-run_status (Ok _) (Err faults.NoMemory) = NO_MEMORY
-run_status (Ok _) (Err faults.Failed) = WRITE_FAULT
-run_status (Ok _) (Ok _) = FINISHED
+  pub ended : (status ≡ FINISHED) ⊎ (status ≡ WRITE_FAULT) → end.standing ≡ standings.Ended
+  pub lives : end.standing ≢ standings.Crashed

@@ -21,6 +21,11 @@ abbrev pub deed_of : Job → Deed
 deed_of (jobs.Says text) = says text.now
 deed_of (jobs.Runs options script file) = runs options (option_map (λ s. s.now) script) (file.now ∷ [])
 
+-- the files with the text of its program, in order
+abbrev pub sources_of : Deed → List Word
+sources_of (says text) = []
+sources_of (runs options script files) = files
+
 -- so far a run has one file, and the words have nothing beside the command and its name
 abbrev pub run_built : List Word → RunOptions → Option Word → List Word → Option Deed
 run_built words options script (file ∷ []) = if length words == 2 then Some (runs options script (file ∷ [])) else None

@@ -6,3 +6,4 @@ pub mod Sources
 pub mod Loaded
 pub mod Endings
 pub mod Headline
+pub mod Stops

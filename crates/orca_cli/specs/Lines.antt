@@ -1,7 +1,6 @@
 -- The lines that the program says where it ends, and the line that an action writes (docs/FORMATS.md, The program).
 use Rattle.std.specs.Prelude.{ℕ, List, [], ◌∷◌, ◌++◌, codes}
 use Rattle.std.specs.Fmt.{decimal}
-use Rattle.orca_base.specs.declared.limits.TheConstants.{NESTING, SOURCE_BYTES}
 use Rattle.orca_base.specs.declared.place.Place.{Place}
 use Rattle.value_core.specs.Datum.{Data}
 use Rattle.value_core.specs.History.{string_first}
@@ -24,11 +23,9 @@ abbrev pub refused_line : List ℕ → Place → List ℕ → List ℕ
 refused_line file at text =
     codes "orca: " ++ file ++ (codes ":" ++ decimal at.line ++ (codes ":" ++ decimal at.column ++ (codes ": " ++ (text ++ 10 ∷ []))))
 
-abbrev pub too_long_line : List ℕ
-too_long_line = codes "orca: limit of source bytes: " ++ decimal SOURCE_BYTES ++ 10 ∷ []
-
-abbrev pub too_nested_line : List ℕ
-too_nested_line = codes "orca: limit of nesting: " ++ decimal NESTING ++ 10 ∷ []
+-- there is more of this than the number
+abbrev pub limit_line : List ℕ → ℕ → List ℕ
+limit_line what number = codes "orca: limit of " ++ what ++ (codes ": " ++ decimal number ++ 10 ∷ [])
 
 -- the string that is the first argument, and a line feed
 abbrev pub line_with : Data → List ℕ

@@ -1,8 +1,7 @@
--- Sources: files with their texts, as they were read for a run, and what the front end says of them together
--- (docs/FORMATS.md, The program).
+-- Sources: files with their texts, as they were read, and what the front end says of them together (docs/FORMATS.md, The
+-- program). A source here is a name and bytes; `Source` of link_rules has the syntax in place of the bytes.
 use Rattle.std.specs.Prelude.{◌≡◌, ℕ, ◌≤◌, List, [], ◌∷◌, ◌++◌, length, map, Option, Some, IfSome}
 use Rattle.std.specs.List.{All}
-use Rattle.command_line.specs.declared.request.RunOptions.{RunOptions}
 use Rattle.orca_base.specs.declared.limits.TheConstants.{SOURCE_BYTES}
 use Rattle.orca_base.specs.declared.place.Place.{Place}
 use Rattle.orca_io.specs.Files.{File, content_of}
@@ -10,30 +9,31 @@ use Rattle.orca_syntax.specs.Syntax.{Syntax}
 use Rattle.orca_syntax.specs.TextSyntax.{HasSyntax}
 use Rattle.small_program.specs.declared.tree.SmallProgram.{SmallProgram}
 use Rattle.orca_cli.specs.Front.{IsFaulty, IsSmallText, IsTooDeep}
-use Rattle.orca_cli.specs.Job.{Word, deed_in, runs}
+use Rattle.orca_cli.specs.Job.{Deed, Word, deed_in, sources_of}
 use Rattle.orca_cli.specs.Lines.{refused_line}
 
--- the file was read: its text is what the shelf tells of it, where that tells its files, and is no longer than a text may be
-pub record IsRead (told : Option (List File)) (source : File) : Type 0 where
-  pub content : IfSome told (λ files. content_of files source.0 ≡ Some source.1)
-  pub bytes : length source.1 ≤ SOURCE_BYTES
+-- the file was read: its text is what the shelf tells of it, where that tells its files, and is no longer than this
+pub record IsRead (told : Option (List File)) (limit : ℕ) (file : File) : Type 0 where
+  pub content : IfSome told (λ files. content_of files file.0 ≡ Some file.1)
+  pub bytes : length file.1 ≤ limit
 
--- the words ask for the run of the program in these sources, all of which were read. So the size of each text was judged before
+-- the words ask for something of the program in these sources, all of which were read. So the size of each text was judged before
 -- any is judged by what it says
-pub record Runs (words : List Word) (told : Option (List File)) (sources : List File) : Type 0 where
-  pub options : RunOptions
-  pub script : Option Word
-  pub asked : deed_in words ≡ Some (runs options script (map (λ s. s.0) sources))
-  pub read : All (IsRead told) sources
+pub record HasSources (words : List Word) (told : Option (List File)) (sources : List File) : Type 0 where
+  pub deed : Deed
+  pub asked : deed_in words ≡ Some deed
+  pub files : sources_of deed ≡ map (λ s. s.0) sources
+  pub read : All (IsRead told SOURCE_BYTES) sources
 
--- the words ask for the run of the program in files, and this is the first of them that wasn't read
+-- The words ask for something of the program in files, and reading stopped at this one of them. Those in front of it are told, none of
+-- them too long; which read failed, where one did, no clause says
 pub record StopsAt (words : List Word) (told : Option (List File)) (file : Word) : Type 0 where
-  pub options : RunOptions
-  pub script : Option Word
+  pub deed : Deed
   pub before : List File
   pub after : List Word
-  pub asked : deed_in words ≡ Some (runs options script (map (λ s. s.0) before ++ file ∷ after))
-  pub read : All (IsRead told) before
+  pub asked : deed_in words ≡ Some deed
+  pub files : sources_of deed ≡ map (λ s. s.0) before ++ file ∷ after
+  pub read : All (IsRead told SOURCE_BYTES) before
 
 -- a text is a unit, which nests no deeper than a text may
 pub record IsUnit (source : File) : Type 0 where

@@ -4,7 +4,7 @@ ghost use Rattle.std.specs.Prelude.{◌≡◌, ◌<◌, ◌≤◌, ◌*◌, ◌^
 ghost use Rattle.orca_base.specs.declared.refusal.Refusal.TheVariants.{Because, NoMemory as Without};
 ghost use Rattle.orca_lexer.specs.Refusal.{IsRefusal as IsLexical};
 ghost use Rattle.small_program.specs.Scope.{IsScoped};
-ghost use Rattle.orca_cli.specs.Front.{Reads, IsSyntactic};
+ghost use Rattle.orca_cli.specs.Front.{FitsText, IsSyntactic};
 
 use crate::lines::whole;
 use orca_base::{NoMemory, Place, Refusal, refuse};
@@ -51,7 +51,7 @@ fn said(at: Place, text: Result<Vec<u8>, NoMemory>) -> Refusal<FrontFault>
 
 // Why a text has no tokens.
 fn lexical(alloc: Global, error: LexError) -> Refusal<FrontFault>
-    ensures { (text : List ℕ) → IsLexical text error → Reads text (Err result) }
+    ensures { (text : List ℕ) → IsLexical text error → FitsText text (Err result) }
 {
     let text = whole(alloc, error.rule.message());
     said(error.at, text)
@@ -60,7 +60,7 @@ fn lexical(alloc: Global, error: LexError) -> Refusal<FrontFault>
 // Why a text's tokens are no unit.
 fn syntactic(alloc: Global, text: &[u8], error: ParseError) -> Refusal<FrontFault>
     requires { IsSyntactic text.now error }
-    ensures { Reads text.now (Err result) }
+    ensures { FitsText text.now (Err result) }
 {
     match error {
         ParseError::TooNested { .. } => Refusal::Because {
@@ -86,7 +86,7 @@ fn syntactic(alloc: Global, text: &[u8], error: ParseError) -> Refusal<FrontFaul
 /// The small program that a text is, or why it is none. It has at most an operation for each 35 bytes, and a field for each four.
 pub fn program_of(alloc: Global, text: &[u8]) -> Result<SmallProgram, Refusal<FrontFault>>
     requires { length text.now < 2 ^ 31 }
-    ensures reads { Reads text.now result }
+    ensures reads { FitsText text.now result }
     ensures scoped { IfOk result (λ p. IsScoped p) }
     ensures operations { IfOk result (λ p. 35 * length p.operations ≤ length text.now) }
     ensures fields { IfOk result (λ p. 4 * length p.fields ≤ length text.now) }

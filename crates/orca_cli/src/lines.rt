@@ -3,7 +3,7 @@
 ghost use Rattle.std.specs.Prelude.{◌≡◌, IfOk};
 ghost use Rattle.orca_cli.specs.Lines as lines;
 
-use orca_base::{NESTING, NoMemory, Place, SOURCE_BYTES};
+use orca_base::{NoMemory, Place};
 use std::alloc::Global;
 
 /// The bytes of a text.
@@ -47,19 +47,11 @@ pub fn not_yet_line(alloc: Global, file: &str) -> Result<Vec<u8>, NoMemory>
     Ok(line.into_bytes())
 }
 
-/// The file is too long.
-pub fn too_long_line(alloc: Global) -> Result<Vec<u8>, NoMemory>
-    ensures { IfOk result (λ line. line.items ≡ lines.too_long_line) }
+/// There is more of this than the number.
+pub fn limit_line(alloc: Global, what: &str, number: u32) -> Result<Vec<u8>, NoMemory>
+    ensures { IfOk result (λ line. line.items ≡ lines.limit_line what.now number) }
 {
-    let line = format!(in alloc; "orca: limit of source bytes: {SOURCE_BYTES}\n")?;
-    Ok(line.into_bytes())
-}
-
-/// The file's text nests too deep.
-pub fn too_nested_line(alloc: Global) -> Result<Vec<u8>, NoMemory>
-    ensures { IfOk result (λ line. line.items ≡ lines.too_nested_line) }
-{
-    let line = format!(in alloc; "orca: limit of nesting: {NESTING}\n")?;
+    let line = format!(in alloc; "orca: limit of {what}: {number}\n")?;
     Ok(line.into_bytes())
 }
 

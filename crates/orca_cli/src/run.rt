@@ -4,9 +4,10 @@ ghost use Rattle.std.specs.Prelude.{◌≡◌, ◌⊎◌, ◌≤◌, ◌<◌, �
 ghost use Rattle.orca_io.specs.Causes.{Rose};
 ghost use Rattle.orca_io.specs.Sinks.{Puts};
 ghost use Rattle.value_core.specs.History.{HasEnded, output_by, output_of};
-ghost use Rattle.orca_meaning.specs.Executions.{Follows};
+ghost use Rattle.orca_meaning.specs.Executions.{Follows, main_process};
 ghost use Rattle.orca_meaning.specs.Program.{computes_of, performs_of};
-ghost use Rattle.orca_cli.specs.Headline.{IsAlone, IsRun, Stops, main_process, run_status, standing_at};
+ghost use Rattle.orca_cli.specs.Headline.{IsRun, IsSmallRun, standing_at};
+ghost use Rattle.orca_cli.specs.Stops.{Stops, run_status};
 ghost use Rattle.orca_cli.specs.Printed.{Grew, HasStopped, WroteOf};
 ghost use Rattle.orca_cli.specs.Lines.{line_with};
 
@@ -140,8 +141,8 @@ fn run_status(run: Result<(), NoMemory>, printed: Result<(), SinkFault>) -> u8
 /// there is no memory for the list of processes or for the first of them, before the run begins.
 pub fn run_kept<K: Sink>(alloc: Global, machine: &TreeMachine, out: &mut K) -> Ended
     ensures kept { MatchOption result.kept ((result.status ≡ NO_MEMORY) × (K.told out.new ≡ K.told out.old))
-        (λ k. IsRun (performs_of machine.now.program) (computes_of machine.now.program) k result.status (K.told out.old) (K.told out.new)
-        × IsAlone (performs_of machine.now.program) (computes_of machine.now.program) k result.status) }
+        (λ k. IsRun (performs_of machine.now.program) (computes_of machine.now.program) k FINISHED [] result.status (K.told out.old)
+        (K.told out.new) × IsSmallRun (performs_of machine.now.program) (computes_of machine.now.program) k result.status) }
     ensures later { K.faults out.old ≤ K.faults out.new }
     ensures failed { result.status ≡ WRITE_FAULT → Rose (K.faults out.old) (K.faults out.new) }
     ensures stopped { K.faults out.old < K.faults out.new → HasStopped result.status }

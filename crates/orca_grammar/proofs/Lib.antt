@@ -12,3 +12,5 @@ pub mod Placed
 pub mod Once
 pub mod Promises
 pub mod Refusals
+pub mod TokensOf
+pub mod Starting

@@ -5,3 +5,4 @@ pub mod Sets
 pub mod Grammar
 pub mod Promise
 pub mod Wrong
+pub mod Words

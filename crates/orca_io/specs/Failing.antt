@@ -1,12 +1,16 @@
 -- The shelf and the sink in memory, whose calls with given numbers fail.
-use Rattle.std.specs.Prelude.{ℕ, List, Option, Some}
-use Rattle.orca_io.specs.Files.{File, files_of}
+use Rattle.std.specs.Prelude.{ℕ, List, IsSome, Option, Some}
+use Rattle.orca_io.specs.Files.{File, content_of, files_of}
 use Rattle.orca_io.specs.declared.shelf.MemoryShelf.{MemoryShelf}
 use Rattle.orca_io.specs.declared.sink.MemorySink.{MemorySink}
 
 -- the files, all of which are told
 abbrev pub told_files : MemoryShelf → Option (List File)
 told_files shelf = Some (files_of shelf.files.items)
+
+-- there is a file of this name
+abbrev pub HasFile : MemoryShelf → List ℕ → Type 0
+HasFile shelf name = IsSome (content_of (files_of shelf.files.items) name)
 
 -- how many reads have failed
 abbrev pub failed_reads : MemoryShelf → ℕ

@@ -1,10 +1,10 @@
 //! Files that are read whole.
 
 ghost use Rattle.std.specs.Prelude.{◌≡◌, ◌≤◌, ◌↔◌, ℕ, List, [], Option, None, Some, Contains};
-ghost use Rattle.std.specs.Prelude.{IfOk, IfSome, IsErrOf, vec_len, map, string_bytes};
+ghost use Rattle.std.specs.Prelude.{IfOk, IfSome, IsErrOf, vec_len, map, option_map, string_bytes};
 ghost use Rattle.orca_io.specs.declared.shelf.ShelfFault.TheVariants.{NoMemory as Without};
 ghost use Rattle.orca_io.specs.Causes.{counted};
-ghost use Rattle.orca_io.specs.Files.{File, content_of, files_of, Reads};
+ghost use Rattle.orca_io.specs.Files.{File, FitsContent, content_of, files_of};
 
 use std::alloc::{AllocError, AllocFailed, Global};
 use std::io::{ErrorKind, Read};
@@ -66,7 +66,7 @@ pub trait Shelf {
     /// Of two files of one name the first is read. The count of faults rises by one where the answer is `Failed`, and stays
     /// otherwise.
     fn read_all(&mut self, alloc: Global, name: &str, limit: u32) -> Result<Vec<u8>, ShelfFault>
-        ensures reads { IfSome (told self.old) (λ files. Reads (λ v. v.items) (content_of files name.now) limit result) }
+        ensures reads { IfSome (told self.old) (λ files. FitsContent (λ v. v.items) (content_of files name.now) limit result) }
         ensures same { told self.new ≡ told self.old }
         ensures later { faults self.old ≤ faults self.new }
         ensures failed { IsErrOf result ShelfFault.Failed → faults self.new ≡ counted (faults self.old) }
@@ -76,7 +76,7 @@ pub trait Shelf {
         ensures within { IfOk result (λ v. vec_len v ≤ limit) };
 }
 
-/// Files in memory. The calls of `read_all` that have the given numbers fail.
+/// Files in memory. The calls of `read_all` that have the given numbers fail, where there is a file of the name.
 #[derive(Drop)]
 pub struct MemoryShelf {
     files: Vec<(String, Vec<u8>)>,
@@ -104,53 +104,59 @@ impl MemoryShelf {
     }
 }
 
-/// The bytes of the first file of this name, if there are at most `limit`.
-fn copy_of(
-    alloc: Global,
-    files: &[(String, Vec<u8>)],
-    name: &str,
-    limit: u32,
-) -> Result<Vec<u8>, ShelfFault>
-    ensures reads { Reads (λ v. v.items) (content_of (files_of files.now) name.now) limit result }
-    ensures never { IsErrOf result ShelfFault.Failed → ⊥ }
+// The bytes of the first file of this name.
+fn content<'a>(files: &'a [(String, Vec<u8>)], name: &str) -> Option<&'a [u8]>
+    ensures { option_map (λ s. s.now) result ≡ content_of (files_of files.now) name.now }
 {
     for file in files {
         if file.0.as_str() == name {
-            if file.1.len() > limit as usize {
-                return Err(ShelfFault::TooLong);
-            }
-            return Ok(Vec::from_slice(alloc, file.1.as_slice())?);
+            return Some(file.1.as_slice());
         }
     }
-    Err(ShelfFault::Absent)
+    None
+}
+
+// A copy of a file's bytes, if there are at most `limit`.
+fn copy_of(alloc: Global, bytes: &[u8], limit: u32) -> Result<Vec<u8>, ShelfFault>
+    ensures fits { FitsContent (λ v. v.items) (Some bytes.now) limit result }
+    ensures never { IsErrOf result ShelfFault.Failed → ⊥ }
+{
+    if bytes.len() > limit as usize {
+        return Err(ShelfFault::TooLong);
+    }
+    Ok(Vec::from_slice(alloc, bytes)?)
 }
 
 impl Shelf for MemoryShelf {
-    ghost use Rattle.orca_io.specs.Failing.{failed_reads, failing_reads, reads_so_far, told_files};
+    ghost use Rattle.orca_io.specs.Failing.{HasFile, failed_reads, failing_reads, reads_so_far, told_files};
 
     ghost told = { told_files };
 
     ghost faults = { failed_reads };
 
     fn read_all(&mut self, alloc: Global, name: &str, limit: u32) -> Result<Vec<u8>, ShelfFault>
-        ensures reads { IfSome (told_files self.old) (λ files. Reads (λ v. v.items) (content_of files name.now) limit result) }
+        ensures reads { IfSome (told_files self.old) (λ files. FitsContent (λ v. v.items) (content_of files name.now) limit result) }
         ensures same { told_files self.new ≡ told_files self.old }
         ensures later { failed_reads self.old ≤ failed_reads self.new }
         ensures failed { IsErrOf result ShelfFault.Failed → failed_reads self.new ≡ counted (failed_reads self.old) }
         ensures quiet { (IsErrOf result ShelfFault.Failed → ⊥) → failed_reads self.new ≡ failed_reads self.old }
         ensures within { IfOk result (λ v. vec_len v ≤ limit) }
 
-        // Exactly the calls with the given numbers fail.
-        ensures fails { IsErrOf result ShelfFault.Failed ↔ Contains (failing_reads self.old) (reads_so_far self.new) }
+        // Exactly the calls with the given numbers fail, where the file is there.
+        ensures fails { IsErrOf result ShelfFault.Failed ↔
+            (Contains (failing_reads self.old) (reads_so_far self.new) × HasFile self.old name.now) }
         ensures counts { reads_so_far self.new ≡ counted (reads_so_far self.old) }
         ensures failing { failing_reads self.new ≡ failing_reads self.old }
     {
         self.calls = self.calls.saturating_add(1);
+        let Some(bytes) = content(&self.files, name) else {
+            return Err(ShelfFault::Absent);
+        };
         if self.failing.contains(&self.calls) {
             self.faults = self.faults.saturating_add(1);
             return Err(ShelfFault::Failed);
         }
-        copy_of(alloc, &self.files, name, limit)
+        copy_of(alloc, bytes, limit)
     }
 }
 
@@ -175,7 +181,10 @@ impl Shelf for SureShelf {
     ghost faults = { λ _. 0 };
 
     fn read_all(&mut self, alloc: Global, name: &str, limit: u32) -> Result<Vec<u8>, ShelfFault> {
-        copy_of(alloc, &self.files, name, limit)
+        match content(&self.files, name) {
+            Some(bytes) => copy_of(alloc, bytes, limit),
+            None => Err(ShelfFault::Absent),
+        }
     }
 }
 

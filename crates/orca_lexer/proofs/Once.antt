@@ -25,7 +25,7 @@ use Rattle.orca_lexer.specs.Tokens.{HasRoom, IsLongest, IsStart, Means, Begins, 
 use Rattle.orca_lexer.specs.Refusal.{IsWrongBehind, IsSenseless, IsFault, IsFirstBadByte, IsNoToken, IsRefusal}
 use Rattle.orca_lexer.specs.Refusal.IsSenseless.{large, not_one, in_char, in_string}
 use Rattle.orca_lexer.specs.Refusal.IsFault.{senseless, unclosed, stray}
-use Rattle.orca_lexer.proofs.Slices.{EndsIn, StandsBefore, tokens_room, tokens_rise, tokens_within}
+use Rattle.orca_lexer.proofs.Slices.{EndsIn, EndsBefore, tokens_room, tokens_rise, tokens_within, HasEarlierPlace, tokens_places}
 use Rattle.orca_lexer.proofs.Longest.{symbol_like, is_sign_like, sign_first}
 use Rattle.orca_lexer.proofs.LiteralLemmas.{first_more, spells_once, count_spelled, rest_in}
 use Rattle.orca_lexer.specs.Spelling.{IsSound}
@@ -417,7 +417,8 @@ pub record IsOnly {V : Type 0} (view : V → List Token) (text : List ℕ) (r : 
   pub first : IfBecause r (λ error. (other : LexError) → IsRefusal text other → other ≡ error)
   pub room : IfOk r (λ found. All HasRoom (view found))
   pub within : IfOk r (λ found. All (EndsIn text) (view found))
-  pub rise : IfOk r (λ found. AllPairs StandsBefore (view found))
+  pub rise : IfOk r (λ found. AllPairs EndsBefore (view found))
+  pub places : IfOk r (λ found. AllPairs HasEarlierPlace (view found))
 
 pub is_only : {V : Type 0} (view : V → List Token) (text : List ℕ) → length text < 2 ^ 32 - 1 → (r : Result V (Refusal LexError)) → MatchRefusal r (λ found. Tokens text (view found)) (IsNoToken text) → IsOnly view text r
 is_only view text short (Ok found) h = record {
@@ -428,6 +429,7 @@ is_only view text short (Ok found) h = record {
   room = tokens_room text (view found) short h;
   within = tokens_within text (view found) h;
   rise = tokens_rise text (view found) h;
+  places = tokens_places text (view found) h;
 }
 is_only view text short (Err (Because error)) h = record {
   only = tt;
@@ -437,5 +439,6 @@ is_only view text short (Err (Because error)) h = record {
   room = tt;
   within = tt;
   rise = tt;
+  places = tt;
 }
-is_only view text short (Err NoMemory) h = record { only = tt; sound = tt; none = tt; first = tt; room = tt; within = tt; rise = tt }
+is_only view text short (Err NoMemory) h = record { only = tt; sound = tt; none = tt; first = tt; room = tt; within = tt; rise = tt; places = tt }

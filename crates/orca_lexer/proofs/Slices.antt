@@ -1,4 +1,4 @@
--- Each token has a slice of the text, and a place behind it; and tokens stand in text order.
+-- Each token has a slice of the text, and a place behind it; and tokens stand in text order, as their places do.
 use Rattle.std.proofs.Common.{◌≡◌, ℕ, ◌+◌, ◌-◌, ◌<◌, ◌≤◌, List, [], ◌∷◌, length, take, drop, ap, arith, length-take, length-drop}
 use Rattle.std.specs.Prelude.{slice_range, not, ◌==◌, ◌^◌}
 use Rattle.std.specs.List.{All, AllByRecursion, AllPairs, suffix_len}
@@ -7,9 +7,11 @@ use Rattle.std.proofs.lemmas.List.Kept.{AllPairs-cons}
 use Rattle.std.proofs.lemmas.List.Sums.{suffix_len-le-length}
 use Rattle.orca_base.specs.declared.place.Place.{Place}
 use Rattle.orca_lexer.specs.declared.token.Token.{Token}
-use Rattle.orca_lexer.specs.Tokens.{Begins, Follow, HasRoom, Tokens}
+use Rattle.orca_lexer.specs.Tokens.{Begins, Follow, HasRoom, Tokens, place_in}
+use Rattle.orca_lexer.specs.Order.{StandsBefore}
 use Rattle.orca_lexer.proofs.Longest.{no_empty_lexeme}
 use Rattle.orca_lexer.proofs.Shorter.{gap_length}
+use Rattle.orca_lexer.proofs.Places.{place_rises}
 
 -- ---- one token
 
@@ -71,14 +73,54 @@ follow_behind text from n (t ∷ ts) low inside f =
     let some = s.some in
     (omega arith, follow_behind text t.end n ts (omega arith) s.within f.1)
 
-abbrev pub StandsBefore : Token → Token → Type 0
-StandsBefore one other = one.end ≤ other.start
+abbrev pub EndsBefore : Token → Token → Type 0
+EndsBefore one other = one.end ≤ other.start
 
-follow_rise : (text : List ℕ) (from : ℕ) (ts : List Token) → Follow text from ts → AllPairs StandsBefore ts
+follow_rise : (text : List ℕ) (from : ℕ) (ts : List Token) → Follow text from ts → AllPairs EndsBefore ts
 follow_rise text from [] f = λ i j d before within. absurd (omega (arith, within))
 follow_rise text from (t ∷ ts) f =
     let s = slice_of text from t f.0 in
-    AllPairs-cons StandsBefore t ts (All-from_recursion (StandsBefore t) ts (follow_behind text t.end t.end ts (omega arith) s.within f.1)) (follow_rise text t.end ts f.1)
+    AllPairs-cons EndsBefore t ts (All-from_recursion (EndsBefore t) ts (follow_behind text t.end t.end ts (omega arith) s.within f.1)) (follow_rise text t.end ts f.1)
 
-pub tokens_rise : (text : List ℕ) (ts : List Token) → Tokens text ts → AllPairs StandsBefore ts
+pub tokens_rise : (text : List ℕ) (ts : List Token) → Tokens text ts → AllPairs EndsBefore ts
 tokens_rise text ts h = follow_rise text 0 ts h.follow
+
+-- ---- and their places
+
+-- every token has a later place than this one, which is that of a byte in front of them
+follow_later : (text : List ℕ) (from n : ℕ) (p : Place) (ts : List Token) → p ≡ place_in text n → n < from → from ≤ length text → Follow text from ts → AllByRecursion (λ t. StandsBefore p t.at) ts
+follow_later text from n p [] at low inside f = tt
+follow_later text from n p (t ∷ ts) at low inside f =
+    let s = slice_of text from t f.0 in
+    let begins = s.behind inside in
+    let some = s.some in
+    let token = f.0 in
+    let rises = place_rises text n t.start (omega (arith, low, begins)) (omega (arith, some, s.within)) in (
+      rw (at, token.place) rises,
+      follow_later text t.end n p ts at (omega (arith, low, begins, some)) s.within f.1,
+    )
+
+-- each place stands before all later ones
+abbrev pub Rise : List Token → Type 0
+Rise [] = Unit {0}
+Rise (t ∷ ts) = AllByRecursion (λ u. StandsBefore t.at u.at) ts × Rise ts
+
+follow_places : (text : List ℕ) (from : ℕ) (ts : List Token) → Follow text from ts → Rise ts
+follow_places text from [] f = tt
+follow_places text from (t ∷ ts) f =
+    let s = slice_of text from t f.0 in
+    let token = f.0 in
+    (follow_later text t.end t.start t.at ts token.place s.some s.within f.1, follow_places text t.end ts f.1)
+
+pub places_in_turn : (text : List ℕ) (ts : List Token) → Tokens text ts → Rise ts
+places_in_turn text ts h = follow_places text 0 ts h.follow
+
+abbrev pub HasEarlierPlace : Token → Token → Type 0
+HasEarlierPlace one other = StandsBefore one.at other.at
+
+all_pairs : (ts : List Token) → Rise ts → AllPairs HasEarlierPlace ts
+all_pairs [] r = λ i j d before within. absurd (omega (arith, within))
+all_pairs (t ∷ ts) r = AllPairs-cons HasEarlierPlace t ts (All-from_recursion (HasEarlierPlace t) ts r.0) (all_pairs ts r.1)
+
+pub tokens_places : (text : List ℕ) (ts : List Token) → Tokens text ts → AllPairs HasEarlierPlace ts
+tokens_places text ts h = all_pairs ts (places_in_turn text ts h)

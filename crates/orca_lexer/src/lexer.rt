@@ -7,6 +7,7 @@ ghost use Rattle.orca_base.specs.Refusal.{MatchRefusal, IfBecause};
 ghost use Rattle.orca_lexer.specs.declared.error.LexError.{LexError};
 ghost use Rattle.orca_lexer.specs.declared.token.Token.{Token};
 ghost use Rattle.orca_lexer.specs.Tokens.{Follow, HasRoom, Tokens};
+ghost use Rattle.orca_lexer.specs.Order.{StandsBefore};
 ghost use Rattle.orca_lexer.specs.Spelling.{IsSound};
 ghost use Rattle.orca_lexer.specs.Refusal.{IsRefusal, IsNoToken};
 ghost use Rattle.orca_lexer.specs.Cursors.{IsAt, StartsToken, IsFaultAt};
@@ -77,10 +78,11 @@ pub fn tokens(alloc: Global, text: &[u8]) -> Result<Vec<Token>, Refusal<LexError
     ensures only { IfOk result (λ found. (others : List Token) → Tokens text.now others → others ≡ found.items) }
     ensures sound { IfOk result (λ found. AllByRecursion (λ token. IsSound token.kind) found.items) }
 
-    // Each has a slice of the text and a place behind it, and they stand in text order.
+    // Each has a slice of the text and a place behind it, and they stand in text order, as their places do.
     ensures room { IfOk result (λ found. All HasRoom found.items) }
     ensures within { IfOk result (λ found. All (λ token. token.end ≤ length text.now) found.items) }
     ensures rise { IfOk result (λ found. AllPairs (λ one other. one.end ≤ other.start) found.items) }
+    ensures places { IfOk result (λ found. AllPairs (λ one other. StandsBefore one.at other.at) found.items) }
 
     // No list is; this is the first reason, and no other is.
     ensures none { IfBecause result (λ _. (others : List Token) → Tokens text.now others → ⊥) }

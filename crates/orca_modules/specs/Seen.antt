@@ -12,7 +12,7 @@ use Rattle.orca_modules.specs.declared.sites.ImportLine.{ImportLine}
 use Rattle.orca_modules.specs.declared.tables.Tables.{Tables}
 
 abbrev pub definition : Definition → Defined
-definition d = record { role = d.role; file = d.file.now; name = record { at = d.at; text = d.name.now } }
+definition d = record { role = d.role; by = d.by.now; file = d.file.now; name = record { at = d.at; text = d.name.now } }
 
 abbrev pub import_line : ImportLine → Import
 import_line i = record { by = i.by.now; file = i.file.now; name = record { at = i.at; text = i.name.now } }

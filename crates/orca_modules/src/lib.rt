@@ -1,10 +1,11 @@
 //! From units to a program: linking.
 //!
 //! The floor above uses `link`: the program of these units exactly where they link (`Links` of link_rules, specs/Rules.antt), and otherwise
-//! the first breach of the lowest rule that is broken; and `Program`, the list of its units, which keeps that they link.
+//! the first breach of the lowest rule that is broken; and `Program`, the list of its units, which keeps that they link, and of each that
+//! it is a text's.
 //!
-//! It stands on the rules of linking (link_rules). It looks into no declaration: what names stand for inside of them is a matter of
-//! types.
+//! It stands on the rules of linking (link_rules). Of a declaration it asks what names it defines, the values of an enumeration among them,
+//! and no more: what names stand for is a matter of types.
 #![tactic(auto)]
 
 mod cycles;

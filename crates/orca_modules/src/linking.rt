@@ -27,10 +27,11 @@ fn check(alloc: Global, units: &[NamedUnit]) -> Result<(), Refusal<LinkError>>
     implemented(alloc, &tables, &definitions)
 }
 
-/// The program that these units are, exactly where they link: no name is defined twice, what is imported is a module, no import lies on a
-/// cycle, a name is `OrcaMain`, and each specification has an implementation (docs/LANGUAGE.md, Linking). The cost is that of the names that
-/// are defined and imported times the logarithm of their number. Only where imports go round in a cycle are they gone through more often,
-/// up to the square of the number of modules.
+/// The program that these units are, exactly where they link: no name is defined twice (modules' names are apart, and the two halves of an
+/// object type share theirs), what is imported is a module, no import lies on a cycle, a name of the top level is `OrcaMain`, and each
+/// specification has an implementation (docs/LANGUAGE.md, Linking). No clause says so, but the cost is that of the names that are defined
+/// and imported times the logarithm of their number; only where imports go round in a cycle are they gone through more often, up to the
+/// square of the number of modules.
 pub fn link(alloc: Global, units: Vec<NamedUnit>) -> Result<Program, Refusal<LinkError>>
     ensures program { IfOk result (λ p. p.units.items ≡ units.items) }
     ensures links { IfOk result (λ _. Links (map source units.items)) }

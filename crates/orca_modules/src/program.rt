@@ -6,7 +6,7 @@ ghost use Rattle.link_rules.specs.Rules.{Links};
 
 use link_rules::NamedUnit;
 
-/// The units of a program, in the order of their files. They link.
+/// The units of a program, in the order of their files. They link, and each is that of a text (`NamedUnit`).
 #[derive(Drop)]
 pub struct Program {
     pub units: Vec<NamedUnit>,

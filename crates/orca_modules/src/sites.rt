@@ -2,7 +2,7 @@
 
 ghost use Rattle.std.specs.Prelude.{◌≡◌, ◌++◌, ◌∷◌, [], map, IfOk, OnOk};
 ghost use Rattle.orca_syntax.specs.Shown.{decl};
-ghost use Rattle.link_rules.specs.Units.{defined, defined_by, definitions, definitions_of, imports, imports_of, module_of, source};
+ghost use Rattle.link_rules.specs.Units.{defined, defined_by, definitions, definitions_of, imports, imports_of, module_name, module_of, source};
 ghost use Rattle.link_rules.specs.Rules.{at_definition, at_import};
 ghost use Rattle.orca_modules.specs.Seen.{definition as definition_seen, import_line};
 
@@ -11,10 +11,11 @@ use orca_base::{NoMemory, Place, Text};
 use orca_tree::{Declaration, Definition as TypeDefinition, Name};
 use std::alloc::Global;
 
-/// A name that is defined.
+/// A name that is defined, and the module that it stands in.
 #[derive(Clone, Copy)]
 pub struct Definition<'a> {
     pub role: Role,
+    pub by: &'a str,
     pub file: &'a str,
     pub name: &'a str,
     pub at: Place,
@@ -42,11 +43,12 @@ fn error(alloc: Global, rule: u8, file: &str, name: &str, at: Place) -> Result<L
 }
 
 impl<'a> Definition<'a> {
-    fn new(role: Role, file: &'a Text, name: &'a Name) -> Definition<'a>
-        ensures { definition_seen result ≡ defined file.now role name.now }
+    fn new(role: Role, by: &'a str, file: &'a Text, name: &'a Name) -> Definition<'a>
+        ensures { definition_seen result ≡ defined by.now file.now role name.now }
     {
         Definition {
             role,
+            by,
             file: file.as_str(),
             name: name.text.as_str(),
             at: name.at,
@@ -72,12 +74,14 @@ impl<'a> ImportLine<'a> {
 
 // The definition of a unit's module.
 fn module_definition(unit: &NamedUnit) -> Definition<'_>
-    ensures { definition_seen result ≡ defined unit.now.file Role.Module (module_of (source unit.now).syntax) }
+    ensures { definition_seen result ≡
+        defined (module_name (source unit.now)) unit.now.file Role.Module (module_of (source unit.now).syntax) }
 {
     match &unit.unit.module {
-        Some(name) => Definition::new(Role::Module, &unit.file, name),
+        Some(name) => Definition::new(Role::Module, name.text.as_str(), &unit.file, name),
         None => Definition {
             role: Role::Module,
+            by: "Main",
             file: unit.file.as_str(),
             name: "Main",
             at: Place { line: 1, column: 1 },
@@ -88,14 +92,15 @@ fn module_definition(unit: &NamedUnit) -> Definition<'_>
 // The values of an enumeration.
 fn values<'a>(
     all: &mut Vec<Definition<'a>>,
+    by: &'a str,
     file: &'a Text,
     names: &'a [Name],
 ) -> Result<(), NoMemory>
     ensures { OnOk result (map definition_seen all.new.items ≡
-        map definition_seen all.old.items ++ map (defined file.now Role.Other) names.now) }
+        map definition_seen all.old.items ++ map (defined by.now file.now Role.Other) names.now) }
 {
     'values: for name in names {
-        all.push(Definition::new(Role::Other, file, name))?;
+        all.push(Definition::new(Role::Other, by, file, name))?;
     }
     Ok(())
 }
@@ -103,11 +108,12 @@ fn values<'a>(
 // What a declaration defines.
 fn declaration<'a>(
     all: &mut Vec<Definition<'a>>,
+    by: &'a str,
     file: &'a Text,
     declaration: &'a Declaration,
 ) -> Result<(), NoMemory>
     ensures { OnOk result (map definition_seen all.new.items ≡
-        map definition_seen all.old.items ++ defined_by file.now (decl declaration.now)) }
+        map definition_seen all.old.items ++ defined_by by.now file.now (decl declaration.now)) }
 {
     let (role, name) = match declaration {
         Declaration::Specification { name, .. } => (Role::Specification, name),
@@ -117,12 +123,12 @@ fn declaration<'a>(
         | Declaration::Function { name, .. }
         | Declaration::Process { name, .. } => (Role::Other, name),
     };
-    all.push(Definition::new(role, file, name))?;
+    all.push(Definition::new(role, by, file, name))?;
     match declaration {
         Declaration::Type {
             definition: TypeDefinition::Enumeration { names, .. },
             ..
-        } => values(all, file, names),
+        } => values(all, by, file, names),
         _ => Ok(()),
     }
 }
@@ -132,9 +138,10 @@ fn unit_definitions<'a>(all: &mut Vec<Definition<'a>>, unit: &'a NamedUnit) -> R
     ensures { OnOk result (map definition_seen all.new.items ≡
         map definition_seen all.old.items ++ definitions_of (source unit.now)) }
 {
-    all.push(module_definition(unit))?;
+    let module = module_definition(unit);
+    all.push(module)?;
     'declarations: for part in &unit.unit.declarations {
-        declaration(all, &unit.file, part)?;
+        declaration(all, module.by, &unit.file, part)?;
     }
     Ok(())
 }
@@ -157,7 +164,7 @@ fn unit_imports<'a>(all: &mut Vec<ImportLine<'a>>, unit: &'a NamedUnit) -> Resul
     let module = module_definition(unit);
     'imports: for name in &unit.unit.imports {
         all.push(ImportLine {
-            by: module.name,
+            by: module.by,
             file: unit.file.as_str(),
             name: name.text.as_str(),
             at: name.at,

@@ -27,7 +27,7 @@ use Rattle.orca_syntax.proofs.MarksShown.{alone, in_front, in_turn}
 use Rattle.orca_syntax.proofs.MarksOfStatements.{expression_shown, bound_shown, type_shown, stmt_shown}
 
 -- the marks of each X are those of what it shows
-abbrev Shows : {X Y : Type 0} → (X → List Mark) → (Y → Forest → Forest) → (X → Y) → Type 0
+abbrev pub Shows : {X Y : Type 0} → (X → List Mark) → (Y → Forest → Forest) → (X → Y) → Type 0
 Shows {X = X} marks_of put view = (x : X) (f : Forest) → marks_of x ++ flat f ≡ flat (put (view x) f)
 
 -- ---- lists
@@ -102,7 +102,7 @@ parameter_shown p f =
 parameters_shown : (ps : List Parameter) (f : Forest) → marks.parameters ps ++ flat f ≡ flat (der.separated (Sign Semicolon) der.parameter (map shown.parameter ps) f)
 parameters_shown ps f = separated_shown (Sign Semicolon) marks.parameter der.parameter shown.parameter parameter_shown ps f
 
-head_shown : Shows marks.head der.head shown.head
+pub head_shown : Shows marks.head der.head shown.head
 head_shown h f =
     in_front _ _ _ (in_front _ _ _ (in_front _ _ _
     (in_turn (marks.typed_names h.parameters.items) (marks.word (Sign Closes) ∷ marks.result h.result) (flat f) (in_front (marks.word (Sign Closes)) _ _ (result_shown h.result f))
@@ -121,7 +121,7 @@ block_shown b f =
     (in_front (marks.word (Key KeyBegin)) _ _ (ended_shown (marks.statements b.statements.items) f (statements_shown b.statements.items (der.ended f))))
     (all_variables_shown b.variables.items (der.word (Key KeyBegin) (der.stmts (stmts b.statements.items) (der.ended f))))
 
-guard_shown : Shows marks.guard der.guard shown.guard
+pub guard_shown : Shows marks.guard der.guard shown.guard
 guard_shown g f =
     let last = der.word (Key KeyOd) (der.word (Sign Semicolon) f) in
     in_front _ _ _
@@ -136,7 +136,7 @@ body_shown (Guarded first others) f =
     (guard_shown first (der.each der.guard (map shown.guard others.items) f))
 body_shown (Plain ss) f = statements_shown ss.items f
 
-operation_shown : Shows marks.operation der.operation shown.operation
+pub operation_shown : Shows marks.operation der.operation shown.operation
 operation_shown o f =
     let inside = der.body (shown.body o.body) (der.ended f) in
     let rest = der.each der.variables (map shown.variables o.variables.items) (der.word (Key KeyBegin) inside) in
@@ -147,7 +147,7 @@ operation_shown o f =
     (all_variables_shown o.variables.items (der.word (Key KeyBegin) inside))))
     (head_shown o.head (der.word (Sign Semicolon) rest))
 
-definition_shown : Shows marks.definition der.definition shown.definition
+pub definition_shown : Shows marks.definition der.definition shown.definition
 definition_shown (Record at fields) f =
     in_front _ _ _
     (in_turn (flat_map (λ t. marks.typed_name t ++ marks.word (Sign Semicolon) ∷ []) fields.items) (marks.word (Key KeyEnd) ∷ []) (flat f) refl
@@ -158,7 +158,7 @@ definition_shown (Alias t) f = type_shown t f
 
 -- ---- declarations
 
-decl_shown : Shows marks.declaration der.decl shown.decl
+pub decl_shown : Shows marks.declaration der.decl shown.decl
 decl_shown (declares.Constant at n b) f =
     in_front _ _ _ (in_front _ _ _ (in_front _ _ _ (in_turn (marks.bound b) (marks.word (Sign Semicolon) ∷ []) (flat f) refl (bound_shown b (der.word (Sign Semicolon) f)))))
 decl_shown (declares.Type at n d) f =

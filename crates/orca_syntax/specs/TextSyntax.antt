@@ -1,10 +1,11 @@
 -- The syntax of a text.
-use Rattle.std.specs.Prelude.{◌≡◌, ℕ, List}
+use Rattle.std.specs.Prelude.{◌≡◌, ℕ, List, None}
 use Rattle.std.specs.List.{AllByRecursion}
+use Rattle.orca_base.specs.declared.limits.TheConstants.{NESTING}
 use Rattle.orca_lexer.specs.declared.token.Token.{Token}
 use Rattle.orca_lexer.specs.Spelling.{IsSound}
 use Rattle.orca_lexer.specs.Tokens.{Tokens}
-use Rattle.orca_grammar.specs.Forms.{Mark, spelled, unplaced}
+use Rattle.orca_grammar.specs.Forms.{Mark, first_deep, spelled, unplaced}
 use Rattle.orca_grammar.specs.Grammar.{IsText}
 use Rattle.orca_tree.specs.declared.tree.Unit.{Unit as UnitTree}
 use Rattle.orca_tree.specs.Marks.{unit as unit_marks}
@@ -44,3 +45,9 @@ LosesPlaces s = unplaced (syntax_marks (bare s)) ≡ unplaced (syntax_marks s)
 -- where a tree is that of a text, the text that it is printed as has a syntax, which is the same, places aside
 abbrev pub IsSyntaxReadBack : UnitTree → Type 0
 IsSyntaxReadBack u = (text : List ℕ) → HasSyntax text (syntax_of u) → (s : Syntax) × HasSyntax (printed u) s × (bare s ≡ bare (syntax_of u))
+
+-- the tree is that of a text, and nests no deeper than may be
+pub record IsOfText (u : UnitTree) : Type 0 where
+  pub text : List ℕ
+  pub has : HasSyntax text (syntax_of u)
+  pub nests : first_deep (unit_marks u) NESTING ≡ None

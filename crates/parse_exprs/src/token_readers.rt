@@ -1,6 +1,7 @@
 //! Readers of single tokens, and tests of the token that comes next.
 
-ghost use Rattle.std.specs.Prelude.{◌≡◌, ◌∷◌, [], false, true, Ok, MatchOption};
+ghost use Rattle.std.specs.Prelude.{◌≡◌, ◌≢◌, ◌∷◌, [], false, true, Ok, Err, MatchOption};
+ghost use Rattle.orca_base.specs.declared.refusal.Refusal.TheVariants.{NoMemory as LacksMemory};
 ghost use Rattle.orca_lexer.specs.declared.token.TokenKind.TheVariants.{Key, Sign};
 ghost use Rattle.orca_grammar.specs.Forms.{KeyOf, SignOf, AnyName, is};
 ghost use Rattle.orca_grammar.specs.Reading.{comes, is_any, word_at as word_read};
@@ -66,7 +67,8 @@ pub fn comes_sign(tokens: &[Token], symbol: Symbol) -> bool
 
 /// The tokens behind this keyword.
 pub fn key(tokens: &[Token], word: Keyword) -> Result<&[Token], Refusal<ReadError<'_>>>
-    ensures { Gives (λ rest. (spelled (Key word) ∷ [], rest.now)) result (word_read false (KeyOf word) tokens.now) }
+    ensures gives { Gives (λ rest. (spelled (Key word) ∷ [], rest.now)) result (word_read false (KeyOf word) tokens.now) }
+    ensures memory { result ≢ Err LacksMemory }
 {
     match tokens {
         [first, rest @ ..] if is_key(&first.kind, word) => Ok(rest),
@@ -76,7 +78,8 @@ pub fn key(tokens: &[Token], word: Keyword) -> Result<&[Token], Refusal<ReadErro
 
 /// The place of this keyword, and the tokens behind it.
 pub fn key_at(tokens: &[Token], word: Keyword) -> Parsed<'_, Place>
-    ensures { Gives (λ x. (spelled_at x.0 (Key word) ∷ [], x.1.now)) result (word_read true (KeyOf word) tokens.now) }
+    ensures gives { Gives (λ x. (spelled_at x.0 (Key word) ∷ [], x.1.now)) result (word_read true (KeyOf word) tokens.now) }
+    ensures memory { result ≢ Err LacksMemory }
 {
     match tokens {
         [first, rest @ ..] if is_key(&first.kind, word) => Ok((first.at, rest)),
@@ -86,7 +89,8 @@ pub fn key_at(tokens: &[Token], word: Keyword) -> Parsed<'_, Place>
 
 /// The tokens behind this symbol.
 pub fn sign(tokens: &[Token], symbol: Symbol) -> Result<&[Token], Refusal<ReadError<'_>>>
-    ensures { Gives (λ rest. (spelled (Sign symbol) ∷ [], rest.now)) result (word_read false (SignOf symbol) tokens.now) }
+    ensures gives { Gives (λ rest. (spelled (Sign symbol) ∷ [], rest.now)) result (word_read false (SignOf symbol) tokens.now) }
+    ensures memory { result ≢ Err LacksMemory }
 {
     match tokens {
         [first, rest @ ..] if is_sign(&first.kind, symbol) => Ok(rest),
@@ -120,7 +124,8 @@ pub fn after_sign(tokens: &[Token], symbol: Symbol) -> Option<&[Token]>
 
 /// The place of this symbol, and the tokens behind it.
 pub fn sign_at(tokens: &[Token], symbol: Symbol) -> Parsed<'_, Place>
-    ensures { Gives (λ x. (spelled_at x.0 (Sign symbol) ∷ [], x.1.now)) result (word_read true (SignOf symbol) tokens.now) }
+    ensures gives { Gives (λ x. (spelled_at x.0 (Sign symbol) ∷ [], x.1.now)) result (word_read true (SignOf symbol) tokens.now) }
+    ensures memory { result ≢ Err LacksMemory }
 {
     match tokens {
         [first, rest @ ..] if is_sign(&first.kind, symbol) => Ok((first.at, rest)),
@@ -199,7 +204,8 @@ pub fn begins_expression(tokens: &[Token]) -> bool
 
 /// Why no phrase is read where no level of nesting is left, if one would begin here or not.
 pub fn too_nested(tokens: &[Token], begins: bool) -> Refusal<ReadError<'_>>
-    ensures { Fails result (none_left begins tokens.now) }
+    ensures why { Fails result (none_left begins tokens.now) }
+    ensures memory { result ≢ LacksMemory }
 {
     let cause = if begins {
         ReadError::TooNested { rest: tokens }

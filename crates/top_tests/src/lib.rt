@@ -6,4 +6,6 @@
 #[cfg(test)]
 mod commands;
 #[cfg(test)]
+mod memory;
+#[cfg(test)]
 mod outside;

@@ -1,3 +1,5 @@
+use Rattle.std.specs.Prelude.{codes}
+use Rattle.orca_base.specs.declared.limits.TheConstants.{NESTING}
 use Rattle.orca_cli.specs.Endings as because
 use Rattle.orca_cli.specs.Lines as lines
 use Rattle.orca_cli.proofs.CliLemmas.{answer_of, nested_one, refused_one}
@@ -10,7 +12,7 @@ returns-in-Refused-clause-said g c = λ asked told text runs reads.
 
 pub returns-in-TooNested-clause-said : goal.returns-in-TooNested-clause-said
 returns-in-TooNested-clause-said g c = λ asked told text runs reads.
-    answer_of (λ l. l.items) c.too_nested_line.result asked told ⊥ _ _ 11 _ lines.too_nested_line c.too_nested_line.ensures c.said-in-TooNested.ensures.printed c.said-in-TooNested.ensures.silent c.said-in-TooNested.ensures.status (because.too_nested _ runs (nested_one c.args.file.now text (rw c.in-TooNested.is at reads)))
+    answer_of (λ l. l.items) c.limit_line.result asked told ⊥ _ _ 11 _ (lines.limit_line (codes "nesting") NESTING) c.limit_line.ensures c.said-in-TooNested.ensures.printed c.said-in-TooNested.ensures.silent c.said-in-TooNested.ensures.status (because.too_nested _ runs (nested_one c.args.file.now text (rw c.in-TooNested.is at reads)))
 
 pub returns-in-NotYet-clause-said : goal.returns-in-NotYet-clause-said
 returns-in-NotYet-clause-said g c = λ asked told text runs reads.

@@ -29,3 +29,6 @@ returns-in-None-clause-rise c = (is_only (λ v. v.items) c.args.text.now c.requi
 
 pub returns-in-None-clause-within : goal.returns-in-None-clause-within
 returns-in-None-clause-within c = (is_only (λ v. v.items) c.args.text.now c.requires c.lexed.result c.lexed.ensures).within
+
+pub returns-in-None-clause-places : goal.returns-in-None-clause-places
+returns-in-None-clause-places c = (is_only (λ v. v.items) c.args.text.now c.requires c.lexed.result c.lexed.ensures).places

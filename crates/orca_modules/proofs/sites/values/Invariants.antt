@@ -6,5 +6,5 @@ use Rattle.orca_modules.proofs.sites.values.Given as goal
 
 abbrev pub invariant-values : goal.invariant-values
 invariant-values l =
-    map definition l.all.items ++ map (defined l.file Other) (drop l.name-index l.names)
-    ≡ map definition l.initial.all.items ++ map (defined l.file Other) l.names
+    map definition l.all.items ++ map (defined l.by l.file Other) (drop l.name-index l.names)
+    ≡ map definition l.initial.all.items ++ map (defined l.by l.file Other) l.names

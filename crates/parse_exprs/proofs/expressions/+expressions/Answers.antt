@@ -13,7 +13,7 @@ use Rattle.parse_exprs.proofs.ExpressionLemmas.{selector_shorter, selectors_brea
 use Rattle.parse_exprs.proofs.expressions.+expressions.Goals as goal
 
 pub expression-returns-then-depth-eq0 : goal.expression-returns-then-depth-eq0
-expression-returns-then-depth-eq0 t c = nested_none c.too_nested.result c.args.depth ExpressionPhrase c.args.tokens.now c.begins_expression.result c.if-depth-eq0.true c.begins_expression.ensures c.too_nested.ensures
+expression-returns-then-depth-eq0 t c = nested_none c.too_nested.result c.args.depth ExpressionPhrase c.args.tokens.now c.begins_expression.result c.if-depth-eq0.true c.begins_expression.ensures c.too_nested.ensures.why
 
 pub expression-returns : goal.expression-returns
 unfolding disjunction operand_form
@@ -22,7 +22,7 @@ expression-returns t c =
     nested_read expression_marks c.chain_of.result c.args.depth ExpressionPhrase c.args.tokens.now (omega arith) one
 
 pub factor-returns-then-depth-eq0 : goal.factor-returns-then-depth-eq0
-factor-returns-then-depth-eq0 t c = nested_none c.too_nested.result c.args.depth FactorPhrase c.args.tokens.now c.begins_expression.result c.if-depth-eq0.true c.begins_expression.ensures c.too_nested.ensures
+factor-returns-then-depth-eq0 t c = nested_none c.too_nested.result c.args.depth FactorPhrase c.args.tokens.now c.begins_expression.result c.if-depth-eq0.true c.begins_expression.ensures c.too_nested.ensures.why
 
 pub factor-returns : goal.factor-returns
 factor-returns t c = nested_read operand c.alternative.result c.args.depth FactorPhrase c.args.tokens.now (omega arith) c.alternative.ensures

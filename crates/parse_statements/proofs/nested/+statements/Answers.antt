@@ -32,7 +32,7 @@ unfolding rules.statement_line statement_firsts
 statements-returns t c = row_ends (sym c.begins_statement.ensures ∙ c.lines-test.false) c.lines.invariant
 
 pub statement-returns-then-depth-eq0 : goal.statement-returns-then-depth-eq0
-statement-returns-then-depth-eq0 t c = nested_none c.too_nested.result c.args.depth StatementPhrase c.args.tokens.now c.begins_statement.result c.if-depth-eq0.true c.begins_statement.ensures c.too_nested.ensures
+statement-returns-then-depth-eq0 t c = nested_none c.too_nested.result c.args.depth StatementPhrase c.args.tokens.now c.begins_statement.result c.if-depth-eq0.true c.begins_statement.ensures c.too_nested.ensures.why
 
 pub statement-returns : goal.statement-returns
 statement-returns t c = nested_read marks.statement c.alternative.result c.args.depth StatementPhrase c.args.tokens.now (omega arith) c.alternative.ensures

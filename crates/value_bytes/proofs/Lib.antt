@@ -1,0 +1,6 @@
+pub mod Fields
+pub mod Items
+pub mod Orders
+pub mod Values
+pub mod Facts
+pub mod Loop
