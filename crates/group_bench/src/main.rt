@@ -72,10 +72,21 @@ fn run(rt: &HostRuntime, alloc: Global) -> Result<(), Failed> {
     let mut packets = 0u64;
     for call in 0..number(messages)? {
         let at = (call % nodes as u32) as u8;
-        let message = Shared::new(alloc, Message { process: at as u16, call: call as u64, bytes })?;
+        let message = Shared::new(
+            alloc,
+            Message {
+                process: at as u16,
+                call: call as u64,
+                bytes,
+            },
+        )?;
         packets = packets.saturating_add(order(alloc, &mut members, at, message)?);
     }
-    let applied = members.iter().map(|member| member.applied()).min().unwrap_or(0);
+    let applied = members
+        .iter()
+        .map(|member| member.applied())
+        .min()
+        .unwrap_or(0);
     println!(rt; "{packets} packets, {applied} entries applied at each")?;
     Ok(())
 }
@@ -89,7 +100,10 @@ fn number(word: &String) -> Result<u32, Failed> {
 fn opened(alloc: Global, nodes: u8) -> Result<Vec<Node>, NoMemory>
     ensures { IfOk result (λ members. All IsMember members.items) }
 {
-    let config = Config { nodes, resilience: 0 };
+    let config = Config {
+        nodes,
+        resilience: 0,
+    };
     let mut members = Vec::new(alloc);
     'members: for me in 0..nodes {
         members.push(Member::new(alloc, config, me)?)?;
@@ -98,7 +112,12 @@ fn opened(alloc: Global, nodes: u8) -> Result<Vec<Node>, NoMemory>
 }
 
 // A message of this member is submitted, and all packets arrive that come of it; how many they are.
-fn order(alloc: Global, members: &mut Vec<Node>, at: u8, message: Shared<Message>) -> Result<u64, NoMemory>
+fn order(
+    alloc: Global,
+    members: &mut Vec<Node>,
+    at: u8,
+    message: Shared<Message>,
+) -> Result<u64, NoMemory>
     requires { All IsMember members.old.items }
     ensures { OnOk result (All IsMember members.new.items) }
 {

@@ -12,11 +12,11 @@ coordinate-requires-clause-small g c = let h = c.in_ok-member.ensures in let p =
 
 pub joined-requires-clause-from : goal.joined-requires-clause-from
 joined-requires-clause-from g c =
-    let h = c.in_ok-invitations.ensures.row 5 1 1 opening_member c.in_ok-member.ensures in
+    let h = (c.in_ok-invitations.ensures.row) 5 1 1 opening_member c.in_ok-member.ensures in
     let n = h.state.nodes in
     omega arith
 
 pub joined-requires-clause-can : goal.joined-requires-clause-can
 joined-requires-clause-can g c =
-    let h = c.in_ok-invitations.ensures.row 5 1 1 opening_member c.in_ok-member.ensures in
+    let h = (c.in_ok-invitations.ensures.row) 5 1 1 opening_member c.in_ok-member.ensures in
     may_join _ _ 2 6 5 1 1 _ _ _ c.empty_handed-join.ensures h.state refl refl (λ x r q. alone_is 1 empty_report x r q)
