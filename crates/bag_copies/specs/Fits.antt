@@ -1,5 +1,5 @@
 -- What fits copies of pools and flags, and why an entry or a read is refused.
-use Rattle.std.specs.Prelude.{◌≡◌, ◌-◌, ◌^◌, Some}
+use Rattle.std.specs.Prelude.{◌≡◌, ◌-◌, ◌^◌, [], Some}
 use Rattle.orca_base.specs.declared.ids.KindNo.{KindNo}
 use Rattle.orca_base.specs.declared.ids.OpNo.{OpNo}
 use Rattle.orca_base.specs.declared.ids.ObjectId.{ObjectId}
@@ -55,6 +55,12 @@ abbrev pub IsSingleRefusal : Copied → Action → Refused → Type 0
 IsSingleRefusal c action refused.Object = AppliesSingle BagArgs c action → ⊥
 IsSingleRefusal c action refused.Entries = ⊥
 IsSingleRefusal c action (refused.Copies why) = why ≡ apply.NoMemory
+
+-- why no copies were made from a state
+abbrev pub IsSendRefusal : Copied → Refused → Type 0
+IsSendRefusal c refused.Object = c.singles ≡ [] → ⊥
+IsSendRefusal c refused.Entries = ⊥
+IsSendRefusal c (refused.Copies why) = why ≡ apply.NoMemory
 
 -- why an operation wasn't tried
 abbrev pub IsReadRefusal : Objects → KindNo → OpNo → ObjectId → Data → Refused → Type 0

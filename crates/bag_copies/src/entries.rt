@@ -10,20 +10,21 @@ ghost use Rattle.object_manager.specs.Singles.{IsCounted, IsMake, after_passed, 
 ghost use Rattle.bag_performer.specs.Bags.{bag_performs};
 ghost use Rattle.object_manager.specs.declared.copies.ApplyError.TheVariants.{NoMemory as Without};
 ghost use Rattle.bag_copies.specs.declared.entries.Refused.TheVariants.{Copies as OfCopies};
-ghost use Rattle.bag_copies.specs.Fits.{BagArgs, FitsAll, HasObject, IsEntryRefusal, IsPassRefusal, IsReadRefusal, IsSingleRefusal};
-ghost use Rattle.bag_copies.specs.Fits.{ViewFits};
+ghost use Rattle.bag_copies.specs.Fits.{BagArgs, FitsAll, HasObject, IsEntryRefusal, IsPassRefusal, IsReadRefusal, IsSendRefusal, IsSingleRefusal};
 
 use bag_performer::Bags;
 use guard_queue::{Answered, Objects, Queue, Suspended, settle};
 use object_manager::{ApplyError, Copies, View, copies_law};
-use orca_base::{CallNo, KindNo, NoMemory, ObjectId, OpNo, ProcessNo, TextNo};
+use orca_base::{KindNo, NoMemory, ObjectId, OpNo};
 use std::alloc::Global;
-use value_core::{Action, Message, Parts, Tried, Value};
+use std::marker::Model;
+use value_core::{Action, Message, Parts, Tried};
 
-/// Why an entry or a read wasn't done.
+/// Why an entry, a call on a single object or a read wasn't done.
 #[derive(Clone, Copy, Debug, PartialEq, Eq)]
 pub enum Refused {
-    /// A call's object doesn't exist by this type, or its arguments don't fit the operation, or a make's object exists.
+    /// A call's object doesn't exist by this type, or its arguments don't fit the operation, or a make's object exists, or the
+    /// action is none that was asked for.
     Object,
     /// No more entries can be counted.
     Entries,
@@ -49,89 +50,212 @@ impl From<NoMemory> for Refused {
     }
 }
 
-/// Copies before the first entry.
-pub fn opened(alloc: Global) -> Result<Copies, NoMemory>
-    ensures copies { IfOk result (λ c. c ≡ opening_copies) }
-    ensures fits { IfOk result FitsAll }
-{
-    copies_law(&Bags);
-    Ok(Copies::opening(alloc)?)
+/// Copies of pools and flags on which all fits and each suspended call is blocked, so that whatever comes can be tested and done.
+#[derive(Drop)]
+pub struct BagCopies {
+    copies: Copies,
 }
 
-/// One more entry is applied, where it may be.
-pub fn entry(
-    alloc: Global,
-    copies: &mut Copies,
-    message: &Message,
-) -> Result<Vec<Answered>, Refused>
-    requires { FitsAll copies.old }
-    ensures after { OnOk result (copies.new ≡ after bag_performs copies.old message.now) }
-    ensures lines { IfOk result (λ all. lines_of all.items ≡ lines_after bag_performs copies.old message.now) }
-    ensures applies { OnOk result (Applies BagArgs copies.old message.now.action) }
-    ensures refused { IfErr result (IsEntryRefusal copies.old message.now.action) }
-    ensures err { OnErr result (copies.new ≡ copies.old) }
-    ensures fits { FitsAll copies.new }
-{
-    if is_full(copies) {
-        return Err(Refused::Entries);
-    }
-    if !applies(copies, &message.action) {
-        return Err(Refused::Object);
-    }
-    Ok(copies.apply(alloc, &Bags, message)?)
+impl Model for BagCopies {
+    ghost use Rattle.object_manager.specs.After.{Copied};
+
+    ghost Value = { Copied };
+
+    ghost use Rattle.std.specs.Coded.{codes};
+    ghost use Rattle.value_core.specs.Code.{data_code};
+
+    ghost coded = { Prim.hlevel (codes, data_code) };
+
+    ghost view = { λ b. b.copies };
+
+    ghost use Rattle.bag_copies.specs.Fits.{FitsAll};
+
+    ghost invariant = { λ b. FitsAll b.copies };
 }
 
-/// One more entry is applied, which makes a single object, where it may be. Its state is kept here where `keeps` is true.
-pub fn pass(
-    alloc: Global,
-    copies: &mut Copies,
-    message: &Message,
-    keeps: bool,
-) -> Result<Vec<Answered>, Refused>
-    requires { FitsAll copies.old }
-    ensures after { OnOk result (copies.new ≡ after_passed bag_performs keeps copies.old message.now) }
-    ensures lines { IfOk result (λ all. lines_of all.items ≡ (acted bag_performs copies.old message.now).lines) }
-    ensures make { OnOk result (IsMake message.now.action) }
-    ensures applies { OnOk result (Applies BagArgs copies.old message.now.action) }
-    ensures refused { IfErr result (IsPassRefusal copies.old message.now.action) }
-    ensures err { OnErr result (copies.new ≡ copies.old) }
-    ensures fits { FitsAll copies.new }
-{
-    if is_full(copies) {
-        return Err(Refused::Entries);
+impl BagCopies {
+    /// Copies before the first entry.
+    pub fn opening(alloc: Global) -> Result<BagCopies, NoMemory>
+        ensures { IfOk result (λ c. c ≡ opening_copies) }
+    {
+        copies_law(&Bags);
+        Ok(BagCopies {
+            copies: Copies::opening(alloc)?,
+        })
     }
-    if !is_make(&message.action) || !applies(copies, &message.action) {
-        return Err(Refused::Object);
+
+    /// The copies.
+    pub fn as_copies(&self) -> &Copies
+        ensures same { result.now ≡ self.now }
+        ensures fits { FitsAll result.now }
+    {
+        &self.copies
     }
-    Ok(copies.pass_make(alloc, &Bags, message, keeps)?)
+
+    /// Equal copies.
+    pub fn copy(&self, alloc: Global) -> Result<BagCopies, NoMemory>
+        ensures { IfOk result (λ c. c ≡ self.now) }
+    {
+        Ok(BagCopies {
+            copies: self.copies.copy(alloc)?,
+        })
+    }
+
+    /// Copies that are made from the state of these, as they come to a member that joins late: equal ones. Object comes where a
+    /// single object was counted.
+    pub fn sent(&self, alloc: Global) -> Result<BagCopies, Refused>
+        ensures same { IfOk result (λ c. c ≡ self.now) }
+        ensures refused { IfErr result (IsSendRefusal self.now) }
+    {
+        Ok(BagCopies {
+            copies: sent_on(alloc, &self.copies)?,
+        })
+    }
+
+    /// A snapshot of the replicated objects.
+    pub fn view(&self, alloc: Global) -> Result<BagView, NoMemory>
+        ensures { IfOk result (λ v. v ≡ record { objects = self.now.objects; place = self.now.applied }) }
+    {
+        Ok(BagView {
+            view: self.copies.view(alloc)?,
+        })
+    }
+
+    /// One more entry is applied, where it may be.
+    pub fn entry(&mut self, alloc: Global, message: &Message) -> Result<Vec<Answered>, Refused>
+        ensures after { OnOk result (self.new ≡ after bag_performs self.old message.now) }
+        ensures lines { IfOk result (λ all. lines_of all.items ≡ lines_after bag_performs self.old message.now) }
+        ensures applies { OnOk result (Applies BagArgs self.old message.now.action) }
+        ensures refused { IfErr result (IsEntryRefusal self.old message.now.action) }
+        ensures err { OnErr result (self.new ≡ self.old) }
+    {
+        if is_full(&self.copies) {
+            return Err(Refused::Entries);
+        }
+        if !applies(&self.copies, &message.action) {
+            return Err(Refused::Object);
+        }
+        Ok(self.copies.apply(alloc, &Bags, message)?)
+    }
+
+    /// One more entry is applied, which makes a single object, where it may be. Its state is kept here where `keeps` is true.
+    pub fn pass(
+        &mut self,
+        alloc: Global,
+        message: &Message,
+        keeps: bool,
+    ) -> Result<Vec<Answered>, Refused>
+        ensures after { OnOk result (self.new ≡ after_passed bag_performs keeps self.old message.now) }
+        ensures lines { IfOk result (λ all. lines_of all.items ≡ (acted bag_performs self.old message.now).lines) }
+        ensures make { OnOk result (IsMake message.now.action) }
+        ensures applies { OnOk result (Applies BagArgs self.old message.now.action) }
+        ensures refused { IfErr result (IsPassRefusal self.old message.now.action) }
+        ensures err { OnErr result (self.new ≡ self.old) }
+    {
+        if is_full(&self.copies) {
+            return Err(Refused::Entries);
+        }
+        if !is_make(&message.action) || !applies(&self.copies, &message.action) {
+            return Err(Refused::Object);
+        }
+        Ok(self.copies.pass_make(alloc, &Bags, message, keeps)?)
+    }
+
+    /// A call on a single object that is kept here is tried, where it may be.
+    pub fn single(&mut self, alloc: Global, message: &Message) -> Result<Vec<Answered>, Refused>
+        ensures after { OnOk result (self.new ≡ after_single bag_performs self.old message.now) }
+        ensures lines { IfOk result (λ all. lines_of all.items ≡ lines_single bag_performs self.old message.now) }
+        ensures applies { OnOk result (AppliesSingle BagArgs self.old message.now.action) }
+        ensures refused { IfErr result (IsSingleRefusal self.old message.now.action) }
+        ensures err { OnErr result (self.new ≡ self.old) }
+    {
+        if !applies_single(&self.copies, &message.action) {
+            return Err(Refused::Object);
+        }
+        Ok(self.copies.call_single(alloc, &Bags, message)?)
+    }
+
+    /// What one suspended call does on the copies' objects, in a queue of its own. The copies stay.
+    pub fn settle_alone(&self, alloc: Global, call: Suspended) -> Result<Vec<Answered>, Refused>
+        ensures lines { IfOk result (λ all. lines_of all.items ≡ (settled bag_performs self.now.objects (call ∷ [])).lines) }
+        ensures refused { IfErr result (IsReadRefusal self.now.objects call.kind call.op call.object call.args) }
+    {
+        settle_on(alloc, &self.copies, call)
+    }
+
+    /// What a try of the operation gives on the copies.
+    pub fn read(
+        &self,
+        alloc: Global,
+        kind: KindNo,
+        op: OpNo,
+        object: ObjectId,
+        args: &Parts,
+    ) -> Result<Tried, Refused>
+        ensures tried { IfOk result (λ t. t ≡ tried_on bag_performs self.now.objects kind op object args.now) }
+        ensures there { OnOk result (HasObject self.now.objects kind object) }
+        ensures refused { IfErr result (IsReadRefusal self.now.objects kind op object args.now) }
+    {
+        if !has(self.copies.objects(), kind, object) || !Bags::fits(kind, op, args) {
+            return Err(Refused::Object);
+        }
+        Ok(self.copies.read(alloc, &Bags, kind, op, object, args)?)
+    }
 }
 
-/// A call on a single object that is kept here is tried, where it may be.
-pub fn single(
-    alloc: Global,
-    copies: &mut Copies,
-    message: &Message,
-) -> Result<Vec<Answered>, Refused>
-    requires { FitsAll copies.old }
-    ensures after { OnOk result (copies.new ≡ after_single bag_performs copies.old message.now) }
-    ensures lines { IfOk result (λ all. lines_of all.items ≡ lines_single bag_performs copies.old message.now) }
-    ensures applies { OnOk result (AppliesSingle BagArgs copies.old message.now.action) }
-    ensures refused { IfErr result (IsSingleRefusal copies.old message.now.action) }
-    ensures err { OnErr result (copies.new ≡ copies.old) }
-    ensures fits { FitsAll copies.new }
-{
-    if !applies_single(copies, &message.action) {
-        return Err(Refused::Object);
-    }
-    Ok(copies.call_single(alloc, &Bags, message)?)
+/// A snapshot of copies of pools and flags, on which each object's state fits its type.
+#[derive(Drop)]
+pub struct BagView {
+    view: View,
 }
 
-/// What one suspended call does on the copies' objects, in a queue of its own. The copies stay.
-pub fn settle_alone(
-    alloc: Global,
-    copies: &Copies,
-    call: Suspended,
-) -> Result<Vec<Answered>, Refused>
+impl Model for BagView {
+    ghost use Rattle.object_manager.specs.Viewed.{Viewed};
+
+    ghost Value = { Viewed };
+
+    ghost use Rattle.std.specs.Coded.{codes};
+    ghost use Rattle.value_core.specs.Code.{data_code};
+
+    ghost coded = { Prim.hlevel (codes, data_code) };
+
+    ghost view = { λ b. b.view };
+
+    ghost use Rattle.bag_copies.specs.Fits.{ViewFits};
+
+    ghost invariant = { λ b. ViewFits b.view.objects };
+}
+
+impl BagView {
+    /// The snapshot.
+    pub fn as_view(&self) -> &View
+        ensures { result.now ≡ self.now }
+    {
+        &self.view
+    }
+
+    /// What a try of the operation gives on the snapshot.
+    pub fn read(
+        &self,
+        alloc: Global,
+        kind: KindNo,
+        op: OpNo,
+        object: ObjectId,
+        args: &Parts,
+    ) -> Result<Tried, Refused>
+        ensures tried { IfOk result (λ t. t ≡ tried_on bag_performs self.now.objects kind op object args.now) }
+        ensures there { OnOk result (HasObject self.now.objects kind object) }
+        ensures refused { IfErr result (IsReadRefusal self.now.objects kind op object args.now) }
+    {
+        if !has(self.view.objects(), kind, object) || !Bags::fits(kind, op, args) {
+            return Err(Refused::Object);
+        }
+        Ok(self.view.read(alloc, &Bags, kind, op, object, args)?)
+    }
+}
+
+// What one suspended call does on the copies' objects, in a queue of its own.
+fn settle_on(alloc: Global, copies: &Copies, call: Suspended) -> Result<Vec<Answered>, Refused>
     requires { FitsAll copies.now }
     ensures lines { IfOk result (λ all. lines_of all.items ≡ (settled bag_performs copies.now.objects (call ∷ [])).lines) }
     ensures refused { IfErr result (IsReadRefusal copies.now.objects call.kind call.op call.object call.args) }
@@ -147,100 +271,19 @@ pub fn settle_alone(
     Ok(settle(alloc, &Bags, &mut objects, &mut queue)?)
 }
 
-/// What a try of the operation gives on the copies.
-pub fn read(
-    alloc: Global,
-    copies: &Copies,
-    kind: KindNo,
-    op: OpNo,
-    object: ObjectId,
-    args: &Parts,
-) -> Result<Tried, Refused>
+// Copies that are made from the state of these, where no single object was counted.
+fn sent_on(alloc: Global, copies: &Copies) -> Result<Copies, Refused>
     requires { FitsAll copies.now }
-    ensures tried { IfOk result (λ t. t ≡ tried_on bag_performs copies.now.objects kind op object args.now) }
-    ensures there { OnOk result (HasObject copies.now.objects kind object) }
-    ensures refused { IfErr result (IsReadRefusal copies.now.objects kind op object args.now) }
+    ensures same { IfOk result (λ c. c ≡ copies.now) }
+    ensures refused { IfErr result (IsSendRefusal copies.now) }
 {
-    if !has(copies.objects(), kind, object) || !Bags::fits(kind, op, args) {
+    if copies.has_singles() {
         return Err(Refused::Object);
     }
-    Ok(copies.read(alloc, &Bags, kind, op, object, args)?)
-}
-
-/// What a try of the operation gives on a snapshot.
-pub fn read_view(
-    alloc: Global,
-    view: &View,
-    kind: KindNo,
-    op: OpNo,
-    object: ObjectId,
-    args: &Parts,
-) -> Result<Tried, Refused>
-    requires { ViewFits view.now.objects }
-    ensures tried { IfOk result (λ t. t ≡ tried_on bag_performs view.now.objects kind op object args.now) }
-    ensures there { OnOk result (HasObject view.now.objects kind object) }
-    ensures refused { IfErr result (IsReadRefusal view.now.objects kind op object args.now) }
-{
-    if !has(view.objects(), kind, object) || !Bags::fits(kind, op, args) {
-        return Err(Refused::Object);
-    }
-    Ok(view.read(alloc, &Bags, kind, op, object, args)?)
-}
-
-/// The message of a make.
-pub fn make(process: u16, call: u64, kind: KindNo, object: ObjectId) -> Message {
-    Message {
-        process: ProcessNo(process),
-        call: CallNo(call),
-        action: Action::Make { kind, object },
-    }
-}
-
-/// The message of a call, with this argument where there is one.
-pub fn call(
-    alloc: Global,
-    process: u16,
-    call: u64,
-    (kind, op): (KindNo, OpNo),
-    object: ObjectId,
-    argument: Option<i64>,
-) -> Result<Message, NoMemory> {
-    let mut args = Parts::new(alloc);
-    if let Some(number) = argument {
-        args.push(Value::Int(number))?;
-    }
-    Ok(Message {
-        process: ProcessNo(process),
-        call: CallNo(call),
-        action: Action::Call {
-            kind,
-            op,
-            object,
-            args,
-        },
-    })
-}
-
-/// The message of a fork of the text 1, on the member 1, that is handed an object and a number.
-pub fn fork(
-    alloc: Global,
-    process: u16,
-    call: u64,
-    object: ObjectId,
-    number: i64,
-) -> Result<Message, NoMemory> {
-    let mut args = Parts::new(alloc);
-    args.push(Value::Object(object))?;
-    args.push(Value::Int(number))?;
-    Ok(Message {
-        process: ProcessNo(process),
-        call: CallNo(call),
-        action: Action::Fork {
-            process: TextNo(1),
-            args,
-            place_on: Some(1),
-        },
-    })
+    copies.whole();
+    copies_law(&Bags);
+    let state = copies.state(alloc)?;
+    Ok(Copies::from_state(alloc, state)?)
 }
 
 // Whether no more entries can be counted.

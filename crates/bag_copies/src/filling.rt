@@ -1,69 +1,71 @@
 //! Many entries of one kind.
 
-ghost use Rattle.std.specs.Prelude.{◌<◌};
-ghost use Rattle.bag_copies.specs.Fits.{FitsAll};
+ghost use Rattle.std.specs.Prelude.{◌≡◌, ◌<◌, ◌+◌, OnOk};
 
-use crate::entries::{Refused, call, entry, fork, make, pass};
+use crate::entries::{BagCopies, BagView, Refused};
+use crate::messages::{call, fork, make};
 use bag_performer::Bags;
-use object_manager::{Copies, View};
 use orca_base::ObjectId;
 use std::alloc::Global;
 
 /// The object of process 0 with this number.
-pub fn object(number: u32) -> ObjectId {
+pub fn object(number: u32) -> ObjectId
+    ensures { result ≡ record { process = 0; number = number } }
+{
     ObjectId { process: 0, number }
 }
 
-/// Makes so many flags.
-pub fn make_flags(alloc: Global, copies: &mut Copies, count: u32) -> Result<(), Refused>
-    requires { FitsAll copies.old }
-    ensures { FitsAll copies.new }
+/// Makes so many flags, each by an entry.
+pub fn make_flags(alloc: Global, copies: &mut BagCopies, count: u32) -> Result<(), Refused>
+    ensures { OnOk result (copies.new.applied ≡ copies.old.applied + count) }
 {
     for number in 0..count {
         let id = object(number.wrapping_add(1));
-        entry(alloc, copies, &make(0, u64::from(number), Bags::FLAG, id))?;
+        copies.entry(alloc, &make(0, u64::from(number), Bags::FLAG, id))?;
     }
     Ok(())
 }
 
 /// Makes so many single flags, whose states are kept elsewhere. The first one is the object with this number.
-pub fn pass_flags(alloc: Global, copies: &mut Copies, first: u32, count: u32) -> Result<(), Refused>
-    requires { FitsAll copies.old }
-    ensures { FitsAll copies.new }
+pub fn pass_flags(
+    alloc: Global,
+    copies: &mut BagCopies,
+    first: u32,
+    count: u32,
+) -> Result<(), Refused>
+    ensures { OnOk result (copies.new.applied ≡ copies.old.applied + count) }
 {
     for number in 0..count {
         let id = object(first.wrapping_add(number));
         let message = make(0, u64::from(number), Bags::FLAG, id);
-        pass(alloc, copies, &message, false)?;
+        copies.pass(alloc, &message, false)?;
     }
     Ok(())
 }
 
-/// Forks so many processes.
-pub fn fork_many(alloc: Global, copies: &mut Copies, count: u16) -> Result<(), Refused>
-    requires { FitsAll copies.old }
-    ensures { FitsAll copies.new }
+/// Forks so many processes, each by an entry.
+pub fn fork_many(alloc: Global, copies: &mut BagCopies, count: u16) -> Result<(), Refused>
+    ensures { OnOk result (copies.new.applied ≡ copies.old.applied + count) }
 {
     for number in 0..count {
-        entry(
-            alloc,
-            copies,
-            &fork(alloc, 0, u64::from(number), object(1), 10)?,
-        )?;
+        copies.entry(alloc, &fork(alloc, 0, u64::from(number), object(1), 10)?)?;
     }
     Ok(())
 }
 
-/// So many processes wait until the first flag is `wanted`.
-pub fn wait_many(alloc: Global, copies: &mut Copies, count: u16, wanted: i64) -> Result<(), Refused>
-    requires { FitsAll copies.old }
-    ensures { FitsAll copies.new }
+/// So many processes call, each by an entry, and wait until the first flag is `wanted`.
+pub fn wait_many(
+    alloc: Global,
+    copies: &mut BagCopies,
+    count: u16,
+    wanted: i64,
+) -> Result<(), Refused>
+    ensures { OnOk result (copies.new.applied ≡ copies.old.applied + count) }
 {
     for process in 0..count {
         let operation = (Bags::FLAG, Bags::AWAIT);
-        entry(
+        copies.entry(
             alloc,
-            copies,
             &call(alloc, process, 0, operation, object(1), Some(wanted))?,
         )?;
     }
@@ -74,17 +76,16 @@ pub fn wait_many(alloc: Global, copies: &mut Copies, count: u16, wanted: i64) ->
 /// entry, and kept until the next one. The answer is how many lines ran.
 pub fn set_many(
     alloc: Global,
-    copies: &mut Copies,
+    copies: &mut BagCopies,
     count: u32,
     flags: u32,
     views: bool,
 ) -> Result<u64, Refused>
-    requires fits { FitsAll copies.old }
-    requires some { 0 < flags }
-    ensures { FitsAll copies.new }
+    requires { 0 < flags }
+    ensures { OnOk result (copies.new.applied ≡ copies.old.applied + count) }
 {
     let mut lines = 0u64;
-    let mut kept: Option<View> = None;
+    let mut kept: Option<BagView> = None;
     for number in 0..count {
         let id = object((number % flags).wrapping_add(2));
         let operation = (Bags::FLAG, Bags::SET);
@@ -96,7 +97,7 @@ pub fn set_many(
             id,
             Some(i64::from(number)),
         )?;
-        lines = lines.wrapping_add(entry(alloc, copies, &message)?.len() as u64);
+        lines = lines.wrapping_add(copies.entry(alloc, &message)?.len() as u64);
         if views {
             kept = Some(copies.view(alloc)?);
         }
@@ -106,9 +107,8 @@ pub fn set_many(
 }
 
 /// The first flag becomes `wanted`, so that those who wait for it go on. The answer is how many lines ran.
-pub fn release(alloc: Global, copies: &mut Copies, wanted: i64) -> Result<usize, Refused>
-    requires { FitsAll copies.old }
-    ensures { FitsAll copies.new }
+pub fn release(alloc: Global, copies: &mut BagCopies, wanted: i64) -> Result<usize, Refused>
+    ensures { OnOk result (copies.new.applied ≡ copies.old.applied + 1) }
 {
     let message = call(
         alloc,
@@ -118,5 +118,5 @@ pub fn release(alloc: Global, copies: &mut Copies, wanted: i64) -> Result<usize,
         object(1),
         Some(wanted),
     )?;
-    Ok(entry(alloc, copies, &message)?.len())
+    Ok(copies.entry(alloc, &message)?.len())
 }

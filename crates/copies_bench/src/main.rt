@@ -5,7 +5,7 @@
 //! many lines ran, how many calls are suspended then, and how many lines one more entry has, which lets them go on.
 #![tactic(auto)]
 
-use bag_copies::{Refused, make_flags, opened, release, set_many, wait_many};
+use bag_copies::{BagCopies, Refused, make_flags, release, set_many, wait_many};
 use orca_base::{NoMemory, ProcessNo};
 use std::alloc::{AllocError, Global};
 use std::process::ExitCode;
@@ -65,7 +65,7 @@ fn run(rt: &HostRuntime, alloc: Global) -> Result<(), Failed> {
         return Err(Failed::Words);
     }
     let waiting = u16::try_from(number(waiting)?).map_err(|_| Failed::Words)?;
-    let mut copies = opened(alloc)?;
+    let mut copies = BagCopies::opening(alloc)?;
     make_flags(alloc, &mut copies, flags)?;
     wait_many(alloc, &mut copies, waiting, -1)?;
     let lines = set_many(
@@ -76,7 +76,7 @@ fn run(rt: &HostRuntime, alloc: Global) -> Result<(), Failed> {
         number(views)? == 1,
     )?;
     let still = (0..waiting)
-        .filter(|&n| copies.is_suspended(ProcessNo(n)))
+        .filter(|&n| copies.as_copies().is_suspended(ProcessNo(n)))
         .count();
     let released = release(alloc, &mut copies, -1)?;
     println!(rt; "{lines} lines, {still} suspended, {released} lines as they go on")?;

@@ -3,9 +3,11 @@ use Rattle.std.proofs.Common.{◌≡◌, ℕ, zero, suc, ◌+◌, ◌≤◌, ◌
 use Rattle.std.specs.List.{AllPairs}
 use Rattle.std.proofs.lemmas.Bool.{cond_both}
 use Rattle.std.proofs.lemmas.List.{length-drop}
-use Rattle.std.proofs.lemmas.List.Elements.{All-nil, All-cons, All-push, All-get_or}
+use Rattle.std.proofs.lemmas.List.Elements.{All-nil, All-cons, All-push, All-get_or, All-weaker}
 use Rattle.std.proofs.lemmas.List.Quantifiers.{all_pairs_push}
 use Rattle.orca_base.specs.declared.limits.TheConstants.{NODES, WINDOW}
+use Rattle.group_packets.specs.declared.packet.Packet as P
+use Rattle.group_packets.specs.declared.packet.Packet.TheVariants as V
 use Rattle.group_packets.specs.Sound.{AreSoundEntries, AreMembers, IsSoundPacket}
 use Rattle.group_rules.specs.Sets.{In, Same, entry_at}
 use Rattle.group_rules.specs.Messages.{Group}
@@ -74,3 +76,19 @@ sound_packets {M} R {g} {w} few h q sent = go q.inc q.from q.kind (h.sound.tells
 
 pub sound_law : (M R : Type 0) → SoundLaw M R
 sound_law M R g small few events q sent = sound_packets R few (reached g small events) q sent
+
+-- what is sound by one measure is so by a weaker one
+pub sound_weaker : {B R : Type 0} (S S' : B → Type 0) (T T' : R → Type 0) → ((x : B) → S x → S' x) → ((y : R) → T y → T' y) → (q : P.Packet B R) → IsSoundPacket S T q → IsSoundPacket S' T' q
+sound_weaker S S' T T' s t (V.Request k applied x) h = s x h
+sound_weaker S S' T T' s t (V.Body k applied x) h = s x h
+sound_weaker S S' T T' s t (V.Order k number process call accepted stable) h = h
+sound_weaker S S' T T' s t (V.Entry k number accepted stable x) h = s x h
+sound_weaker S S' T T' s t (V.Ack k count applied) h = h
+sound_weaker S S' T T' s t (V.Accept k accepted stable) h = h
+sound_weaker S S' T T' s t (V.Nack k first applied whole) h = h
+sound_weaker S S' T T' s t (V.Status k count applied) h = h
+sound_weaker S S' T T' s t (V.Invite k) h = h
+sound_weaker S S' T T' s t (V.Join join) h = (All-weaker S S' s join.messages h.0, h.1)
+sound_weaker S S' T T' s t (V.Result news) h = ((All-weaker S S' s news.messages h.0.0, h.0.1), h.1)
+sound_weaker S S' T T' s t (V.Ask k place x) h = s x h
+sound_weaker S S' T T' s t (V.Answer k place process call reply) h = t reply h

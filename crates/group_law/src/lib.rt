@@ -11,7 +11,7 @@ ghost use Rattle.group_law.specs.Agreed.{AgreedLaw, ForwardLaw};
 ghost use Rattle.group_law.specs.Messages.{MessagesLaw};
 ghost use Rattle.group_law.specs.Numbers.{FewEventsLaw, NumbersLaw};
 ghost use Rattle.group_law.specs.Promise.{AgreementLaw, ConditionsLaw, KeptLaw, LastingLaw, ListsLaw};
-ghost use Rattle.group_law.specs.Sends.{RoutesLaw, SendsLaw};
+ghost use Rattle.group_law.specs.Sends.{OthersLaw, RoutesLaw, SendsLaw};
 ghost use Rattle.group_law.specs.SoundPackets.{SoundLaw};
 ghost use Rattle.group_law.specs.Told.{PurgesLaw, StaysLaw, ToldLaw};
 ghost use Rattle.group_law.specs.WrongPurge.{OwnPurgeBreaksTheLaw};
@@ -19,8 +19,9 @@ ghost use Rattle.group_law.specs.WrongPurge.{OwnPurgeBreaksTheLaw};
 /// The law, for every number of members, every resilience below half of them, and messages of any type.
 ///
 /// - `worlds`: Agree holds after every list of events.
-/// - `lists`: each event leaves the list of every installed incarnation or lengthens it at its end, at its active
-///   sequencer. What the incarnation began with, and the answers that it was installed from, stay.
+/// - `lists`: each event leaves the list of every installed incarnation or lengthens it at its end, at its sequencer, which
+///   stands in it and has promised no later one. What the incarnation began with, and the answers that it was installed
+///   from, stay.
 /// - `lasting`: what was accepted is never lost or moved.
 /// - `calls`: what may be delivered or submitted meets the conditions on the calls of members and resets.
 /// - `kept`: each answer that a member keeps was sent, and each message that it keeps was submitted.
@@ -33,9 +34,11 @@ ghost use Rattle.group_law.specs.WrongPurge.{OwnPurgeBreaksTheLaw};
 /// - `purges`: no purge goes beyond what a member that answered for the incarnation has applied.
 /// - `stays`: a member is put outside only by a base beyond what it applied.
 /// - `numbers`: entry numbers are at most the number of submissions, incarnations at most 2 N for each tick or coordination.
-/// - `few_events`: so all of them are below 2^62 in a run of at most 4,000,000 steps, each of which submits one message at
-///   most and is at most one tick or coordination of each member. Deliveries and notes don't count.
+/// - `few_events`: so all of them are below 2^62 in a group of at most 256 members and a run of at most 4,000,000 steps, each
+///   of which submits one message at most and is at most one tick or coordination of each member. Deliveries and notes
+///   don't count.
 /// - `sends`: what a row of a member sends goes from it to another member, and is of the kinds that the row may send.
+/// - `others`: so what a row sends goes to another than its sender.
 /// - `routes`: with n = k mod N, Order, Entry, Accept, Invite and Result of incarnation k come from member n, Request, Ack,
 ///   Nack, Status and Join go to n. A Body may go to any member.
 pub fn agreement_law<M>()
@@ -53,6 +56,7 @@ pub fn agreement_law<M>()
     ensures numbers { NumbersLaw M }
     ensures few_events { FewEventsLaw M }
     ensures sends { SendsLaw M }
+    ensures others { OthersLaw M }
     ensures routes { RoutesLaw M }
 {}
 

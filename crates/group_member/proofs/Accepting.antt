@@ -2,7 +2,7 @@
 use Rattle.std.proofs.Common.{◌≡◌, ℕ, ◌<◌, ◌≤◌, ◌==◌, nat_lt, Bool, true, false, List, refl, sym, ◌∙◌, arith}
 use Rattle.std.proofs.lemmas.Bool.{eqb-true}
 use Rattle.orca_base.specs.declared.ids.MessageId.{MessageId}
-use Rattle.group_rules.specs.Messages.{Group}
+use Rattle.group_rules.specs.Messages.{Group, group_of}
 use Rattle.group_rules.specs.Member.{Member as RulesMember}
 use Rattle.group_rules.specs.Sequencer.{accept_acknowledged, acknowledges, least_acked, take_ack}
 use Rattle.group_rules.specs.Work.{becomes}
@@ -11,7 +11,6 @@ use Rattle.group_member.specs.declared.member.Member.{Member}
 use Rattle.group_member.specs.declared.sends.Letter.{Letter}
 use Rattle.group_member.specs.AtWork.{AtWork, GoesOn}
 use Rattle.group_member.specs.ByOwn.{least_by}
-use Rattle.group_member.specs.LastCalls.{group_of}
 use Rattle.group_member.specs.StandsFor.{Follows, StandsFor}
 use Rattle.group_member.specs.Ticks.{tells_accepted}
 use Rattle.group_member.proofs.Rows.{held_then, held_else}
@@ -25,7 +24,7 @@ accepted_member {s = s} least more fits is h = record {
   nodes = h.nodes;
   resilience = h.resilience;
   me = h.me;
-  member = record { me = h.member.me; answered = h.member.answered; acked = h.member.acked; heard = h.member.heard; purges = h.member.purges; applies = let a = h.member.applies in omega arith; accepts = fits; kept = h.member.kept; small = h.member.small };
+  member = record { me = h.member.me; answered = h.member.answered; acked = h.member.acked; heard = h.member.heard; purges = h.member.purges; applies = let a = h.member.applies in omega arith; accepts = fits; kept = h.member.kept; small = h.member.small; few = h.member.few; once = h.member.once; named = h.member.named };
   installed = h.installed;
   promised = h.promised;
   answered = h.answered;

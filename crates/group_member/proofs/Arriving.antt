@@ -4,7 +4,7 @@ use Rattle.std.proofs.lemmas.Bool.{eqb-true}
 use Rattle.orca_base.specs.declared.ids.MessageId.{MessageId}
 use Rattle.group_packets.specs.declared.packet.Packet.{Packet}
 use Rattle.group_packets.specs.declared.packet.Packet.TheVariants as V
-use Rattle.group_rules.specs.Messages.{Group}
+use Rattle.group_rules.specs.Messages.{Group, group_of}
 use Rattle.group_rules.specs.Member.{Kind, Member as RulesMember}
 use Rattle.group_rules.specs.OnWire.{receive_packet}
 use Rattle.group_rules.specs.Receiver.{nack, take_entry, take_order}
@@ -15,7 +15,6 @@ use Rattle.group_rules.specs.Work.{Work, becomes, idle}
 use Rattle.group_member.specs.declared.member.Member.{Member}
 use Rattle.group_member.specs.declared.sends.Letter.{Letter}
 use Rattle.group_member.specs.AtWork.{AtWork, GoesOn}
-use Rattle.group_member.specs.LastCalls.{group_of}
 use Rattle.group_member.specs.Packets.{of_call, received_kind, takes, takes_heeded, takes_installed}
 use Rattle.group_member.specs.StandsFor.{Follows, StandsFor}
 use Rattle.group_member.proofs.Rows.{held_then, held_else}

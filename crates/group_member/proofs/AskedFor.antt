@@ -7,7 +7,7 @@ use Rattle.orca_base.specs.declared.ids.MessageId.{MessageId}
 use Rattle.orca_base.specs.declared.limits.TheConstants.{MESSAGE_BY_REQUEST}
 use Rattle.group_packets.specs.declared.packet.Packet.TheVariants as V
 use Rattle.group_rules.specs.Sets.{entry_at, with_at}
-use Rattle.group_rules.specs.Messages.{Group, is_repeat, next_place, place_in, put_in}
+use Rattle.group_rules.specs.Messages.{Group, is_repeat, next_place, place_in, put_in, group_of}
 use Rattle.group_rules.specs.Member.{Member as RulesMember, has_room, is_active, leads, stable_of, window}
 use Rattle.group_rules.specs.Member.Kind.{Entry, Request, Body}
 use Rattle.group_rules.specs.Receiver.{is_newer, keep_body, request, sequencer_of}
@@ -24,7 +24,7 @@ use Rattle.group_member.specs.declared.sends.Letter.{Letter}
 use Rattle.group_member.specs.AtWork.{AtWork, GoesOn}
 use Rattle.group_member.specs.Bodies.{asks_for, is_newer_by, SameBodies}
 use Rattle.group_member.specs.ByOwn.{active_by, leads_by, room_by, stable_by}
-use Rattle.group_member.specs.LastCalls.{TellsRepeat, group_of}
+use Rattle.group_member.specs.LastCalls.{TellsRepeat}
 use Rattle.group_member.specs.Noting.{is_named_at, is_named_by, place_by}
 use Rattle.group_member.specs.StandsFor.{Follows, StandsFor, on_waiting}
 use Rattle.group_member.specs.Told.{others_below}
@@ -232,7 +232,7 @@ waits_now {B} {R} name bytes s by_name x waiting b none is pushed = λ N r which
       nodes = h.nodes;
       resilience = h.resilience;
       me = h.me;
-      member = record { me = h.member.me; answered = h.member.answered; acked = h.member.acked; heard = h.member.heard; purges = h.member.purges; applies = h.member.applies; accepts = h.member.accepts; kept = h.member.kept; small = h.member.small };
+      member = record { me = h.member.me; answered = h.member.answered; acked = h.member.acked; heard = h.member.heard; purges = h.member.purges; applies = h.member.applies; accepts = h.member.accepts; kept = h.member.kept; small = h.member.small; few = h.member.few; once = h.member.once; named = h.member.named };
       installed = h.installed;
       promised = h.promised;
       answered = h.answered;
@@ -305,7 +305,7 @@ pends_row {B} {R} name bytes s x pending place is put N r which m h = record {
   nodes = h.nodes;
   resilience = h.resilience;
   me = h.me;
-  member = record { me = h.member.me; answered = h.member.answered; acked = h.member.acked; heard = h.member.heard; purges = h.member.purges; applies = h.member.applies; accepts = h.member.accepts; kept = h.member.kept; small = h.member.small };
+  member = record { me = h.member.me; answered = h.member.answered; acked = h.member.acked; heard = h.member.heard; purges = h.member.purges; applies = h.member.applies; accepts = h.member.accepts; kept = h.member.kept; small = h.member.small; few = h.member.few; once = h.member.once; named = h.member.named };
   installed = h.installed;
   promised = h.promised;
   answered = h.answered;
@@ -359,7 +359,7 @@ body_kept {B} {R} name bytes s x place reached bodies at holds low same set = λ
       nodes = h.nodes;
       resilience = h.resilience;
       me = h.me;
-      member = record { me = h.member.me; answered = h.member.answered; acked = h.member.acked; heard = h.member.heard; purges = h.member.purges; applies = h.member.applies; accepts = h.member.accepts; kept = h.member.kept; small = h.member.small };
+      member = record { me = h.member.me; answered = h.member.answered; acked = h.member.acked; heard = h.member.heard; purges = h.member.purges; applies = h.member.applies; accepts = h.member.accepts; kept = h.member.kept; small = h.member.small; few = h.member.few; once = h.member.once; named = h.member.named };
       installed = h.installed;
       promised = h.promised;
       answered = h.answered;

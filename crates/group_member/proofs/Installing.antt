@@ -5,7 +5,7 @@ use Rattle.std.proofs.lemmas.Bool.{leb-false}
 use Rattle.std.proofs.lemmas.List.{take_more}
 use Rattle.orca_base.specs.declared.ids.MessageId.{MessageId}
 use Rattle.group_rules.specs.Sets.{entry_at}
-use Rattle.group_rules.specs.Messages.{Group, at_least, last_call}
+use Rattle.group_rules.specs.Messages.{Group, at_least, last_call, group_of}
 use Rattle.group_rules.specs.Member.{Member as RulesMember, Report, is_acker}
 use Rattle.group_rules.specs.Receiver.{request_all, send_ack}
 use Rattle.group_rules.specs.Reset.{take_news, told}
@@ -23,9 +23,10 @@ use Rattle.group_member.specs.declared.member.Waiting.{Waiting}
 use Rattle.group_member.specs.AtWork.{AtWork, GoesOn}
 use Rattle.group_member.specs.ByOwn.{acknowledges_by}
 use Rattle.group_member.specs.Installs.{acks_log, CanInstall, is_in, NotesAll, TakesLog, with_log}
-use Rattle.group_member.specs.LastCalls.{AreLastCalls, NotesMessage, group_of}
+use Rattle.group_member.specs.LastCalls.{AreLastCalls, NotesMessage}
 use Rattle.group_member.specs.Laws.{EntryLaw}
 use Rattle.group_member.specs.StandsFor.{IsMember, StandsFor, join_of, on_waiting, test_of}
+use Rattle.group_member.proofs.Answering.{named_none, once_none}
 use Rattle.group_member.proofs.AskedFor.{entry_kept}
 use Rattle.group_member.proofs.OfMembers.{in_members}
 use Rattle.group_member.proofs.Rows.{held_then, held_else}
@@ -116,9 +117,9 @@ pub notes_as : {B : Type 0} (name : B → MessageId) (bytes : B → ℕ) (old fi
 notes_as {B} name bytes old first new xs ys e f all = subst (λ (zs : List B). NotesAll name bytes first new zs) f (subst (λ (o : List (Option ℕ)). NotesAll name bytes o new xs) e all)
 
 pub member_taken : {B R : Type 0} (s : Member B R) (news : News B R) (accepted : ℕ) (answered : Vec Bool Global) (kept : Window B) (acked : Vec ℕ Global) (heard : Vec (Option ℕ) Global) (waiting : Vec (Waiting B R) Global) (answers : Vec (ℕ × Join B R) Global) (last : LastCalls)
-    → IsMember s → CanInstall s news → s.applied ≤ accepted → accepted ≤ news.base + length news.messages → kept ≡ window news.base news.messages → length answered.items ≡ s.config.nodes → length acked.items ≡ s.config.nodes → length heard.items ≡ s.config.nodes
+    → IsMember s → CanInstall s news → s.applied ≤ accepted → accepted ≤ news.base + length news.messages → kept ≡ window news.base news.messages → length answered.items ≡ s.config.nodes → length acked.items ≡ s.config.nodes → length heard.items ≡ s.config.nodes → answers.items ≡ []
     → IsMember (record s { installed = news.incarnation; answered = answered; window = kept; accepted = accepted; nacked = 0; acked = acked; heard = heard; waiting = waiting; answers = answers; last = last })
-member_taken {B} s news accepted answered kept acked heard waiting answers last i can low high is a b c = record {
+member_taken {B} s news accepted answered kept acked heard waiting answers last i can low high is a b c none = record {
   me = i.me;
   answered = a;
   acked = b;
@@ -128,6 +129,9 @@ member_taken {B} s news accepted answered kept acked heard waiting answers last 
   accepts = subst (λ (w : Window B). accepted ≤ last_number w) (sym is) high;
   kept = subst (λ (w : Window B). length w.items ≤ WINDOW) (sym is) can.fits;
   small = i.small;
+  few = i.few;
+  once = once_none answers.items none;
+  named = named_none s.config.nodes answers.items none;
 }
 
 no_report : {B : Type 0} (r : Report B) → None ≡ Some r → ⊥
@@ -179,7 +183,7 @@ promised_now k accepted base named log m h = record {
   nodes = h.nodes;
   resilience = h.resilience;
   me = h.me;
-  member = record { me = h.member.me; answered = h.member.answered; acked = h.member.acked; heard = h.member.heard; purges = h.member.purges; applies = h.member.applies; accepts = h.member.accepts; kept = h.member.kept; small = h.member.small };
+  member = record { me = h.member.me; answered = h.member.answered; acked = h.member.acked; heard = h.member.heard; purges = h.member.purges; applies = h.member.applies; accepts = h.member.accepts; kept = h.member.kept; small = h.member.small; few = h.member.few; once = h.member.once; named = h.member.named };
   installed = h.installed;
   promised = refl;
   answered = h.answered;

@@ -1,6 +1,7 @@
 pub mod Growing
 pub mod OnLists
 pub mod Kept
+pub mod Answering
 pub mod Standing
 pub mod Working
 pub mod Rows

@@ -3,15 +3,15 @@ use Rattle.std.proofs.Common.{◌≡◌, ℕ, ◌≤◌, ◌==◌, map, slice_in
 use Rattle.std.proofs.lemmas.Bool.{eqb-true, eqb-false}
 use Rattle.group_packets.specs.declared.packet.Join.{Join}
 use Rattle.group_rules.specs.Sets.{with_at}
-use Rattle.group_rules.specs.Messages.{Group}
+use Rattle.group_rules.specs.Messages.{Group, group_of}
 use Rattle.history_buffer.specs.Window.{Window}
 use Rattle.group_rules.specs.Member.{Report, Member as RulesMember, nobody, report_of}
 use Rattle.group_rules.specs.OnWire.{on_join}
-use Rattle.group_rules.specs.Reset.{gathers, keeps}
+use Rattle.group_rules.specs.Reset.{gathers, keeps, promises}
 use Rattle.group_member.specs.declared.member.Member.{Member}
 use Rattle.orca_base.specs.declared.ids.MessageId.{MessageId}
-use Rattle.group_member.specs.LastCalls.{group_of}
 use Rattle.group_member.specs.StandsFor.{Follows, IsMember, StandsFor, PutIn, on_answer, on_waiting, join_of, test_of}
+use Rattle.group_member.proofs.Answering.{named_none, named_one, once_none, once_one}
 
 answers_with : {B R : Type 0} (k from : ℕ) (join : Join B R) (report : Report B) (answers : ℕ → Option (Report B)) (old new : List (ℕ × Join B R)) → on_join k report ≡ join → ((x : ℕ) → on_answer k (answers x) ≡ join_of x old) → PutIn from join old new
     → (x : ℕ) → on_answer k (with_at answers from (Some report) x) ≡ join_of x new
@@ -92,18 +92,15 @@ same_answers {s = s} answers e is h = record {
   done = h.done;
 }
 
-same_places : {B R : Type 0} {s : Member B R} (answers : Vec (ℕ × Join B R) Global) → IsMember s → IsMember (record s { answers = answers })
-same_places answers i = record { me = i.me; answered = i.answered; acked = i.acked; heard = i.heard; purges = i.purges; applies = i.applies; accepts = i.accepts; kept = i.kept; small = i.small }
-
 -- the clauses of the call that keeps an answer
-pub keeps_row : {A E B R : Type 0} (name : B → MessageId) (bytes : B → ℕ) (s : Member B R) (from : ℕ) (join : Join B R) (answers : Vec (ℕ × Join B R) Global) (r : Result A E) → OnOk r (PutIn from join s.answers.items answers.items)
+pub keeps_row : {A E B R : Type 0} (name : B → MessageId) (bytes : B → ℕ) (s : Member B R) (from : ℕ) (join : Join B R) (answers : Vec (ℕ × Join B R) Global) (r : Result A E) → (IsMember s → IsMember (record s { answers = answers })) → OnOk r (PutIn from join s.answers.items answers.items)
     → OnOk r ((report : Report B) → on_join s.promised report ≡ join → report.base ≤ length report.log → Follows name bytes s (record s { answers = answers }) (λ g which. keeps from report))
-keeps_row name bytes s from join answers (Ok a) put = λ report wire low nodes resilience which m h. keeps_answer from join report answers (same_places answers h.member) h wire low put
-keeps_row name bytes s from join answers (Err e) put = tt
+keeps_row name bytes s from join answers (Ok a) is put = λ report wire low nodes resilience which m h. keeps_answer from join report answers (is h.member) h wire low put
+keeps_row name bytes s from join answers (Err e) is put = tt
 
-pub keeps_none : {A E B R : Type 0} (name : B → MessageId) (bytes : B → ℕ) (s : Member B R) (answers : Vec (ℕ × Join B R) Global) (r : Result A E) → OnErr r (answers.items ≡ s.answers.items) → OnErr r (Follows name bytes s (record s { answers = answers }) (λ g which m. m))
-keeps_none name bytes s answers (Ok a) e = tt
-keeps_none name bytes s answers (Err x) e = λ nodes resilience which m h. same_answers answers e (same_places answers h.member) h
+pub keeps_none : {A E B R : Type 0} (name : B → MessageId) (bytes : B → ℕ) (s : Member B R) (answers : Vec (ℕ × Join B R) Global) (r : Result A E) → (IsMember s → IsMember (record s { answers = answers })) → OnErr r (answers.items ≡ s.answers.items) → OnErr r (Follows name bytes s (record s { answers = answers }) (λ g which m. m))
+keeps_none name bytes s answers (Ok a) is e = tt
+keeps_none name bytes s answers (Err x) is e = λ nodes resilience which m h. same_answers answers e (is h.member) h
 
 -- what a member tells of itself
 pub own_join_is : {B R : Type 0} (g : Group B) (which : ℕ) (s : Member B R) (base : ℕ) (messages : List B) → base ≡ s.window.base → messages ≡ s.window.items → (m : RulesMember B) → StandsFor g which s m
@@ -117,6 +114,9 @@ alone_based me m low x other e = based_with me (report_of m) nobody low (λ y r 
     none_is r q = cc
 
 -- a coordinator keeps its own answer alone
+pub gathers_member : {B R : Type 0} (s : Member B R) (k : ℕ) (own : Join B R) (answers : Vec (ℕ × Join B R) Global) → answers.items ≡ (s.me, own) ∷ [] → IsMember s → IsMember (record s { promised = k; silent = 0; answers = answers })
+gathers_member s k own answers is i = record { me = i.me; answered = i.answered; acked = i.acked; heard = i.heard; purges = i.purges; applies = i.applies; accepts = i.accepts; kept = i.kept; small = i.small; few = i.few; once = once_one (s.me, own) answers.items is; named = named_one s.config.nodes (s.me, own) answers.items is i.me }
+
 pub gathers_row : {B R : Type 0} (name : B → MessageId) (bytes : B → ℕ) (s : Member B R) (k : ℕ) (own : Join B R) (answers : Vec (ℕ × Join B R) Global)
     → ((nodes resilience which : ℕ) (m : RulesMember B) → StandsFor (group_of name bytes nodes resilience) which s m → own ≡ on_join m.promised (report_of m))
     → answers.items ≡ (s.me, record own { incarnation = k }) ∷ []
@@ -125,7 +125,7 @@ gathers_row {B} {R} name bytes s k own answers tells is nodes resilience which m
   nodes = h.nodes;
   resilience = h.resilience;
   me = h.me;
-  member = record { me = h.member.me; answered = h.member.answered; acked = h.member.acked; heard = h.member.heard; purges = h.member.purges; applies = h.member.applies; accepts = h.member.accepts; kept = h.member.kept; small = h.member.small };
+  member = gathers_member s k (record own { incarnation = k }) answers is h.member;
   installed = h.installed;
   promised = refl;
   answered = h.answered;
@@ -145,6 +145,42 @@ gathers_row {B} {R} name bytes s k own answers tells is nodes resilience which m
   waiting = h.waiting;
   answers = answers_with k which (record own { incarnation = k }) (report_of m) nobody [] answers.items (sym (ap (λ (j : Join B R). record j { incarnation = k }) (tells nodes resilience which m h))) (λ x. refl) (λ x. ap (join_of x) is ∙ ap (λ (n : ℕ). if n == x then Some (record own { incarnation = k }) else None) h.me);
   based = alone_based which m h.whole;
+  last = h.last;
+  done = h.done;
+}
+
+no_answer : {B : Type 0} (r : Report B) → None ≡ Some r → ⊥
+no_answer r q = cc
+
+-- a member that promises drops its answers
+pub promises_member : {B R : Type 0} (s : Member B R) (k : ℕ) (answers : Vec (ℕ × Join B R) Global) → answers.items ≡ [] → IsMember s → IsMember (record s { promised = k; silent = 0; answers = answers })
+promises_member s k answers none i = record { me = i.me; answered = i.answered; acked = i.acked; heard = i.heard; purges = i.purges; applies = i.applies; accepts = i.accepts; kept = i.kept; small = i.small; few = i.few; once = once_none answers.items none; named = named_none s.config.nodes answers.items none }
+
+pub promises_row : {B R : Type 0} (name : B → MessageId) (bytes : B → ℕ) (s : Member B R) (k : ℕ) (answers : Vec (ℕ × Join B R) Global) → answers.items ≡ [] → Follows name bytes s (record s { promised = k; silent = 0; answers = answers }) (λ g which. promises k)
+promises_row {B} {R} name bytes s k answers none nodes resilience which m h = record {
+  nodes = h.nodes;
+  resilience = h.resilience;
+  me = h.me;
+  member = promises_member s k answers none h.member;
+  installed = h.installed;
+  promised = refl;
+  answered = h.answered;
+  base = h.base;
+  log = h.log;
+  whole = h.whole;
+  accepted = h.accepted;
+  applied = h.applied;
+  pending = h.pending;
+  bodies = h.bodies;
+  silent = refl;
+  nacked = h.nacked;
+  reported = h.reported;
+  outside = h.outside;
+  acked = h.acked;
+  heard = h.heard;
+  waiting = h.waiting;
+  answers = λ x. sym (ap (join_of x) none);
+  based = λ x report q. absurd (no_answer report q);
   last = h.last;
   done = h.done;
 }

@@ -8,7 +8,7 @@ use Rattle.orca_base.specs.declared.ids.MessageId.{MessageId}
 use Rattle.orca_base.specs.declared.limits.TheConstants.{PATIENCE}
 use Rattle.group_packets.specs.declared.packet.Join.{Join}
 use Rattle.group_packets.specs.declared.packet.Packet.TheVariants as V
-use Rattle.group_rules.specs.Messages.{Group, is_repeat}
+use Rattle.group_rules.specs.Messages.{Group, is_repeat, group_of}
 use Rattle.group_rules.specs.Member.{Member as RulesMember, Report, is_active, is_gathering, leads, stable_of}
 use Rattle.group_rules.specs.Member.Kind.{Accept, Invite}
 use Rattle.group_rules.specs.OnWire.{posts_of}
@@ -20,7 +20,7 @@ use Rattle.group_member.specs.declared.member.Member.{Member}
 use Rattle.group_member.specs.declared.sends.Letter.{Letter}
 use Rattle.group_member.specs.AtWork.{AtWork, GoesOn, told_to}
 use Rattle.group_member.specs.ByOwn.{active_by, leads_by, stable_by}
-use Rattle.group_member.specs.LastCalls.{TellsRepeat, group_of}
+use Rattle.group_member.specs.LastCalls.{TellsRepeat}
 use Rattle.group_member.specs.StandsFor.{Follows, StandsFor, join_of, on_answer, on_waiting}
 use Rattle.group_member.specs.Ticks.{IsToCoordinate, content_by, gathering_by, invites_again, invites_below, requests_again, tells_accepted}
 use Rattle.group_member.specs.Told.{others_below}
@@ -44,7 +44,7 @@ ticked_member silent h is = record {
   nodes = h.nodes;
   resilience = h.resilience;
   me = h.me;
-  member = record { me = h.member.me; answered = h.member.answered; acked = h.member.acked; heard = h.member.heard; purges = h.member.purges; applies = h.member.applies; accepts = h.member.accepts; kept = h.member.kept; small = h.member.small };
+  member = record { me = h.member.me; answered = h.member.answered; acked = h.member.acked; heard = h.member.heard; purges = h.member.purges; applies = h.member.applies; accepts = h.member.accepts; kept = h.member.kept; small = h.member.small; few = h.member.few; once = h.member.once; named = h.member.named };
   installed = h.installed;
   promised = h.promised;
   answered = h.answered;
@@ -146,10 +146,10 @@ again_idle name bytes s t sent new fails d = λ N r which v h. held_else (AtWork
 
 -- ---- a coordinator
 
-gathering_same : {B R : Type 0} {g : Group B} {which : ℕ} {s : Member B R} {m : RulesMember B} → StandsFor g which s m → is_gathering g which m ≡ gathering_by s
+pub gathering_same : {B R : Type 0} {g : Group B} {which : ℕ} {s : Member B R} {m : RulesMember B} → StandsFor g which s m → is_gathering g which m ≡ gathering_by s
 gathering_same h = rw (h.installed, h.promised, h.outside, h.nodes, h.me) refl
 
-gave_same : {B R : Type 0} {g : Group B} {which : ℕ} {s : Member B R} {m : RulesMember B} (x : ℕ) → StandsFor g which s m → gave m.answers x ≡ is_some (join_of x s.answers.items)
+pub gave_same : {B R : Type 0} {g : Group B} {which : ℕ} {s : Member B R} {m : RulesMember B} (x : ℕ) → StandsFor g which s m → gave m.answers x ≡ is_some (join_of x s.answers.items)
 gave_same {B} {R} {m = m} x h = some (m.answers x) ∙ ap is_some (h.answers x)
   where
     some : (o : Option (Report B)) → is_some o ≡ is_some (on_answer {R = R} m.promised o)

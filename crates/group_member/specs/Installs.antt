@@ -3,7 +3,7 @@ use Rattle.std.specs.Prelude.{ℕ, Bool, false, List, [], ◌∷◌, ◌++◌, O
 use Rattle.orca_base.specs.declared.ids.MessageId.{MessageId}
 use Rattle.orca_base.specs.declared.limits.TheConstants.{WINDOW}
 use Rattle.group_packets.specs.declared.packet.News.{News}
-use Rattle.group_rules.specs.Messages.{Group}
+use Rattle.group_rules.specs.Messages.{Group, group_of}
 use Rattle.group_rules.specs.Member.{Member as RulesMember, is_acker, nobody}
 use Rattle.group_rules.specs.OnWire.{members_below}
 use Rattle.group_rules.specs.Receiver.{send_ack}
@@ -11,7 +11,7 @@ use Rattle.group_rules.specs.Work.{Work, when}
 use Rattle.group_member.specs.declared.member.Member.{Member}
 use Rattle.group_member.specs.declared.sends.Letter.{Letter}
 use Rattle.group_member.specs.AtWork.{AtWork}
-use Rattle.group_member.specs.LastCalls.{AreLastCalls, group_of}
+use Rattle.group_member.specs.LastCalls.{AreLastCalls}
 use Rattle.group_member.specs.StandsFor.{StandsFor}
 
 -- the number stands in the list

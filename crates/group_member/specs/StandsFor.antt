@@ -1,16 +1,17 @@
 -- How a member over a window, with lists and numbers in place of maps, stands for a member of the rules.
-use Rattle.std.specs.Prelude.{ℕ, Bool, false, List, [], ◌∷◌, ◌≡◌, ◌≤◌, ◌<◌, ◌^◌, ◌==◌, if◌then◌else◌, length, take, drop, map, slice_index_or, Option, None, Some}
+use Rattle.std.specs.Prelude.{ℕ, Bool, false, List, [], ◌∷◌, ◌≡◌, ◌≤◌, ◌<◌, ◌*◌, ◌^◌, ◌==◌, if◌then◌else◌, All, length, take, drop, map, slice_index_or, Option, None, Some}
+use Rattle.std.specs.List.{AllPairs}
 use Rattle.orca_base.specs.declared.ids.MessageId.{MessageId}
 use Rattle.orca_base.specs.declared.limits.TheConstants.{WINDOW}
 use Rattle.group_packets.specs.declared.packet.Join.{Join}
 use Rattle.history_buffer.specs.Window.{last_number}
-use Rattle.group_rules.specs.Messages.{Group}
+use Rattle.group_rules.specs.Messages.{Group, group_of}
 use Rattle.group_rules.specs.Member.{Report, Waiting as RulesWaiting, Member as RulesMember, report_of}
 use Rattle.group_rules.specs.OnWire.{on_join}
 use Rattle.group_rules.specs.Reset.{keeps}
 use Rattle.group_member.specs.declared.member.Member.{Member}
 use Rattle.group_member.specs.declared.member.Waiting.{Waiting}
-use Rattle.group_member.specs.LastCalls.{AreLastCalls, group_of}
+use Rattle.group_member.specs.LastCalls.{AreLastCalls}
 
 -- the members that the list names by true
 abbrev pub test_of : List Bool → ℕ → Bool
@@ -34,8 +35,12 @@ PutIn from join old new = (x : ℕ) → join_of x new ≡ (if from == x then Som
 abbrev pub on_waiting : {B R : Type 0} → Waiting B R → RulesWaiting B
 on_waiting w = record { by_name = w.by_name; message = w.message }
 
+-- two answers are of different members
+abbrev pub AreOfTwo : {A : Type 0} → ℕ × A → ℕ × A → Type 0
+AreOfTwo a b = a.0 ≡ b.0 → ⊥
+
 -- its lists have a place for each member, and its numbers are in order: it keeps at most a window of entries, and so few that they can be
--- counted
+-- counted. Less than half of the members may be lost, and it keeps at most one answer of each member
 pub record IsMember {B R : Type 0} (s : Member B R) : Type 0 where
   pub me : s.me < s.config.nodes
   pub answered : length s.answered.items ≡ s.config.nodes
@@ -46,6 +51,9 @@ pub record IsMember {B R : Type 0} (s : Member B R) : Type 0 where
   pub accepts : s.accepted ≤ last_number s.window
   pub kept : length s.window.items ≤ WINDOW
   pub small : s.applied < 2 ^ 62
+  pub few : 2 * s.config.resilience < s.config.nodes
+  pub once : AllPairs AreOfTwo s.answers.items
+  pub named : All (λ answer. answer.0 < s.config.nodes) s.answers.items
 
 -- it is the same member, and its numbers are the same
 pub record HasNumbersOf {B R : Type 0} (old new : Member B R) : Type 0 where

@@ -2,7 +2,7 @@
 use Rattle.std.specs.Prelude.{ℕ, zero, suc, Bool, true, false, not, List, [], ◌∷◌, ◌++◌, ◌≡◌, ◌%◌, ◌==◌, ◌&&◌, ◌||◌, nat_le, nat_lt, length, is_some, if◌then◌else◌}
 use Rattle.orca_base.specs.declared.ids.MessageId.{MessageId}
 use Rattle.group_packets.specs.declared.packet.Packet.TheVariants as V
-use Rattle.group_rules.specs.Messages.{Group, is_repeat}
+use Rattle.group_rules.specs.Messages.{Group, is_repeat, group_of}
 use Rattle.group_rules.specs.Member.{Member as RulesMember, is_gathering, stable_of}
 use Rattle.group_rules.specs.Member.Kind.{Accept}
 use Rattle.group_rules.specs.Receiver.{request}
@@ -16,7 +16,6 @@ use Rattle.group_member.specs.declared.timer.Timed.{Timed}
 use Rattle.group_member.specs.declared.timer.Timed.TheVariants.{Due, Sent}
 use Rattle.group_member.specs.AtWork.{Does}
 use Rattle.group_member.specs.ByOwn.{leads_by}
-use Rattle.group_member.specs.LastCalls.{group_of}
 use Rattle.group_member.specs.StandsFor.{StandsFor, Tells, join_of}
 
 -- it leads, all its entries are accepted and no message waits

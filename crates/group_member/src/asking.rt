@@ -2,7 +2,7 @@
 
 ghost use Rattle.std.specs.Prelude.{◌≡◌, ◌+◌, OnOk, ℕ, map};
 ghost use Rattle.group_member.specs.AtWork.{GoesOn};
-ghost use Rattle.group_member.specs.LastCalls.{group_of};
+ghost use Rattle.group_rules.specs.Messages.{group_of};
 ghost use Rattle.group_member.specs.Noting.{is_named_at, place_by};
 ghost use Rattle.group_member.specs.StandsFor.{Follows, IsMember, on_waiting};
 ghost use Rattle.group_rules.specs.Sequencer.{ask, is_waiting, send_again, send_entry, waits};

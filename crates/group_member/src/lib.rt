@@ -26,5 +26,5 @@ mod timer;
 
 pub use law::standing_law;
 pub use member::{Config, Member};
-pub use sends::{Letter, Sends};
+pub use sends::{Letter, Sends, tell_others};
 pub use timer::Timed;

@@ -1,7 +1,7 @@
 //! The state of a member, and what can be read of it.
 
-ghost use Rattle.std.specs.Prelude.{◌≡◌, ◌==◌, ◌%◌, ◌<◌, not, ◌&&◌, length, IfOk};
-ghost use Rattle.group_member.specs.LastCalls.{group_of};
+ghost use Rattle.std.specs.Prelude.{◌≡◌, ◌==◌, ◌%◌, ◌*◌, ◌<◌, not, ◌&&◌, length, IfOk};
+ghost use Rattle.group_rules.specs.Messages.{group_of};
 ghost use Rattle.group_member.specs.StandsFor.{Follows, HasNumbersOf, IsMember, StandsFor, Tells};
 ghost use Rattle.group_member.specs.ByOwn.{active_by, leads_by};
 ghost use Rattle.group_rules.specs.Member.{leads, opening_member};
@@ -19,7 +19,9 @@ use std::alloc::Global;
 /// The size of a group, and how many of its members may be lost: less than half of them.
 #[derive(Clone, Copy, Debug, PartialEq, Eq)]
 pub struct Config {
+    /// How many members the group has.
     pub nodes: u8,
+    /// How many of them may be lost.
     pub resilience: u8,
 }
 
@@ -71,9 +73,10 @@ pub struct Member<B: Body> {
 }
 
 impl<B: Body> Member<B> {
-    /// Member `me` of such a group, as all members begin.
+    /// Member `me` of such a group, as all members begin. Less than half of the members may be lost.
     pub fn new(alloc: Global, config: Config, me: u8) -> Result<Member<B>, NoMemory>
-        requires { me < config.nodes }
+        requires me { me < config.nodes }
+        requires few { 2 * config.resilience < config.nodes }
         ensures { IfOk result
             (λ member. StandsFor (group_of B.id_of B.length_of config.nodes config.resilience) me member opening_member) }
     {

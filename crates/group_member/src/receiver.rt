@@ -3,7 +3,7 @@
 ghost use Rattle.std.specs.Prelude.{◌≡◌, ◌<◌, ◌≤◌, OnOk, length, nat_lt};
 ghost use Rattle.group_member.specs.AtWork.{GoesOn};
 ghost use Rattle.group_member.specs.ByOwn.{acknowledges_by, may_nack_by};
-ghost use Rattle.group_member.specs.StandsFor.{Follows, IsMember};
+ghost use Rattle.group_member.specs.StandsFor.{Follows, HasNumbersOf, IsMember};
 ghost use Rattle.group_rules.specs.Receiver.{accepts, acknowledge, appended, nack, send_ack, send_status, take_accept, take_entry, take_number};
 ghost use Rattle.group_rules.specs.Work.{becomes, when};
 
@@ -197,6 +197,7 @@ impl<B: Body> Member<B> {
     pub(crate) fn send_status(&mut self, sends: &mut Sends<B>) -> Result<(), NoMemory>
         requires { IsMember self.old }
         ensures row { OnOk result (GoesOn B.id_of B.length_of self.old sends.old.items self.new sends.new.items send_status) }
+        ensures numbers { HasNumbersOf self.old self.new }
         ensures member { OnOk result (IsMember self.new) }
     {
         self.reported = self.applied;

@@ -1,8 +1,8 @@
 //! What a reset reads and changes of a member.
 
-ghost use Rattle.std.specs.Prelude.{◌≡◌, ◌==◌, OnErr, OnOk, IfOk};
-ghost use Rattle.std.specs.List.{position_or_len};
-ghost use Rattle.group_member.specs.StandsFor.{Follows, IsMember, IsOwnJoin, KeepsAnswer, PutIn};
+ghost use Rattle.std.specs.Prelude.{◌≡◌, ◌==◌, ◌<◌, All, OnErr, OnOk, IfOk, ℕ};
+ghost use Rattle.std.specs.List.{AllPairs, position_or_len};
+ghost use Rattle.group_member.specs.StandsFor.{AreOfTwo, Follows, HasNumbersOf, IsMember, IsOwnJoin, KeepsAnswer, PutIn};
 ghost use Rattle.group_rules.specs.Member.{leaves};
 ghost use Rattle.group_rules.specs.Reset.{gathers, listens, promises};
 
@@ -22,6 +22,7 @@ impl<B: Body> Member<B> {
     /// It promises an incarnation: it drops the answers that it kept, and is silent for no tick.
     pub fn promise(&mut self, incarnation: u64)
         ensures row { Follows B.id_of B.length_of self.old self.new (λ g which. promises incarnation) }
+        ensures numbers { HasNumbersOf (record self.old { promised = incarnation }) self.new }
         ensures member { IsMember self.old → IsMember self.new }
     {
         self.promised = incarnation;
@@ -46,8 +47,9 @@ impl<B: Body> Member<B> {
     /// It promises an incarnation, as its coordinator: it keeps its own answer alone.
     pub fn gather(&mut self, alloc: Global, incarnation: u64) -> Result<(), NoMemory>
         ensures row { OnOk result (Follows B.id_of B.length_of self.old self.new (λ g which. gathers which incarnation)) }
+        ensures numbers { OnOk result (HasNumbersOf (record self.old { promised = incarnation }) self.new) }
         ensures member { IsMember self.old → IsMember self.new }
-        ensures err { OnErr result (Follows B.id_of B.length_of self.old self.new (λ g which m. m)) }
+        ensures err { OnErr result (self.new ≡ self.old) }
     {
         let mut own = self.own_join(alloc)?;
         own.incarnation = incarnation;
@@ -61,8 +63,10 @@ impl<B: Body> Member<B> {
 
     /// A member's answer to the incarnation that it promised is kept, in the place of an earlier one.
     pub fn keep_answer(&mut self, from: u8, join: Join<B>) -> Result<(), NoMemory>
-        requires { join.incarnation ≡ self.old.promised }
+        requires promised { join.incarnation ≡ self.old.promised }
+        requires from { from < self.old.config.nodes }
         ensures row { OnOk result (KeepsAnswer B.id_of B.length_of from join self.old self.new) }
+        ensures numbers { HasNumbersOf self.old self.new }
         ensures member { IsMember self.old → IsMember self.new }
         ensures err { OnErr result (Follows B.id_of B.length_of self.old self.new (λ g which m. m)) }
     {
@@ -74,6 +78,7 @@ impl<B: Body> Member<B> {
     pub fn listen(&mut self, from: u8, incarnation: u64)
         requires { IsMember self.old }
         ensures row { Follows B.id_of B.length_of self.old self.new (λ g which. listens g from incarnation) }
+        ensures numbers { HasNumbersOf self.old self.new }
         ensures member { IsMember self.new }
     {
         if incarnation == self.installed && from == self.sequencer() {
@@ -84,6 +89,7 @@ impl<B: Body> Member<B> {
     /// It takes no part any more.
     pub fn leave(&mut self)
         ensures row { Follows B.id_of B.length_of self.old self.new (λ g which. leaves) }
+        ensures numbers { HasNumbersOf self.old self.new }
         ensures member { IsMember self.old → IsMember self.new }
     {
         self.outside = true;
@@ -109,6 +115,10 @@ fn put_answer<B: Body>(
     join: Join<B>,
 ) -> Result<(), NoMemory>
     ensures ok { OnOk result (PutIn from join answers.old.items answers.new.items) }
+    ensures once { OnOk result (AllPairs AreOfTwo answers.old.items → AllPairs AreOfTwo answers.new.items) }
+    ensures named { OnOk result
+        ((nodes : ℕ) → from < nodes → All (λ answer. answer.0 < nodes) answers.old.items
+        → All (λ answer. answer.0 < nodes) answers.new.items) }
     ensures err { OnErr result (answers.new.items ≡ answers.old.items) }
 {
     let kept = answers.as_slice();

@@ -10,15 +10,17 @@ use std::alloc::Global;
 /// A packet with its receiver.
 #[derive(Drop)]
 pub struct Letter<B: Body> {
+    /// The member to which it goes.
     pub to: u8,
+    /// What goes there.
     pub packet: Packet<B>,
 }
 
 /// What a call sends, the first first.
 pub type Sends<B> = Vec<Letter<B>>;
 
-// The packet goes to each other member, in increasing order.
-pub(crate) fn tell_others<B: Body>(
+/// Appends the packet for each member below `nodes` but `me`, in increasing order.
+pub fn tell_others<B: Body>(
     alloc: Global,
     sends: &mut Sends<B>,
     nodes: u8,

@@ -4,7 +4,7 @@ ghost use Rattle.std.specs.Prelude.{◌≡◌, ◌<◌, IfOk, OnErr, OnOk, lengt
 ghost use Rattle.std.specs.List.{position_or_len};
 ghost use Rattle.group_member.specs.AtWork.{Does, GoesOn};
 ghost use Rattle.group_member.specs.Bodies.{asks_for, is_newer_by, SameBodies};
-ghost use Rattle.group_member.specs.StandsFor.{Follows, IsMember};
+ghost use Rattle.group_member.specs.StandsFor.{Follows, HasNumbersOf, IsMember};
 ghost use Rattle.group_rules.specs.Receiver.{keep_body, request};
 ghost use Rattle.group_rules.specs.Steps.{pends, submit};
 
@@ -71,6 +71,7 @@ impl<B: Body> Member<B> {
         requires { IsMember self.old }
         ensures row { OnOk result
             (GoesOn B.id_of B.length_of self.old sends.old.items self.new sends.new.items (λ g which. request g which message)) }
+        ensures numbers { HasNumbersOf self.old self.new }
         ensures member { OnOk result (IsMember self.new) }
     {
         let incarnation = self.installed;
@@ -99,6 +100,7 @@ impl<B: Body> Member<B> {
     pub(crate) fn keep_body(&mut self, message: B) -> Result<(), NoMemory>
         requires { IsMember self.old }
         ensures row { OnOk result (Follows B.id_of B.length_of self.old self.new (λ g which. keep_body g message)) }
+        ensures numbers { HasNumbersOf self.old self.new }
         ensures member { OnOk result (IsMember self.new) }
     {
         let place = message.id().process.0 as usize;

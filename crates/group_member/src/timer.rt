@@ -2,7 +2,7 @@
 
 ghost use Rattle.std.specs.Prelude.{◌≡◌, ◌++◌, ◌+◌, IfOk, OnErr, OnOk, is_some, nat_le};
 ghost use Rattle.group_member.specs.AtWork.{GoesOn};
-ghost use Rattle.group_member.specs.StandsFor.{Follows, IsMember, join_of};
+ghost use Rattle.group_member.specs.StandsFor.{Follows, HasNumbersOf, IsMember, join_of};
 ghost use Rattle.group_member.specs.Ticks.{content_by, gathering_by, invites_below, invites_again, IsDueWhere, requests_again, tells_accepted, TicksAs};
 ghost use Rattle.group_rules.specs.Receiver.{request_all};
 ghost use Rattle.group_rules.specs.Steps.{send_again_all, ticked};
@@ -36,6 +36,7 @@ impl<B: Body> Member<B> {
         requires { IsMember self.old }
         ensures row { IfOk result (TicksAs B.id_of B.length_of self.old self.new) }
         ensures due { IfOk result (IsDueWhere B.id_of B.length_of self.old) }
+        ensures numbers { HasNumbersOf self.old self.new }
         ensures member { IsMember self.new }
         ensures err { OnErr result (self.new ≡ self.old) }
     {
@@ -66,6 +67,7 @@ impl<B: Body> Member<B> {
     fn tick(&mut self)
         requires { IsMember self.old }
         ensures row { Follows B.id_of B.length_of self.old self.new ticked }
+        ensures numbers { HasNumbersOf self.old self.new }
         ensures member { IsMember self.new }
         ensures outside { self.new.outside ≡ self.old.outside }
     {
@@ -90,6 +92,7 @@ impl<B: Body> Member<B> {
     fn send_all_again(&mut self, alloc: Global, sends: &mut Sends<B>) -> Result<(), NoMemory>
         requires { IsMember self.old }
         ensures row { OnOk result (GoesOn B.id_of B.length_of self.old sends.old.items self.new sends.new.items send_again_all) }
+        ensures numbers { OnOk result (HasNumbersOf self.old self.new) }
         ensures member { OnOk result (IsMember self.new) }
     {
         if !self.is_active() {
@@ -125,6 +128,7 @@ impl<B: Body> Member<B> {
         ensures row { OnOk result
             (GoesOn B.id_of B.length_of self.old sends.old.items self.new sends.new.items
             (λ g which v. request_all g which v.state.pending v)) }
+        ensures numbers { OnOk result (HasNumbersOf self.old self.new) }
         ensures member { OnOk result (IsMember self.new) }
     {
         let pending = copy_bodies(alloc, self.pending.as_slice())?;
@@ -145,6 +149,7 @@ impl<B: Body> Member<B> {
         ensures row { OnOk result
             (GoesOn B.id_of B.length_of self.old sends.old.items self.new sends.new.items
             (λ g which. requests_again g which message.now)) }
+        ensures numbers { HasNumbersOf self.old self.new }
         ensures member { OnOk result (IsMember self.new) }
     {
         if self.last.is_repeat(message) {
@@ -163,8 +168,8 @@ impl<B: Body> Member<B> {
         !self.outside && self.installed < self.promised && coordinator == self.me
     }
 
-    // Whether it keeps an answer of this member.
-    fn has_answer(&self, from: u8) -> bool
+    /// Whether it keeps an answer of this member, as a coordinator.
+    pub fn has_answer(&self, from: u8) -> bool
         ensures { result ≡ is_some (join_of from self.now.answers.items) }
     {
         let answers = self.answers.as_slice();

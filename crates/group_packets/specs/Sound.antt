@@ -13,6 +13,7 @@ AreSoundEntries S messages = All S messages × (length messages < 2 ^ 32)
 abbrev pub AreMembers : List ℕ → Type 0
 AreMembers members = IsStrictlyIncreasing members × All (λ member. member < NODES) members
 
+-- what bytes ask of a packet beyond the ranges of its fields' types, S of each message and T of each reply
 abbrev pub IsSoundPacket : {B R : Type 0} → (B → Type 0) → (R → Type 0) → Packet B R → Type 0
 IsSoundPacket S T (Request incarnation applied message) = S message
 IsSoundPacket S T (Body incarnation applied message) = S message

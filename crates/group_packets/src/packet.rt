@@ -26,6 +26,7 @@ pub struct Join<B: Body> {
 /// What a new incarnation begins with, or what a member that fell behind lacks: a log of it.
 #[derive(Drop)]
 pub struct News<B: Body> {
+    /// The incarnation whose log it is.
     pub incarnation: u64,
     /// How many entries are known to be accepted.
     pub accepted: u64,
@@ -42,101 +43,155 @@ pub struct News<B: Body> {
 pub enum Packet<B: Body> {
     /// A member asks the sequencer to order a message.
     Request {
+        /// The incarnation of the sender's log.
         incarnation: u64,
+        /// How many entries the sender has applied.
         applied: u64,
+        /// The message to be ordered.
         message: B,
     },
     /// A member sends a long message to all, and asks the sequencer to order it by its name.
     Body {
+        /// The incarnation of the sender's log.
         incarnation: u64,
+        /// How many entries the sender has applied.
         applied: u64,
+        /// The message to be ordered.
         message: B,
     },
     /// The sequencer gives the message of this name a number.
     Order {
+        /// The incarnation in which the number is given.
         incarnation: u64,
+        /// The entry's number, from 1.
         number: u64,
+        /// The process that submitted the message.
         process: ProcessNo,
+        /// Which call of that process it is.
         call: CallNo,
+        /// How many entries are accepted.
         accepted: u64,
+        /// How many entries each member is known to have applied.
         stable: u64,
     },
     /// The sequencer gives this message a number.
     Entry {
+        /// The incarnation in which the number is given.
         incarnation: u64,
+        /// The entry's number, from 1.
         number: u64,
+        /// How many entries are accepted.
         accepted: u64,
+        /// How many entries each member is known to have applied.
         stable: u64,
+        /// The entry.
         message: B,
     },
     /// An acknowledger holds so many entries.
     Ack {
+        /// The incarnation of the sender's log.
         incarnation: u64,
+        /// How many entries the sender's log has.
         length: u64,
+        /// How many entries the sender has applied.
         applied: u64,
     },
     /// So many entries are accepted.
     Accept {
+        /// The incarnation of the entries.
         incarnation: u64,
+        /// How many entries are accepted.
         accepted: u64,
+        /// How many entries each member is known to have applied.
         stable: u64,
     },
     /// A member lacks entries from the first one named on, or the incarnation's whole log.
     Nack {
+        /// The incarnation whose entries it lacks.
         incarnation: u64,
+        /// The number of the first entry that it lacks, 0 where it lacks the whole log.
         first: u64,
+        /// How many entries the sender has applied.
         applied: u64,
+        /// Whether it lacks the whole log.
         whole: bool,
     },
     /// A member tells how far it is.
     Status {
+        /// The incarnation of the sender's log.
         incarnation: u64,
+        /// How many entries the sender's log has.
         length: u64,
+        /// How many entries the sender has applied.
         applied: u64,
     },
     /// A coordinator invites to a new incarnation.
     Invite {
+        /// The new incarnation.
         incarnation: u64,
     },
     /// A member's answer to an invitation.
     Join {
+        /// What it answers.
         join: Join<B>,
     },
     /// What a new incarnation begins with.
     Result {
+        /// Its log, and who answered for it.
         news: News<B>,
     },
     /// A call on a single copy.
     Ask {
+        /// The incarnation of the sender's log.
         incarnation: u64,
+        /// How many entries the owner of the copy has to have applied.
         place: u64,
+        /// The call.
         message: B,
     },
     /// The reply to a call on a single copy.
     Answer {
+        /// The incarnation of the sender's log.
         incarnation: u64,
+        /// How many entries the owner had applied when the call was performed.
         place: u64,
+        /// The process that asked.
         process: ProcessNo,
+        /// Which call of that process it is.
         call: CallNo,
+        /// What the call gives.
         reply: B::Reply,
     },
 }
 
-/// The kind of a packet.
+/// The kind of a packet, in the order of the variants of `Packet`.
 #[derive(Clone, Copy, Debug, PartialEq, Eq, PartialOrd, Ord)]
 pub enum PacketKind {
+    /// A message is to be ordered.
     Request,
+    /// A long message, sent to all.
     Body,
+    /// A name is given a number.
     Order,
+    /// A message is given a number.
     Entry,
+    /// An acknowledger tells what it holds.
     Ack,
+    /// The sequencer tells what is accepted.
     Accept,
+    /// A member asks for what it lacks.
     Nack,
+    /// A member tells how far it is.
     Status,
+    /// A coordinator invites.
     Invite,
+    /// A member answers a coordinator.
     Join,
+    /// An incarnation's log.
     Result,
+    /// A call on a single copy.
     Ask,
+    /// Its reply.
     Answer,
 }
 

@@ -1,13 +1,13 @@
 -- Letters and their numbers, and packets as they travel.
 use Rattle.std.proofs.Common.{◌≡◌, ℕ, ◌<◌, ◌==◌, ◌⊎◌, inl, inr, ⊎_elim, Bool, true, false, Some, List, [], ◌∷◌, ◌++◌, length, refl, sym, ap, ◌∙◌, arith, append_assoc, if◌then◌else◌}
 use Rattle.std.proofs.lemmas.Bool.{cond_both, eqb-true, eqb-false, eq-eqb}
-use Rattle.std.proofs.lemmas.List.{append-nil}
+use Rattle.std.proofs.lemmas.List.{append-nil, map_push}
 use Rattle.group_rules.specs.Sets.{In}
 use Rattle.group_rules.specs.Member.{Letter}
 use Rattle.group_rules.specs.Member.Kind.{Request, Body, Order, Entry, Ack, Accept, Nack, Status, Invite, Join, News}
 use Rattle.group_rules.specs.World.{Past, after, letter_number, NumberedLaw}
-use Rattle.group_rules.specs.Work.{Act}
-use Rattle.group_rules.specs.OnWire.{Posted, post_of, posted, posts_of, ToOthers, AppendedLaw, PostedLaw, ReceivedLaw}
+use Rattle.group_rules.specs.Work.{Act, letters_of}
+use Rattle.group_rules.specs.OnWire.{Posted, post_of, posted, posts_of, ToOthers, AppendedLaw, LettersLaw, PostedLaw, ReceivedLaw, SentLaw}
 
 -- ---- letters and their numbers
 
@@ -74,6 +74,20 @@ appended_law M R N (Act.Keeps packet ∷ acts) p t =
     (λ e. appended_law M R N acts p t) (λ e. absurd (eqb-false packet.from packet.from e refl))
 appended_law M R N (Act.Orders k x ∷ acts) p t = appended_law M R N acts p t
 appended_law M R N (Act.Begins k log answers ∷ acts) p t = appended_law M R N acts p t
+
+pub letters_law : (M R : Type 0) → LettersLaw M R
+letters_law M R N [] = refl
+letters_law M R N (Act.Sends letter ∷ acts) = ap (λ (l : List (Posted M R)). l ++ post_of N letter ∷ []) (letters_law M R N acts) ∙ sym (map_push (post_of N) (letters_of acts) letter)
+letters_law M R N (Act.Keeps packet ∷ acts) = letters_law M R N acts
+letters_law M R N (Act.Orders k x ∷ acts) = letters_law M R N acts
+letters_law M R N (Act.Begins k log answers ∷ acts) = letters_law M R N acts
+
+pub sent_law : (M : Type 0) → SentLaw M
+sent_law M [] p letter t = absurd t
+sent_law M (Act.Sends l ∷ acts) p letter t = ⊎_elim (λ u. inr (sent_law M acts p letter u)) (λ e. inl e) (in_end letter (letters_of acts) l t)
+sent_law M (Act.Keeps packet ∷ acts) p letter t = inr (sent_law M acts p letter t)
+sent_law M (Act.Orders k x ∷ acts) p letter t = sent_law M acts p letter t
+sent_law M (Act.Begins k log answers ∷ acts) p letter t = sent_law M acts p letter t
 
 -- ---- what is received
 

@@ -67,6 +67,9 @@ fn a_deposed_sequencer_installs(rt: HostRuntime) -> Result<(), NoMemory> {
         messages: Items::new(messages),
     };
     assert_eq!(rt; member.install(alloc, news, &[])?.len(), 0);
-    assert_eq!(rt; (member.installed(), member.accepted(), member.applied()), (5, 1, 1));
+    assert_eq!(rt;
+        (member.installed(), member.accepted(), member.applied()),
+        (5, 1, 1)
+    );
     Ok(())
 }

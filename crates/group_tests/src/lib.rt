@@ -6,7 +6,11 @@
 #![tactic(auto)]
 
 #[cfg(test)]
+mod full_windows;
+#[cfg(test)]
 mod installs;
+#[cfg(test)]
+mod long_messages;
 #[cfg(test)]
 mod members;
 #[cfg(test)]
@@ -15,6 +19,8 @@ mod packets;
 mod plain;
 #[cfg(test)]
 mod received;
+#[cfg(test)]
+mod resets;
 #[cfg(test)]
 mod submissions;
 #[cfg(test)]

@@ -10,7 +10,7 @@ use Rattle.std.proofs.lemmas.Slice.Eq.{bytes_eq-Decides}
 use Rattle.link_rules.specs.declared.role.Role.{Role}
 use Rattle.link_rules.specs.declared.role.Role.TheVariants.{Module, Specification, Implementation, Other}
 use Rattle.link_rules.specs.declared.link_error.LinkError.{LinkError}
-use Rattle.link_rules.specs.Units.{Source, Defined, Import, definitions, imports}
+use Rattle.link_rules.specs.Units.{Source, Defined, definitions, imports}
 use Rattle.link_rules.specs.Rules.{at_definition, at_import, import_cycles, is_defined, is_main, is_on_cycle, is_role, is_taken, is_unimplemented, is_unknown, Links, no_main, repeated, repetitions, unknown_modules, without_implementation, without_main}
 use Rattle.link_rules.specs.Linked.{AreAcyclic, AreDistinct, AreKnown, HasMain, IsLinked, IsNoBreach, may_share}
 use Rattle.link_rules.proofs.Truth.{and_first, and_second, both_true, not_false, not_true}

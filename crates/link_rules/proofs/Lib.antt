@@ -4,3 +4,4 @@ pub mod Ways
 pub mod Breaches
 pub mod Seeing
 pub mod Telling
+pub mod Declaring

@@ -1,7 +1,7 @@
 -- The breach that is told is the first of the lowest broken rule.
-use Rattle.std.proofs.Common.{◌≡◌, Bool, true, false, cond, not, ◌&&◌, List, [], ◌∷◌, ◌++◌, map, Option, Some, None, ◌⊎◌, inl, inr, refl, sym, ap, ◌∙◌, subst, append_assoc}
-use Rattle.std.specs.Prelude.{bytes_eq, codes, filter}
-use Rattle.std.specs.List.{Contains, list_any}
+use Rattle.std.proofs.Common.{◌≡◌, Bool, true, false, cond, not, List, [], ◌∷◌, ◌++◌, map, Option, Some, None, ◌⊎◌, inl, inr, refl, sym, ap, ◌∙◌, subst, append_assoc}
+use Rattle.std.specs.Prelude.{filter}
+use Rattle.std.specs.List.{list_any}
 use Rattle.std.specs.Option.{option_map}
 use Rattle.std.proofs.lemmas.Bool.{true≢false}
 use Rattle.std.proofs.lemmas.List.{append-nil}
@@ -9,9 +9,9 @@ use Rattle.std.proofs.lemmas.List.Folds.{Any-from_list_any, list_any-from_Any}
 use Rattle.std.proofs.lemmas.Slice.Eq.{bytes_eq-Decides}
 use Rattle.link_rules.specs.declared.role.Role.TheVariants.{Module, Specification, Implementation}
 use Rattle.link_rules.specs.declared.link_error.LinkError.{LinkError}
-use Rattle.link_rules.specs.Units.{Source, Defined, Import, definitions, imports}
+use Rattle.link_rules.specs.Units.{Source, Defined, definitions, imports}
 use Rattle.link_rules.specs.Rules.{at_definition, at_import, first, import_cycles, is_defined, is_main, is_on_cycle, is_role, is_taken, is_unimplemented, is_unknown, IsLinkError, no_main, repeated, repetitions, unknown_modules, without_implementation, without_main}
-use Rattle.link_rules.specs.Linked.{AreAcyclic, AreDistinct, AreKnown, HasMain, may_share}
+use Rattle.link_rules.specs.Linked.{AreAcyclic, AreDistinct, AreKnown, HasMain}
 use Rattle.link_rules.specs.Told.{IsFirst, IsTold, IsToldOf, IsUnimplemented, IsUnknown, LiesOnCycle, Repeats}
 use Rattle.link_rules.specs.Told.IsToldOf.{repeats, unknown, cycle, without_main as without, unimplemented}
 use Rattle.link_rules.proofs.Truth.{and_first, and_second, both_true, not_true}
@@ -83,9 +83,6 @@ found : {X : Type 0} (p : List X → X → Bool) (before xs : List X) (x : X) �
 found p before [] x e = absurd cc
 found {X} p before (z ∷ xs) x e = by_test (p before z) refl (found p (before ++ z ∷ []) xs x)
   where
-    more : List X
-    more = picked p (before ++ z ∷ []) xs
-
     by_test : (b : Bool) → p before z ≡ b → (first (picked p (before ++ z ∷ []) xs) ≡ Some x → FirstBehind (λ b y. p b y ≡ true) (before ++ z ∷ []) xs x) → FirstBehind (λ b y. p b y ≡ true) before (z ∷ xs) x
     by_test true is rest =
         let same = some_same z x (sym (ap (λ (t : Bool). first (cond t (z ∷ picked p (before ++ z ∷ []) xs) (picked p (before ++ z ∷ []) xs))) is) ∙ e) in

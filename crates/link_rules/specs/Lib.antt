@@ -1,4 +1,5 @@
 pub mod Units
+pub mod Declarations
 pub mod Rules
 pub mod Cycles
 pub mod Linked

@@ -2,6 +2,7 @@
 
 ghost use Rattle.std.specs.Prelude.{◌≡◌, List, codes};
 ghost use Rattle.link_rules.specs.Units.{Source};
+ghost use Rattle.link_rules.specs.Declarations.{ComesFromDeclarations};
 ghost use Rattle.link_rules.specs.Rules.{Links, first, link_errors};
 ghost use Rattle.link_rules.specs.Cycles.{ReachesAll};
 ghost use Rattle.link_rules.specs.Linked.{IsNoBreach};
@@ -9,17 +10,18 @@ ghost use Rattle.link_rules.specs.Told.{IsTold};
 ghost use Rattle.link_rules.specs.Visible.{DefinesOnce, TellsSeen};
 ghost use Rattle.link_rules.specs.Examples.{breach, cycle_behind, importing, main_twice, module_alone, name_twice, no_such_module, one_implemented, own_import, place, specified_twice, two_in_a_cycle, whole_program};
 
-/// The law of linking. No rule is broken exactly where each name is defined once (modules' names are apart, and the two halves of an object
-/// type share theirs), what is imported is a module, no module that is imported leads back to its importer, a name of the top level is
-/// `OrcaMain`, and each specification has an implementation. A module leads to another within as many imports as there are units exactly
-/// where it leads there at all. The breach that is told is the first of the lowest broken rule, in the order of the files and of their
-/// texts: of two names that may not be the same the later one. In a program that links two definitions of one name that may not share it are
-/// one; and `is_seen` tells what a module sees.
+/// The law of linking. No rule is broken exactly where each name is defined once (modules' names are apart, and the two halves of an
+/// object type share theirs), what is imported is a module, no module that is imported leads back to its importer, a name of the top
+/// level is `OrcaMain`, and each specification has an implementation. A module leads to another within as many imports as there are units
+/// exactly where it leads there at all. The breach that is told is the first of the lowest broken rule, in the order of the files and of
+/// their texts: of two names that may not be the same the later one. In a program that links two definitions of one name that may not
+/// share it are one. Each definition is that of a unit's module, or one of a declaration; and `is_seen` tells what a module sees.
 pub fn linking_law()
     ensures links { (us : List Source) → IsNoBreach us }
     ensures cycles { (us : List Source) → ReachesAll us }
     ensures told { (us : List Source) → IsTold us }
     ensures once { (us : List Source) → Links us → DefinesOnce us }
+    ensures declared { (us : List Source) → ComesFromDeclarations us }
     ensures seen { (us : List Source) → TellsSeen us }
 {}
 

@@ -5,3 +5,5 @@ pub mod Apart
 pub mod Singles
 pub mod Whole
 pub mod Settled
+pub mod Both
+pub mod Sending

@@ -17,7 +17,7 @@ use Rattle.guard_queue.specs.Changes.{outcome}
 use Rattle.guard_queue.specs.Settles.{Settling, stands}
 use Rattle.object_manager.specs.Acts.{acts}
 use Rattle.object_manager.specs.After.{Copied, after, settled_after}
-use Rattle.object_manager.specs.Singles.{after_passed, after_single, counted_by, kept_by, passed_by}
+use Rattle.object_manager.specs.Singles.{after_passed, after_single, counted_by, kept_by, own_after, singles_after}
 
 -- the objects and the queue that are left where a change settles
 pub left_is : (p : Performs) (objects : Objects) (queue : List Suspended) (change : Change) (lines all : Vec Answered Global) (left : Objects) (still : List Suspended) (s : Settling)
@@ -43,6 +43,6 @@ pub passed_is : (p : Performs) (keeps : Bool) (x now : Copied) (message : Messag
     → record x { applied = applied } ≡ after_passed p keeps now message
 passed_is p keeps x now message kind object m applied make made counts more =
     let counted : Making → Copied = λ n. record now { singles = counted_by n kind object now.singles; own = kept_by keeps n kind object now.own; applied = now.applied + 1 } in
-    let by : Action → Copied = λ a. record (passed_by p keeps now a) { applied = now.applied + 1 } in
+    let by : Action → Copied = λ a. record now { singles = singles_after p now.singles a; own = own_after p keeps now.own a; applied = now.applied + 1 } in
     let first : record x { applied = applied } ≡ counted m = (λ i. record (counts i) { applied = more i }) in
     first ∙ ap counted made ∙ sym (ap by make)

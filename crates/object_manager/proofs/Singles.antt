@@ -28,7 +28,7 @@ use Rattle.guard_queue.proofs.Steps.{over_more, settled_fits}
 use Rattle.object_manager.specs.After.{Copied, acted, acted_by, after, as_call, called_in}
 use Rattle.object_manager.specs.Applies.{Applies, AppliesSingle, CopiesBlocked, CopiesFit}
 use Rattle.object_manager.specs.Laws.{GoesOn, IsPlain}
-use Rattle.object_manager.specs.Singles.{AreCounted, IsCounted, after_passed, after_single, counted_by, kept_by, kinds_at, passed_by, side}
+use Rattle.object_manager.specs.Singles.{AreCounted, IsCounted, after_passed, after_single, counted_by, kept_by, kinds_at, own_after, side, singles_after}
 use Rattle.object_manager.proofs.Fitted.{called_fit, made_fit}
 
 -- ---- what is counted
@@ -41,7 +41,7 @@ last_extends kinds singles entry one has =
     ]
 
 -- what is among the pairs was counted
-is_counted : (singles : Kinds) (object : ObjectId) (kind : KindNo) → Contains singles (object, kind) → IsCounted singles object
+pub is_counted : (singles : Kinds) (object : ObjectId) (kind : KindNo) → Contains singles (object, kind) → IsCounted singles object
 is_counted singles object kind (k, lt, is) = (k, (object, kind), lt, is, refl)
 
 -- one that wasn't counted isn't kept here
@@ -127,12 +127,16 @@ module _ (fits_state : Kinds → KindNo → Data → Type 0) (fits_args : Kinds 
   made_goes false c kind object (making.Broke fault) made fit blocked counted apart =
       record { fits = record { shared = fit.shared; own = fit.own }; blocked = record { shared = blocked.shared; own = blocked.own }; counted = counted; types = λ entry has. has }
 
-  passed_goes : (keeps : Bool) (c : Copied) (a : Action) → CopiesFit fits_state fits_args c → CopiesBlocked p c → AreCounted c.own c.singles → Applies fits_args c a → GoesOn fits_state fits_args p c (passed_by p keeps c a)
+  nothing_goes : (c : Copied) → CopiesFit fits_state fits_args c → CopiesBlocked p c → AreCounted c.own c.singles → GoesOn fits_state fits_args p c (record c { singles = c.singles; own = c.own })
+  nothing_goes c fit blocked counted =
+      record { fits = record { shared = fit.shared; own = fit.own }; blocked = record { shared = blocked.shared; own = blocked.own }; counted = counted; types = λ entry has. has }
+
+  passed_goes : (keeps : Bool) (c : Copied) (a : Action) → CopiesFit fits_state fits_args c → CopiesBlocked p c → AreCounted c.own c.singles → Applies fits_args c a → GoesOn fits_state fits_args p c (record c { singles = singles_after p c.singles a; own = own_after p keeps c.own a })
   passed_goes keeps c (action.Make kind object) fit blocked counted applies = made_goes keeps c kind object (p.made kind) (λ kinds. makes kinds kind) fit blocked counted applies.1
-  passed_goes keeps c (action.Call kind op object args) fit blocked counted applies = record { fits = fit; blocked = blocked; counted = counted; types = λ entry has. has }
-  passed_goes keeps c (action.Fork process args place_on) fit blocked counted applies = record { fits = fit; blocked = blocked; counted = counted; types = λ entry has. has }
-  passed_goes keeps c action.Ended fit blocked counted applies = record { fits = fit; blocked = blocked; counted = counted; types = λ entry has. has }
-  passed_goes keeps c (action.Faulted fault) fit blocked counted applies = record { fits = fit; blocked = blocked; counted = counted; types = λ entry has. has }
+  passed_goes keeps c (action.Call kind op object args) fit blocked counted applies = nothing_goes c fit blocked counted
+  passed_goes keeps c (action.Fork process args place_on) fit blocked counted applies = nothing_goes c fit blocked counted
+  passed_goes keeps c action.Ended fit blocked counted applies = nothing_goes c fit blocked counted
+  passed_goes keeps c (action.Faulted fault) fit blocked counted applies = nothing_goes c fit blocked counted
 
   pub after_passed_goes : (keeps : Bool) (c : Copied) (message : Message) → CopiesFit fits_state fits_args c → CopiesBlocked p c → AreCounted c.own c.singles → Applies fits_args c message.action
       → GoesOn fits_state fits_args p c (after_passed p keeps c message)

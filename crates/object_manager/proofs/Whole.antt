@@ -1,7 +1,9 @@
 -- What is always so of copies stays so.
-use Rattle.std.proofs.Common.{◌≡◌, ℕ, ◌+◌, ◌-◌, ◌≤◌, ◌<◌, true, false, cond, is_some, List, [], ◌∷◌, length, Option, None, Some, ap, ◌∙◌, refl, arith}
+use Rattle.std.proofs.Common.{◌≡◌, inl, inr, ℕ, ◌+◌, ◌-◌, ◌≤◌, ◌<◌, true, false, cond, is_some, List, [], ◌∷◌, ◌++◌, length, Option, None, Some, ap, ◌∙◌, sym, refl, subst, arith}
 use Rattle.std.specs.Prelude.{leb}
+use Rattle.std.specs.BTreeMap.{is_at}
 use Rattle.std.proofs.lemmas.Bool.{leb-false}
+use Rattle.std.proofs.lemmas.List.Elements.{Contains-push_cases}
 use Rattle.orca_base.specs.declared.ids.KindNo.{KindNo}
 use Rattle.orca_base.specs.declared.ids.OpNo.{OpNo}
 use Rattle.orca_base.specs.declared.ids.ObjectId.{ObjectId}
@@ -16,18 +18,19 @@ use Rattle.value_core.specs.declared.meaning.Tried.{Tried}
 use Rattle.value_core.specs.declared.meaning.Tried.TheVariants as tried
 use Rattle.value_core.specs.Fits.{Kinds}
 use Rattle.value_core.specs.Meaning.{Performs}
-use Rattle.value_core.specs.History.{Objects, after_making, forked, object_at, output_kind, output_object, with_object}
+use Rattle.value_core.specs.History.{Objects, after_making, forked, object_at, object_cmp, output_kind, output_object, with_object}
 use Rattle.guard_queue.specs.declared.queue.Suspended.{Suspended}
 use Rattle.guard_queue.specs.Fitting.{kind_at, kind_in}
-use Rattle.guard_queue.specs.Settles.{tried_in}
+use Rattle.guard_queue.specs.Settles.{objects_with, tried_in}
 use Rattle.guard_queue.specs.Shown.{Rises}
 use Rattle.guard_queue.proofs.KindsAt.{kind_at-made, settled_keeps, with_keeps}
+use Rattle.guard_queue.proofs.Lookups.{object_at-with_object, same_id}
 use Rattle.guard_queue.proofs.Stays.{settled_length, with_length}
 use Rattle.guard_queue.proofs.Writes.{length_with}
 use Rattle.object_manager.specs.After.{Copied, acted, acted_by, after, as_call, called_in}
 use Rattle.object_manager.specs.Applies.{Applies, AppliesSingle}
 use Rattle.object_manager.specs.Limits.{made_objects, objects_limit, too_many}
-use Rattle.object_manager.specs.Singles.{after_single}
+use Rattle.object_manager.specs.Singles.{IsCounted, after_single}
 use Rattle.object_manager.specs.Whole.{IsWhole}
 use Rattle.object_manager.proofs.Lasting.{acted_rises, after_rises}
 use Rattle.object_manager.proofs.Singles.{counted_single}
@@ -63,6 +66,52 @@ after_output : (fits_args : Kinds → KindNo → OpNo → Data → Type 0) (p : 
 after_output fits_args p c message applies had =
     let s = acted p c message in
     settled_keeps p (length s.queue) (record { objects = s.objects; queue = s.queue; lines = [] }) output_object ∙ acted_output fits_args p c message message.action applies had ∙ had
+
+-- ---- what is counted isn't replicated
+absent_kind : (o : Option Instance) → kind_in o ≡ None → o ≡ None
+absent_kind None h = refl
+absent_kind (Some kept) h = absurd (cc h)
+
+-- an object is made that wasn't counted
+made_apart : (objects : Objects) (singles : Kinds) (kind : KindNo) (object : ObjectId) (m : Making) → (IsCounted singles object → ⊥) → (q : ObjectId) → IsCounted singles q → object_at objects q ≡ None → object_at (after_making objects kind object m) q ≡ None
+made_apart objects singles kind object (making.Made state) new q counted absent =
+    object_at-with_object objects object (record { kind = kind; state = state }) q
+    ∙ elim (is_at (object_cmp q) object) as (λ b. is_at (object_cmp q) object ≡ b → cond b (Some (record { kind = kind; state = state })) (object_at objects q) ≡ None) [
+      | true ↦ λ here. absurd (new (subst (IsCounted singles) (same_id q object here) counted))
+      | false ↦ λ away. absent
+    ] refl
+made_apart objects singles kind object (making.Broke fault) new q counted absent = absent
+
+called_kind : (objects : Objects) (queue : List Suspended) (call : Suspended) (t : Tried) (q : ObjectId) → object_at objects q ≡ None → object_at (called_in objects queue call t).objects q ≡ None
+called_kind objects queue call tried.Blocked q absent = absent
+called_kind objects queue call (tried.Did guard state reply) q absent = absent_kind (object_at (objects_with objects call (tried.Did guard state reply)) q) (with_keeps objects call (tried.Did guard state reply) q ∙ ap kind_in absent)
+called_kind objects queue call (tried.Broke guard fault) q absent = absent_kind (object_at (objects_with objects call (tried.Broke guard fault)) q) (with_keeps objects call (tried.Broke guard fault) q ∙ ap kind_in absent)
+
+acted_apart : (fits_args : Kinds → KindNo → OpNo → Data → Type 0) (p : Performs) (c : Copied) (message : Message) (a : Action) → Applies fits_args c a → (q : ObjectId) → IsCounted c.singles q → object_at c.objects q ≡ None
+    → object_at (acted_by p c message a).objects q ≡ None
+acted_apart fits_args p c message (action.Make kind object) applies q counted absent = made_apart c.objects c.singles kind object (p.made kind) applies.1 q counted absent
+acted_apart fits_args p c message (action.Call kind op object args) applies q counted absent =
+    called_kind c.objects c.queue (as_call message kind op object args) (tried_in p c.objects (as_call message kind op object args)) q absent
+acted_apart fits_args p c message (action.Fork process args place_on) applies q counted absent = absent
+acted_apart fits_args p c message action.Ended applies q counted absent = absent
+acted_apart fits_args p c message (action.Faulted fault) applies q counted absent = absent
+
+after_apart_singles : (fits_args : Kinds → KindNo → OpNo → Data → Type 0) (p : Performs) (c : Copied) (message : Message) → Applies fits_args c message.action → ((q : ObjectId) → IsCounted c.singles q → object_at c.objects q ≡ None)
+    → (q : ObjectId) → IsCounted c.singles q → object_at (after p c message).objects q ≡ None
+after_apart_singles fits_args p c message applies apart q counted =
+    let s = acted p c message in
+    absent_kind (object_at (after p c message).objects q)
+    (settled_keeps p (length s.queue) (record { objects = s.objects; queue = s.queue; lines = [] }) q
+    ∙ ap kind_in (acted_apart fits_args p c message message.action applies q counted (apart q counted)))
+
+-- an object that isn't replicated is counted
+pub apart_later : (objects : Objects) (singles : Kinds) (object : ObjectId) (kind : KindNo) → object_at objects object ≡ None → ((q : ObjectId) → IsCounted singles q → object_at objects q ≡ None)
+    → (q : ObjectId) → IsCounted (singles ++ (object, kind) ∷ []) q → object_at objects q ≡ None
+apart_later objects singles object kind absent apart q (k, one, lt, is, same) =
+    elim (Contains-push_cases singles (object, kind) one (k, lt, is)) [
+      | inl (n, below_n, here) ↦ apart q (n, one, below_n, here, same)
+      | inr last ↦ ap (object_at objects) (sym same ∙ sym (ap (λ (e : ObjectId × KindNo). e.0) last)) ∙ absent
+    ]
 
 -- ---- how many processes and objects there are
 -- a limit that isn't passed
@@ -117,6 +166,7 @@ after_whole fits_args p c message whole applies none =
       output = after_output fits_args p c message applies whole.output;
       rises = after_rises p c message whole.rises;
       counted = whole.counted;
+      apart = after_apart_singles fits_args p c message applies whole.apart;
       some = omega (arith, some);
       few = few_by p c message.action whole.few none;
       made = omega (arith, same, few);
@@ -133,6 +183,7 @@ single_whole fits_args p c message whole applies = record {
   output = whole.output;
   rises = whole.rises;
   counted = counted_single fits_args p c message applies whole.counted;
+  apart = whole.apart;
   some = whole.some;
   few = whole.few;
   made = whole.made;

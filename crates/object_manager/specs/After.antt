@@ -1,4 +1,5 @@
--- What ordered messages do to one member's copies (Bal, Kaashoek, Tanenbaum 1992, section 3; docs/LANGUAGE.md, Histories).
+-- What ordered messages do to one member's copies (Bal, Kaashoek, Tanenbaum 1992, section 3; docs/RUNTIME.md,
+-- One member's copies).
 use Rattle.std.specs.Prelude.{ℕ, ◌+◌, List, [], ◌∷◌, ◌++◌, length}
 use Rattle.orca_base.specs.declared.ids.KindNo.{KindNo}
 use Rattle.orca_base.specs.declared.ids.OpNo.{OpNo}

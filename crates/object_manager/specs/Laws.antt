@@ -13,6 +13,7 @@ use Rattle.object_manager.specs.After.{Copied, after}
 use Rattle.object_manager.specs.Applies.{Applies, AppliesSingle, CopiesBlocked, CopiesFit}
 use Rattle.object_manager.specs.Limits.{made_objects}
 use Rattle.object_manager.specs.Singles.{AreCounted, after_passed, after_single, kinds_at}
+use Rattle.object_manager.specs.State.{HasNoSingles, state_of}
 
 -- after a message each suspended call on a replicated object is blocked
 abbrev pub AfterBlocked : Performs → Type 0
@@ -42,7 +43,12 @@ pub record GoesOn (fits_state : Kinds → KindNo → Data → Type 0) (fits_args
   pub counted : AreCounted now.own now.singles
   pub types : ExtendsKinds (kinds_at before) (kinds_at now)
 
--- so it is after an entry that makes a single object
+-- so it is after an entry
+abbrev pub EntryGoesOn : (Kinds → KindNo → Data → Type 0) → (Kinds → KindNo → OpNo → Data → Type 0) → Performs → Type 0
+EntryGoesOn fits_state fits_args p = (c : Copied) (message : Message) → CopiesFit fits_state fits_args c → CopiesBlocked p c →
+    AreCounted c.own c.singles → Applies fits_args c message.action → GoesOn fits_state fits_args p c (after p c message)
+
+-- after an entry that makes a single object
 abbrev pub PassedGoesOn : (Kinds → KindNo → Data → Type 0) → (Kinds → KindNo → OpNo → Data → Type 0) → Performs → Type 0
 PassedGoesOn fits_state fits_args p = (keeps : Bool) (c : Copied) (message : Message) → CopiesFit fits_state fits_args c →
     CopiesBlocked p c → AreCounted c.own c.singles → Applies fits_args c message.action →
@@ -54,11 +60,21 @@ SingleGoesOn fits_state fits_args p = (c : Copied) (message : Message) → Copie
     AreCounted c.own c.singles → AppliesSingle fits_args c message.action →
     GoesOn fits_state fits_args p c (after_single p c message)
 
--- with no single object the types and the number of objects made are those of the objects, and no message makes one
+-- the types of all objects and the number of objects made are those of the replicated ones, and an entry counts no single object
 pub record IsPlain (p : Performs) (c : Copied) (message : Message) : Type 0 where
   pub types : kinds_at c ≡ kinds_of c.objects
   pub made : made_objects c ≡ length c.objects - 1
   pub none : (after p c message).singles ≡ []
 
+-- so it is with no single object
 abbrev pub WithoutSingles : Performs → Type 0
 WithoutSingles p = (c : Copied) (message : Message) → c.singles ≡ [] → IsPlain p c message
+
+-- where no object was counted as single, none is kept here and no call waits on one
+abbrev pub NoneKept : (Kinds → KindNo → Data → Type 0) → (Kinds → KindNo → OpNo → Data → Type 0) → Type 0
+NoneKept fits_state fits_args =
+    (c : Copied) → CopiesFit fits_state fits_args c → AreCounted c.own c.singles → c.singles ≡ [] → HasNoSingles c
+
+-- copies without single objects are what their state says
+abbrev pub StatesTell : Type 0
+StatesTell = (c d : Copied) → HasNoSingles c → HasNoSingles d → state_of c ≡ state_of d → c ≡ d

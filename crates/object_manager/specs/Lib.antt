@@ -3,6 +3,7 @@ pub mod Singles
 pub mod Limits
 pub mod Whole
 pub mod Applies
+pub mod State
 pub mod Viewed
 pub mod Acts
 pub mod Apart

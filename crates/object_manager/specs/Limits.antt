@@ -1,5 +1,6 @@
 -- The limits of a run that an entry can meet.
 use Rattle.std.specs.Prelude.{◌≡◌, ℕ, ◌+◌, ◌-◌, leb, length, Option, None, Some, if◌then◌else◌}
+use Rattle.orca_base.specs.declared.limits.TheConstants.{OBJECTS, PROCESSES}
 use Rattle.orca_base.specs.declared.what.What.{What}
 use Rattle.orca_base.specs.declared.what.What.TheVariants as what
 use Rattle.value_core.specs.declared.action.Action.{Action}
@@ -13,10 +14,10 @@ use Rattle.object_manager.specs.declared.copies.ApplyError.TheVariants as refuse
 
 -- the most objects, the output object not counted, and the most processes, process 0 counted
 abbrev pub most_objects : ℕ
-most_objects = 4096
+most_objects = OBJECTS
 
 abbrev pub most_processes : ℕ
-most_processes = 256
+most_processes = PROCESSES
 
 -- how many objects were made: the replicated ones but the output object, which is always there, and the single ones
 abbrev pub made_objects : Copied → ℕ

@@ -15,6 +15,7 @@ use Rattle.value_core.specs.Fits.{Kinds}
 use Rattle.value_core.specs.Meaning.{Performs}
 use Rattle.value_core.specs.History.{Objects, after_making, object_at}
 use Rattle.guard_queue.specs.Fitting.{kinds_of}
+use Rattle.guard_queue.specs.Shown.{or_else}
 use Rattle.object_manager.specs.After.{Copied, after, lines_after}
 
 -- the types of all objects, single ones too
@@ -29,6 +30,10 @@ IsCounted singles object = Any (λ (one : ObjectId × KindNo). one.0 ≡ object)
 abbrev pub AreCounted : Objects → Kinds → Type 0
 AreCounted own singles = (object : ObjectId) (kept : Instance) → object_at own object ≡ Some kept → Contains singles (object, kept.kind)
 
+-- both kinds of objects as one
+abbrev pub IsBoth : Objects → Objects → Objects → Type 0
+IsBoth both objects own = (object : ObjectId) → object_at both object ≡ or_else (object_at objects object) (object_at own object)
+
 -- what is kept here, as copies
 abbrev pub side : Copied → Copied
 side c = record c { objects = c.own; queue = c.waits }
@@ -42,20 +47,29 @@ counted_by (making.Broke fault) kind object singles = singles
 abbrev pub kept_by : Bool → Making → KindNo → ObjectId → Objects → Objects
 kept_by keeps made kind object own = if keeps then after_making own kind object made else own
 
--- a make of a single object
-abbrev pub passed_by : Performs → Bool → Copied → Action → Copied
-passed_by p keeps c (action.Make kind object) = record c {
-  singles = counted_by (p.made kind) kind object c.singles;
-  own = kept_by keeps (p.made kind) kind object c.own;
-}
-passed_by p keeps c (action.Call kind op object args) = c
-passed_by p keeps c (action.Fork process args place_on) = c
-passed_by p keeps c action.Ended = c
-passed_by p keeps c (action.Faulted fault) = c
+-- the single objects counted after an action: a make counts one
+abbrev pub singles_after : Performs → Kinds → Action → Kinds
+singles_after p singles (action.Make kind object) = counted_by (p.made kind) kind object singles
+singles_after p singles (action.Call kind op object args) = singles
+singles_after p singles (action.Fork process args place_on) = singles
+singles_after p singles action.Ended = singles
+singles_after p singles (action.Faulted fault) = singles
+
+-- what is kept here after that
+abbrev pub own_after : Performs → Bool → Objects → Action → Objects
+own_after p keeps own (action.Make kind object) = kept_by keeps (p.made kind) kind object own
+own_after p keeps own (action.Call kind op object args) = own
+own_after p keeps own (action.Fork process args place_on) = own
+own_after p keeps own action.Ended = own
+own_after p keeps own (action.Faulted fault) = own
 
 -- the copies after an entry that makes a single object: the replicated objects and the calls on them stay
 abbrev pub after_passed : Performs → Bool → Copied → Message → Copied
-after_passed p keeps c message = record (passed_by p keeps c message.action) { applied = c.applied + 1 }
+after_passed p keeps c message = record c {
+  singles = singles_after p c.singles message.action;
+  own = own_after p keeps c.own message.action;
+  applied = c.applied + 1;
+}
 
 -- the copies after a call on a single object, which is no entry: what is kept here changes as by an entry
 abbrev pub after_single : Performs → Copied → Message → Copied

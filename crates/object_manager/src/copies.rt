@@ -1,20 +1,24 @@
 //! One member's copies.
 
-ghost use Rattle.std.specs.Prelude.{◌≡◌, ◌<◌, ◌≤◌, ◌^◌, ◌-◌, ◌↔◌, IfOk, IfErr, OnOk, OnErr, IsTrue, None, if◌then◌else◌, length};
-ghost use Rattle.value_core.specs.History.{forked, output_kind, output_object, with_object};
+ghost use Rattle.std.specs.Prelude.{◌≡◌, ◌<◌, ◌≤◌, ◌^◌, ◌-◌, ◌↔◌, IfOk, IfErr, OnOk, OnErr, IsTrue, None, [], false, if◌then◌else◌, length};
+ghost use Rattle.value_core.specs.History.{forked, object_at, output_kind, output_object, with_object};
 ghost use Rattle.guard_queue.specs.Changes.{JoinsBlocked};
 ghost use Rattle.guard_queue.specs.Fitting.{kind_at};
 ghost use Rattle.guard_queue.specs.Settles.{lines_of, tried_on};
+ghost use Rattle.guard_queue.specs.Shown.{with_all};
 ghost use Rattle.guard_queue.specs.Waits.{IsWaiting};
 ghost use Rattle.object_manager.specs.After.{acted, after, lines_after, opening_copies};
 ghost use Rattle.object_manager.specs.Acts.{acts};
 ghost use Rattle.object_manager.specs.Applies.{Applies, AppliesSingle, CopiesBlocked, CopiesFit};
 ghost use Rattle.object_manager.specs.Limits.{IfLimit, made_objects, most_objects, most_processes, objects_limit, processes_limit, too_many};
-ghost use Rattle.object_manager.specs.Singles.{AreCounted, IsCounted, IsMake, after_passed, after_single, counted_by, kept_by, lines_single, side};
+ghost use Rattle.object_manager.specs.Singles.{AreCounted, IsBoth, IsCounted, IsMake, after_passed, after_single, counted_by, kept_by, lines_single, side};
+ghost use Rattle.object_manager.specs.State.{HasNoSingles, IsState, state_of};
 ghost use Rattle.object_manager.specs.Viewed.{ReadFits};
+ghost use Rattle.object_manager.specs.Whole.{IsWhole};
 ghost use Rattle.object_manager.specs.declared.copies.ApplyError.TheVariants.{NoMemory as Without};
 
 use crate::acts::{Acted, answer_of, call_of, call_on, plain_line, put_made};
+use crate::state::{CopiesState, entries_of, messages_of, objects_from, queue_from};
 use crate::view::View;
 use guard_queue::{Answered, Change, Objects, Queue, settle_after, try_on};
 use orca_base::{KindNo, NoMemory, OBJECTS, ObjectId, OpNo, PROCESSES, ProcessNo, What};
@@ -138,6 +142,31 @@ impl Copies {
         &self.own
     }
 
+    /// All objects that are kept here, replicated and single ones, as one. No object is both.
+    pub fn held(&self, alloc: Global) -> Result<Objects, NoMemory>
+        ensures { IfOk result (λ o. IsBoth o self.now.objects self.now.own) }
+    {
+        let objects = self.objects.copy(alloc)?;
+        if self.own.len() == 0 {
+            return Ok(objects);
+        }
+        with_entries(alloc, objects, self.own.entries(alloc)?)
+    }
+
+    /// What is always so of copies is so of these. A call of this does nothing.
+    pub fn whole(&self)
+        ensures { IsWhole self.now }
+    {
+        let _ = &self.objects;
+    }
+
+    /// Whether an object was counted as single.
+    pub fn has_singles(&self) -> bool
+        ensures { result ≡ false ↔ (self.now.singles ≡ []) }
+    {
+        !self.singles.is_empty()
+    }
+
     /// Whether the object was counted as single.
     pub fn is_counted(&self, object: ObjectId) -> bool
         ensures { IsTrue result ↔ IsCounted self.now.singles object }
@@ -196,6 +225,37 @@ impl Copies {
         ensures { IfOk result (λ v. v ≡ record { objects = self.now.objects; place = self.now.applied }) }
     {
         Ok(View::new(self.objects.copy(alloc)?, self.applied))
+    }
+
+    /// The copies as they are sent to a member that joins late, where no object was counted as single.
+    pub fn state(&self, alloc: Global) -> Result<CopiesState, NoMemory>
+        requires { self.now.singles ≡ [] }
+        ensures state { IfOk result (λ s. s ≡ state_of self.now) }
+        ensures fits { IfOk result IsState }
+    {
+        Ok(CopiesState {
+            applied: self.applied,
+            processes: self.processes,
+            objects: entries_of(alloc, &self.objects)?,
+            queue: messages_of(alloc, &self.queue)?,
+        })
+    }
+
+    /// The copies that have this state, and no single objects.
+    pub fn from_state(alloc: Global, state: CopiesState) -> Result<Copies, NoMemory>
+        requires { IsState state }
+        ensures state { IfOk result (λ c. state_of c ≡ state) }
+        ensures plain { IfOk result HasNoSingles }
+    {
+        Ok(Copies {
+            objects: objects_from(alloc, &state.objects)?,
+            queue: queue_from(alloc, &state.queue)?,
+            processes: state.processes,
+            applied: state.applied,
+            singles: Vec::new(alloc),
+            own: Objects::new(alloc)?,
+            waits: Queue::new(alloc),
+        })
     }
 
     /// One more entry is applied where each suspended call is blocked: the message's action, and then the queue settles. The
@@ -376,7 +436,8 @@ impl Copies {
         making: Making,
         keeps: bool,
     ) -> Result<(), NoMemory>
-        requires { objects_limit self.old making ≡ None }
+        requires limit { objects_limit self.old making ≡ None }
+        requires absent { object_at self.old.objects object ≡ None }
         ensures ok { OnOk result (self.new ≡ record self.old {
           singles = counted_by making kind object self.old.singles;
           own = kept_by keeps making kind object self.old.own;
@@ -432,6 +493,21 @@ impl Copies {
         }
         Ok(())
     }
+}
+
+// The objects with these put in.
+fn with_entries(
+    alloc: Global,
+    objects: Objects,
+    entries: Vec<(ObjectId, Instance)>,
+) -> Result<Objects, NoMemory>
+    ensures { IfOk result (λ o. o ≡ with_all objects entries.items) }
+{
+    let mut all = objects;
+    for (object, kept) in entries {
+        all.put(alloc, object, kept)?;
+    }
+    Ok(all)
 }
 
 // The objects with this one put in, where that is asked.

@@ -8,8 +8,10 @@
 mod acts;
 mod copies;
 mod laws;
+mod state;
 mod view;
 
 pub use copies::{ApplyError, Copies};
 pub use laws::copies_law;
+pub use state::{CopiesState, ObjectEntry};
 pub use view::View;

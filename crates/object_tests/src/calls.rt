@@ -1,7 +1,7 @@
 //! Calls of the objects and of the queue that no entry makes.
 
-use crate::entries::{Answer, enter, line, start, told_of};
-use bag_copies::{make, object, settle_alone};
+use crate::entries::{Answer, Told, enter, line, told_of};
+use bag_copies::{BagCopies, Refused, make, object};
 use bag_performer::Bags;
 use guard_queue::{Objects, Queue, Suspended};
 use orca_base::{CallNo, NoMemory, ProcessNo};
@@ -98,14 +98,25 @@ fn entries_in_order(rt: HostRuntime) -> Result<(), Fail> {
     Ok(())
 }
 
+// Copies with one flag.
+fn flagged(alloc: Global) -> Result<BagCopies, Refused> {
+    let mut copies = BagCopies::opening(alloc)?;
+    enter(alloc, &mut copies, &make(0, 0, Bags::FLAG, object(1)))?;
+    Ok(copies)
+}
+
+// The lines of a call by itself, which waits until the flag has this integer.
+fn settles(alloc: Global, copies: &BagCopies, number: i64) -> Result<Vec<Told>, Refused> {
+    let lines = copies.settle_alone(alloc, waits(alloc, 3, number)?)?;
+    Ok(told_of(alloc, &lines)?)
+}
+
 #[test]
 fn queue_settles_by_itself(rt: HostRuntime) -> Result<(), Fail> {
-    let alloc = rt.alloc();
-    let mut copies = start(alloc)?;
-    enter(alloc, &mut copies, &make(0, 0, Bags::FLAG, object(1)))?;
-    let ready = settle_alone(alloc, &copies, waits(alloc, 3, 0)?)?;
-    assert!(rt; told_of(alloc, &ready)?.as_slice() == [line(3, 0, 1, Answer::Done)].as_slice());
-    let blocked = settle_alone(alloc, &copies, waits(alloc, 3, 9)?)?;
+    let copies = flagged(rt.alloc())?;
+    let ready = settles(rt.alloc(), &copies, 0)?;
+    assert!(rt; ready.as_slice() == [line(3, 0, 1, Answer::Done)].as_slice());
+    let blocked = settles(rt.alloc(), &copies, 9)?;
     assert!(rt; blocked.is_empty());
     Ok(())
 }

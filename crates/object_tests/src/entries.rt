@@ -1,14 +1,9 @@
 //! Worked entries on copies of pools and flags.
 
-ghost use Rattle.std.specs.Prelude.{IfOk};
-ghost use Rattle.bag_copies.specs.Fits.{FitsAll, ViewFits};
-
-use bag_copies::{
-    Refused, call, entry, fork, fork_many, make, make_flags, object, opened, read, read_view,
-};
+use bag_copies::{BagCopies, BagView, Refused, call, fork, fork_many, make, make_flags, object};
 use bag_performer::Bags;
 use guard_queue::Answered;
-use object_manager::{ApplyError, Copies, View};
+use object_manager::ApplyError;
 use orca_base::{FaultKind, KindNo, NoMemory, OpNo, ProcessNo, What};
 use std::alloc::Global;
 use std::test::Fail;
@@ -77,23 +72,13 @@ pub(crate) fn told_of(alloc: Global, lines: &[Answered]) -> Result<Vec<Told>, No
     Ok(all)
 }
 
-// Copies before the first entry.
-pub(crate) fn start(alloc: Global) -> Result<Copies, Refused>
-    ensures { IfOk result FitsAll }
-{
-    Ok(opened(alloc)?)
-}
-
 // One more entry is applied; its lines.
 pub(crate) fn enter(
     alloc: Global,
-    copies: &mut Copies,
+    copies: &mut BagCopies,
     message: &Message,
-) -> Result<Vec<Told>, Refused>
-    requires { FitsAll copies.old }
-    ensures { FitsAll copies.new }
-{
-    let lines = entry(alloc, copies, message)?;
+) -> Result<Vec<Told>, Refused> {
+    let lines = copies.entry(alloc, message)?;
     Ok(told_of(alloc, &lines)?)
 }
 
@@ -119,10 +104,8 @@ fn message(alloc: Global, step: Step) -> Result<Message, NoMemory> {
 }
 
 // The copies after a row of entries, and the lines of the last one.
-fn run(alloc: Global, row: &[Step]) -> Result<(Copies, Vec<Told>), Refused>
-    ensures { IfOk result (λ r. FitsAll r.0) }
-{
-    let mut copies = start(alloc)?;
+fn run(alloc: Global, row: &[Step]) -> Result<(BagCopies, Vec<Told>), Refused> {
+    let mut copies = BagCopies::opening(alloc)?;
     let mut last = Vec::new(alloc);
     for step in row {
         last = enter(alloc, &mut copies, &message(alloc, *step)?)?;
@@ -151,30 +134,19 @@ fn args(alloc: Global, number: Option<i64>) -> Result<Parts, Refused> {
 // What a read of object 1 of process 0 gives.
 fn reads(
     alloc: Global,
-    copies: &Copies,
+    copies: &BagCopies,
     operation: (KindNo, OpNo),
     number: Option<i64>,
-) -> Result<Answer, Refused>
-    requires { FitsAll copies.now }
-{
+) -> Result<Answer, Refused> {
     let (kind, op) = operation;
-    let tried = read(alloc, copies, kind, op, object(1), &args(alloc, number)?)?;
+    let tried = copies.read(alloc, kind, op, object(1), &args(alloc, number)?)?;
     Ok(outcome(&tried))
 }
 
 // What an await of this number gives on a snapshot.
-fn awaits(alloc: Global, view: &View, number: i64) -> Result<Answer, Refused>
-    requires { ViewFits view.now.objects }
-{
+fn awaits(alloc: Global, view: &BagView, number: i64) -> Result<Answer, Refused> {
     let (kind, op) = AWAIT;
-    let tried = read_view(
-        alloc,
-        view,
-        kind,
-        op,
-        object(1),
-        &args(alloc, Some(number))?,
-    )?;
+    let tried = view.read(alloc, kind, op, object(1), &args(alloc, Some(number))?)?;
     Ok(outcome(&tried))
 }
 
@@ -224,8 +196,8 @@ fn queue_answers_the_oldest(rt: HostRuntime) -> Result<(), Fail> {
     let put = line(2, 0, 0, Answer::Done);
     let take = line(0, 3, 1, Answer::Gave(7));
     assert!(rt; sixth.as_slice() == [put, take].as_slice());
-    assert!(rt; !copies.is_suspended(ProcessNo(0)));
-    assert!(rt; copies.is_suspended(ProcessNo(1)));
+    assert!(rt; !copies.as_copies().is_suspended(ProcessNo(0)));
+    assert!(rt; copies.as_copies().is_suspended(ProcessNo(1)));
     assert_eq!(rt; reads(rt.alloc(), &copies, TAKE, None)?, Answer::Blocked);
     Ok(())
 }
@@ -255,7 +227,7 @@ fn making_that_faults_makes_no_object(rt: HostRuntime) -> Result<(), Fail> {
     let (copies, lines) = run(rt.alloc(), &[Step::Make(0, Bags::BROKEN)])?;
     let broke = line(0, 0, 0, Answer::Broke(FaultKind::DivideByZero));
     assert!(rt; lines.as_slice() == [broke].as_slice());
-    assert_eq!(rt; copies.objects().len(), 1);
+    assert_eq!(rt; copies.as_copies().objects().len(), 1);
     Ok(())
 }
 
@@ -272,7 +244,7 @@ fn guards_are_tried_in_text_order(rt: HostRuntime) -> Result<(), Fail> {
 
 #[test]
 fn objects_up_to_their_limit(rt: HostRuntime) -> Result<(), Fail> {
-    let mut copies = start(rt.alloc())?;
+    let mut copies = BagCopies::opening(rt.alloc())?;
     make_flags(rt.alloc(), &mut copies, 4_096)?;
     let over = enter(
         rt.alloc(),
@@ -284,14 +256,14 @@ fn objects_up_to_their_limit(rt: HostRuntime) -> Result<(), Fail> {
         number: 4_096,
     };
     assert!(rt; over.err() == Some(Refused::Copies { why: limit }));
-    assert_eq!(rt; copies.objects().len(), 4_097);
-    assert_eq!(rt; copies.applied(), 4_096);
+    assert_eq!(rt; copies.as_copies().objects().len(), 4_097);
+    assert_eq!(rt; copies.as_copies().applied(), 4_096);
     Ok(())
 }
 
 #[test]
 fn processes_up_to_their_limit(rt: HostRuntime) -> Result<(), Fail> {
-    let mut copies = start(rt.alloc())?;
+    let mut copies = BagCopies::opening(rt.alloc())?;
     fork_many(rt.alloc(), &mut copies, 255)?;
     let over = enter(
         rt.alloc(),
@@ -303,37 +275,63 @@ fn processes_up_to_their_limit(rt: HostRuntime) -> Result<(), Fail> {
         number: 256,
     };
     assert!(rt; over.err() == Some(Refused::Copies { why: limit }));
-    assert_eq!(rt; copies.processes(), 256);
-    assert_eq!(rt; copies.applied(), 255);
+    assert_eq!(rt; copies.as_copies().processes(), 256);
+    assert_eq!(rt; copies.as_copies().applied(), 255);
     Ok(())
+}
+
+// Copies of a flag, with a snapshot before it was set to 5 and one after.
+fn viewed(alloc: Global) -> Result<(BagView, BagView), Refused> {
+    let (mut copies, _) = run(alloc, &SPOILED[..1])?;
+    let before = copies.view(alloc)?;
+    enter(alloc, &mut copies, &message(alloc, SPOILED[1])?)?;
+    Ok((before, copies.view(alloc)?))
 }
 
 #[test]
 fn view_stays_as_it_is(rt: HostRuntime) -> Result<(), Fail> {
-    let (mut copies, _) = run(rt.alloc(), &SPOILED[..1])?;
-    let before = copies.view(rt.alloc())?;
-    enter(rt.alloc(), &mut copies, &message(rt.alloc(), SPOILED[1])?)?;
-    let after = copies.view(rt.alloc())?;
-    assert_eq!(rt; before.place(), 1);
-    assert_eq!(rt; awaits(rt.alloc(), &before, 0)?, Answer::Done);
-    assert_eq!(rt; awaits(rt.alloc(), &after, 5)?, Answer::Done);
-    assert!(rt; !before.same(&after));
-    assert_eq!(rt; before.objects().len(), 2);
-    assert!(rt; before.holds(object(1)) && !before.holds(object(2)));
-    assert!(rt; before.copy(rt.alloc())?.same(&before));
+    let (before, after) = viewed(rt.alloc())?;
+    assert_eq!(rt; before.as_view().place(), 1);
+    assert!(rt; awaits(rt.alloc(), &before, 0).ok() == Some(Answer::Done));
+    assert!(rt; awaits(rt.alloc(), &after, 5).ok() == Some(Answer::Done));
+    assert!(rt; !before.as_view().same(after.as_view()));
     Ok(())
 }
 
 #[test]
-fn copies_are_equal_and_apart(rt: HostRuntime) -> Result<(), Fail> {
-    let (mut copies, _) = run(rt.alloc(), &SPOILED[..1])?;
+fn view_holds_what_there_was(rt: HostRuntime) -> Result<(), Fail> {
+    let (copies, _) = run(rt.alloc(), &SPOILED[..1])?;
+    let view = copies.as_copies().view(rt.alloc())?;
+    assert_eq!(rt; view.objects().len(), 2);
+    assert!(rt; view.holds(object(1)) && !view.holds(object(2)));
+    assert!(rt; view.copy(rt.alloc())?.same(&view));
+    Ok(())
+}
+
+#[test]
+fn copies_are_equal(rt: HostRuntime) -> Result<(), Fail> {
+    let (copies, _) = run(rt.alloc(), &SPOILED[..1])?;
     let twin = copies.copy(rt.alloc())?;
-    assert!(rt; twin.view(rt.alloc())?.same(&copies.view(rt.alloc())?));
-    enter(rt.alloc(), &mut copies, &message(rt.alloc(), SPOILED[1])?)?;
-    assert_eq!(rt; reads(rt.alloc(), &twin, AWAIT, Some(0))?, Answer::Done);
-    assert_eq!(rt;
-        reads(rt.alloc(), &copies, AWAIT, Some(0))?,
-        Answer::Blocked
-    );
+    let objects = copies.as_copies().objects();
+    assert!(rt; twin.as_copies().objects().is(objects));
+    assert_eq!(rt; twin.as_copies().applied(), 1);
+    Ok(())
+}
+
+// Copies of a flag, and equal ones on which it was then set to 5.
+fn parted(alloc: Global) -> Result<(BagCopies, BagCopies), Refused> {
+    let (mut copies, _) = run(alloc, &SPOILED[..1])?;
+    let twin = copies.copy(alloc)?;
+    enter(alloc, &mut copies, &message(alloc, SPOILED[1])?)?;
+    Ok((twin, copies))
+}
+
+#[test]
+fn copies_go_on_apart(rt: HostRuntime) -> Result<(), Fail> {
+    let (twin, copies) = parted(rt.alloc())?;
+    let old = reads(rt.alloc(), &twin, AWAIT, Some(0)).ok();
+    assert!(rt; old == Some(Answer::Done));
+    let new = reads(rt.alloc(), &copies, AWAIT, Some(0)).ok();
+    assert!(rt; new == Some(Answer::Blocked));
     Ok(())
 }

@@ -11,4 +11,6 @@ mod entries;
 #[cfg(test)]
 mod sent;
 #[cfg(test)]
+mod singles;
+#[cfg(test)]
 mod values;

@@ -1,5 +1,7 @@
-//! What values are made of, and what is made of values, may be handed to another thread.
+//! What values are made of, what is made of values, and the parts of copies may be handed to another thread.
 
+use guard_queue::{Answered, Objects, Queue, Suspended};
+use object_manager::CopiesState;
 use std::test::Fail;
 use value_core::{
     Action, BoxedParts, Class, Doing, Halt, Instance, Line, Making, Message, Parts, Reply,
@@ -30,5 +32,15 @@ fn actions_and_lines_may_be_sent(_rt: HostRuntime) -> Result<(), Fail> {
     may_be_sent::<Tried>();
     may_be_sent::<Doing>();
     may_be_sent::<Halt>();
+    Ok(())
+}
+
+#[test]
+fn parts_of_copies_may_be_sent(_rt: HostRuntime) -> Result<(), Fail> {
+    may_be_sent::<Objects>();
+    may_be_sent::<Queue>();
+    may_be_sent::<Suspended>();
+    may_be_sent::<Answered>();
+    may_be_sent::<CopiesState>();
     Ok(())
 }

@@ -1,5 +1,5 @@
 -- The headline: what a run keeps and prints, over the meanings of its program.
-use Rattle.std.specs.Prelude.{◌≡◌, ◌≢◌, ◌⊎◌, ℕ, List, [], ◌∷◌, ◌++◌, length, map, MatchOption, None, Option, Some, slice_get}
+use Rattle.std.specs.Prelude.{◌≡◌, ◌≢◌, ◌⊎◌, ℕ, List, [], ◌∷◌, ◌++◌, map, MatchOption, None, Option, Some, slice_get}
 use Rattle.std.specs.List.{All}
 use Rattle.command_line.specs.declared.request.RunOptions.{RunOptions}
 use Rattle.orca_base.specs.declared.ids.ProcessNo.{ProcessNo}
@@ -38,8 +38,8 @@ standing_at action.Ended = standings.Ended
 standing_at (action.Faulted fault) = standings.Faulted fault
 standing_at act = standings.Waits act
 
--- where a process stands, by what it does next: it ended, or faulted, or waits with an action that isn't performed; of one that
--- computes, or whose member crashed, nothing is said
+-- where a process stands, by what it does next: it ended, or faulted, or waits for the reply to an action; of one that computes, or
+-- whose member crashed, nothing is said
 abbrev pub StandsBy : Doing → ProcessStanding → Type 0
 StandsBy next standings.Ended = next ≡ doing.At action.Ended
 StandsBy next (standings.Faulted fault) = next ≡ doing.At (action.Faulted fault)

@@ -10,7 +10,7 @@ pub enum ProcessStanding {
     Ended,
     /// It ended by this fault.
     Faulted { fault: FaultKind },
-    /// It is at this action, which was not performed.
+    /// It is at this action, and has received no reply to it.
     Waits { action: Action },
     /// It computes.
     Busy,

@@ -1,5 +1,5 @@
 -- What is derived of a form begins with a token of its set, or takes none.
-use Rattle.std.proofs.Common.{◌≡◌, ◌<◌, true, List, ◌∷◌, length, inl, inr, sym, arith}
+use Rattle.std.proofs.Common.{◌≡◌, true, List, ◌∷◌, inl, inr, sym, arith}
 use Rattle.orca_lexer.specs.declared.token.Token.{Token}
 use Rattle.orca_grammar.specs.Forms.{Form, Mark, Derives}
 use Rattle.orca_grammar.specs.Reading.{first, is_any, nullable}

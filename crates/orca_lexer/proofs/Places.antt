@@ -1,7 +1,7 @@
 -- How large the place of a byte may be, and that places rise.
-use Rattle.std.proofs.Common.{◌≡◌, ℕ, zero, suc, ◌+◌, ◌-◌, ◌<◌, ◌≤◌, Bool, true, false, List, length, take, get_or, not, inl, inr, refl, sym, ap, ◌∙◌, subst, arith, length-take}
+use Rattle.std.proofs.Common.{◌≡◌, ℕ, zero, suc, ◌+◌, ◌-◌, ◌<◌, ◌≤◌, Bool, true, false, List, length, take, get_or, not, inl, inr, refl, ap, ◌∙◌, subst, arith, length-take}
 use Rattle.std.specs.Prelude.{◌==◌}
-use Rattle.std.specs.List.{count_by, suffix_len}
+use Rattle.std.specs.List.{suffix_len}
 use Rattle.std.proofs.lemmas.List.Sums.{count_by_more_no, count_by_more_yes, suffix_len-le-length, suffix_len-take_yes}
 use Rattle.orca_base.specs.declared.place.Place.{Place}
 use Rattle.orca_lexer.specs.Tokens.{column_of, place_in}
@@ -22,7 +22,7 @@ one_on text n within = by_test (get_or text n 0 == 10) refl
         let plain : not (get_or text (n + 1 - 1) 0 == 10) ≡ true = ap (λ k. not (get_or text k 0 == 10)) back ∙ ap not is in
         let more = suffix_len-take_yes (λ c. not (c == 10)) text (n + 1) 0 (omega arith) (omega arith) plain in
         let same : suffix_len (λ c. not (c == 10)) (take (n + 1 - 1) text) ≡ suffix_len (λ c. not (c == 10)) (take n text) =
-            ap (λ k. suffix_len (λ c. not (c == 10)) (take k text)) back in
+        ap (λ k. suffix_len (λ c. not (c == 10)) (take k text)) back in
         inr (omega (arith, lines), omega (arith, more, same))
 
 before_all : (p q r : Place) → StandsBefore p q → StandsBefore q r → StandsBefore p r

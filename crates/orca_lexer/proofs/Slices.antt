@@ -1,5 +1,5 @@
 -- Each token has a slice of the text, and a place behind it; and tokens stand in text order, as their places do.
-use Rattle.std.proofs.Common.{◌≡◌, ℕ, ◌+◌, ◌-◌, ◌<◌, ◌≤◌, List, [], ◌∷◌, length, take, drop, sym, ap, ◌∙◌, subst, arith, length-take, length-drop}
+use Rattle.std.proofs.Common.{◌≡◌, ℕ, ◌+◌, ◌-◌, ◌<◌, ◌≤◌, List, [], ◌∷◌, length, take, drop, ap, arith, length-take, length-drop}
 use Rattle.std.specs.Prelude.{slice_range, not, ◌==◌, ◌^◌}
 use Rattle.std.specs.List.{All, AllByRecursion, AllPairs, suffix_len}
 use Rattle.std.proofs.lemmas.List.Elements.{All-from_recursion}

@@ -1,9 +1,9 @@
 //! The tokens of a source text (docs/LANGUAGE.md, Tokens), and how they are written.
 //!
 //! The floor above uses `tokens`: a text's tokens with their slices and places, and no other list is that; or the first
-//! reason for which it has none, and no other is. `write_token` puts a token's text; what is written so is read back
-//! (`spelling_law`). It stands on orca_base, and on std's check of UTF-8. It knows nothing of the grammar, and keeps no
-//! comments.
+//! reason for which it has none, and no other is. `write_token` puts a token's text; sound tokens that are written so, with a
+//! space between two, are read back (`spelling_law`). It stands on orca_base, and on std's check of UTF-8. It knows nothing
+//! of the grammar, and keeps no comments.
 #![tactic(auto)]
 
 mod cursor;

@@ -1,8 +1,9 @@
 //! The tree of a source text, its tokens, and its text.
 //!
 //! A tree has one variant for each alternative of the grammar, and keeps parentheses. Links of operators lie flat, so a long
-//! chain is no deep tree: for each expression that is open there are at most five chains, one in another. Each phrase that
-//! begins with a token of its own keeps that token's place; `place` tells that of a bound, type, expression or statement.
+//! chain is no deep tree: for each expression that is open there are at most five chains, one in another. Places are kept of
+//! names and of the tokens that orca_grammar, specs/Rules.antt, lists at its head; `place` tells that of a bound, type,
+//! expression or statement.
 //!
 //! The floor above uses `unit` of specs/Marks.antt, the derivation of a tree by the grammar (specs/Rules.antt of orca_grammar):
 //! its tokens in order, in brackets where a phrase nests and where a chain has links. `words` gives a tree's tokens: they are

@@ -73,7 +73,7 @@ pub enum Definition {
     Record { at: Place, fields: Vec<TypedName> },
     /// `enum` with its names.
     Enumeration { at: Place, names: Vec<Name> },
-    /// The name of another type.
+    /// A type, as it is written.
     Alias { of: TypePhrase },
 }
 
@@ -108,7 +108,7 @@ pub enum TypePhrase {
     Text {
         at: Place,
     },
-    /// A declared type.
+    /// A declared type, or an object type.
     Named {
         name: Name,
     },

@@ -10,14 +10,13 @@ use Rattle.orca_lexer.proofs.Once.{tokens_once}
 use Rattle.orca_lexer.proofs.ReadsBack.{reads_back as kinds_back}
 use Rattle.orca_lexer.proofs.Shorter.{written_long}
 use Rattle.orca_lexer.proofs.Sound.{tokens_sound}
-use Rattle.orca_grammar.specs.Forms.{first_deep, spelled, unplaced}
+use Rattle.orca_grammar.specs.Forms.{first_deep, spelled}
 use Rattle.orca_grammar.specs.Grammar.{IsText}
 use Rattle.orca_grammar.proofs.Whole.{whole}
 use Rattle.orca_grammar.proofs.Placed.{reads_again, text_kinds, kinds}
 use Rattle.orca_tree.specs.declared.tree.Unit.{Unit as UnitTree}
 use Rattle.orca_tree.specs.Marks.{unit as unit_marks}
 use Rattle.orca_tree.specs.Printing.{printed, AreWordsSound}
-use Rattle.parse_units.proofs.Refusals.{refusal_none}
 use Rattle.parse_units.specs.RoundTrip.{AreReadAs, ReadsBack, StaysShort}
 
 -- tokens of the kinds that a unit is spelled by are read as the unit
@@ -25,10 +24,7 @@ read_as : (u : UnitTree) (tokens others : List Token) → IsText (unit_marks u) 
 read_as u tokens others text nests same_kinds =
     let r = reads_again (unit_marks u) tokens others text nests same_kinds in
     let w = whole others r.marks r.reads in
-    record {
-      same = λ v h. ap unplaced (w.only (unit_marks v) h) ∙ r.same;
-      accepted = λ cause h. refusal_none others cause r.marks h w.text w.fits;
-    }
+    record { marks = r.marks; are = w.text; nests = w.fits; same = r.same }
 
 all_sound : (tokens : List Token) → AllByRecursion (λ t. IsSound t.kind) tokens → AllByRecursion IsSound (kinds tokens)
 all_sound [] sound = tt

@@ -1,4 +1,4 @@
--- Why tokens are no unit: the refusal that a parser answers (docs/LANGUAGE.md, Refusals).
+-- Why tokens are no unit that nests at most NESTING levels: the refusal that a parser answers (docs/LANGUAGE.md, Refusals).
 use Rattle.std.specs.Prelude.{◌≡◌, ◌+◌, ◌-◌, List, [], ◌∷◌}
 use Rattle.orca_base.specs.declared.place.Place.{Place}
 use Rattle.orca_lexer.specs.declared.token.Token.{Token}

@@ -3,18 +3,18 @@ use Rattle.std.specs.Prelude.{◌≡◌, ℕ, ◌-◌, ◌<◌, ◌^◌, List, N
 use Rattle.orca_base.specs.declared.limits.TheConstants.{NESTING}
 use Rattle.orca_lexer.specs.declared.token.Token.{Token}
 use Rattle.orca_lexer.specs.Tokens.{Tokens}
-use Rattle.orca_grammar.specs.Forms.{first_deep, unplaced}
+use Rattle.orca_grammar.specs.Forms.{Mark, first_deep, unplaced}
 use Rattle.orca_grammar.specs.Grammar.{IsText}
 use Rattle.orca_tree.specs.declared.tree.Unit.{Unit as UnitTree}
 use Rattle.orca_tree.specs.Marks.{unit as unit_marks}
 use Rattle.orca_tree.specs.Printing.{printed}
-use Rattle.parse_units.specs.declared.parse_error.ParseError.{ParseError}
-use Rattle.parse_units.specs.Refused.{IsRefusal}
 
--- tokens are read as this unit, places aside: they are no other, and there is no cause to refuse them
+-- tokens are read as this unit: they are one that nests no deeper than may be, and it is the same, places aside
 pub record AreReadAs (u : UnitTree) (tokens : List Token) : Type 0 where
-  pub same : (v : UnitTree) → IsText (unit_marks v) tokens → unplaced (unit_marks v) ≡ unplaced (unit_marks u)
-  pub accepted : (cause : ParseError) → IsRefusal tokens cause → ⊥
+  pub marks : List Mark
+  pub are : IsText marks tokens
+  pub nests : first_deep marks NESTING ≡ None
+  pub same : unplaced marks ≡ unplaced (unit_marks u)
 
 -- the printed text of a unit has tokens, and they are read as the unit
 pub record IsReadBack (u : UnitTree) : Type 0 where

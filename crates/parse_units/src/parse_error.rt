@@ -1,4 +1,4 @@
-//! Why tokens are no unit.
+//! Why tokens are no unit that nests at most `NESTING` levels.
 
 ghost use Rattle.std.specs.Prelude.{◌≡◌, ◌∷◌, ◌<◌, [], List, length, IfOk};
 ghost use Rattle.std.specs.List.{All};
@@ -11,7 +11,7 @@ use orca_base::{NoMemory, Place};
 use orca_lexer::{Token, TokenKind};
 use std::alloc::Global;
 
-/// The first reason for which tokens are no unit.
+/// The first reason for which tokens are no unit that nests at most `NESTING` levels.
 #[derive(Debug, Drop)]
 pub enum ParseError {
     /// With this token, or at this end, no unit goes on.

@@ -37,9 +37,9 @@ fn refusal(alloc: Global, tokens: &[Token], cause: ReadError<'_>) -> Result<Pars
     }
 }
 
-/// The unit that tokens are, whole, or the one reason for which they are none. No clause says so, but one token decides each step, and
-/// nothing recurses deeper than the nesting of the text, which is `NESTING` at most; the cost is that of the tokens' number (tested on
-/// 100,000 terms).
+/// The unit that tokens are, whole, or the one reason for which they are no unit that nests at most `NESTING` levels. No clause says so,
+/// but one token decides each step, and nothing recurses deeper than the nesting of the text, which is `NESTING` at most; the cost is
+/// that of the tokens' number (tested on 100,000 terms).
 pub fn parse(alloc: Global, tokens: &[Token]) -> Result<Unit, Refusal<ParseError>>
     requires { All HasRoom tokens.now }
 
@@ -70,8 +70,9 @@ pub fn parse(alloc: Global, tokens: &[Token]) -> Result<Unit, Refusal<ParseError
     }
 }
 
-/// The law of the parser and of the printer: the text `printed u` of a unit that was read, which `print_tree` gives where it is UTF-8, has
-/// tokens, and they are read as the same unit, places aside. It is short enough to be read where the text that was read is below 2^31 - 1 bytes.
+/// The law of the parser and of the printer: the text `printed u` of a unit that was read, which `print_tree` gives where it is UTF-8,
+/// has tokens, and they are read as the same unit, places aside. It is short enough to be read where the text that was read is below 2^31
+/// - 1 bytes.
 pub fn parse_law()
     ensures back { (u : UnitTree) → ReadsBack u }
     ensures short { (u : UnitTree) → StaysShort u }

@@ -2,7 +2,8 @@
 
 ghost use Rattle.std.specs.Prelude.{IfOk};
 ghost use Rattle.std.specs.List.{All};
-ghost use Rattle.orca_lexer.specs.Tokens.{HasRoom};
+ghost use Rattle.orca_lexer.specs.Tokens.{HasRoom, Tokens};
+ghost use Rattle.orca_syntax.specs.TextSyntax.{IsOfText};
 
 use orca_base::{NESTING, Place, Refusal};
 use orca_lexer::{Token, tokens};
@@ -14,7 +15,8 @@ use std::test::Fail;
 
 // The tokens of a text.
 fn tokens_of(alloc: Global, text: &str) -> Result<Vec<Token>, Fail>
-    ensures { IfOk result (λ v. All HasRoom v.items) }
+    ensures room { IfOk result (λ v. All HasRoom v.items) }
+    ensures tokens { IfOk result (λ v. Tokens text.now v.items) }
 {
     if text.len() > 1_000_000 {
         return Err("too long".into());
@@ -26,7 +28,9 @@ fn tokens_of(alloc: Global, text: &str) -> Result<Vec<Token>, Fail>
 }
 
 // The unit that a text is.
-pub fn unit_of(alloc: Global, text: &str) -> Result<Unit, Fail> {
+pub fn unit_of(alloc: Global, text: &str) -> Result<Unit, Fail>
+    ensures { IfOk result (λ u. ∥ IsOfText u ∥₁) }
+{
     let tokens = tokens_of(alloc, text)?;
     match parse(alloc, tokens.as_slice()) {
         Ok(unit) => Ok(unit),

@@ -1,5 +1,6 @@
-use Rattle.bag_copies.specs.Fits.{FitsAll}
+use Rattle.std.proofs.Common.{◌≡◌, ◌+◌}
 use Rattle.bag_copies.proofs.filling.fork_many.Given as goal
 
+-- each one so far was an entry
 abbrev pub invariant-loop-number : goal.invariant-loop-number
-invariant-loop-number l = FitsAll l.copies
+invariant-loop-number l = l.copies.applied ≡ l.initial.copies.applied + l.number

@@ -1,4 +1,4 @@
-use Rattle.group_rules.proofs.Travelling.{appended_law, numbered_law, posted_law}
+use Rattle.group_rules.proofs.Travelling.{appended_law, letters_law, numbered_law, posted_law, sent_law}
 use Rattle.group_rules.proofs.wire.wire_law.Goals as goal
 
 pub returns-clause-numbered : goal.returns-clause-numbered
@@ -9,3 +9,9 @@ returns-clause-posted g c = posted_law _ _
 
 pub returns-clause-appended : goal.returns-clause-appended
 returns-clause-appended g c = appended_law _ _
+
+pub returns-clause-letters : goal.returns-clause-letters
+returns-clause-letters g c = letters_law _ _
+
+pub returns-clause-sent : goal.returns-clause-sent
+returns-clause-sent g c = sent_law _

@@ -1,4 +1,4 @@
-use Rattle.std.proofs.Common.{◌≡◌, List, [], ◌∷◌, ◌++◌, ap, inl, ◌∙◌, sym, subst, refl}
+use Rattle.std.proofs.Common.{◌≡◌, List, [], ◌∷◌, ◌++◌, ap, ◌∙◌, sym, subst, refl}
 use Rattle.std.specs.Prelude.{slice_get}
 use Rattle.value_core.specs.History.{Configuration, Process, output_of, replies_in}
 use Rattle.value_core.specs.declared.action.Line.{Line}

@@ -3,6 +3,7 @@ use Rattle.orca_syntax.proofs.FirstPlaces.{are_places, are_shown_places}
 use Rattle.orca_syntax.proofs.MarksOfDeclarations.{unit_shown}
 use Rattle.orca_syntax.proofs.PlacesInOrder.{syntax_in_order}
 use Rattle.orca_syntax.proofs.PrintedOnce.{loses_places, read_back, syntax_sound}
+use Rattle.orca_syntax.proofs.SoundParts.{parts_sound}
 use Rattle.orca_syntax.proofs.TextOnce.{derived_once, text_once, text_syntax, trees_once}
 use Rattle.orca_syntax.proofs.law.syntax_law.Goals as goal
 
@@ -41,3 +42,6 @@ returns-clause-shown_places c = are_shown_places
 
 pub returns-clause-rise : goal.returns-clause-rise
 returns-clause-rise c = syntax_in_order
+
+pub returns-clause-parts : goal.returns-clause-parts
+returns-clause-parts c = parts_sound

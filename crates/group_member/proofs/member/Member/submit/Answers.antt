@@ -1,6 +1,6 @@
 use Rattle.group_rules.specs.Steps.{pends}
 use Rattle.group_rules.specs.Work.{idle}
-use Rattle.group_member.specs.LastCalls.{group_of}
+use Rattle.group_rules.specs.Messages.{group_of}
 use Rattle.group_member.proofs.AskedFor.{submits}
 use Rattle.group_member.proofs.Working.{begins}
 use Rattle.group_member.proofs.member.Member.submit.Goals as goal

@@ -1,7 +1,7 @@
 use Rattle.group_rules.specs.Reset.{told}
 use Rattle.group_rules.specs.Work.{idle}
 use Rattle.group_member.specs.Installs.{acks_log}
-use Rattle.group_member.specs.LastCalls.{group_of}
+use Rattle.group_rules.specs.Messages.{group_of}
 use Rattle.group_member.proofs.Installing.{news_taken, told_stands}
 use Rattle.group_member.proofs.Working.{begins}
 use Rattle.group_member.proofs.member.Member.take_news.Goals as goal

@@ -1,0 +1,17 @@
+pub mod Passes
+pub mod Singles
+pub mod Owners
+pub mod Book
+pub mod Events
+pub mod Performed
+pub mod Course
+pub mod Sequence
+pub mod Promise
+pub mod Makers
+pub mod Members
+pub mod Fitness
+pub mod Conditions
+pub mod Replicated
+pub mod Cell
+pub mod Example
+pub mod Wrong

@@ -1,0 +1,99 @@
+//! The law of the book: what a run performs is a history of its program.
+//!
+//! One ordered list of messages, and what was performed beside it, give the book: all performed operations by place. Beside the
+//! list stand the reads of replicated objects and the calls on single ones, which one member keeps. A run is a course of events
+//! (specs/Course.antt): the list grows, members apply it, processes submit and read, owners take calls. Of the group it uses four
+//! facts of agreement: the list grows only at its end; what a member applies as its entry n + 1 is the list's; an entry was
+//! submitted; no message stands in the list twice.
+//!
+//! The floor above uses the laws of this file, of whatever course of events it shows to be a run. They stand on the definitions of
+//! `value_core`, `guard_queue` and `object_manager` alone; the one code is the sort by place. Nothing of packets or crashes stands
+//! here, nor that anything happens in the end.
+#![tactic(auto)]
+
+ghost use Rattle.book_law.specs.Conditions.{MembersMeet};
+ghost use Rattle.book_law.specs.Example.{IsRun};
+ghost use Rattle.book_law.specs.Fitness.{CallsFit, EndsStuck};
+ghost use Rattle.book_law.specs.Makers.{CopiesMade, MakesHaveCopies};
+ghost use Rattle.book_law.specs.Members.{MembersHold};
+ghost use Rattle.book_law.specs.Owners.{OwnersDoAlike};
+ghost use Rattle.book_law.specs.Promise.{CopiesFollow, EnteredStands, EntriesStand, LegalBook};
+ghost use Rattle.book_law.specs.Promise.{RepliesBegin, RepliesReceived, SinglesFollow};
+ghost use Rattle.book_law.specs.Replicated.{ArePlain, TestsAgree};
+ghost use Rattle.book_law.specs.Sequence.{ArePerformed};
+ghost use Rattle.book_law.specs.Wrong.{WrongRules};
+
+mod placing;
+
+pub use placing::{Placed, sort_by_place};
+use value_core::Processor;
+
+/// The law of every run, whichever objects are single and whatever the program means.
+///
+/// - `legal`: the book is a history of the program.
+/// - `copies`: the replicated objects and the processes of the book up to place n are those of a member's copies after n entries.
+/// - `singles`: each single copy is its object after all lines of the book.
+/// - `replies`: the replies that a process received begin the book's, and are short of them by at most one.
+/// - `received`: where no answer of a single copy is on the way, they are exactly the book's up to the member's number.
+/// - `performed`: what the run performed, in order of events, is the book place by place; so one stable sort makes it
+///   (`sort_by_place`).
+/// - `entered`: a message that entered is in the list, or is a call that waits on a single copy or was performed there.
+pub fn book_law()
+    ensures legal { LegalBook }
+    ensures copies { CopiesFollow }
+    ensures singles { SinglesFollow }
+    ensures replies { RepliesBegin }
+    ensures received { RepliesReceived }
+    ensures performed { ArePerformed }
+    ensures entered { EnteredStands }
+{}
+
+/// What single objects change of copies, and what they leave.
+///
+/// - `entries`: an entry leaves copies as `object_manager` says: after a make of a single object, or applied.
+/// - `made`: each single copy was made by the entry at its place, of a process at its owner.
+/// - `makes`: each entry that makes a single object has its copy.
+/// - `owners`: where an owner keeps a single copy beside others, a call does there what it does to the single copy by itself.
+/// - `members`: each member's copies, as its calls make them, are those of the list after as many entries as it applied, and beside
+///   them exactly the single copies that it owns and whose makes it applied.
+/// - `tests`: tests of what is single that agree on each object that the list makes have the same copies and the same book.
+/// - `plain`: where no object is single, copies are those of `object_manager` after the entries, and the book's objects are theirs.
+pub fn singles_law()
+    ensures entries { EntriesStand }
+    ensures made { CopiesMade }
+    ensures makes { MakesHaveCopies }
+    ensures owners { OwnersDoAlike }
+    ensures members { MembersHold }
+    ensures tests { TestsAgree }
+    ensures plain { ArePlain }
+{}
+
+/// Runs that are computed.
+///
+/// - `run`: a run of a small program, event by event, with its book.
+/// - `wrong_rules`: seven wrong rules, each of which gives a book that is no history, or a single copy that isn't its object.
+pub fn example_law()
+    ensures run { IsRun }
+    ensures wrong_rules { WrongRules }
+{}
+
+/// In every run of a lawful program what calls on copies ask is met. It rests on the laws of the two traits alone. A call of this
+/// function does nothing.
+///
+/// - `calls`: each entry may be applied, or passed, at the copies that it meets, what these and the single copies hold fits, and a
+///   process's next call may be tried at each number of entries from its process's place on: on a view, or on the single copy, which
+///   is there.
+/// - `members`: each member's copies meet the conditions of `apply`, `pass_make` and `call_single` at its next entry and at a call that
+///   it takes.
+pub fn every_call_fits<P: Processor>(program: &P)
+    ensures calls { CallsFit (P.performs program.now) (P.computes program.now) (P.fits_state program.now) (P.fits_args program.now) }
+    ensures members { MembersMeet (P.performs program.now) (P.computes program.now) (P.fits_state program.now)
+        (P.fits_args program.now) }
+{}
+
+/// In every run of a lawful program who waits is stuck: where no answer is on the way to it, a process whose message entered, at a
+/// member that applied the whole list, and one whose read is blocked on the copies after the list. A call of this function does
+/// nothing.
+pub fn stuck_law<P: Processor>(program: &P)
+    ensures { EndsStuck (P.performs program.now) (P.computes program.now) }
+{}

@@ -1,0 +1,4 @@
+pub mod Choosing
+pub mod Concluding
+pub mod Coordinating
+pub mod Answering

@@ -1,0 +1,3 @@
+pub mod Choice
+pub mod Concludes
+pub mod Calls
