@@ -48,6 +48,7 @@ use Rattle.book_law.proofs.Owned.{contains_map, waits_at}
 use Rattle.book_law.proofs.Objects.{spared_lines}
 use Rattle.book_law.proofs.Processes.{after_lines-append, legal_left, legal_right}
 use Rattle.book_law.proofs.Reading.{at_place}
+use Rattle.book_law.proofs.Resting.{not_entered}
 use Rattle.book_law.proofs.Shared.{copies_shared}
 use Rattle.book_law.proofs.Stages.{stage_free, stage_new, stage_waits}
 use Rattle.book_law.proofs.Typed.{kind_contained, kind_found}
@@ -344,6 +345,14 @@ never_made p q fits_state fits_args fits_text fits_reply c number x (action.Fork
 never_made p q fits_state fits_args fits_text fits_reply c number x action.Ended o f here lawful e = absurd e
 never_made p q fits_state fits_args fits_text fits_reply c number x (action.Faulted fault) o f here lawful e = absurd e
 
+-- a make calls nothing
+makes_only : (a : Action) (o z : ObjectId) → Makes a o → Calls a z → ⊥
+makes_only (action.Make kind object) o z makes calls = calls
+makes_only (action.Call kind op object args) o z makes calls = makes
+makes_only (action.Fork text args place_on) o z makes calls = makes
+makes_only action.Ended o z makes calls = makes
+makes_only (action.Faulted fault) o z makes calls = makes
+
 -- what isn't among the counted ones by any type wasn't counted
 not_counted : (singles : Kinds) (object : ObjectId) → ((kind : KindNo) → Contains singles (object, kind) → ⊥) → IsCounted singles object → ⊥
 not_counted singles object apart (k, one, lt, is, e) = apart one.1 (subst (λ (o : ObjectId). Contains singles (o, one.1)) e (k, lt, is))
@@ -388,7 +397,13 @@ every_call single p q fits_state fits_args fits_text fits_reply w laws came = re
       let i = out_idle single p q w.list w.aside w.owned w.entered (w.applied x.member) number.0 x st out in
       on_single single p q fits_state fits_args fits_text fits_reply w.list w.aside w.owned w.entered w.applied w.runners n kind op object args laws k is
       (may_at single p q fits_state fits_args fits_text fits_reply w.list w.aside w.owned w.entered w.applied w.runners number x n kind op object args laws k st i.1 i.0 le next);
-  unmade = λ x r o here out new makes i y is same.
+  unmade = λ x o was fresh makes i y is same.
+      let sound = came_sound single p q w came in
+      let new = not_entered single p q w x came (λ z calls. absurd (makes_only x.action o z makes calls)) fresh in
+      let sent = pending w.entered w.runners w.asked x sound.accounted was new in
+      let r = sent.0 in
+      let here : w.runners x.process.0 ≡ Some r = sent.1 in
+      let out : r.message ≡ Some x = sent.2 in
       let st = k.stands x.process.0 r here in
       let n = stage_new w.entered x r.message r.answer (waiting x.process.0 (after_all single p opening_copies w.list).queue + waits x.process.0 w.owned) st.awaited out new st.stage in
       let a = st.asks x out in

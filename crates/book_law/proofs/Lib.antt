@@ -26,6 +26,7 @@ pub mod Corollaries
 pub mod Replicated
 pub mod Example
 pub mod Resting
+pub mod Running
 pub mod WrongRules
 pub mod Sequence
 pub mod Owners

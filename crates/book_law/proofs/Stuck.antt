@@ -138,6 +138,8 @@ same_number a b e = ap (λ (n : ℕ). record { 0 = n }) e
 
 pub stuck_at_end : (single : Test) (p : Performs) (q : Computes) (fits_state : StateFits) (fits_args : ArgsFit) (fits_text : TextFits) (fits_reply : ReplyFits) (w : Course) → Laws p q fits_state fits_args fits_text fits_reply → Came single p q w → StuckAtEnd single p q w
 stuck_at_end single p q fits_state fits_args fits_text fits_reply w laws came = record {
+  shared = λ call inside. on_copies call (subst (λ (c : Copied). In call c.queue) (copies_all single p w.list) inside);
+  singles = λ i x call is inside. stuck_single single p q w.list w.aside w.owned w.entered w.applied w.runners i x call k is inside (singles_blocked single p q w came i x is call inside);
   waits = λ number x m here out entered told whole. ⊎_elim
       (λ u. subst (λ (n : ProcessNo). IsStuck p q (book single p w.list w.aside) n) (same_number u.0.process number u.2) (on_copies u.0 u.1))
       (λ u. subst (λ (n : ProcessNo). IsStuck p q (book single p w.list w.aside) n) (same_number u.2.process number u.5)

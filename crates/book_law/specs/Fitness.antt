@@ -72,8 +72,8 @@ pub record IsLineOf (p : Performs) (c : Copied) (kind : KindNo) (op : OpNo) (obj
 -- `entries`, each entry may be applied, or passed, at the copies that it meets; `shared`, what the copies hold after each number of
 -- entries fits; `singles` and `suspended`, so does what a single copy holds whose owner applied its make; `reads` and `calls`, the
 -- next call of a process whose message hasn't entered may be tried at each number of entries from the process's place on, on a view
--- or on the single copy, which is there; `lines`, what the try of a read by its class gives is a line of a read; `unmade`, no process
--- makes a single object again. The copies of the list keep no single object: those that a member keeps stand beside them, and no
+-- or on the single copy, which is there; `lines`, what the try of a read by its class gives is a line of a read; `unmade`, no message
+-- that was submitted and isn't in the list makes a single object again. The copies of the list keep no single object: those that a member keeps stand beside them, and no
 -- condition of entries and reads asks about them
 pub record Callable (single : Test) (p : Performs) (q : Computes) (fits_state : StateFits) (fits_args : ArgsFit) (w : Course) :
     Type 0 where
@@ -103,17 +103,24 @@ pub record Callable (single : Test) (p : Performs) (q : Computes) (fits_state : 
       CallsNext q number x kind op object args →
       MayCall fits_args (kinds_at (copies_at single p w.list n)) w.owned n kind op object args
   pub unmade :
-      (x : Message) (r : Runner) (o : ObjectId) → w.runners x.process.0 ≡ Some r → r.message ≡ Some x → (In x w.entered → ⊥) →
-      Makes x.action o → (i : ℕ) (s : Single) → slice_get w.owned i ≡ Some s → s.object ≡ o → ⊥
+      (x : Message) (o : ObjectId) → In x w.asked → (In x w.list → ⊥) → Makes x.action o → (i : ℕ) (s : Single) →
+      slice_get w.owned i ≡ Some s → s.object ≡ o → ⊥
 
 -- so it is in every run, whichever objects are single
 abbrev pub CallsFit : Performs → Computes → StateFits → ArgsFit → Type 0
 CallsFit p q fits_state fits_args =
     (single : Test) (w : Course) → Came single p q w → Callable single p q fits_state fits_args w
 
--- who waits at the end of a run is stuck: a process whose message entered, where its member applied the whole list and no answer is
--- on the way; and one whose next call is a read that is blocked on the copies after the whole list
+-- who waits at the end of a run is stuck: a process whose call is suspended on the copies after the whole list, or, at any moment, on
+-- a single copy; so where its member applied the whole list and no answer is on the way, a process whose message entered; and one
+-- whose next call is a read that is blocked on the copies after the whole list
 pub record StuckAtEnd (single : Test) (p : Performs) (q : Computes) (w : Course) : Type 0 where
+  pub shared :
+      (call : Suspended) → In call (copies_at single p w.list (length w.list)).queue →
+      IsStuck p q (book single p w.list w.aside) call.process
+  pub singles :
+      (i : ℕ) (x : Single) (call : Suspended) → slice_get w.owned i ≡ Some x → In call x.queue →
+      IsStuck p q (book single p w.list w.aside) call.process
   pub waits :
       (number : ProcessNo) (x : Runner) (m : Message) → w.runners number.0 ≡ Some x → x.message ≡ Some m → In m w.entered →
       x.answer ≡ None → length w.list ≤ w.applied x.member → IsStuck p q (book single p w.list w.aside) number

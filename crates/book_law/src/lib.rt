@@ -17,8 +17,8 @@ ghost use Rattle.book_law.specs.Fitness.{CallsFit, EndsStuck};
 ghost use Rattle.book_law.specs.Makers.{CopiesMade, MakesHaveCopies};
 ghost use Rattle.book_law.specs.Members.{MembersHold};
 ghost use Rattle.book_law.specs.Owners.{OwnersDoAlike};
-ghost use Rattle.book_law.specs.Promise.{CopiesFollow, EnteredStands, EntriesStand, LegalBook};
-ghost use Rattle.book_law.specs.Promise.{RepliesBegin, RepliesReceived, SinglesFollow};
+ghost use Rattle.book_law.specs.Promise.{AskedStands, CopiesFollow, EnteredStands, EntriesStand, LegalBook};
+ghost use Rattle.book_law.specs.Promise.{ProcessesRun, RepliesReceived, SinglesFollow};
 ghost use Rattle.book_law.specs.Replicated.{ArePlain, TestsAgree};
 ghost use Rattle.book_law.specs.Sequence.{ArePerformed};
 ghost use Rattle.book_law.specs.Wrong.{WrongRules};
@@ -33,19 +33,22 @@ use value_core::Processor;
 /// - `legal`: the book is a history of the program.
 /// - `copies`: the replicated objects and the processes of the book up to place n are those of a member's copies after n entries.
 /// - `singles`: each single copy is its object after all lines of the book.
-/// - `replies`: the replies that a process received begin the book's, and are short of them by at most one.
+/// - `processes`: the processes that run are those of the book, one by one: by text, by arguments, and by replies, of which a process
+///   may lack one; and a message that a process has out is its next action.
 /// - `received`: where no answer of a single copy is on the way, they are exactly the book's up to the member's number.
 /// - `performed`: what the run performed, in order of events, is the book place by place; so one stable sort makes it
 ///   (`sort_by_place`).
-/// - `entered`: a message that entered is in the list, or is a call that waits on a single copy or was performed there.
+/// - `entered`: a message that entered is in the list, or is a call that waits on its object's single copy or was performed there.
+/// - `asked`: a message that was ever submitted entered, or is the one that its process has out.
 pub fn book_law()
     ensures legal { LegalBook }
     ensures copies { CopiesFollow }
     ensures singles { SinglesFollow }
-    ensures replies { RepliesBegin }
+    ensures processes { ProcessesRun }
     ensures received { RepliesReceived }
     ensures performed { ArePerformed }
     ensures entered { EnteredStands }
+    ensures asked { AskedStands }
 {}
 
 /// What single objects change of copies, and what they leave.

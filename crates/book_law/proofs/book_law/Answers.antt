@@ -1,6 +1,7 @@
 use Rattle.book_law.proofs.book_law.Goals as goal
 use Rattle.book_law.proofs.Courses.{every_run}
 use Rattle.book_law.proofs.Resting.{entered_stands}
+use Rattle.book_law.proofs.Running.{asked_stands, processes_run}
 use Rattle.book_law.proofs.Sequence.{are_performed}
 
 pub returns : goal.returns
@@ -8,8 +9,9 @@ returns c = record {
   legal = λ single p q w came. let h = every_run single p q w came in h.legal;
   copies = λ single p q w came. let h = every_run single p q w came in h.copies;
   singles = λ single p q w came. let h = every_run single p q w came in h.singles;
-  replies = λ single p q w came. let h = every_run single p q w came in h.replies;
+  processes = processes_run;
   received = λ single p q w came. let h = every_run single p q w came in h.received;
   performed = are_performed;
   entered = entered_stands;
+  asked = asked_stands;
 }
