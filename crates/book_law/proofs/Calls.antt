@@ -259,7 +259,7 @@ read_line single p q fits_state fits_args fits_text fits_reply list n kind op ob
 
 -- ---- every run
 
-came_output : (single : Test) (p : Performs) (q : Computes) (w : Course) → Came single p q w → single output_object ≡ false
+pub came_output : (single : Test) (p : Performs) (q : Computes) (w : Course) → Came single p q w → single output_object ≡ false
 came_output single p q w (Opens member shared) = shared
 came_output single p q w (Then u v came next) = came_output single p q u came
 

@@ -27,6 +27,7 @@ pub mod Replicated
 pub mod Example
 pub mod Resting
 pub mod Running
+pub mod Apart
 pub mod WrongRules
 pub mod Sequence
 pub mod Owners

@@ -8,6 +8,7 @@ pub mod Course
 pub mod Sequence
 pub mod Promise
 pub mod Makers
+pub mod Apart
 pub mod Members
 pub mod Fitness
 pub mod Conditions

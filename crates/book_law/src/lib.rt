@@ -11,6 +11,7 @@
 //! here, nor that anything happens in the end.
 #![tactic(auto)]
 
+ghost use Rattle.book_law.specs.Apart.{SinglesApart};
 ghost use Rattle.book_law.specs.Conditions.{MembersMeet};
 ghost use Rattle.book_law.specs.Example.{IsRun};
 ghost use Rattle.book_law.specs.Fitness.{CallsFit, EndsStuck};
@@ -56,6 +57,8 @@ pub fn book_law()
 /// - `entries`: an entry leaves copies as `object_manager` says: after a make of a single object, or applied.
 /// - `made`: each single copy was made by the entry at its place, of a process at its owner.
 /// - `makes`: each entry that makes a single object has its copy.
+/// - `apart`: the copies of the list keep no single object, and no entry calls one; each single copy is of a single object, and the only
+///   one of it; and what is counted as single after n entries are the copies that one of these made.
 /// - `owners`: where an owner keeps a single copy beside others, a call does there what it does to the single copy by itself.
 /// - `members`: each member's copies, as its calls make them, are those of the list after as many entries as it applied, and beside
 ///   them exactly the single copies that it owns and whose makes it applied.
@@ -65,6 +68,7 @@ pub fn singles_law()
     ensures entries { EntriesStand }
     ensures made { CopiesMade }
     ensures makes { MakesHaveCopies }
+    ensures apart { SinglesApart }
     ensures owners { OwnersDoAlike }
     ensures members { MembersHold }
     ensures tests { TestsAgree }
