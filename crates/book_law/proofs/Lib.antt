@@ -26,6 +26,8 @@ pub mod Corollaries
 pub mod Replicated
 pub mod Example
 pub mod Resting
+pub mod Replying
+pub mod Sole
 pub mod Running
 pub mod Apart
 pub mod WrongRules

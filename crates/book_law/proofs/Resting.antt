@@ -91,7 +91,7 @@ on_rests p x call other h =
 abbrev pub AllTaken : Test → Course → Type 0
 AllTaken single w = (call : Suspended) → In (message_of call) w.entered → single call.object ≡ true → IsTaken w.owned w.aside call
 
-placed_in : (n : ℕ) (l : Line) (lines : List Line) → In l lines → In (record { place = n; line = l }) (placed n lines)
+pub placed_in : (n : ℕ) (l : Line) (lines : List Line) → In l lines → In (record { place = n; line = l }) (placed n lines)
 placed_in n l [] h = h
 placed_in n l (k ∷ lines) (inl e) = inl (ap (λ (x : Line). record { place = n; line = x }) e)
 placed_in n l (k ∷ lines) (inr h) = inr (placed_in n l lines h)

@@ -9,6 +9,7 @@ pub mod Sequence
 pub mod Promise
 pub mod Makers
 pub mod Apart
+pub mod Replies
 pub mod Members
 pub mod Fitness
 pub mod Conditions

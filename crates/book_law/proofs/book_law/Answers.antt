@@ -1,6 +1,7 @@
 use Rattle.book_law.proofs.book_law.Goals as goal
 use Rattle.book_law.proofs.Courses.{every_run}
 use Rattle.book_law.proofs.Resting.{entered_stands}
+use Rattle.book_law.proofs.Replying.{answers_stand, hand_one}
 use Rattle.book_law.proofs.Running.{asked_stands, processes_run}
 use Rattle.book_law.proofs.Sequence.{are_performed}
 
@@ -14,4 +15,6 @@ returns c = record {
   performed = are_performed;
   entered = entered_stands;
   asked = asked_stands;
+  hands = hand_one;
+  answers = answers_stand;
 }
