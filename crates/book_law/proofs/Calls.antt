@@ -54,14 +54,14 @@ use Rattle.book_law.proofs.Stages.{stage_free, stage_new, stage_waits}
 use Rattle.book_law.proofs.Typed.{kind_contained, kind_found}
 
 -- all fits after each place of the book
-fits_at : (single : Test) (p : Performs) (q : Computes) (fits_state : StateFits) (fits_args : ArgsFit) (fits_text : TextFits) (fits_reply : ReplyFits) (list : List Message) (aside : List Placed) (n : ℕ) → Laws p q fits_state fits_args fits_text fits_reply
+pub fits_at : (single : Test) (p : Performs) (q : Computes) (fits_state : StateFits) (fits_args : ArgsFit) (fits_text : TextFits) (fits_reply : ReplyFits) (list : List Message) (aside : List Placed) (n : ℕ) → Laws p q fits_state fits_args fits_text fits_reply
     → LegalFrom p q (opening q) (book single p list aside) → Fit q fits_state fits_text fits_reply (after_lines p (opening q) (up_to single p list aside n))
 fits_at single p q fits_state fits_args fits_text fits_reply list aside n laws legal =
     history_fits p q fits_state fits_args fits_text fits_reply (opening q) (up_to single p list aside n) laws
     (legal_left p q (opening q) (up_to single p list aside n) (behind single p list aside n) (subst (λ (ls : List Line). LegalFrom p q (opening q) ls) (cut single p list aside n) legal))
     (opening_fits p q fits_state fits_args fits_text fits_reply laws)
 
-lawful_at : (p : Performs) (q : Computes) (fits_state : StateFits) (fits_args : ArgsFit) (fits_text : TextFits) (fits_reply : ReplyFits) (c : Configuration) (number : ProcessNo) (x : Process) (a : Action) → Laws p q fits_state fits_args fits_text fits_reply
+pub lawful_at : (p : Performs) (q : Computes) (fits_state : StateFits) (fits_args : ArgsFit) (fits_text : TextFits) (fits_reply : ReplyFits) (c : Configuration) (number : ProcessNo) (x : Process) (a : Action) → Laws p q fits_state fits_args fits_text fits_reply
     → Fit q fits_state fits_text fits_reply c → slice_get c.processes number.0 ≡ Some x → q.doing x.text number x.args x.replies most_turns ≡ doing.At a → IsLawfulDoing q fits_args fits_text (kinds_of c.objects) x.text number x.args x.replies (doing.At a)
 lawful_at p q fits_state fits_args fits_text fits_reply c number x a laws f here next =
     let g = f.processes number x here in
@@ -94,7 +94,7 @@ may_call p q fits_state fits_args fits_text fits_reply c kinds number x kind op 
 -- ---- the types of all objects
 
 -- each object of the book up to a place is among the copies of that place, or counted as single
-covers : (single : Test) (p : Performs) (q : Computes) (fits_state : StateFits) (fits_args : ArgsFit) (fits_text : TextFits) (fits_reply : ReplyFits) (list : List Message) (aside : List Placed) (owned : List Single) (seen : List Message) (applied : ℕ → ℕ) (runners : ℕ → Option Runner) (n : ℕ) → Laws p q fits_state fits_args fits_text fits_reply
+pub covers : (single : Test) (p : Performs) (q : Computes) (fits_state : StateFits) (fits_args : ArgsFit) (fits_text : TextFits) (fits_reply : ReplyFits) (list : List Message) (aside : List Placed) (owned : List Single) (seen : List Message) (applied : ℕ → ℕ) (runners : ℕ → Option Runner) (n : ℕ) → Laws p q fits_state fits_args fits_text fits_reply
     → Kept single p q list aside owned seen applied runners → ExtendsKinds (kinds_of (after_lines p (opening q) (up_to single p list aside n)).objects) (kinds_at single p list n)
 covers single p q fits_state fits_args fits_text fits_reply list aside owned seen applied runners n laws k entry h = go (single o) refl
   where

@@ -3,6 +3,7 @@
 use Rattle.std.specs.Prelude.{◌≡◌, ◌⊎◌, ◌≤◌, true, false, ℕ, List, length, Some, None, slice_get}
 use Rattle.orca_base.specs.declared.ids.KindNo.{KindNo}
 use Rattle.orca_base.specs.declared.ids.OpNo.{OpNo}
+use Rattle.orca_base.specs.declared.ids.TextNo.{TextNo}
 use Rattle.orca_base.specs.declared.ids.ProcessNo.{ProcessNo}
 use Rattle.orca_base.specs.declared.ids.ObjectId.{ObjectId}
 use Rattle.value_core.specs.Datum.{Data}
@@ -10,6 +11,7 @@ use Rattle.value_core.specs.Fits.{Kinds}
 use Rattle.value_core.specs.declared.action.Class.TheVariants.{Reads}
 use Rattle.value_core.specs.declared.action.Instance.{Instance}
 use Rattle.value_core.specs.declared.action.Line.{Line}
+use Rattle.value_core.specs.declared.action.Reply.{Reply}
 use Rattle.value_core.specs.declared.message.Message.{Message}
 use Rattle.value_core.specs.declared.action.Action.TheVariants as action
 use Rattle.value_core.specs.declared.meaning.Doing.TheVariants as doing
@@ -35,6 +37,13 @@ StateFits = Kinds → KindNo → Data → Type 0
 
 abbrev pub ArgsFit : Type 1
 ArgsFit = Kinds → KindNo → OpNo → Data → Type 0
+
+-- arguments fit a text of the program, and a reply an operation
+abbrev pub TextFits : Type 1
+TextFits = Kinds → TextNo → Data → Type 0
+
+abbrev pub ReplyFits : Type 1
+ReplyFits = KindNo → OpNo → Reply → Type 0
 
 -- over the types of all objects, what copies hold of the replicated ones fits: each state its type, each suspended call its object
 abbrev pub SharedFit : StateFits → ArgsFit → Copied → Type 0

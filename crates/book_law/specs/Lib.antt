@@ -12,6 +12,7 @@ pub mod Apart
 pub mod Replies
 pub mod Members
 pub mod Fitness
+pub mod Machines
 pub mod Conditions
 pub mod Replicated
 pub mod Cell

@@ -15,6 +15,7 @@ ghost use Rattle.book_law.specs.Apart.{SinglesApart};
 ghost use Rattle.book_law.specs.Conditions.{MembersMeet};
 ghost use Rattle.book_law.specs.Example.{IsRun};
 ghost use Rattle.book_law.specs.Fitness.{CallsFit, EndsStuck};
+ghost use Rattle.book_law.specs.Machines.{RunsFit};
 ghost use Rattle.book_law.specs.Makers.{CopiesMade, MakesHaveCopies};
 ghost use Rattle.book_law.specs.Members.{MembersHold};
 ghost use Rattle.book_law.specs.Owners.{OwnersDoAlike};
@@ -96,10 +97,14 @@ pub fn example_law()
 /// - `calls`: each entry may be applied, or passed, at the copies that it meets, what these and the single copies hold fits, and a
 ///   process's next call may be tried at each number of entries from its process's place on: on a view, or on the single copy, which
 ///   is there.
+/// - `machines`: the arguments and replies of each process fit, and so does what was ever submitted or performed; who makes an object is
+///   the process that its id names, and a single object's owner is that process's member.
 /// - `members`: each member's copies meet the conditions of `apply`, `pass_make` and `call_single` at its next entry and at a call that
 ///   it takes.
 pub fn every_call_fits<P: Processor>(program: &P)
     ensures calls { CallsFit (P.performs program.now) (P.computes program.now) (P.fits_state program.now) (P.fits_args program.now) }
+    ensures machines { RunsFit (P.performs program.now) (P.computes program.now) (P.fits_args program.now) (P.fits_text program.now)
+        (P.fits_reply program.now) }
     ensures members { MembersMeet (P.performs program.now) (P.computes program.now) (P.fits_state program.now)
         (P.fits_args program.now) }
 {}

@@ -2,6 +2,7 @@ use Rattle.book_law.proofs.Fits.{Laws}
 use Rattle.book_law.proofs.every_call_fits.Goals as goal
 use Rattle.book_law.proofs.Calls.{every_call}
 use Rattle.book_law.proofs.Conditions.{members_meet}
+use Rattle.book_law.proofs.Machines.{all_fit}
 
 pub returns : goal.returns
 returns g c =
@@ -19,5 +20,6 @@ returns g c =
     } in
     record {
       calls = λ single w came. every_call single (g.P.Performer.performs m) (g.P.Processor.computes m) (g.P.Performer.fits_state m) (g.P.Performer.fits_args m) (g.P.Performer.fits_text m) (g.P.Performer.fits_reply m) w laws came;
+      machines = λ single w came. all_fit single (g.P.Performer.performs m) (g.P.Processor.computes m) (g.P.Performer.fits_state m) (g.P.Performer.fits_args m) (g.P.Performer.fits_text m) (g.P.Performer.fits_reply m) w laws came;
       members = λ single w came n. members_meet single (g.P.Performer.performs m) (g.P.Processor.computes m) (g.P.Performer.fits_state m) (g.P.Performer.fits_args m) (g.P.Performer.fits_text m) (g.P.Performer.fits_reply m) w laws came n;
     }
