@@ -27,6 +27,7 @@ pub mod Replicated
 pub mod Example
 pub mod Resting
 pub mod Machines
+pub mod Counting
 pub mod Replying
 pub mod Sole
 pub mod Running

@@ -143,7 +143,7 @@ in_aside r (s ∷ aside) (inr h) = go (s.place == r.place) (in_aside r aside h)
     go true u = inr u
     go false u = u
 
-in_placed : (n : ℕ) (r : Placed) (lines : List Line) → In r (placed n lines) → (r ≡ record { place = n; line = r.line }) × In r.line lines
+pub in_placed : (n : ℕ) (r : Placed) (lines : List Line) → In r (placed n lines) → (r ≡ record { place = n; line = r.line }) × In r.line lines
 in_placed n r [] h = absurd h
 in_placed n r (l ∷ lines) (inl e) = (e ∙ ap (λ (z : Placed). record { place = n; line = z.line }) (sym e), inl (ap (λ (z : Placed). z.line) e))
 in_placed n r (l ∷ lines) (inr h) = let u = in_placed n r lines h in (u.0, inr u.1)

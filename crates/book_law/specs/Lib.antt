@@ -10,6 +10,7 @@ pub mod Promise
 pub mod Makers
 pub mod Apart
 pub mod Replies
+pub mod Counts
 pub mod Members
 pub mod Fitness
 pub mod Machines

@@ -13,6 +13,7 @@
 
 ghost use Rattle.book_law.specs.Apart.{SinglesApart};
 ghost use Rattle.book_law.specs.Conditions.{MembersMeet};
+ghost use Rattle.book_law.specs.Counts.{ObjectsCounted};
 ghost use Rattle.book_law.specs.Example.{IsRun};
 ghost use Rattle.book_law.specs.Fitness.{CallsFit, EndsStuck};
 ghost use Rattle.book_law.specs.Machines.{RunsFit};
@@ -35,6 +36,7 @@ use value_core::Processor;
 ///
 /// - `legal`: the book is a history of the program.
 /// - `copies`: the replicated objects and the processes of the book up to place n are those of a member's copies after n entries.
+/// - `objects`: the book up to place n has as many objects as those copies count, replicated and single ones, and the output object.
 /// - `singles`: each single copy is its object after all lines of the book.
 /// - `processes`: the processes that run are those of the book, one by one: by text, by arguments, and by replies, of which a process
 ///   may lack one; and a message that a process has out is its next action.
@@ -49,6 +51,7 @@ use value_core::Processor;
 pub fn book_law()
     ensures legal { LegalBook }
     ensures copies { CopiesFollow }
+    ensures objects { ObjectsCounted }
     ensures singles { SinglesFollow }
     ensures processes { ProcessesRun }
     ensures received { RepliesReceived }

@@ -1,4 +1,5 @@
 use Rattle.book_law.proofs.book_law.Goals as goal
+use Rattle.book_law.proofs.Counting.{objects_counted}
 use Rattle.book_law.proofs.Courses.{every_run}
 use Rattle.book_law.proofs.Resting.{entered_stands}
 use Rattle.book_law.proofs.Replying.{answers_stand, hand_one}
@@ -9,6 +10,7 @@ pub returns : goal.returns
 returns c = record {
   legal = λ single p q w came. let h = every_run single p q w came in h.legal;
   copies = λ single p q w came. let h = every_run single p q w came in h.copies;
+  objects = objects_counted;
   singles = λ single p q w came. let h = every_run single p q w came in h.singles;
   processes = processes_run;
   received = λ single p q w came. let h = every_run single p q w came in h.received;
