@@ -27,6 +27,8 @@ pub mod Replicated
 pub mod Example
 pub mod Resting
 pub mod Machines
+pub mod Following
+pub mod Received
 pub mod Counting
 pub mod Replying
 pub mod Sole

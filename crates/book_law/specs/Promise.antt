@@ -1,5 +1,5 @@
 -- What is promised of every run: its book is legal, and its copies and replies are the book's.
-use Rattle.std.specs.Prelude.{◌≡◌, ℕ, ◌<◌, ◌≤◌, ◌⊎◌, true, false, List, ◌++◌, length, Option, Some, None, slice_get}
+use Rattle.std.specs.Prelude.{◌≡◌, ℕ, ◌<◌, ◌≤◌, ◌⊎◌, true, false, List, [], ◌∷◌, ◌++◌, length, leb, Option, Some, None, slice_get, if◌then◌else◌}
 use Rattle.orca_base.specs.declared.ids.ObjectId.{ObjectId}
 use Rattle.value_core.specs.declared.action.Line.{Line}
 use Rattle.value_core.specs.declared.action.Reply.{Reply}
@@ -61,12 +61,16 @@ ProcessesRun =
     (single : Test) (p : Performs) (q : Computes) (w : Course) → Came single p q w →
     AreProcesses p q (book single p w.list w.aside) w.runners
 
--- a process that no answer of a single copy is on the way to received just what the book has for it up to its member's number
+-- the reply of an answer on the way, where its place is at most n
+abbrev pub arrived : ℕ → Option Placed → List Reply
+arrived n None = []
+arrived n (Some r) = if leb r.place n then r.line.reply ∷ [] else []
+
+-- a process received just what the book has for it up to its member's number, but for an answer on the way with a place up to there
 abbrev pub RepliesReceived : Type 0
 RepliesReceived =
-    (single : Test) (p : Performs) (q : Computes) (w : Course) → Came single p q w →
-    (j : ℕ) (x : Runner) → w.runners j ≡ Some x → x.answer ≡ None →
-    replies_of p q (up_to single p w.list w.aside (w.applied x.member)) j ≡ x.replies
+    (single : Test) (p : Performs) (q : Computes) (w : Course) → Came single p q w → (j : ℕ) (x : Runner) → w.runners j ≡ Some x →
+    replies_of p q (up_to single p w.list w.aside (w.applied x.member)) j ≡ x.replies ++ arrived (w.applied x.member) x.answer
 
 -- the call waits on its object's single copy, or a line of it stands beside the list
 abbrev pub IsTaken : List Single → List Placed → Suspended → Type 0

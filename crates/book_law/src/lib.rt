@@ -18,7 +18,7 @@ ghost use Rattle.book_law.specs.Example.{IsRun};
 ghost use Rattle.book_law.specs.Fitness.{CallsFit, EndsStuck};
 ghost use Rattle.book_law.specs.Machines.{RunsFit};
 ghost use Rattle.book_law.specs.Makers.{CopiesMade, MakesHaveCopies};
-ghost use Rattle.book_law.specs.Members.{MembersHold};
+ghost use Rattle.book_law.specs.Members.{MembersFollow, MembersHold};
 ghost use Rattle.book_law.specs.Owners.{OwnersDoAlike};
 ghost use Rattle.book_law.specs.Promise.{AskedStands, CopiesFollow, EnteredStands, EntriesStand, LegalBook};
 ghost use Rattle.book_law.specs.Promise.{ProcessesRun, RepliesReceived, SinglesFollow};
@@ -40,7 +40,8 @@ use value_core::Processor;
 /// - `singles`: each single copy is its object after all lines of the book.
 /// - `processes`: the processes that run are those of the book, one by one: by text, by arguments, and by replies, of which a process
 ///   may lack one; and a message that a process has out is its next action.
-/// - `received`: where no answer of a single copy is on the way, they are exactly the book's up to the member's number.
+/// - `received`: the replies that a process received are exactly the book's up to its member's number, but for an answer on the way
+///   with a place up to there.
 /// - `performed`: what the run performed, in order of events, is the book place by place; so one stable sort makes it
 ///   (`sort_by_place`).
 /// - `entered`: a message that entered is in the list, or is a call that waits on its object's single copy or was performed there.
@@ -72,6 +73,8 @@ pub fn book_law()
 /// - `owners`: where an owner keeps a single copy beside others, a call does there what it does to the single copy by itself.
 /// - `members`: each member's copies, as its calls make them, are those of the list after as many entries as it applied, and beside
 ///   them exactly the single copies that it owns and whose makes it applied.
+/// - `follow`: so each replicated object of a member's copies is what the book up to its number left of it, each single object that it
+///   keeps is what the whole book left of it, and it has no other; and it counts the processes and the objects of the book up to there.
 /// - `tests`: tests of what is single that agree on each object that the list makes have the same copies and the same book.
 /// - `plain`: where no object is single, copies are those of `object_manager` after the entries, and the book's objects are theirs.
 pub fn singles_law()
@@ -81,6 +84,7 @@ pub fn singles_law()
     ensures apart { SinglesApart }
     ensures owners { OwnersDoAlike }
     ensures members { MembersHold }
+    ensures follow { MembersFollow }
     ensures tests { TestsAgree }
     ensures plain { ArePlain }
 {}

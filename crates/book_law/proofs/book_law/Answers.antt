@@ -2,6 +2,7 @@ use Rattle.book_law.proofs.book_law.Goals as goal
 use Rattle.book_law.proofs.Counting.{objects_counted}
 use Rattle.book_law.proofs.Courses.{every_run}
 use Rattle.book_law.proofs.Resting.{entered_stands}
+use Rattle.book_law.proofs.Received.{replies_received}
 use Rattle.book_law.proofs.Replying.{answers_stand, hand_one}
 use Rattle.book_law.proofs.Running.{asked_stands, processes_run}
 use Rattle.book_law.proofs.Sequence.{are_performed}
@@ -13,7 +14,7 @@ returns c = record {
   objects = objects_counted;
   singles = λ single p q w came. let h = every_run single p q w came in h.singles;
   processes = processes_run;
-  received = λ single p q w came. let h = every_run single p q w came in h.received;
+  received = replies_received;
   performed = are_performed;
   entered = entered_stands;
   asked = asked_stands;
