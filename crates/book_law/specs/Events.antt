@@ -19,8 +19,8 @@ use Rattle.book_law.specs.Book.{Placed, copies_at}
 use Rattle.object_manager.specs.State.{message_of}
 use Rattle.book_law.specs.Singles.{Single}
 
--- a process as it runs at its member: the replies that it received; its place, which is that of its last line, or of the fork that
--- made it, or 0; its message that isn't answered yet; and that message's line, with its place, where it was performed on a single
+-- a process as it runs at its member: the replies that it received; its place, which is that of the last line whose reply it has, or of
+-- the fork that made it, or 0; its message that isn't answered yet; and that message's line, with its place, where it was performed on a single
 -- copy and the answer is on its way
 pub record Runner : Type 0 where
   pub member : ℕ

@@ -82,8 +82,8 @@ pub record IsLineOf (p : Performs) (c : Copied) (kind : KindNo) (op : OpNo) (obj
 -- entries fits; `singles` and `suspended`, so does what a single copy holds whose owner applied its make; `reads` and `calls`, the
 -- next call of a process whose message hasn't entered may be tried at each number of entries from the process's place on, on a view
 -- or on the single copy, which is there; `lines`, what the try of a read by its class gives is a line of a read; `unmade`, no message
--- that was submitted and isn't in the list makes a single object again. The copies of the list keep no single object: those that a member keeps stand beside them, and no
--- condition of entries and reads asks about them
+-- that was submitted and isn't in the list makes a single object again. The copies of the list keep no single object: those that a
+-- member keeps stand beside them, and no condition of entries and reads asks about them
 pub record Callable (single : Test) (p : Performs) (q : Computes) (fits_state : StateFits) (fits_args : ArgsFit) (w : Course) :
     Type 0 where
   pub entries : (n : ℕ) (y : Message) → slice_get w.list n ≡ Some y → Applies fits_args (copies_at single p w.list n) y.action

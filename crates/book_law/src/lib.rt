@@ -67,7 +67,7 @@ pub fn book_law()
 ///
 /// - `entries`: an entry leaves copies as `object_manager` says: after a make of a single object, or applied.
 /// - `made`: each single copy was made by the entry at its place, of a process at its owner.
-/// - `makes`: each entry that makes a single object has its copy.
+/// - `makes`: each entry whose making gives a single object has its copy.
 /// - `apart`: the copies of the list keep no single object, and no entry calls one; each single copy is of a single object, and the only
 ///   one of it; and what is counted as single after n entries are the copies that one of these made.
 /// - `owners`: where an owner keeps a single copy beside others, a call does there what it does to the single copy by itself.
@@ -116,9 +116,9 @@ pub fn every_call_fits<P: Processor>(program: &P)
         (P.fits_args program.now) }
 {}
 
-/// In every run of a lawful program who waits is stuck: where no answer is on the way to it, a process whose message entered, at a
-/// member that applied the whole list, and one whose read is blocked on the copies after the list. A call of this function does
-/// nothing.
+/// In every run of a lawful program a process is stuck whose call is suspended on the copies after the whole list or, at any moment, on
+/// a single copy; so is one whose message entered, where its member applied the whole list and no answer is on the way; and one whose
+/// read is blocked on the copies after the whole list. A call of this function does nothing.
 pub fn stuck_law<P: Processor>(program: &P)
     ensures { EndsStuck (P.performs program.now) (P.computes program.now) }
 {}
