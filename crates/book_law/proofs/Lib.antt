@@ -30,6 +30,8 @@ pub mod Machines
 pub mod Following
 pub mod Received
 pub mod Counting
+pub mod Looks
+pub mod WrongReads
 pub mod Replying
 pub mod Sole
 pub mod Running

@@ -19,3 +19,5 @@ pub mod Replicated
 pub mod Cell
 pub mod Example
 pub mod Wrong
+pub mod Looks
+pub mod WrongReads

@@ -16,6 +16,7 @@ ghost use Rattle.book_law.specs.Conditions.{MembersMeet};
 ghost use Rattle.book_law.specs.Counts.{ObjectsCounted};
 ghost use Rattle.book_law.specs.Example.{IsRun};
 ghost use Rattle.book_law.specs.Fitness.{CallsFit, EndsStuck};
+ghost use Rattle.book_law.specs.Looks.{IsLooking};
 ghost use Rattle.book_law.specs.Machines.{RunsFit};
 ghost use Rattle.book_law.specs.Makers.{CopiesMade, MakesHaveCopies};
 ghost use Rattle.book_law.specs.Members.{MembersFollow, MembersHold};
@@ -26,6 +27,7 @@ ghost use Rattle.book_law.specs.Replicated.{ArePlain, TestsAgree};
 ghost use Rattle.book_law.specs.Replies.{AnswersStand, RunsHandOne};
 ghost use Rattle.book_law.specs.Sequence.{ArePerformed};
 ghost use Rattle.book_law.specs.Wrong.{WrongRules};
+ghost use Rattle.book_law.specs.WrongReads.{WrongReads};
 
 mod placing;
 
@@ -91,11 +93,16 @@ pub fn singles_law()
 
 /// Runs that are computed.
 ///
-/// - `run`: a run of a small program, event by event, with its book.
+/// - `run`: a run of a small program, event by event, with its book: its object is single.
+/// - `looking`: a run of another, whose object is replicated, with reads at older places and a call that waits in the copies' queue.
 /// - `wrong_rules`: seven wrong rules, each of which gives a book that is no history, or a single copy that isn't its object.
+/// - `wrong_reads`: five wrong rules of reads and copies over the second run, each of which gives a book that is no history, or copies that
+///   aren't the book's.
 pub fn example_law()
     ensures run { IsRun }
+    ensures looking { IsLooking }
     ensures wrong_rules { WrongRules }
+    ensures wrong_reads { WrongReads }
 {}
 
 /// In every run of a lawful program what calls on copies ask is met. It rests on the laws of the two traits alone. A call of this
