@@ -15,12 +15,14 @@ use Rattle.book_law.specs.Book.{Placed, book, copies_at}
 use Rattle.book_law.specs.Course.{Came, Course, Next, with_at}
 use Rattle.book_law.specs.Course.Next.{Submits, Orders, Forks, Applies, Reads_at, Takes_call, Hears_answer}
 use Rattle.book_law.specs.Course.Came.{Opens, Then}
-use Rattle.book_law.specs.Events.{Runner, answering, asking, handed, lines_by, newborn, replies_to, told}
-use Rattle.book_law.specs.Promise.{AskedStands, IsProcess, ProcessesRun}
+use Rattle.object_manager.specs.State.{message_of}
+use Rattle.book_law.specs.Events.{In, Runner, answering, asking, handed, lines_by, newborn, replies_to, told}
+use Rattle.book_law.specs.Promise.{AskedStands, IsProcess, ProcessesRun, UntakenOut}
 use Rattle.book_law.proofs.Kept.{Stands, answer_lines, as_process}
 use Rattle.book_law.proofs.Books.{copies_push}
-use Rattle.book_law.proofs.Courses.{at_other, at_own, came_sound}
+use Rattle.book_law.proofs.Courses.{at_other, at_own, came_sound, pending}
 use Rattle.book_law.proofs.Entries.{follows_all}
+use Rattle.book_law.proofs.Resting.{all_taken}
 use Rattle.book_law.proofs.Stages.{stage_few}
 
 -- a process of the run against its book
@@ -101,3 +103,10 @@ processes_run single p q w came =
 
 pub asked_stands : AskedStands
 asked_stands single p q w came m h = let sound = came_sound single p q w came in sound.accounted m h
+
+pub untaken_out : UntakenOut
+untaken_out single p q w came call was is untaken =
+    let sound = came_sound single p q w came in
+    let new : In (message_of call) w.entered → ⊥ = λ h. untaken (all_taken single p q w came call h is) in
+    let r = pending w.entered w.runners w.asked (message_of call) sound.accounted was new in
+    (new, r.0, r.1, r.2)

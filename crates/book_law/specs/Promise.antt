@@ -92,6 +92,14 @@ AskedStands =
     (single : Test) (p : Performs) (q : Computes) (w : Course) → Came single p q w → (m : Message) → In m w.asked →
     In m w.entered ⊎ ((x : Runner) × (w.runners m.process.0 ≡ Some x) × (x.message ≡ Some m))
 
+-- a call on a single object that was submitted and that no owner took hasn't entered, and its process has it out
+abbrev pub UntakenOut : Type 0
+UntakenOut =
+    (single : Test) (p : Performs) (q : Computes) (w : Course) → Came single p q w → (call : Suspended) →
+    In (message_of call) w.asked → single call.object ≡ true → (IsTaken w.owned w.aside call → ⊥) →
+    (In (message_of call) w.entered → ⊥)
+    × (r : Runner) × (w.runners call.process.0 ≡ Some r) × (r.message ≡ Some (message_of call))
+
 -- the copies after an entry are those after a make of a single object that is kept elsewhere, or after an entry that is applied
 abbrev pub EntriesStand : Type 0
 EntriesStand = (single : Test) (p : Performs) (c : Copied) (x : Message) → after single p c x ≡ entry single p c x

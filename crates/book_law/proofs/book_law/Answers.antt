@@ -4,7 +4,7 @@ use Rattle.book_law.proofs.Courses.{every_run}
 use Rattle.book_law.proofs.Resting.{entered_stands}
 use Rattle.book_law.proofs.Received.{replies_received}
 use Rattle.book_law.proofs.Replying.{answers_stand, hand_one}
-use Rattle.book_law.proofs.Running.{asked_stands, processes_run}
+use Rattle.book_law.proofs.Running.{asked_stands, processes_run, untaken_out}
 use Rattle.book_law.proofs.Sequence.{are_performed}
 
 pub returns : goal.returns
@@ -18,6 +18,7 @@ returns c = record {
   performed = are_performed;
   entered = entered_stands;
   asked = asked_stands;
+  untaken = untaken_out;
   hands = hand_one;
   answers = answers_stand;
 }
