@@ -32,6 +32,7 @@ pub mod Received
 pub mod Counting
 pub mod Looks
 pub mod WrongReads
+pub mod Soundness
 pub mod Replying
 pub mod Sole
 pub mod Running

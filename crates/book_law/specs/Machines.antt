@@ -7,6 +7,7 @@ use Rattle.orca_base.specs.declared.ids.ProcessNo.{ProcessNo}
 use Rattle.orca_base.specs.declared.ids.ObjectId.{ObjectId}
 use Rattle.value_core.specs.Fits.{ExtendsKinds, Kinds}
 use Rattle.value_core.specs.Lawful.{FitsAction, RepliesFit, own_objects}
+use Rattle.value_core.specs.Sound.{IsSoundLine, IsSoundMessage}
 use Rattle.value_core.specs.declared.action.Line.{Line}
 use Rattle.value_core.specs.declared.action.Action.{Action}
 use Rattle.value_core.specs.declared.action.Action.TheVariants as action
@@ -62,3 +63,11 @@ pub record AllFit (single : Test) (p : Performs) (q : Computes) (fits_args : Arg
 abbrev pub RunsFit : Performs → Computes → ArgsFit → TextFits → ReplyFits → Type 0
 RunsFit p q fits_args fits_text fits_reply =
     (single : Test) (w : Course) → Came single p q w → AllFit single p q fits_args fits_text fits_reply w
+
+-- each message that was ever submitted is sound, and each line of the book
+pub record AllSound (single : Test) (p : Performs) (w : Course) : Type 0 where
+  pub messages : (m : Message) → In m w.asked → IsSoundMessage m
+  pub lines : (l : Line) → In l (book single p w.list w.aside) → IsSoundLine l
+
+abbrev pub RunsSound : Performs → Computes → Type 0
+RunsSound p q = (single : Test) (w : Course) → Came single p q w → AllSound single p w

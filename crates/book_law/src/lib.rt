@@ -17,7 +17,7 @@ ghost use Rattle.book_law.specs.Counts.{ObjectsCounted};
 ghost use Rattle.book_law.specs.Example.{IsRun};
 ghost use Rattle.book_law.specs.Fitness.{CallsFit, EndsStuck};
 ghost use Rattle.book_law.specs.Looks.{IsLooking};
-ghost use Rattle.book_law.specs.Machines.{RunsFit};
+ghost use Rattle.book_law.specs.Machines.{RunsFit, RunsSound};
 ghost use Rattle.book_law.specs.Makers.{CopiesMade, MakesHaveCopies};
 ghost use Rattle.book_law.specs.Members.{MembersFollow, MembersHold};
 ghost use Rattle.book_law.specs.Owners.{OwnersDoAlike};
@@ -115,12 +115,14 @@ pub fn example_law()
 ///   is there.
 /// - `machines`: the arguments and replies of each process fit, and so does what was ever submitted or performed; who makes an object is
 ///   the process that its id names, and a single object's owner is that process's member.
+/// - `sound`: so each message that was ever submitted is sound, and each line of the book.
 /// - `members`: each member's copies meet the conditions of `apply`, `pass_make` and `call_single` at its next entry and at a call that
 ///   it takes.
 pub fn every_call_fits<P: Processor>(program: &P)
     ensures calls { CallsFit (P.performs program.now) (P.computes program.now) (P.fits_state program.now) (P.fits_args program.now) }
     ensures machines { RunsFit (P.performs program.now) (P.computes program.now) (P.fits_args program.now) (P.fits_text program.now)
         (P.fits_reply program.now) }
+    ensures sound { RunsSound (P.performs program.now) (P.computes program.now) }
     ensures members { MembersMeet (P.performs program.now) (P.computes program.now) (P.fits_state program.now)
         (P.fits_args program.now) }
 {}
