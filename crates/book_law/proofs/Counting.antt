@@ -1,8 +1,8 @@
 -- How many objects the book has: those that the copies hold, and those that were counted as single.
-use Rattle.std.proofs.Common.{◌≡◌, ℕ, zero, suc, ◌+◌, ◌≤◌, ◌==◌, ◌⊎◌, inl, inr, ⊎_elim, Bool, true, false, cond, Option, Some, None, List, [], ◌∷◌, ◌++◌, length, take, refl, sym, ap, ◌∙◌, arith, subst, append_assoc, if◌then◌else◌}
+use Rattle.std.proofs.Common.{◌≡◌, ℕ, zero, suc, ◌+◌, ◌≤◌, ◌==◌, inl, inr, ⊎_elim, Bool, true, false, cond, Option, Some, None, List, [], ◌∷◌, ◌++◌, length, take, refl, sym, ap, ◌∙◌, arith, subst, append_assoc, if◌then◌else◌}
 use Rattle.std.specs.Prelude.{is_some, slice_get}
 use Rattle.std.proofs.lemmas.List.{length-append}
-use Rattle.std.specs.FinMap.Entries.{length-put, put}
+use Rattle.std.specs.FinMap.Entries.{length-put}
 use Rattle.orca_base.specs.declared.ids.KindNo.{KindNo}
 use Rattle.orca_base.specs.declared.ids.ObjectId.{ObjectId}
 use Rattle.orca_base.specs.declared.ids.ProcessNo.{ProcessNo}
@@ -27,13 +27,12 @@ use Rattle.guard_queue.specs.Settles.{Settling, answered, next_ready, objects_if
 use Rattle.guard_queue.specs.Shown.{Rises}
 use Rattle.guard_queue.proofs.Lookups.{found, object_total, placed}
 use Rattle.object_manager.specs.After.{Copied, acted, acted_by, after as after_applied, as_call, called, lines_after as lines_applied, making_reply, line_of, opening_copies}
-use Rattle.object_manager.specs.Limits.{made_objects}
 use Rattle.object_manager.specs.Singles.{after_passed, side}
 use Rattle.object_manager.specs.State.{message_of}
 use Rattle.book_law.specs.Passes.{Test, after, after_all, is_passed, lines_after}
 use Rattle.book_law.specs.Performed.{placed as at_place}
 use Rattle.book_law.specs.Singles.{Single, alone, lines_on}
-use Rattle.book_law.specs.Book.{Placed, aside_at, book, book_from, copies_at, up_to}
+use Rattle.book_law.specs.Book.{Placed, aside_at, book, copies_at, up_to}
 use Rattle.book_law.specs.Course.{Came, Course, Next}
 use Rattle.book_law.specs.Course.Next.{Submits, Orders, Forks, Applies, Reads_at, Takes_call, Hears_answer}
 use Rattle.book_law.specs.Course.Came.{Opens, Then}
@@ -45,7 +44,7 @@ use Rattle.book_law.proofs.Courses.{came_sound}
 use Rattle.book_law.proofs.Lists.{in_push}
 use Rattle.book_law.proofs.Makers.{makes_have_copies}
 use Rattle.book_law.proofs.Objects.{in_append}
-use Rattle.book_law.proofs.Ordered.{ordered_acted, ordered_called, ordered_making, ordered_settled, ordered_stepped, ordered_try, copies_in_order}
+use Rattle.book_law.proofs.Ordered.{ordered_acted, ordered_making, ordered_stepped, ordered_try, copies_in_order}
 use Rattle.book_law.proofs.Owned.{counted_by, counted_of, entry_counts}
 use Rattle.book_law.proofs.Processes.{after_lines-append}
 use Rattle.book_law.proofs.Replying.{in_placed}

@@ -1,15 +1,11 @@
 -- Each member's copies against the book.
-use Rattle.std.proofs.Common.{◌≡◌, ℕ, suc, true, false, Option, Some, None, length, refl, sym, ap, ◌∙◌, subst}
-use Rattle.std.specs.Prelude.{slice_get}
+use Rattle.std.proofs.Common.{◌≡◌, suc, true, false, Option, Some, None, refl, sym, ap, ◌∙◌}
 use Rattle.orca_base.specs.declared.ids.ObjectId.{ObjectId}
 use Rattle.value_core.specs.declared.action.Instance.{Instance}
-use Rattle.value_core.specs.Meaning.{Performs, Computes}
 use Rattle.value_core.specs.History.{object_at, objects_of}
 use Rattle.object_manager.specs.After.{Copied}
 use Rattle.object_manager.specs.Limits.{made_objects}
-use Rattle.book_law.specs.Passes.{Test}
-use Rattle.book_law.specs.Book.{book, copies_at}
-use Rattle.book_law.specs.Course.{Came, Course}
+use Rattle.book_law.specs.Book.{book}
 use Rattle.book_law.specs.Members.{Holds, MembersFollow, copies_of}
 use Rattle.book_law.proofs.Kept.{Kept}
 use Rattle.book_law.proofs.Calls.{came_output}

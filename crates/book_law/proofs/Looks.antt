@@ -1,11 +1,10 @@
 -- The second computed run.
-use Rattle.std.proofs.Common.{◌≡◌, ◌==◌, ◌+◌, ◌*◌, ◌⊎◌, inl, inr, ℕ, Bool, true, false, Option, Some, None, List, [], ◌∷◌, refl, sym, ap, ◌∙◌, arith, if◌then◌else◌}
+use Rattle.std.proofs.Common.{◌≡◌, ◌==◌, ◌+◌, ◌*◌, inl, inr, ℕ, Bool, true, false, Some, List, [], ◌∷◌, refl, sym, ap, ◌∙◌, arith, if◌then◌else◌}
 use Rattle.std.specs.Prelude.{slice_get}
 use Rattle.std.proofs.lemmas.Bool.{eq-eqb}
 use Rattle.value_core.specs.Datum as datum
 use Rattle.value_core.specs.declared.message.Message.{Message}
 use Rattle.value_core.specs.declared.action.Instance.{Instance}
-use Rattle.orca_base.specs.declared.ids.ObjectId.{ObjectId}
 use Rattle.book_law.specs.Cell.{call, cell, kind, line}
 use Rattle.book_law.specs.Course.{Came}
 use Rattle.book_law.specs.Course.Next.{Submits, Orders, Forks, Applies, Reads_at}

@@ -1,12 +1,11 @@
 -- What processes hold, what they submit, and what was performed, fits.
-use Rattle.std.proofs.Common.{◌≡◌, ℕ, suc, ◌+◌, ◌≤◌, ◌<◌, ◌⊎◌, inl, inr, ⊎_elim, Option, Some, None, List, [], ◌∷◌, ◌++◌, length, drop, take, refl, sym, ap, ◌∙◌, arith, subst, append-nil, append_assoc, if◌then◌else◌}
+use Rattle.std.proofs.Common.{◌≡◌, ℕ, ◌+◌, ◌≤◌, ◌<◌, ◌⊎◌, inl, inr, ⊎_elim, Option, Some, None, List, [], ◌∷◌, ◌++◌, length, drop, take, refl, sym, ap, ◌∙◌, arith, subst, append-nil, append_assoc, if◌then◌else◌}
 use Rattle.std.specs.Prelude.{slice_get}
 use Rattle.std.specs.List.{Contains}
 use Rattle.std.proofs.lemmas.Bool.{cases_eq, cases_lt, eq-eqb, ne_eqb}
 use Rattle.std.proofs.lemmas.List.{length-append, length-map, take-append-drop}
 use Rattle.std.proofs.lemmas.List.Elements.{Contains-append_left}
 use Rattle.orca_base.specs.declared.ids.TextNo.{TextNo}
-use Rattle.orca_base.specs.declared.ids.KindNo.{KindNo}
 use Rattle.orca_base.specs.declared.ids.ProcessNo.{ProcessNo}
 use Rattle.orca_base.specs.declared.ids.ObjectId.{ObjectId}
 use Rattle.value_core.specs.Datum.{Data}
@@ -77,9 +76,9 @@ pub told_behind : (single : Test) (p : Performs) (j : ℕ) (c : Copied) (xs : Li
 told_behind single p j c [] aside r none quiet le = inl (omega (arith, le), refl)
 told_behind single p j c (x ∷ xs) aside r none quiet le = ⊎_elim
     (λ u. ⊎_elim
-        (λ (e : r.place ≡ c.applied + 1). inr (omega (arith, e), whole ∙ ap (λ b. (if b then r.line ∷ [] else []) ++ lines_by j more) (eq-eqb r.place (c.applied + 1) e) ∙ ap (λ (ls : List Line). r.line ∷ ls) u.1))
-        (λ apart. inl (let a = u.0 in omega (arith, a, apart), whole ∙ ap (λ b. (if b then r.line ∷ [] else []) ++ lines_by j more) (ne_eqb r.place (c.applied + 1) apart) ∙ u.1))
-        (cases_eq r.place (c.applied + 1)))
+    (λ (e : r.place ≡ c.applied + 1). inr (omega (arith, e), whole ∙ ap (λ b. (if b then r.line ∷ [] else []) ++ lines_by j more) (eq-eqb r.place (c.applied + 1) e) ∙ ap (λ (ls : List Line). r.line ∷ ls) u.1))
+    (λ apart. inl (let a = u.0 in omega (arith, a, apart), whole ∙ ap (λ b. (if b then r.line ∷ [] else []) ++ lines_by j more) (ne_eqb r.place (c.applied + 1) apart) ∙ u.1))
+    (cases_eq r.place (c.applied + 1)))
     (λ u. inr (let a = u.0 in omega (arith, a), whole ∙ ap (λ b. (if b then r.line ∷ [] else []) ++ lines_by j more) (ne_eqb r.place (c.applied + 1) (λ (e : r.place ≡ c.applied + 1). let a = u.0 in omega (arith, a, e))) ∙ u.1))
     (told_behind single p j (after single p c x) xs aside r later (λ k lt. quiet k (omega arith)) (omega (arith, le)))
   where

@@ -1,7 +1,7 @@
 -- What an entry or a single copy has for a process is the reply to the message that it has out, and an answer on the way is the one
 -- line beside the list that its process lacks.
-use Rattle.std.proofs.Common.{◌≡◌, ℕ, suc, ◌+◌, ◌≤◌, ◌<◌, ◌==◌, ◌⊎◌, inl, inr, ⊎_elim, Bool, true, false, Option, Some, None, List, [], ◌∷◌, ◌++◌, length, drop, refl, sym, ap, ◌∙◌, arith, subst, append-nil, if◌then◌else◌}
-use Rattle.std.specs.Prelude.{slice_get, option_map}
+use Rattle.std.proofs.Common.{◌≡◌, ℕ, suc, ◌+◌, ◌≤◌, ◌<◌, ◌==◌, inl, inr, ⊎_elim, Bool, true, false, Option, Some, None, List, [], ◌∷◌, ◌++◌, length, drop, refl, sym, ap, ◌∙◌, arith, subst, append-nil, if◌then◌else◌}
+use Rattle.std.specs.Prelude.{slice_get}
 use Rattle.std.proofs.lemmas.Bool.{cases_eq, eq-eqb, eqb-true}
 use Rattle.std.proofs.lemmas.List.{length_push}
 use Rattle.std.proofs.lemmas.Option.{slice_get_within}
@@ -12,32 +12,30 @@ use Rattle.value_core.specs.declared.action.Line.{Line}
 use Rattle.value_core.specs.declared.action.Reply.{Reply}
 use Rattle.value_core.specs.declared.message.Message.{Message}
 use Rattle.value_core.specs.Meaning.{Performs, Computes}
-use Rattle.value_core.specs.History.{Configuration, LegalFrom, Process, after_lines, opening}
-use Rattle.guard_queue.specs.declared.queue.Suspended.{Suspended}
+use Rattle.value_core.specs.History.{Configuration, LegalFrom, after_lines, opening}
 use Rattle.object_manager.specs.After.{opening_copies}
-use Rattle.object_manager.specs.State.{message_of}
 use Rattle.book_law.specs.Passes.{Test, after_all, lines_after}
 use Rattle.book_law.specs.Performed.{placed}
 use Rattle.book_law.specs.Singles.{Single, lines_on, waiting, waits}
-use Rattle.book_law.specs.Book.{Placed, aside_at, behind, book, copies_at, up_to}
+use Rattle.book_law.specs.Book.{Placed, aside_at, behind, copies_at, up_to}
 use Rattle.book_law.specs.Course.{Came, Course, Next, taking, with_at}
 use Rattle.book_law.specs.Course.Next.{Submits, Orders, Forks, Applies, Reads_at, Takes_call, Hears_answer}
 use Rattle.book_law.specs.Course.Came.{Opens, Then}
 use Rattle.book_law.specs.Events.{In, Runner, answering, asking, handed, lines_by, newborn, replies_to, told, took}
-use Rattle.book_law.specs.Replies.{AnswerOf, AnswersStand, IsAnswerTo, IsReplyTo, RunsHandOne}
+use Rattle.book_law.specs.Replies.{AnswersStand, IsReplyTo, RunsHandOne}
 use Rattle.book_law.proofs.Kept.{AnswerStands, Kept, Stage, Stands, answer_at, answer_lines}
 use Rattle.book_law.proofs.Kept.Stage.{Free, Sent, Waits, Ran, Told}
 use Rattle.book_law.proofs.Books.{by_none, copies_applied, cut}
-use Rattle.book_law.proofs.Courses.{at_other, at_own, came_sound, one_of}
+use Rattle.book_law.proofs.Courses.{at_other, at_own, came_sound}
 use Rattle.book_law.proofs.Hearing.{heard, mapped}
 use Rattle.book_law.proofs.Law.{entries_only}
-use Rattle.book_law.proofs.Lists.{in_push, lines_by-other, lines_by-own}
+use Rattle.book_law.proofs.Lists.{in_push, lines_by-own}
 use Rattle.book_law.proofs.Objects.{in_append, in_first, in_second}
 use Rattle.book_law.proofs.Processes.{after_lines-append, legal_right}
 use Rattle.book_law.proofs.Resting.{placed_in}
 use Rattle.book_law.proofs.Sole.{IsOf, is_of, sole}
-use Rattle.book_law.proofs.Stages.{not_both, stage_free, stage_ran, stage_told}
-use Rattle.book_law.proofs.Taking.{Took, takes}
+use Rattle.book_law.proofs.Stages.{not_both, stage_free, stage_ran}
+use Rattle.book_law.proofs.Taking.{takes}
 
 -- ---- one line, of the message
 
@@ -237,9 +235,9 @@ next_answers single p q w v (Reads_at j x n line here h e) came all = subst (λ 
     (set_answers (w.aside ++ record { place = n; line = line } ∷ []) w.runners j (told n line x)
     (λ i y apart there. grown w.aside (record { place = n; line = line } ∷ []) i y (λ r inside own. ⊎_elim (λ u. apart (sym own ∙ ap (λ (z : Placed). z.line.process.0) u ∙ h.process)) (λ u. u) inside) (all i y there))
     (told_answers (w.aside ++ record { place = n; line = line } ∷ []) j n line x (λ r inside own lt. ⊎_elim
-        (λ u. let a = all j x here in not_both x.answer r none (a.only r u own (omega (arith, lt))))
-        (λ u. let f = ap (λ (z : Placed). z.line.call.0) u in let g = h.call in omega (arith, lt, f, g))
-        (in_push r (record { place = n; line = line }) w.aside inside))))
+    (λ u. let a = all j x here in not_both x.answer r none (a.only r u own (omega (arith, lt))))
+    (λ u. let f = ap (λ (z : Placed). z.line.call.0) u in let g = h.call in omega (arith, lt, f, g))
+    (in_push r (record { place = n; line = line }) w.aside inside))))
   where
     none : x.answer ≡ None
     none =

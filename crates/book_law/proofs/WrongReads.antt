@@ -1,5 +1,5 @@
 -- Each wrong rule of reads and copies is told apart by the line at which its book stops being a history, or by the marks of the cell.
-use Rattle.std.proofs.Common.{◌≡◌, ℕ, zero, suc, None, Some, List, [], ◌∷◌, ◌++◌, length, refl, sym, ap, ◌∙◌, arith, subst}
+use Rattle.std.proofs.Common.{◌≡◌, ℕ, Some, List, [], ◌∷◌, ◌++◌, length, refl, sym, ap, ◌∙◌, arith, subst}
 use Rattle.std.specs.Prelude.{slice_get}
 use Rattle.value_core.specs.Datum as datum
 use Rattle.value_core.specs.Datum.{Data}

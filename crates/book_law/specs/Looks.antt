@@ -2,7 +2,7 @@
 -- member 1, and marks the cell twice. Process 1 takes a mark, which it waits for in the queue of the copies; then it looks three times.
 -- The first two looks stand at place 4, where member 1 applied four entries, though the list has five by then: so the book has them
 -- before the second mark. Member 2 applied one entry alone.
-use Rattle.std.specs.Prelude.{◌≡◌, ℕ, zero, suc, List, [], ◌∷◌, length, Option, None, Some, refl}
+use Rattle.std.specs.Prelude.{◌≡◌, ℕ, zero, suc, List, [], ◌∷◌, length, None, refl}
 use Rattle.value_core.specs.Datum.{Data}
 use Rattle.value_core.specs.Datum as datum
 use Rattle.value_core.specs.declared.action.Class.{Class}
@@ -19,7 +19,7 @@ use Rattle.value_core.specs.declared.meaning.Doing.TheVariants as doing
 use Rattle.value_core.specs.declared.message.Message.{Message}
 use Rattle.value_core.specs.Meaning.{Performs, Computes}
 use Rattle.book_law.specs.Book.{book, copies_at}
-use Rattle.book_law.specs.Cell.{call, fork, kind, line, make, message}
+use Rattle.book_law.specs.Cell.{call, fork, line, make, message}
 use Rattle.book_law.specs.Course.{Came, Course, applying, forking, opening_course, ordered, reading, submitted}
 use Rattle.book_law.specs.Events.{Runner}
 use Rattle.book_law.specs.Example.{born, runner}

@@ -1,8 +1,6 @@
 -- What processes hold, what they submit, and what was performed, fits, in every run of a lawful program. So by the laws of the two
 -- traits it is sound; a machine may be started, and given a reply. And who makes an object is the process that its id names.
 use Rattle.std.specs.Prelude.{◌≡◌, ◌+◌, ◌≤◌, ℕ, Some, length, slice_get}
-use Rattle.orca_base.specs.declared.ids.KindNo.{KindNo}
-use Rattle.orca_base.specs.declared.ids.OpNo.{OpNo}
 use Rattle.orca_base.specs.declared.ids.ProcessNo.{ProcessNo}
 use Rattle.orca_base.specs.declared.ids.ObjectId.{ObjectId}
 use Rattle.value_core.specs.Fits.{ExtendsKinds, Kinds}

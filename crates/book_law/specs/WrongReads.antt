@@ -1,12 +1,12 @@
 -- Wrong rules of reads and copies, each told apart by what it makes of the second computed run (Looks.antt): its book is no history of
 -- the program, or the copies aren't the book's.
-use Rattle.std.specs.Prelude.{◌≡◌, List, [], ◌∷◌, ◌++◌, refl}
+use Rattle.std.specs.Prelude.{◌≡◌, List, [], ◌∷◌, ◌++◌}
 use Rattle.value_core.specs.declared.action.Line.{Line}
 use Rattle.value_core.specs.declared.message.Message.{Message}
 use Rattle.value_core.specs.History.{Legal, object_at, objects_of}
 use Rattle.object_manager.specs.After.{Copied, opening_copies}
 use Rattle.book_law.specs.Passes.{after_all}
-use Rattle.book_law.specs.Book.{Placed, book}
+use Rattle.book_law.specs.Book.{book}
 use Rattle.book_law.specs.Cell.{call, cell, line}
 use Rattle.book_law.specs.Looks.{forks, looks, looks_lines, makes, marks, marks_again, runs, takes}
 use Rattle.book_law.specs.Replicated.{all_replicated}
