@@ -33,6 +33,7 @@ pub mod Counting
 pub mod Looks
 pub mod WrongReads
 pub mod Soundness
+pub mod Asked
 pub mod Replying
 pub mod Sole
 pub mod Running

@@ -32,6 +32,7 @@ use Rattle.book_law.specs.Events.{In, Makes, Runner, lines_by, replies_to}
 use Rattle.book_law.specs.Fitness.{ArgsFit, ReplyFits, StateFits, TextFits}
 use Rattle.book_law.specs.Machines.{ActionFits, AllFit, MachineFits}
 use Rattle.book_law.proofs.Kept.{AnswerStands, Kept, Stands, answer_at, answer_lines, as_process}
+use Rattle.book_law.proofs.Asked.{entered_asked}
 use Rattle.book_law.proofs.Books.{applied_all, behind_all, behind_cut, copies_applied, copies_more, cut, none_later}
 use Rattle.book_law.proofs.Calls.{covers, fits_at, lawful_at}
 use Rattle.book_law.proofs.Courses.{came_sound}
@@ -309,23 +310,6 @@ all_asked : (single : Test) (p : Performs) (q : Computes) (fits_state : StateFit
 all_asked single p q fits_state fits_args fits_text fits_reply w laws (Opens member shared) = λ m h. absurd h
 all_asked single p q fits_state fits_args fits_text fits_reply w laws (Then u v came next) = next_asked single p q fits_state fits_args fits_text fits_reply u v laws next came (all_asked single p q fits_state fits_args fits_text fits_reply u laws came)
 
--- what was ordered was submitted
-abbrev pub WasAsked : Course → Type 0
-WasAsked w = (y : Message) → In y w.list → In y w.asked
-
-next_was : (single : Test) (p : Performs) (q : Computes) (w v : Course) → Next single p q w v → WasAsked w → WasAsked v
-next_was single p q w v (Submits j x m here free asks e) all = subst WasAsked (sym e) (λ y h. inr (all y h))
-next_was single p q w v (Orders x r here was new may plain e) all = subst WasAsked (sym e) (λ y h. ⊎_elim (λ u. all y u) (λ u. subst (λ (z : Message). In z w.asked) (sym u) was) (in_push y x w.list h))
-next_was single p q w v (Forks x born member was new forks e) all = subst WasAsked (sym e) (λ y h. ⊎_elim (λ u. all y u) (λ u. subst (λ (z : Message). In z w.asked) (sym u) was) (in_push y x w.list h))
-next_was single p q w v (Applies m y is e) all = subst WasAsked (sym e) all
-next_was single p q w v (Reads_at j x n line here h e) all = subst WasAsked (sym e) all
-next_was single p q w v (Takes_call i x r call t e) all = subst WasAsked (sym e) all
-next_was single p q w v (Hears_answer j x r here has le e) all = subst WasAsked (sym e) all
-
-pub was_asked : (single : Test) (p : Performs) (q : Computes) (w : Course) → Came single p q w → WasAsked w
-was_asked single p q w (Opens member shared) = λ y h. absurd h
-was_asked single p q w (Then u v came next) = next_was single p q u v next (was_asked single p q u came)
-
 -- ---- every run
 
 pub all_fit : (single : Test) (p : Performs) (q : Computes) (fits_state : StateFits) (fits_args : ArgsFit) (fits_text : TextFits) (fits_reply : ReplyFits) (w : Course) → Laws p q fits_state fits_args fits_text fits_reply → Came single p q w → AllFit single p q fits_args fits_text fits_reply w
@@ -345,7 +329,8 @@ all_fit single p q fits_state fits_args fits_text fits_reply w laws came = recor
       (makes_own q fits_args fits_text kinds x.text number x.args x.replies m.action o lawful is).1;
   owners = λ i s there.
       let h = copies_made single p q w came i s there in
-      let u = asks h.entry (was_asked single p q w came h.entry (in_at h.entry w.list h.before h.there)) in
+      let were = entered_asked single p q w came in
+      let u = asks h.entry (were.entered h.entry (were.listed h.entry (in_at h.entry w.list h.before h.there))) in
       let its : Makes h.entry.action s.object = subst (λ (a : Action). Makes a s.object) (sym h.makes) refl in
       (h.runner, ap w.runners (u.makes s.object its) ∙ h.process, h.owner);
 }

@@ -92,6 +92,15 @@ AskedStands =
     (single : Test) (p : Performs) (q : Computes) (w : Course) → Came single p q w → (m : Message) → In m w.asked →
     In m w.entered ⊎ ((x : Runner) × (w.runners m.process.0 ≡ Some x) × (x.message ≡ Some m))
 
+-- each entry entered, each message that entered was submitted, and so was one that a process has out
+pub record WereAsked (w : Course) : Type 0 where
+  pub listed : (y : Message) → In y w.list → In y w.entered
+  pub entered : (m : Message) → In m w.entered → In m w.asked
+  pub out : (j : ℕ) (x : Runner) (m : Message) → w.runners j ≡ Some x → x.message ≡ Some m → In m w.asked
+
+abbrev pub EnteredAsked : Type 0
+EnteredAsked = (single : Test) (p : Performs) (q : Computes) (w : Course) → Came single p q w → WereAsked w
+
 -- a call on a single object that was submitted and that no owner took hasn't entered, and its process has it out
 abbrev pub UntakenOut : Type 0
 UntakenOut =

@@ -21,7 +21,7 @@ ghost use Rattle.book_law.specs.Machines.{RunsFit, RunsSound};
 ghost use Rattle.book_law.specs.Makers.{CopiesMade, MakesHaveCopies};
 ghost use Rattle.book_law.specs.Members.{MembersFollow, MembersHold};
 ghost use Rattle.book_law.specs.Owners.{OwnersDoAlike};
-ghost use Rattle.book_law.specs.Promise.{AskedStands, CopiesFollow, EnteredStands, EntriesStand, LegalBook};
+ghost use Rattle.book_law.specs.Promise.{AskedStands, CopiesFollow, EnteredAsked, EnteredStands, EntriesStand, LegalBook};
 ghost use Rattle.book_law.specs.Promise.{ProcessesRun, RepliesReceived, SinglesFollow, UntakenOut};
 ghost use Rattle.book_law.specs.Replicated.{ArePlain, TestsAgree};
 ghost use Rattle.book_law.specs.Replies.{AnswersStand, RunsHandOne};
@@ -48,6 +48,7 @@ use value_core::Processor;
 ///   (`sort_by_place`).
 /// - `entered`: a message that entered is in the list, or is a call that waits on its object's single copy or was performed there.
 /// - `asked`: a message that was ever submitted entered, or is the one that its process has out.
+/// - `submitted`: each entry entered, each message that entered was submitted, and so was one that a process has out.
 /// - `untaken`: a call on a single object that was submitted and that no owner took hasn't entered, and its process has it out.
 /// - `hands`: a member's next entry, and a call that an owner takes, have for a process no line, or one, of the message that it has out.
 /// - `answers`: the answer of a single copy that is on its way stands beside the list, is of the message that its process has out, and
@@ -62,6 +63,7 @@ pub fn book_law()
     ensures performed { ArePerformed }
     ensures entered { EnteredStands }
     ensures asked { AskedStands }
+    ensures submitted { EnteredAsked }
     ensures untaken { UntakenOut }
     ensures hands { RunsHandOne }
     ensures answers { AnswersStand }

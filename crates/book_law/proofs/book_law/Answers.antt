@@ -1,4 +1,5 @@
 use Rattle.book_law.proofs.book_law.Goals as goal
+use Rattle.book_law.proofs.Asked.{entered_asked}
 use Rattle.book_law.proofs.Counting.{objects_counted}
 use Rattle.book_law.proofs.Courses.{every_run}
 use Rattle.book_law.proofs.Resting.{entered_stands}
@@ -18,6 +19,7 @@ returns c = record {
   performed = are_performed;
   entered = entered_stands;
   asked = asked_stands;
+  submitted = entered_asked;
   untaken = untaken_out;
   hands = hand_one;
   answers = answers_stand;
