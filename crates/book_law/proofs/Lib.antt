@@ -34,6 +34,7 @@ pub mod Looks
 pub mod WrongReads
 pub mod Soundness
 pub mod Asked
+pub mod InBook
 pub mod Replying
 pub mod Sole
 pub mod Running

@@ -128,7 +128,7 @@ in_by j l (k ∷ lines) h = go (k.process.0 == j) (in_by j l lines) h
     go true ih (inr u) = inr (ih u)
     go false ih u = inr (ih u)
 
-in_aside : (r : Placed) (aside : List Placed) → In r aside → In r.line (aside_at r.place aside)
+pub in_aside : (r : Placed) (aside : List Placed) → In r aside → In r.line (aside_at r.place aside)
 in_aside r [] h = h
 in_aside r (s ∷ aside) (inl e) = subst (λ (z : Placed). In r.line (aside_at z.place (s ∷ aside))) (sym e) (go (s.place == s.place) (eq-eqb s.place s.place refl))
   where

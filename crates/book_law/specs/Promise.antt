@@ -12,7 +12,7 @@ use Rattle.object_manager.specs.After.{Copied}
 use Rattle.book_law.specs.Book.{Placed, book, copies_at, up_to}
 use Rattle.book_law.specs.Course.{Came, Course}
 use Rattle.book_law.specs.Events.{Asks, In, Runner}
-use Rattle.book_law.specs.Passes.{Test, after, entry}
+use Rattle.book_law.specs.Passes.{Test, after, entry, lines_after}
 use Rattle.object_manager.specs.State.{message_of}
 use Rattle.book_law.specs.Singles.{Single}
 
@@ -108,6 +108,16 @@ UntakenOut =
     In (message_of call) w.asked → single call.object ≡ true → (IsTaken w.owned w.aside call → ⊥) →
     (In (message_of call) w.entered → ⊥)
     × (r : Runner) × (w.runners call.process.0 ≡ Some r) × (r.message ≡ Some (message_of call))
+
+-- each line of an entry, and each operation beside the list, is in the book
+pub record IsInBook (single : Test) (p : Performs) (w : Course) : Type 0 where
+  pub entries :
+      (n : ℕ) (y : Message) (l : Line) → slice_get w.list n ≡ Some y → In l (lines_after single p (copies_at single p w.list n) y) →
+      In l (book single p w.list w.aside)
+  pub beside : (r : Placed) → In r w.aside → In r.line (book single p w.list w.aside)
+
+abbrev pub AllInBook : Type 0
+AllInBook = (single : Test) (p : Performs) (q : Computes) (w : Course) → Came single p q w → IsInBook single p w
 
 -- the copies after an entry are those after a make of a single object that is kept elsewhere, or after an entry that is applied
 abbrev pub EntriesStand : Type 0

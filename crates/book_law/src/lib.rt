@@ -21,7 +21,7 @@ ghost use Rattle.book_law.specs.Machines.{RunsFit, RunsSound};
 ghost use Rattle.book_law.specs.Makers.{CopiesMade, MakesHaveCopies};
 ghost use Rattle.book_law.specs.Members.{MembersFollow, MembersHold};
 ghost use Rattle.book_law.specs.Owners.{OwnersDoAlike};
-ghost use Rattle.book_law.specs.Promise.{AskedStands, CopiesFollow, EnteredAsked, EnteredStands, EntriesStand, LegalBook};
+ghost use Rattle.book_law.specs.Promise.{AllInBook, AskedStands, CopiesFollow, EnteredAsked, EnteredStands, EntriesStand, LegalBook};
 ghost use Rattle.book_law.specs.Promise.{ProcessesRun, RepliesReceived, SinglesFollow, UntakenOut};
 ghost use Rattle.book_law.specs.Replicated.{ArePlain, TestsAgree};
 ghost use Rattle.book_law.specs.Replies.{AnswersStand, RunsHandOne};
@@ -37,6 +37,7 @@ use value_core::Processor;
 /// The law of every run, whichever objects are single and whatever the program means.
 ///
 /// - `legal`: the book is a history of the program.
+/// - `lines`: each line of an entry, and each operation beside the list, is in the book.
 /// - `copies`: the replicated objects and the processes of the book up to place n are those of a member's copies after n entries.
 /// - `objects`: the book up to place n has as many objects as those copies count, replicated and single ones, and the output object.
 /// - `singles`: each single copy is its object after all lines of the book.
@@ -55,6 +56,7 @@ use value_core::Processor;
 ///   has no place below the process's; no other line beside the list has a number that the process hasn't received.
 pub fn book_law()
     ensures legal { LegalBook }
+    ensures lines { AllInBook }
     ensures copies { CopiesFollow }
     ensures objects { ObjectsCounted }
     ensures singles { SinglesFollow }
