@@ -1,5 +1,5 @@
 -- What entered was submitted, and so was what a process has out.
-use Rattle.std.proofs.Common.{◌≡◌, ℕ, suc, ◌==◌, ◌⊎◌, inl, inr, ⊎_elim, Bool, true, false, Option, Some, None, List, [], ◌∷◌, ◌++◌, length, refl, sym, ap, ◌∙◌, subst, if◌then◌else◌}
+use Rattle.std.proofs.Common.{◌≡◌, ℕ, suc, ◌==◌, inl, inr, ⊎_elim, Bool, true, false, Option, Some, None, List, [], ◌∷◌, ◌++◌, length, sym, ap, ◌∙◌, subst, if◌then◌else◌}
 use Rattle.std.specs.Prelude.{option_map}
 use Rattle.std.proofs.lemmas.Bool.{cases_eq}
 use Rattle.value_core.specs.Datum as datum
@@ -11,7 +11,7 @@ use Rattle.object_manager.specs.State.{message_of}
 use Rattle.book_law.specs.Passes.{Test, after_all, lines_after}
 use Rattle.book_law.specs.Singles.{lines_on}
 use Rattle.book_law.specs.Book.{copies_at}
-use Rattle.book_law.specs.Course.{Came, Course, Next, with_at}
+use Rattle.book_law.specs.Course.{Course, Next, with_at}
 use Rattle.book_law.specs.Course.Next.{Submits, Orders, Forks, Applies, Reads_at, Takes_call, Hears_answer}
 use Rattle.book_law.specs.Course.Came.{Opens, Then}
 use Rattle.book_law.specs.Events.{In, Runner, answering, asking, handed, lines_by, newborn, told, took}

@@ -1,15 +1,13 @@
 -- Each line of an entry, and each operation beside the list, is in the book.
-use Rattle.std.proofs.Common.{◌≡◌, ℕ, zero, suc, ◌+◌, ◌≤◌, ◌<◌, ⊎_elim, Some, List, [], ◌∷◌, ◌++◌, length, refl, sym, ap, arith, subst}
-use Rattle.std.specs.Prelude.{slice_get}
+use Rattle.std.proofs.Common.{◌≡◌, ℕ, zero, suc, ◌+◌, ◌≤◌, ◌<◌, ⊎_elim, List, [], ◌∷◌, ◌++◌, length, sym, arith, subst}
 use Rattle.std.proofs.lemmas.Bool.{cases_eq, cases_lt}
 use Rattle.std.proofs.lemmas.Option.{slice_get_within}
 use Rattle.value_core.specs.declared.action.Line.{Line}
 use Rattle.value_core.specs.declared.message.Message.{Message}
-use Rattle.value_core.specs.Meaning.{Performs, Computes}
+use Rattle.value_core.specs.Meaning.{Performs}
 use Rattle.object_manager.specs.After.{Copied, opening_copies}
 use Rattle.book_law.specs.Passes.{Test, after, lines_after}
 use Rattle.book_law.specs.Book.{Placed, aside_at, behind, book, book_from, copies_at, up_to}
-use Rattle.book_law.specs.Course.{Came, Course}
 use Rattle.book_law.specs.Events.{In}
 use Rattle.book_law.specs.Promise.{AllInBook}
 use Rattle.book_law.proofs.Books.{behind_next, cut}

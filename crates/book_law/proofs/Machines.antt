@@ -40,7 +40,7 @@ use Rattle.book_law.proofs.Entries.{as_received}
 use Rattle.book_law.proofs.Fits.{Fit, Laws, ProcessFits as Fitted, kinds_at}
 use Rattle.book_law.proofs.Fitting.{acts, history_fits, knows, opening_fits, step_fits}
 use Rattle.book_law.proofs.Law.{entries_only}
-use Rattle.book_law.proofs.Lists.{append_none_left, append_none_right, in_at, in_push, lines_by-append}
+use Rattle.book_law.proofs.Lists.{append_none_left, append_none_right, in_at, lines_by-append}
 use Rattle.book_law.proofs.Makers.{copies_made}
 use Rattle.book_law.proofs.Processes.{after_lines-append, get_some, replies_after}
 use Rattle.book_law.proofs.Stages.{stage_free, stage_told}

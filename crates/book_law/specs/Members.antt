@@ -8,6 +8,7 @@ use Rattle.value_core.specs.Meaning.{Performs, Computes}
 use Rattle.value_core.specs.History.{object_at, objects_of, processes_of}
 use Rattle.guard_queue.specs.Apart.{calls_on}
 use Rattle.guard_queue.specs.Settles.{AllBlocked}
+use Rattle.guard_queue.specs.Shown.{Rises}
 use Rattle.object_manager.specs.After.{Copied, after as after_applied, opening_copies}
 use Rattle.object_manager.specs.Limits.{made_objects}
 use Rattle.object_manager.specs.Singles.{after_passed, after_single}
@@ -67,8 +68,8 @@ MembersHold =
     Holds single p w.list w.owned m (w.applied m) (copies_of single p q w came m)
 
 -- these copies of member m against the book: each replicated object is what the book up to m's number left of it, and isn't kept
--- beside; no single object is among them; each single object that is kept beside is what the whole book left of it; and the numbers of
--- processes and of objects are those of the book up to m's number
+-- beside; no single object is among them; each single object that is kept beside is what the whole book left of it, and those stand
+-- in the order of their ids; and the numbers of processes and of objects are those of the book up to m's number
 pub record AreOfBook (single : Test) (p : Performs) (q : Computes) (w : Course) (m : ℕ) (c : Copied) : Type 0 where
   pub replicated :
       (o : ObjectId) → single o ≡ false →
@@ -78,6 +79,7 @@ pub record AreOfBook (single : Test) (p : Performs) (q : Computes) (w : Course) 
   pub own :
       (o : ObjectId) (kept : Instance) → object_at c.own o ≡ Some kept →
       object_at (objects_of p q (book single p w.list w.aside)) o ≡ Some kept
+  pub rises : Rises c.own
   pub processes : length (processes_of p q (up_to single p w.list w.aside (w.applied m))) ≡ c.processes
   pub made : length (objects_of p q (up_to single p w.list w.aside (w.applied m))) ≡ suc (made_objects c)
 
