@@ -389,14 +389,14 @@ every_call single p q fits_state fits_args fits_text fits_reply w laws came = re
       let next = o.next call inside in
       on_single single p q fits_state fits_args fits_text fits_reply w.list w.aside w.owned w.entered w.applied w.runners (w.applied x.owner) call.kind call.op call.object call.args laws k (ap single (o.its call inside) ∙ o.is)
       (may_at single p q fits_state fits_args fits_text fits_reply w.list w.aside w.owned w.entered w.applied w.runners call.process r.0 (w.applied x.owner) call.kind call.op call.object call.args laws k st n.1 n.0 r.2 (waits_doing call r.0 st n.1 n.0 next));
-  reads = λ number x n kind op object args here free le shared next. let m = may_read number x n kind op object args here free le shared next in (kinds_at single p w.list n, m.states, m.operation);
-  lines = λ number x n kind op object args line here free le shared next class_is h. read_line single p q fits_state fits_args fits_text fits_reply w.list n kind op object args line laws shared
-      (may_read number x n kind op object args here free le shared next) class_is h.is h.kept h.there h.answers;
-  calls = λ number x n kind op object args here out le is next.
-      let st = k.stands number.0 x here in
+  reads = λ number x n kind op object args at free shared. let m = may_read number x n kind op object args at.here free at.place shared at.next in (kinds_at single p w.list n, m.states, m.operation);
+  lines = λ number x n kind op object args line at free shared class_is h. read_line single p q fits_state fits_args fits_text fits_reply w.list n kind op object args line laws shared
+      (may_read number x n kind op object args at.here free at.place shared at.next) class_is h.is h.kept h.there h.answers;
+  calls = λ number x n kind op object args at out is.
+      let st = k.stands number.0 x at.here in
       let i = out_idle single p q w.list w.aside w.owned w.entered (w.applied x.member) number.0 x st out in
       on_single single p q fits_state fits_args fits_text fits_reply w.list w.aside w.owned w.entered w.applied w.runners n kind op object args laws k is
-      (may_at single p q fits_state fits_args fits_text fits_reply w.list w.aside w.owned w.entered w.applied w.runners number x n kind op object args laws k st i.1 i.0 le next);
+      (may_at single p q fits_state fits_args fits_text fits_reply w.list w.aside w.owned w.entered w.applied w.runners number x n kind op object args laws k st i.1 i.0 at.place at.next);
   unmade = λ x o was fresh makes i y is same.
       let sound = came_sound single p q w came in
       let new = not_entered single p q w x came (λ z calls. absurd (makes_only x.action o z makes calls)) fresh in

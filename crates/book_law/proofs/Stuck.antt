@@ -148,7 +148,7 @@ stuck_at_end single p q fits_state fits_args fits_text fits_reply w laws came = 
   reads = λ number x kind op object args here free shared next blocked.
       let s = k.stands number.0 x here in
       let c = every_call single p q fits_state fits_args fits_text fits_reply w laws came in
-      let r = c.reads number x (length w.list) kind op object args here free s.early shared next in
+      let r = c.reads number x (length w.list) kind op object args (record { here = here; place = s.early; next = next }) free shared in
       let o = r.2 in
       let there : object_at copies.objects object ≡ Some o.kept = ap (λ (d : Copied). object_at d.objects object) (sym (copies_all single p w.list)) ∙ o.exists in
       stuck_read single p q w.list w.aside w.owned w.entered w.applied w.runners number x kind op object args o.kept k here free shared next there (sym (ap (tried_by p kind op args) o.exists) ∙ blocked);

@@ -1,6 +1,6 @@
 -- What calls on copies ask, and that every run of a lawful program meets it: the conditions of `apply`, `pass_make`, `read` and
 -- `call_single` (docs/RUNTIME.md, One member's copies).
-use Rattle.std.specs.Prelude.{◌≡◌, ◌⊎◌, ◌≤◌, true, false, ℕ, List, length, Some, None, slice_get}
+use Rattle.std.specs.Prelude.{◌≡◌, ◌⊎◌, ◌≤◌, true, false, ℕ, List, length, Option, Some, None, slice_get}
 use Rattle.orca_base.specs.declared.ids.KindNo.{KindNo}
 use Rattle.orca_base.specs.declared.ids.OpNo.{OpNo}
 use Rattle.orca_base.specs.declared.ids.TextNo.{TextNo}
@@ -70,6 +70,13 @@ abbrev pub CallsNext : Computes → ProcessNo → Runner → KindNo → OpNo →
 CallsNext q number x kind op object args =
     q.doing x.text number x.args x.replies most_turns ≡ doing.At (action.Call kind op object args)
 
+-- the next action of this process, which is x, is this call, and n is at or behind its place
+pub record IsAtCall (q : Computes) (runners : ℕ → Option Runner) (number : ProcessNo) (x : Runner) (n : ℕ) (kind : KindNo) (op : OpNo)
+    (object : ObjectId) (args : Data) : Type 0 where
+  pub here : runners number.0 ≡ Some x
+  pub place : x.place ≤ n
+  pub next : CallsNext q number x kind op object args
+
 -- a line of this call, which a try on the copies gave
 pub record IsLineOf (p : Performs) (c : Copied) (kind : KindNo) (op : OpNo) (object : ObjectId) (args : Data) (line : Line) : Type 0 where
   pub kept : Instance
@@ -97,19 +104,16 @@ pub record Callable (single : Test) (p : Performs) (q : Computes) (fits_state : 
       call.kind call.op call.object call.args
   pub reads :
       (number : ProcessNo) (x : Runner) (n : ℕ) (kind : KindNo) (op : OpNo) (object : ObjectId) (args : Data) →
-      w.runners number.0 ≡ Some x → x.message ≡ None → x.place ≤ n → single object ≡ false →
-      CallsNext q number x kind op object args →
+      IsAtCall q w.runners number x n kind op object args → x.message ≡ None → single object ≡ false →
       ReadFits fits_state fits_args (copies_at single p w.list n).objects kind op object args
   pub lines :
       (number : ProcessNo) (x : Runner) (n : ℕ) (kind : KindNo) (op : OpNo) (object : ObjectId) (args : Data) (line : Line) →
-      w.runners number.0 ≡ Some x → x.message ≡ None → x.place ≤ n → single object ≡ false →
-      CallsNext q number x kind op object args → p.class_of kind op ≡ Reads →
-      IsLineOf p (copies_at single p w.list n) kind op object args line →
+      IsAtCall q w.runners number x n kind op object args → x.message ≡ None → single object ≡ false →
+      p.class_of kind op ≡ Reads → IsLineOf p (copies_at single p w.list n) kind op object args line →
       IsRead single p (copies_at single p w.list n).objects line
   pub calls :
       (number : ProcessNo) (x : Runner) (n : ℕ) (kind : KindNo) (op : OpNo) (object : ObjectId) (args : Data) →
-      w.runners number.0 ≡ Some x → IsOut w.entered x → x.place ≤ n → single object ≡ true →
-      CallsNext q number x kind op object args →
+      IsAtCall q w.runners number x n kind op object args → IsOut w.entered x → single object ≡ true →
       MayCall fits_args (kinds_at (copies_at single p w.list n)) w.owned n kind op object args
   pub unmade :
       (x : Message) (o : ObjectId) → In x w.asked → (In x w.list → ⊥) → Makes x.action o → (i : ℕ) (s : Single) →
