@@ -48,19 +48,20 @@ use Rattle.book_law.proofs.Owned.{contains_map, waits_at}
 use Rattle.book_law.proofs.Objects.{spared_lines}
 use Rattle.book_law.proofs.Processes.{after_lines-append, legal_left, legal_right}
 use Rattle.book_law.proofs.Reading.{at_place}
+use Rattle.book_law.proofs.Resting.{not_entered}
 use Rattle.book_law.proofs.Shared.{copies_shared}
 use Rattle.book_law.proofs.Stages.{stage_free, stage_new, stage_waits}
 use Rattle.book_law.proofs.Typed.{kind_contained, kind_found}
 
 -- all fits after each place of the book
-fits_at : (single : Test) (p : Performs) (q : Computes) (fits_state : StateFits) (fits_args : ArgsFit) (fits_text : TextFits) (fits_reply : ReplyFits) (list : List Message) (aside : List Placed) (n : ℕ) → Laws p q fits_state fits_args fits_text fits_reply
+pub fits_at : (single : Test) (p : Performs) (q : Computes) (fits_state : StateFits) (fits_args : ArgsFit) (fits_text : TextFits) (fits_reply : ReplyFits) (list : List Message) (aside : List Placed) (n : ℕ) → Laws p q fits_state fits_args fits_text fits_reply
     → LegalFrom p q (opening q) (book single p list aside) → Fit q fits_state fits_text fits_reply (after_lines p (opening q) (up_to single p list aside n))
 fits_at single p q fits_state fits_args fits_text fits_reply list aside n laws legal =
     history_fits p q fits_state fits_args fits_text fits_reply (opening q) (up_to single p list aside n) laws
     (legal_left p q (opening q) (up_to single p list aside n) (behind single p list aside n) (subst (λ (ls : List Line). LegalFrom p q (opening q) ls) (cut single p list aside n) legal))
     (opening_fits p q fits_state fits_args fits_text fits_reply laws)
 
-lawful_at : (p : Performs) (q : Computes) (fits_state : StateFits) (fits_args : ArgsFit) (fits_text : TextFits) (fits_reply : ReplyFits) (c : Configuration) (number : ProcessNo) (x : Process) (a : Action) → Laws p q fits_state fits_args fits_text fits_reply
+pub lawful_at : (p : Performs) (q : Computes) (fits_state : StateFits) (fits_args : ArgsFit) (fits_text : TextFits) (fits_reply : ReplyFits) (c : Configuration) (number : ProcessNo) (x : Process) (a : Action) → Laws p q fits_state fits_args fits_text fits_reply
     → Fit q fits_state fits_text fits_reply c → slice_get c.processes number.0 ≡ Some x → q.doing x.text number x.args x.replies most_turns ≡ doing.At a → IsLawfulDoing q fits_args fits_text (kinds_of c.objects) x.text number x.args x.replies (doing.At a)
 lawful_at p q fits_state fits_args fits_text fits_reply c number x a laws f here next =
     let g = f.processes number x here in
@@ -93,7 +94,7 @@ may_call p q fits_state fits_args fits_text fits_reply c kinds number x kind op 
 -- ---- the types of all objects
 
 -- each object of the book up to a place is among the copies of that place, or counted as single
-covers : (single : Test) (p : Performs) (q : Computes) (fits_state : StateFits) (fits_args : ArgsFit) (fits_text : TextFits) (fits_reply : ReplyFits) (list : List Message) (aside : List Placed) (owned : List Single) (seen : List Message) (applied : ℕ → ℕ) (runners : ℕ → Option Runner) (n : ℕ) → Laws p q fits_state fits_args fits_text fits_reply
+pub covers : (single : Test) (p : Performs) (q : Computes) (fits_state : StateFits) (fits_args : ArgsFit) (fits_text : TextFits) (fits_reply : ReplyFits) (list : List Message) (aside : List Placed) (owned : List Single) (seen : List Message) (applied : ℕ → ℕ) (runners : ℕ → Option Runner) (n : ℕ) → Laws p q fits_state fits_args fits_text fits_reply
     → Kept single p q list aside owned seen applied runners → ExtendsKinds (kinds_of (after_lines p (opening q) (up_to single p list aside n)).objects) (kinds_at single p list n)
 covers single p q fits_state fits_args fits_text fits_reply list aside owned seen applied runners n laws k entry h = go (single o) refl
   where
@@ -258,7 +259,7 @@ read_line single p q fits_state fits_args fits_text fits_reply list n kind op ob
 
 -- ---- every run
 
-came_output : (single : Test) (p : Performs) (q : Computes) (w : Course) → Came single p q w → single output_object ≡ false
+pub came_output : (single : Test) (p : Performs) (q : Computes) (w : Course) → Came single p q w → single output_object ≡ false
 came_output single p q w (Opens member shared) = shared
 came_output single p q w (Then u v came next) = came_output single p q u came
 
@@ -344,6 +345,14 @@ never_made p q fits_state fits_args fits_text fits_reply c number x (action.Fork
 never_made p q fits_state fits_args fits_text fits_reply c number x action.Ended o f here lawful e = absurd e
 never_made p q fits_state fits_args fits_text fits_reply c number x (action.Faulted fault) o f here lawful e = absurd e
 
+-- a make calls nothing
+makes_only : (a : Action) (o z : ObjectId) → Makes a o → Calls a z → ⊥
+makes_only (action.Make kind object) o z makes calls = calls
+makes_only (action.Call kind op object args) o z makes calls = makes
+makes_only (action.Fork text args place_on) o z makes calls = makes
+makes_only action.Ended o z makes calls = makes
+makes_only (action.Faulted fault) o z makes calls = makes
+
 -- what isn't among the counted ones by any type wasn't counted
 not_counted : (singles : Kinds) (object : ObjectId) → ((kind : KindNo) → Contains singles (object, kind) → ⊥) → IsCounted singles object → ⊥
 not_counted singles object apart (k, one, lt, is, e) = apart one.1 (subst (λ (o : ObjectId). Contains singles (o, one.1)) e (k, lt, is))
@@ -380,15 +389,21 @@ every_call single p q fits_state fits_args fits_text fits_reply w laws came = re
       let next = o.next call inside in
       on_single single p q fits_state fits_args fits_text fits_reply w.list w.aside w.owned w.entered w.applied w.runners (w.applied x.owner) call.kind call.op call.object call.args laws k (ap single (o.its call inside) ∙ o.is)
       (may_at single p q fits_state fits_args fits_text fits_reply w.list w.aside w.owned w.entered w.applied w.runners call.process r.0 (w.applied x.owner) call.kind call.op call.object call.args laws k st n.1 n.0 r.2 (waits_doing call r.0 st n.1 n.0 next));
-  reads = λ number x n kind op object args here free le shared next. let m = may_read number x n kind op object args here free le shared next in (kinds_at single p w.list n, m.states, m.operation);
-  lines = λ number x n kind op object args line here free le shared next class_is h. read_line single p q fits_state fits_args fits_text fits_reply w.list n kind op object args line laws shared
-      (may_read number x n kind op object args here free le shared next) class_is h.is h.kept h.there h.answers;
-  calls = λ number x n kind op object args here out le is next.
-      let st = k.stands number.0 x here in
+  reads = λ number x n kind op object args at free shared. let m = may_read number x n kind op object args at.here free at.place shared at.next in (kinds_at single p w.list n, m.states, m.operation);
+  lines = λ number x n kind op object args line at free shared class_is h. read_line single p q fits_state fits_args fits_text fits_reply w.list n kind op object args line laws shared
+      (may_read number x n kind op object args at.here free at.place shared at.next) class_is h.is h.kept h.there h.answers;
+  calls = λ number x n kind op object args at out is.
+      let st = k.stands number.0 x at.here in
       let i = out_idle single p q w.list w.aside w.owned w.entered (w.applied x.member) number.0 x st out in
       on_single single p q fits_state fits_args fits_text fits_reply w.list w.aside w.owned w.entered w.applied w.runners n kind op object args laws k is
-      (may_at single p q fits_state fits_args fits_text fits_reply w.list w.aside w.owned w.entered w.applied w.runners number x n kind op object args laws k st i.1 i.0 le next);
-  unmade = λ x r o here out new makes i y is same.
+      (may_at single p q fits_state fits_args fits_text fits_reply w.list w.aside w.owned w.entered w.applied w.runners number x n kind op object args laws k st i.1 i.0 at.place at.next);
+  unmade = λ x o was fresh makes i y is same.
+      let sound = came_sound single p q w came in
+      let new = not_entered single p q w x came (λ z calls. absurd (makes_only x.action o z makes calls)) fresh in
+      let sent = pending w.entered w.runners w.asked x sound.accounted was new in
+      let r = sent.0 in
+      let here : w.runners x.process.0 ≡ Some r = sent.1 in
+      let out : r.message ≡ Some x = sent.2 in
       let st = k.stands x.process.0 r here in
       let n = stage_new w.entered x r.message r.answer (waiting x.process.0 (after_all single p opening_copies w.list).queue + waits x.process.0 w.owned) st.awaited out new st.stage in
       let a = st.asks x out in

@@ -73,7 +73,7 @@ members_meet single p q fits_state fits_args fits_text fits_reply w laws came m 
       let s = k.stands call.process.0 r t.runner in
       let asks = s.asks (message_of call) t.out in
       let o = k.owns i x t.copy in
-      let may = calls.calls call.process r (w.applied x.owner) call.kind call.op call.object call.args t.runner (inr (message_of call, t.out, t.new)) t.after (ap single t.object ∙ o.is) asks.next in
+      let may = calls.calls call.process r (w.applied x.owner) call.kind call.op call.object call.args (record { here = t.runner; place = t.after; next = asks.next }) (inr (message_of call, t.out, t.new)) (ap single t.object ∙ o.is) in
       let g = h.keeps i x t.copy (owner, subst (λ (a : ℕ). x.place ≤ w.applied a) owner t.kept) in
       record {
         kept = x.kept;

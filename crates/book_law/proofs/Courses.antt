@@ -181,7 +181,7 @@ next_keeps single p q w v (Reads_at j x n line here h e) s =
     })
 next_keeps single p q w v (Takes_call i x r call t e) s =
     subst (λ (u : Course). Sound single p q u) (sym e) (record {
-      kept = takes single p q w.list w.aside w.owned w.entered w.applied w.runners (taking p w i x call).runners i x r call t (λ j. refl) s.kept;
+      kept = let took_it = takes single p q w.list w.aside w.owned w.entered w.applied w.runners (taking p w i x call).runners i x r call t (λ j. refl) s.kept in took_it.kept;
       accounted = accounted_takes w.entered w.runners w.asked (message_of call) (w.applied x.owner) (lines_on p x call) s.accounted;
       from = let k = s.kept in let o = k.owns i x t.copy in (λ m h. ⊎_elim (λ u. s.from m u) (λ u. inr (call, u, ap single t.object ∙ o.is)) (in_push m (message_of call) w.entered h));
     })

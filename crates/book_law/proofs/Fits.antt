@@ -26,12 +26,7 @@ use Rattle.book_law.specs.Passes.{Test, counted}
 use Rattle.book_law.specs.Book.{copies_at}
 use Rattle.book_law.specs.Events.{In}
 use Rattle.book_law.specs.Fitness.{ArgsFit, StateFits}
-
-abbrev pub TextFits : Type 1
-TextFits = Kinds → TextNo → Data → Type 0
-
-abbrev pub ReplyFits : Type 1
-ReplyFits = KindNo → OpNo → Reply → Type 0
+pub use Rattle.book_law.specs.Fitness.{ReplyFits, TextFits}
 
 -- the laws of a performer and a processor, of their meanings alone
 pub record Laws (p : Performs) (q : Computes) (fits_state : StateFits) (fits_args : ArgsFit) (fits_text : TextFits) (fits_reply : ReplyFits) : Type 0 where

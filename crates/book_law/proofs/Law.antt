@@ -20,7 +20,7 @@ use Rattle.book_law.proofs.Books.{behind_all, copies_applied, cut}
 use Rattle.book_law.proofs.Stages.{stage_few}
 
 -- the lines of a process behind a place are those of entries, where it has none beside the list there
-entries_only : (single : Test) (p : Performs) (j : ℕ) (c : Copied) (xs : List Message) (aside : List Placed) → ((k : ℕ) → c.applied < k → lines_by j (aside_at k aside) ≡ []) → lines_by j (book_from single p c xs aside) ≡ lines_by j (book_from single p c xs [])
+pub entries_only : (single : Test) (p : Performs) (j : ℕ) (c : Copied) (xs : List Message) (aside : List Placed) → ((k : ℕ) → c.applied < k → lines_by j (aside_at k aside) ≡ []) → lines_by j (book_from single p c xs aside) ≡ lines_by j (book_from single p c xs [])
 entries_only single p j c [] aside quiet = refl
 entries_only single p j c (x ∷ xs) aside quiet =
     let here = lines_after single p c x in

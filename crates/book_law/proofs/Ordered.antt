@@ -71,11 +71,11 @@ ordered_performed : (p : Performs) (s : Settling) (at : ℕ) (o : Option Suspend
 ordered_performed p s at None h = h
 ordered_performed p s at (Some call) h = ordered_if s.objects call (tried_in p s.objects call) (object_at s.objects call.object) h
 
-ordered_stepped : (p : Performs) (s : Settling) (o : Option ℕ) → Rises s.objects → Rises (stepped p s o).objects
+pub ordered_stepped : (p : Performs) (s : Settling) (o : Option ℕ) → Rises s.objects → Rises (stepped p s o).objects
 ordered_stepped p s None h = h
 ordered_stepped p s (Some at) h = ordered_performed p s at (slice_get s.queue at) h
 
-ordered_settled : (p : Performs) (n : ℕ) (s : Settling) → Rises s.objects → Rises (settle_up_to p n s).objects
+pub ordered_settled : (p : Performs) (n : ℕ) (s : Settling) → Rises s.objects → Rises (settle_up_to p n s).objects
 ordered_settled p zero s h = h
 ordered_settled p (suc n) s h = ordered_settled p n (stepped p s (next_ready p s.objects s.queue)) (ordered_stepped p s (next_ready p s.objects s.queue) h)
 
@@ -83,12 +83,12 @@ pub ordered_making : (objects : Objects) (kind : KindNo) (object : ObjectId) (m 
 ordered_making objects kind object (making.Made state) h = ordered_with objects object (record { kind = kind; state = state }) h
 ordered_making objects kind object (making.Broke fault) h = h
 
-ordered_called : (c : Copied) (call : Suspended) (t : Tried) → Rises c.objects → Rises (called c call t).objects
+pub ordered_called : (c : Copied) (call : Suspended) (t : Tried) → Rises c.objects → Rises (called c call t).objects
 ordered_called c call tried.Blocked h = h
 ordered_called c call (tried.Did guard state reply) h = ordered_if c.objects call (tried.Did guard state reply) (object_at c.objects call.object) h
 ordered_called c call (tried.Broke guard fault) h = ordered_if c.objects call (tried.Broke guard fault) (object_at c.objects call.object) h
 
-ordered_acted : (p : Performs) (c : Copied) (x : Message) (a : Action) → Rises c.objects → Rises (acted_by p c x a).objects
+pub ordered_acted : (p : Performs) (c : Copied) (x : Message) (a : Action) → Rises c.objects → Rises (acted_by p c x a).objects
 ordered_acted p c x (action.Make kind object) h = ordered_making c.objects kind object (p.made kind) h
 ordered_acted p c x (action.Call kind op object args) h = ordered_called c (as_call x kind op object args) (tried_in p c.objects (as_call x kind op object args)) h
 ordered_acted p c x (action.Fork text args place_on) h = h

@@ -142,7 +142,7 @@ counted_after single p singles (action.Fork text args place_on) = sym (append-ni
 counted_after single p singles action.Ended = sym (append-nil singles)
 counted_after single p singles (action.Faulted fault) = sym (append-nil singles)
 
-entry_counts : (single : Test) (p : Performs) (c : Copied) (x : Message) → (after single p c x).singles ≡ c.singles ++ counted_by single p x.action
+pub entry_counts : (single : Test) (p : Performs) (c : Copied) (x : Message) → (after single p c x).singles ≡ c.singles ++ counted_by single p x.action
 entry_counts single p c x = go (is_passed single x.action) ∙ counted_after single p c.singles x.action
   where
     go : (b : Bool) → (if b then after_passed p false c x else after_applied p c x).singles ≡ (if b then singles_after p c.singles x.action else c.singles)

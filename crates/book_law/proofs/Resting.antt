@@ -35,7 +35,7 @@ use Rattle.orca_base.specs.declared.ids.ObjectId.{ObjectId}
 
 -- a line of this call is among these
 abbrev IsAmong : Suspended → List Line → Type 0
-IsAmong call lines = (l : Line) × In l lines × (l.process ≡ call.process) × (l.call ≡ call.call)
+IsAmong call lines = (l : Line) × In l lines × (l.process ≡ call.process) × (l.call ≡ call.call) × (l.action ≡ action.Call call.kind call.op call.object call.args)
 
 abbrev Rests : Suspended → Settling → Type 0
 Rests call s = In call s.queue ⊎ IsAmong call s.lines
@@ -51,9 +51,9 @@ performed_rests : (p : Performs) (s : Settling) (at : ℕ) (o : Option Suspended
 performed_rests p s at None call is h = h
 performed_rests p s at (Some c) call is (inl h) = ⊎_elim
     (λ u. inl u)
-    (λ u. inr (answered c (tried_in p s.objects c), in_end (answered c (tried_in p s.objects c)) s.lines, ap (λ (z : Suspended). z.process) (sym u), ap (λ (z : Suspended). z.call) (sym u)))
+    (λ u. inr (answered c (tried_in p s.objects c), in_end (answered c (tried_in p s.objects c)) s.lines, ap (λ (z : Suspended). z.process) (sym u), ap (λ (z : Suspended). z.call) (sym u), ap (λ (z : Suspended). action.Call z.kind z.op z.object z.args) (sym u)))
     (removed s.queue at c call is h)
-performed_rests p s at (Some c) call is (inr h) = inr (h.0, in_left h.0 (answered c (tried_in p s.objects c)) s.lines h.1, h.2, h.3)
+performed_rests p s at (Some c) call is (inr h) = inr (h.0, in_left h.0 (answered c (tried_in p s.objects c)) s.lines h.1, h.2, h.3, h.4)
 
 stepped_rests : (p : Performs) (s : Settling) (o : Option ℕ) (call : Suspended) → Rests call s → Rests call (stepped p s o)
 stepped_rests p s None call h = h
@@ -65,8 +65,8 @@ settled_rests p (suc n) s call h = settled_rests p n (stepped p s (next_ready p 
 
 called_rests : (c : Copied) (call : Suspended) (t : Tried) → Rests call (called c call t)
 called_rests c call tried.Blocked = inl (in_end call c.queue)
-called_rests c call (tried.Did guard state reply) = inr (answered call (tried.Did guard state reply), inl refl, refl, refl)
-called_rests c call (tried.Broke guard fault) = inr (answered call (tried.Broke guard fault), inl refl, refl, refl)
+called_rests c call (tried.Did guard state reply) = inr (answered call (tried.Did guard state reply), inl refl, refl, refl, refl)
+called_rests c call (tried.Broke guard fault) = inr (answered call (tried.Broke guard fault), inl refl, refl, refl, refl)
 
 others_rest : (c : Copied) (call other : Suspended) (t : Tried) → In other c.queue → Rests other (called c call t)
 others_rest c call other tried.Blocked h = inl (in_left other call c.queue h)
@@ -91,7 +91,7 @@ on_rests p x call other h =
 abbrev pub AllTaken : Test → Course → Type 0
 AllTaken single w = (call : Suspended) → In (message_of call) w.entered → single call.object ≡ true → IsTaken w.owned w.aside call
 
-placed_in : (n : ℕ) (l : Line) (lines : List Line) → In l lines → In (record { place = n; line = l }) (placed n lines)
+pub placed_in : (n : ℕ) (l : Line) (lines : List Line) → In l lines → In (record { place = n; line = l }) (placed n lines)
 placed_in n l [] h = h
 placed_in n l (k ∷ lines) (inl e) = inl (ap (λ (x : Line). record { place = n; line = x }) e)
 placed_in n l (k ∷ lines) (inr h) = inr (placed_in n l lines h)
@@ -111,27 +111,27 @@ no_born : (call : Suspended) (x : Message) (born : Process) → forked x.action 
 no_born call x born forks e = let f : [] ≡ born ∷ [] = ap (λ (m : Message). forked m.action) e ∙ forks in absurd (cc f)
 
 more_owned : (owned new : List Single) (aside : List Placed) (call : Suspended) → IsTaken owned aside call → IsTaken (owned ++ new) aside call
-more_owned owned new aside call (inl h) = inl (h.0, h.1, get_left owned new h.0 h.1 h.2, h.3)
+more_owned owned new aside call (inl h) = inl (h.0, h.1, get_left owned new h.0 h.1 h.2, h.3, h.4)
 more_owned owned new aside call (inr h) = inr h
 
 more_reads : (owned : List Single) (aside more : List Placed) (call : Suspended) → IsTaken owned aside call → IsTaken owned (aside ++ more) call
 more_reads owned aside more call (inl h) = inl h
-more_reads owned aside more call (inr h) = inr (h.0, in_first h.0 aside more h.1, h.2, h.3)
+more_reads owned aside more call (inr h) = inr (h.0, in_first h.0 aside more h.1, h.2, h.3, h.4)
 
 -- what rests after a call on copy i was taken
-taken_set : (p : Performs) (owned : List Single) (aside : List Placed) (n i : ℕ) (x : Single) (call other : Suspended) → slice_get owned i ≡ Some x → Rests other (leaves p x call) → IsTaken (slice_set owned i (after_on p x call)) (aside ++ placed n (lines_on p x call)) other
-taken_set p owned aside n i x call other is (inl h) = inl (i, after_on p x call, set_same owned i x (after_on p x call) is, h)
-taken_set p owned aside n i x call other is (inr h) = inr (record { place = n; line = h.0 }, in_second (record { place = n; line = h.0 }) aside (placed n (lines_on p x call)) (placed_in n h.0 (lines_on p x call) h.1), h.2, h.3)
+taken_set : (p : Performs) (owned : List Single) (aside : List Placed) (n i : ℕ) (x : Single) (call other : Suspended) → slice_get owned i ≡ Some x → x.object ≡ other.object → Rests other (leaves p x call) → IsTaken (slice_set owned i (after_on p x call)) (aside ++ placed n (lines_on p x call)) other
+taken_set p owned aside n i x call other is its (inl h) = inl (i, after_on p x call, set_same owned i x (after_on p x call) is, its, h)
+taken_set p owned aside n i x call other is its (inr h) = inr (record { place = n; line = h.0 }, in_second (record { place = n; line = h.0 }) aside (placed n (lines_on p x call)) (placed_in n h.0 (lines_on p x call) h.1), h.2, h.3, h.4)
 
 taken_others : (p : Performs) (owned : List Single) (aside : List Placed) (n i : ℕ) (x : Single) (call other : Suspended) → slice_get owned i ≡ Some x → IsTaken owned aside other → IsTaken (slice_set owned i (after_on p x call)) (aside ++ placed n (lines_on p x call)) other
 taken_others p owned aside n i x call other is (inl h) = ⊎_elim
     (λ (e : i ≡ h.0).
     let f : Some x ≡ Some h.1 = sym is ∙ ap (slice_get owned) e ∙ h.2 in
     let g : h.1 ≡ x = cc in
-    taken_set p owned aside n i x call other is (on_rests p x call other (others_rest (side (alone x)) call other (tried_in p (side (alone x)).objects call) (subst (λ (z : Single). In other z.queue) g h.3))))
-    (λ apart. inl (h.0, h.1, set_other owned i h.0 (after_on p x call) apart ∙ h.2, h.3))
+    taken_set p owned aside n i x call other is (ap (λ (z : Single). z.object) (sym g) ∙ h.3) (on_rests p x call other (others_rest (side (alone x)) call other (tried_in p (side (alone x)).objects call) (subst (λ (z : Single). In other z.queue) g h.4))))
+    (λ apart. inl (h.0, h.1, set_other owned i h.0 (after_on p x call) apart ∙ h.2, h.3, h.4))
     (cases_eq i h.0)
-taken_others p owned aside n i x call other is (inr h) = inr (h.0, in_first h.0 aside (placed n (lines_on p x call)) h.1, h.2, h.3)
+taken_others p owned aside n i x call other is (inr h) = inr (h.0, in_first h.0 aside (placed n (lines_on p x call)) h.1, h.2, h.3, h.4)
 
 next_taken : (single : Test) (p : Performs) (q : Computes) (w v : Course) → Next single p q w v → AllTaken single w → AllTaken single v
 next_taken single p q w v (Submits j x m here free asks e) all = subst (λ (u : Course). AllTaken single u) (sym e) all
@@ -144,7 +144,7 @@ next_taken single p q w v (Applies m y is e) all = subst (λ (u : Course). AllTa
 next_taken single p q w v (Reads_at j x n line here h e) all = subst (λ (u : Course). AllTaken single u) (sym e) (λ call g is. more_reads w.owned w.aside (record { place = n; line = line } ∷ []) call (all call g is))
 next_taken single p q w v (Takes_call i x r call t e) all = subst (λ (u : Course). AllTaken single u) (sym e) (λ other h is. ⊎_elim
     (λ u. taken_others p w.owned w.aside (w.applied x.owner) i x call other t.copy (all other u is))
-    (λ u. taken_set p w.owned w.aside (w.applied x.owner) i x call other t.copy (on_rests p x call other (subst (λ (z : Suspended). Rests z (tried_first p x call)) (sym (same_call other call u)) (called_rests (side (alone x)) call (tried_in p (side (alone x)).objects call)))))
+    (λ u. taken_set p w.owned w.aside (w.applied x.owner) i x call other t.copy (sym (ap (λ (z : Suspended). z.object) (same_call other call u) ∙ t.object)) (on_rests p x call other (subst (λ (z : Suspended). Rests z (tried_first p x call)) (sym (same_call other call u)) (called_rests (side (alone x)) call (tried_in p (side (alone x)).objects call)))))
     (in_push (message_of other) (message_of call) w.entered h))
 next_taken single p q w v (Hears_answer j x r here has le e) all = subst (λ (u : Course). AllTaken single u) (sym e) all
 

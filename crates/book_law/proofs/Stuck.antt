@@ -138,6 +138,8 @@ same_number a b e = ap (λ (n : ℕ). record { 0 = n }) e
 
 pub stuck_at_end : (single : Test) (p : Performs) (q : Computes) (fits_state : StateFits) (fits_args : ArgsFit) (fits_text : TextFits) (fits_reply : ReplyFits) (w : Course) → Laws p q fits_state fits_args fits_text fits_reply → Came single p q w → StuckAtEnd single p q w
 stuck_at_end single p q fits_state fits_args fits_text fits_reply w laws came = record {
+  shared = λ call inside. on_copies call (subst (λ (c : Copied). In call c.queue) (copies_all single p w.list) inside);
+  singles = λ i x call is inside. stuck_single single p q w.list w.aside w.owned w.entered w.applied w.runners i x call k is inside (singles_blocked single p q w came i x is call inside);
   waits = λ number x m here out entered told whole. ⊎_elim
       (λ u. subst (λ (n : ProcessNo). IsStuck p q (book single p w.list w.aside) n) (same_number u.0.process number u.2) (on_copies u.0 u.1))
       (λ u. subst (λ (n : ProcessNo). IsStuck p q (book single p w.list w.aside) n) (same_number u.2.process number u.5)
@@ -146,7 +148,7 @@ stuck_at_end single p q fits_state fits_args fits_text fits_reply w laws came = 
   reads = λ number x kind op object args here free shared next blocked.
       let s = k.stands number.0 x here in
       let c = every_call single p q fits_state fits_args fits_text fits_reply w laws came in
-      let r = c.reads number x (length w.list) kind op object args here free s.early shared next in
+      let r = c.reads number x (length w.list) kind op object args (record { here = here; place = s.early; next = next }) free shared in
       let o = r.2 in
       let there : object_at copies.objects object ≡ Some o.kept = ap (λ (d : Copied). object_at d.objects object) (sym (copies_all single p w.list)) ∙ o.exists in
       stuck_read single p q w.list w.aside w.owned w.entered w.applied w.runners number x kind op object args o.kept k here free shared next there (sym (ap (tried_by p kind op args) o.exists) ∙ blocked);

@@ -26,9 +26,10 @@ use Rattle.object_manager.specs.State.{message_of}
 use Rattle.book_law.specs.Singles.{Single, after_on, alone, kept_or, lines_on, waiting, waits}
 use Rattle.book_law.specs.Book.{Placed, behind, book, aside_at, up_to}
 use Rattle.book_law.specs.Events.{Calls, In, Runner, Takes, answering, lines_by, replies_to}
+use Rattle.book_law.specs.Replies.{IsReplyTo}
 use Rattle.book_law.proofs.Kept.{Spares, IsKept, Kept, Owns, Stands, answer_at}
 use Rattle.book_law.proofs.Lists.{in_push, in_waits, lines_by-append, one, one_other, one_same}
-use Rattle.book_law.proofs.Processes.{after_lines-append, set_other, set_same}
+use Rattle.book_law.proofs.Processes.{after_lines-append, replies_after, set_other, set_same}
 use Rattle.book_law.proofs.Settling.{Comes, Going, Ran, ran}
 use Rattle.book_law.proofs.Beside.{Beside}
 use Rattle.book_law.proofs.Books.{behind_all, behind_earlier, behind_in, book_inserts, by_none, copies_most, cut, placed_by, placed_here, placed_there}
@@ -38,7 +39,8 @@ use Rattle.book_law.proofs.Inserting.{AllCall, Inserts, all_call_spare, calls_co
 use Rattle.book_law.proofs.Objects.{same_id, spared_lines}
 use Rattle.book_law.proofs.Owned.{map_set, waits_at, waits_set, waits_two}
 use Rattle.book_law.proofs.Reading.{at_place, none_behind}
-use Rattle.book_law.proofs.Stages.{none_left, stage_line, stage_new, stage_none, stage_waits}
+use Rattle.book_law.proofs.Sole.{is_of, sole}
+use Rattle.book_law.proofs.Stages.{none_left, stage_line, stage_new, stage_none, stage_told, stage_waits}
 use Rattle.book_law.proofs.Typed.{at_itself}
 
 -- ---- an object that is there stays there, by its type
@@ -89,33 +91,25 @@ pub record Asker (single : Test) (p : Performs) (q : Computes) (list : List Mess
   pub told : runner.answer ≡ None
   pub none : stands.awaited ≡ []
 
+-- where a process has a line, no answer was on the way to it
+abbrev Unanswered : Runner → List Line → Type 0
+Unanswered z [] = Unit {0}
+Unanswered z (l ∷ ls) = z.answer ≡ None
+
+-- what is kept, and what each process has of the call's lines
+pub record Took (single : Test) (p : Performs) (q : Computes) (list : List Message) (aside : List Placed) (owned : List Single) (seen : List Message) (applied : ℕ → ℕ) (runners more : ℕ → Option Runner) (i : ℕ) (x : Single) (call : Suspended) : Type 0 where
+  pub kept : Kept single p q list (aside ++ placed (applied x.owner) (lines_on p x call)) (slice_set owned i (after_on p x call)) (seen ++ message_of call ∷ []) applied more
+  pub replies : (j : ℕ) (z : Runner) → runners j ≡ Some z → IsReplyTo z (lines_by j (lines_on p x call))
+  pub idle : (j : ℕ) (z : Runner) → runners j ≡ Some z → (l : Line) (ls : List Line) → lines_by j (lines_on p x call) ≡ l ∷ ls → z.answer ≡ None
+
 pub takes : (single : Test) (p : Performs) (q : Computes) (list : List Message) (aside : List Placed) (owned : List Single) (seen : List Message) (applied : ℕ → ℕ) (runners more : ℕ → Option Runner) (i : ℕ) (x : Single) (r : Runner) (call : Suspended) → Takes owned seen applied runners i x r call
     → ((j : ℕ) → more j ≡ option_map (answering (applied x.owner) (lines_by j (lines_on p x call))) (runners j))
     → Kept single p q list aside owned seen applied runners
-    → Kept single p q list (aside ++ placed (applied x.owner) (lines_on p x call)) (slice_set owned i (after_on p x call)) (seen ++ message_of call ∷ []) applied more
+    → Took single p q list aside owned seen applied runners more i x call
 takes single p q list aside owned seen applied runners more i x r call t hands k = record {
-  legal = inserts_legal single p q list aside n lines but who inserts k.legal;
-  follows = inserts_follows single p q list aside n lines but who inserts (λ z u. ap single u ∙ o.is) k.follows;
-  next = λ other inside.
-      let w = in_waits other copies.queue inside in
-      let once = k.once other.process.0 in
-      let at = waits_at other.process.0 owned i x t.copy in
-      next_same q end new_end other (whole.others other.process.0 (λ u. u (lacks other.process.0 (not_sender other.process.0 (omega (arith, w))) (omega (arith, w, once, at))))) (k.next other inside);
-  shared = k.shared;
-  once = once;
-  within = k.within;
-  held = λ m lt. placed_there n m aside lines (λ (e : n ≡ m). absurd (let f = within in omega (arith, f, e, lt))) ∙ k.held m lt;
-  unborn = λ j m le. placed_by j n m aside lines (lacks_late j le) ∙ k.unborn j m le;
-  listed = λ y u. ⊎_elim (λ v. k.listed y v) (λ v. let f = ap (λ (z : Message). z.process.0) v in let a = s.there in let b = copies_most single p list r.place in omega (arith, f, a, b)) (in_push y (message_of call) seen u);
-  counts = map_set (λ (y : Single). (y.object, y.kept.kind)) owned i x set t.copy (ap (λ (kd : KindNo). (x.object, kd)) (ap (λ (z : Instance). z.kind) kept_is ∙ kept.2)) ∙ k.counts;
-  distinct = λ a b y z is there same. ⊎_elim
-      (λ u. ⊎_elim (λ v. u.0 ∙ sym v.0) (λ v. u.0 ∙ k.distinct i b x z t.copy v.1 (ap (λ (w : Single). w.object) u.1 ∙ same)) (set_cases owned i b x set z t.copy there))
-      (λ u. ⊎_elim (λ v. k.distinct a i y x u.1 t.copy (same ∙ sym (ap (λ (w : Single). w.object) v.1)) ∙ sym v.0) (λ v. k.distinct a b y z u.1 v.1 same) (set_cases owned i b x set z t.copy there))
-      (set_cases owned i a x set y t.copy is);
-  known = λ m z kd is u. still m z (inserts_known single p q list aside n lines but who owned inserts (λ z. same_id z x.object) (λ z m le u. (i, x, t.copy, sym u, let a = t.kept in omega (arith, a, le))) k.known m z kd is u);
-  owns = λ a y is. ⊎_elim (λ u. subst (λ (z : Single). Owns single p q list (aside ++ placed n lines) more (applied z.owner) z) u.1 mine) (λ u. others a y u.0 u.1) (set_cases owned i a x set y t.copy is);
-  stands = λ j z there. let f = mapped (answering n (lines_by j lines)) (runners j) z (sym (hands j) ∙ there) in
-      subst (λ (w : Runner). Stands single p q list (aside ++ placed n lines) (slice_set owned i set) (seen ++ message_of call ∷ []) (applied w.member) j w) (sym f.2) (stand j f.0 f.1 (lines_by j lines) refl);
+  kept = still_kept;
+  replies = λ j z here. (reply j z here (lines_by j lines) refl).0;
+  idle = λ j z here l ls some. (reply j z here (l ∷ ls) some).1;
 }
   where
     n : ℕ
@@ -465,3 +459,49 @@ takes single p q list aside owned seen applied runners more i x r call t hands k
           earlier = earlier j z here;
           stage = g.3;
         }
+
+    still_kept : Kept single p q list (aside ++ placed n lines) (slice_set owned i set) (seen ++ message_of call ∷ []) applied more
+    still_kept = record {
+      legal = inserts_legal single p q list aside n lines but who inserts k.legal;
+      follows = inserts_follows single p q list aside n lines but who inserts (λ z u. ap single u ∙ o.is) k.follows;
+      next = λ other inside.
+          let w = in_waits other copies.queue inside in
+          let once = k.once other.process.0 in
+          let at = waits_at other.process.0 owned i x t.copy in
+          next_same q end new_end other (whole.others other.process.0 (λ u. u (lacks other.process.0 (not_sender other.process.0 (omega (arith, w))) (omega (arith, w, once, at))))) (k.next other inside);
+      shared = k.shared;
+      once = once;
+      within = k.within;
+      held = λ m lt. placed_there n m aside lines (λ (e : n ≡ m). absurd (let f = within in omega (arith, f, e, lt))) ∙ k.held m lt;
+      unborn = λ j m le. placed_by j n m aside lines (lacks_late j le) ∙ k.unborn j m le;
+      listed = λ y u. ⊎_elim (λ v. k.listed y v) (λ v. let f = ap (λ (z : Message). z.process.0) v in let a = s.there in let b = copies_most single p list r.place in omega (arith, f, a, b)) (in_push y (message_of call) seen u);
+      counts = map_set (λ (y : Single). (y.object, y.kept.kind)) owned i x set t.copy (ap (λ (kd : KindNo). (x.object, kd)) (ap (λ (z : Instance). z.kind) kept_is ∙ kept.2)) ∙ k.counts;
+      distinct = λ a b y z is there same. ⊎_elim
+          (λ u. ⊎_elim (λ v. u.0 ∙ sym v.0) (λ v. u.0 ∙ k.distinct i b x z t.copy v.1 (ap (λ (w : Single). w.object) u.1 ∙ same)) (set_cases owned i b x set z t.copy there))
+          (λ u. ⊎_elim (λ v. k.distinct a i y x u.1 t.copy (same ∙ sym (ap (λ (w : Single). w.object) v.1)) ∙ sym v.0) (λ v. k.distinct a b y z u.1 v.1 same) (set_cases owned i b x set z t.copy there))
+          (set_cases owned i a x set y t.copy is);
+      known = λ m z kd is u. still m z (inserts_known single p q list aside n lines but who owned inserts (λ z. same_id z x.object) (λ z m le u. (i, x, t.copy, sym u, let a = t.kept in omega (arith, a, le))) k.known m z kd is u);
+      owns = λ a y is. ⊎_elim (λ u. subst (λ (z : Single). Owns single p q list (aside ++ placed n lines) more (applied z.owner) z) u.1 mine) (λ u. others a y u.0 u.1) (set_cases owned i a x set y t.copy is);
+      stands = λ j z there. let f = mapped (answering n (lines_by j lines)) (runners j) z (sym (hands j) ∙ there) in
+          subst (λ (w : Runner). Stands single p q list (aside ++ placed n lines) (slice_set owned i set) (seen ++ message_of call ∷ []) (applied w.member) j w) (sym f.2) (stand j f.0 f.1 (lines_by j lines) refl);
+    }
+
+    -- its line is of its message
+    reply : (j : ℕ) (z : Runner) → runners j ≡ Some z → (ls : List Line) → lines_by j lines ≡ ls → IsReplyTo z ls × (Unanswered z ls)
+    reply j z here [] none = (tt, tt)
+    reply j z here (l ∷ ls) some =
+        let st = k.stands j z here in
+        let a = waits_set j owned i x set t.copy in
+        let h = did.holds j in
+        let e = ap (λ (rs : List Line). length rs) some in
+        let g = stage_line seen (message_of call) j z.message z.answer (waiting j copies.queue + waits j owned) (waiting j copies.queue + waits j (slice_set owned i set)) st.awaited n l ls (own j z here) (λ m f. let a = st.asks m f in a.process) t.new (omega (arith, a, h, e)) st.stage in
+        let le = after_it j z here (has_lines j (λ none. let f : [] ≡ l ∷ ls = sym none ∙ some in cc f)) in
+        let now : slice_get c.processes j ≡ Some (record { text = z.text; args = z.args; replies = z.replies }) = at_place single p q list aside owned seen applied runners j z n st g.1 g.2 le k in
+        let one : lines_by j lines ≡ l ∷ [] = some ∙ ap (λ (rs : List Line). l ∷ rs) g.0 in
+        let after : slice_get (after_lines p c lines).processes j ≡ Some (record { text = z.text; args = z.args; replies = z.replies ++ l.reply ∷ [] }) =
+        replies_after p c lines j (record { text = z.text; args = z.args; replies = z.replies }) now ∙ ap (λ (rs : List Line). Some (record { text = z.text; args = z.args; replies = z.replies ++ replies_to rs })) one in
+        let acts = sole p q c lines j l (record { text = z.text; args = z.args; replies = z.replies ++ l.reply ∷ [] }) z.replies going.legal one after refl in
+        let told = stage_told (seen ++ message_of call ∷ []) z.message (Some (record { place = n; line = l })) (waiting j copies.queue + waits j (slice_set owned i set)) st.awaited (record { place = n; line = l }) refl g.3 in
+        let m = told.2.0 in
+        let of = is_of q j z m l (st.asks m told.2.1) acts in
+        ((g.0, m, told.2.1, of.process, of.call, of.action), g.1)

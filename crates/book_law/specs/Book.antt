@@ -1,5 +1,5 @@
--- The book of a run: the performed operations by place (docs/LANGUAGE.md, Histories). The list has the ordered messages as far
--- as any member applied them. Beside the list stand the reads of replicated objects and the calls on single copies, each with its
+-- The book of a run: the performed operations by place (docs/LANGUAGE.md, Histories). The list has the ordered messages, at least as
+-- far as any member applied them. Beside the list stand the reads of replicated objects and the calls on single copies, each with its
 -- place, in order of events. Within a place the lines of its entry come first, in the order in which they ran, then those others.
 use Rattle.std.specs.Prelude.{ℕ, ◌+◌, ◌==◌, List, [], ◌∷◌, ◌++◌, take, drop, if◌then◌else◌}
 use Rattle.value_core.specs.declared.action.Line.{Line}

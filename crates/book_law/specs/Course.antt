@@ -22,7 +22,7 @@ use Rattle.object_manager.specs.State.{message_of}
 use Rattle.book_law.specs.Singles.{Single, after_on, lines_on, singles_by}
 use Rattle.book_law.specs.Events.{Asks, Calls, In, Makes, Reads, Runner, Takes, answering, asking, handed, lines_by, newborn, told}
 
--- the ordered messages as far as any member applied them; what was performed beside the list; the single copies, whose owners need
+-- the ordered messages, at least as far as any member applied them; what was performed beside the list; the single copies, whose owners need
 -- not have applied their makes yet; the messages that the list has or an owner took; how many entries each member applied; the
 -- processes; and every message that was ever submitted
 pub record Course : Type 0 where

@@ -19,8 +19,8 @@ use Rattle.book_law.specs.Book.{Placed, copies_at}
 use Rattle.object_manager.specs.State.{message_of}
 use Rattle.book_law.specs.Singles.{Single}
 
--- a process as it runs at its member: the replies that it received; its place, which is that of its last line, or of the fork that
--- made it, or 0; its message that isn't answered yet; and that message's line, with its place, where it was performed on a single
+-- a process as it runs at its member: the replies that it received; its place, which is that of the last line whose reply it has, or of
+-- the fork that made it, or 0; its message that isn't answered yet; and that message's line, with its place, where it was performed on a single
 -- copy and the answer is on its way
 pub record Runner : Type 0 where
   pub member : ℕ
@@ -92,7 +92,8 @@ pub record Reads (single : Test) (p : Performs) (q : Computes) (list : List Mess
   pub is_read : IsRead single p (copies_at single p list n).objects line
 
 -- the owner of single copy i, which is x, takes a call: the call is the message that its process r has out, and it has neither
--- entered the list nor been taken; the owner applied the copy's make, and as many entries as the caller's place says
+-- entered the list nor been taken; the owner applied the copy's make, and as many entries as the caller's place says. In a lawful
+-- program the first of these two follows from the second (`calls` of Fitness.antt)
 pub record Takes (owned : List Single) (entered : List Message) (applied : ℕ → ℕ) (runners : ℕ → Option Runner) (i : ℕ) (x : Single)
     (r : Runner) (call : Suspended) : Type 0 where
   pub copy : slice_get owned i ≡ Some x

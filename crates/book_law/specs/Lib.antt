@@ -8,10 +8,16 @@ pub mod Course
 pub mod Sequence
 pub mod Promise
 pub mod Makers
+pub mod Apart
+pub mod Replies
+pub mod Counts
 pub mod Members
 pub mod Fitness
+pub mod Machines
 pub mod Conditions
 pub mod Replicated
 pub mod Cell
 pub mod Example
 pub mod Wrong
+pub mod Looks
+pub mod WrongReads

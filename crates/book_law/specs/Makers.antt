@@ -1,5 +1,5 @@
--- Where single copies come from: each is made by the entry at its place, of a process at its owner; and each entry that makes a single
--- object has its copy.
+-- Where single copies come from: each is made by the entry at its place, of a process at its owner; and each entry whose making gives a
+-- single object has its copy.
 use Rattle.std.specs.Prelude.{◌≡◌, ℕ, suc, true, List, Option, Some, slice_get}
 use Rattle.orca_base.specs.declared.ids.KindNo.{KindNo}
 use Rattle.orca_base.specs.declared.ids.ObjectId.{ObjectId}

@@ -1,20 +1,22 @@
 -- Each member's copies in a run, as its calls make them: `apply` or `pass_make` for an entry, `call_single` for a call that it takes on a
 -- single copy (docs/RUNTIME.md, One member's copies).
-use Rattle.std.specs.Prelude.{◌≡◌, ℕ, ◌≤◌, ◌==◌, Bool, false, List, [], Option, None, Some, slice_get, if◌then◌else◌}
+use Rattle.std.specs.Prelude.{◌≡◌, ℕ, suc, ◌≤◌, ◌==◌, Bool, true, false, List, [], length, Option, None, Some, slice_get, if◌then◌else◌}
 use Rattle.orca_base.specs.declared.ids.ObjectId.{ObjectId}
 use Rattle.value_core.specs.declared.action.Instance.{Instance}
 use Rattle.value_core.specs.declared.message.Message.{Message}
 use Rattle.value_core.specs.Meaning.{Performs, Computes}
-use Rattle.value_core.specs.History.{object_at}
+use Rattle.value_core.specs.History.{object_at, objects_of, processes_of}
 use Rattle.guard_queue.specs.Apart.{calls_on}
 use Rattle.guard_queue.specs.Settles.{AllBlocked}
+use Rattle.guard_queue.specs.Shown.{Rises}
 use Rattle.object_manager.specs.After.{Copied, after as after_applied, opening_copies}
+use Rattle.object_manager.specs.Limits.{made_objects}
 use Rattle.object_manager.specs.Singles.{after_passed, after_single}
 use Rattle.book_law.specs.Passes.{Test, is_passed}
 use Rattle.object_manager.specs.State.{message_of}
 use Rattle.book_law.specs.Singles.{Single}
 use Rattle.book_law.specs.Owners.{Keeps}
-use Rattle.book_law.specs.Book.{copies_at}
+use Rattle.book_law.specs.Book.{book, copies_at, up_to}
 use Rattle.book_law.specs.Course.{Came, Course, Next}
 use Rattle.book_law.specs.Course.Next.{Submits, Orders, Forks, Applies, Reads_at, Takes_call, Hears_answer}
 use Rattle.book_law.specs.Course.Came.{Opens, Then}
@@ -64,3 +66,25 @@ abbrev pub MembersHold : Type 0
 MembersHold =
     (single : Test) (p : Performs) (q : Computes) (w : Course) (came : Came single p q w) (m : ℕ) →
     Holds single p w.list w.owned m (w.applied m) (copies_of single p q w came m)
+
+-- these copies of member m against the book: each replicated object is what the book up to m's number left of it, and isn't kept
+-- beside; no single object is among them; each single object that is kept beside is what the whole book left of it, and those stand
+-- in the order of their ids; and the numbers of processes and of objects are those of the book up to m's number
+pub record AreOfBook (single : Test) (p : Performs) (q : Computes) (w : Course) (m : ℕ) (c : Copied) : Type 0 where
+  pub replicated :
+      (o : ObjectId) → single o ≡ false →
+      (object_at c.objects o ≡ object_at (objects_of p q (up_to single p w.list w.aside (w.applied m))) o)
+      × (object_at c.own o ≡ None)
+  pub others : (o : ObjectId) → single o ≡ true → object_at c.objects o ≡ None
+  pub own :
+      (o : ObjectId) (kept : Instance) → object_at c.own o ≡ Some kept →
+      object_at (objects_of p q (book single p w.list w.aside)) o ≡ Some kept
+  pub rises : Rises c.own
+  pub processes : length (processes_of p q (up_to single p w.list w.aside (w.applied m))) ≡ c.processes
+  pub made : length (objects_of p q (up_to single p w.list w.aside (w.applied m))) ≡ suc (made_objects c)
+
+-- so it is of each member in every run
+abbrev pub MembersFollow : Type 0
+MembersFollow =
+    (single : Test) (p : Performs) (q : Computes) (w : Course) (came : Came single p q w) (m : ℕ) →
+    AreOfBook single p q w m (copies_of single p q w came m)

@@ -1,5 +1,5 @@
--- The performed operations as they come, each with its place: an entry's lines when the first member applies it, a read or a call on
--- a single copy when it is performed.
+-- The performed operations as they come, each with its place: an entry's lines as it enters the list, a read or a call on a single
+-- copy when it is performed.
 use Rattle.std.specs.Prelude.{◌≡◌, ℕ, suc, ◌<◌, List, [], ◌++◌, length, Some, slice_get, map}
 use Rattle.value_core.specs.declared.action.Line.{Line}
 use Rattle.value_core.specs.declared.message.Message.{Message}

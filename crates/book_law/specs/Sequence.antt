@@ -1,5 +1,5 @@
--- What a run performed, in order of events: an entry's lines as it enters the list, which is when the first member applies it; a read,
--- and what a call on a single copy performs, as it is done.
+-- What a run performed, in order of events: an entry's lines as it enters the list, which in a group is when the first member
+-- applies it; a read, and what a call on a single copy performs, as it is done.
 use Rattle.std.specs.Prelude.{suc, List, [], ◌∷◌, ◌++◌, length}
 use Rattle.value_core.specs.Meaning.{Performs, Computes}
 use Rattle.object_manager.specs.After.{opening_copies}

@@ -1,5 +1,6 @@
 -- Single copies: each is kept by one member, its owner, with the calls that are suspended on it. A copy exists from the moment when
--- its make enters the list, which some other member may apply before the owner does (docs/RUNTIME.md, One member's copies).
+-- its make enters the list, where the making doesn't fault; some other member may apply that entry before the owner does
+-- (docs/RUNTIME.md, One member's copies).
 use Rattle.std.specs.Prelude.{ℕ, ◌+◌, zero, suc, List, [], ◌∷◌, ◌==◌, Option, Some, None, if◌then◌else◌}
 use Rattle.orca_base.specs.declared.ids.KindNo.{KindNo}
 use Rattle.orca_base.specs.declared.ids.ObjectId.{ObjectId}
