@@ -53,7 +53,18 @@ fn a_deposed_sequencer_installs(rt: HostRuntime) -> Result<(), NoMemory> {
         applied: 0,
     };
     assert_eq!(rt; member.receive(alloc, 1, ack)?.len(), 2);
+    assert_eq!(rt; (member.accepted(), member.applied()), (1, 0));
+    if member.accepted() != 1 || member.applied() != 0 {
+        return Ok(());
+    }
     assert_eq!(rt; member.note_applied(alloc, 1)?.len(), 0);
+    assert_eq!(rt;
+        (member.accepted(), member.me(), member.config().nodes),
+        (1, 0, 3)
+    );
+    if member.accepted() != 1 || member.me() != 0 || member.config().nodes != 3 {
+        return Ok(());
+    }
     let mut members = Vec::new(alloc);
     members.push(1u8)?;
     members.push(2u8)?;
