@@ -1,6 +1,6 @@
 """The rules of a group in plain Python, as far as a bench without faults needs them (docs/RUNTIME.md): submissions, Request,
-Entry, Body, Order, Status and Accept, windows of 256 entries and purges at 192. Resilience 0, no reset. It is the peer of `bench/group` and no part of
-the product."""
+Entry, Body, Order, Status and Accept, windows of 256 entries and purges at 192, and resets of a group at rest. Resilience 0. It is the peer of
+`bench/group` and no part of the product."""
 from collections import deque
 
 WINDOW, KEPT_BEFORE_PURGE, SENT_AGAIN, BETWEEN_REPORTS, BY_REQUEST = 256, 192, 16, 64, 256
@@ -11,13 +11,13 @@ class Member:
         self.nodes, self.me, self.base, self.window = nodes, me, 0, deque()
         self.accepted = self.applied = self.reported = 0
         self.pending, self.bodies, self.last, self.waiting = {}, {}, {}, deque()
-        self.heard = [0] * nodes
+        self.heard, self.sequencer = [0] * nodes, 0
 
     def length(self):
         return self.base + len(self.window)
 
     def leads(self):
-        return self.me == 0
+        return self.me == self.sequencer
 
     def others(self, packet):
         return [(to, packet) for to in range(self.nodes) if to != self.me]
@@ -27,7 +27,7 @@ class Member:
         if self.leads():
             return self.order(message, False) + self.finish()
         if message[2] <= BY_REQUEST:
-            return [(0, ("Request", self.applied, message))]
+            return [(self.sequencer, ("Request", self.applied, message))]
         self.bodies[message[0]] = message
         return self.others(("Body", self.applied, message))
 
@@ -117,12 +117,24 @@ class Member:
         self.applied = number
         if not self.leads() and number >= self.reported + BETWEEN_REPORTS:
             self.reported = number
-            return [(0, ("Status", self.length(), number))]
+            return [(self.sequencer, ("Status", self.length(), number))]
         return self.finish()
 
 
-def run(nodes, messages, length):
-    """How many packets arrive, and how many entries each member applies at least."""
+def reset(members, at):
+    """A reset with this coordinator, of a group at rest: an invitation, an answer and a Result of each other member."""
+    answers = [(it.applied, it.base, list(it.window)) for it in members]
+    _, base, kept = answers[0]
+    for it in members:
+        it.sequencer, it.base, it.window = at, base, deque(kept)
+        it.accepted, it.waiting = base + len(kept), deque()
+        it.heard = [answer[0] for answer in answers] if it.me == at else [0] * it.nodes
+        it.last = {**it.last, **{process: call for process, call, _ in kept}}
+    return 3 * (len(members) - 1)
+
+
+def run(nodes, messages, length, each=0):
+    """How many packets arrive, and how many entries each member applies at least, with a reset after so many messages each."""
     members, packets = [Member(nodes, me) for me in range(nodes)], 0
     for call in range(messages):
         at = call % nodes
@@ -138,4 +150,6 @@ def run(nodes, messages, length):
             packets += 1
             posted.extend((to, *it) for it in members[to].receive(sender, packet))
             turn = [to]
+        if each and call % each == each - 1:
+            packets += reset(members, (call // each + 1) % nodes)
     return packets, min(member.applied for member in members)

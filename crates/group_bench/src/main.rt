@@ -1,26 +1,30 @@
 //! Orders many messages in a group in memory, for `bench/group`, which takes the time.
 //!
-//! The words are three numbers: how many members the group has, how many messages are ordered, and how many bytes each is said to
-//! have, which tells whether it goes through the sequencer or to all. The members submit in turn, packets arrive in the order in
-//! which they were sent, and each member notes what is accepted as applied. It prints how many packets arrived, and how many
-//! entries each member applied at least.
+//! The words are four numbers: how many members the group has, how many messages are ordered, how many bytes each is said to
+//! have, which tells whether it goes through the sequencer or to all, and after how many messages there is a reset each, 0 for
+//! none. The members submit in turn, packets arrive in the order in which they were sent, and each member notes what is accepted
+//! as applied; the members coordinate resets in turn, member 1 first. It prints how many packets arrived, and how many entries
+//! each member applied at least.
 #![tactic(auto)]
 
-ghost use Rattle.std.specs.Prelude.{All, OnOk, IfOk};
+ghost use Rattle.std.specs.Prelude.{◌≡◌, ◌<◌, All, OnOk, IfOk, true};
 ghost use Rattle.group_member.specs.StandsFor.{IsMember};
 
 mod message;
+mod resets;
 
 use group_member::{Config, Letter, Member, Sends};
 use history_buffer::Shared;
 use message::Message;
 use orca_base::{NODES, NoMemory};
+use resets::reset;
 use std::alloc::{AllocError, Global};
 use std::collections::VecDeque;
 use std::process::ExitCode;
 use std::{env, io};
 
-type Node = Member<Shared<Message>>;
+/// A member of the group.
+pub type Node = Member<Shared<Message>>;
 
 type Posted = VecDeque<(u8, Letter<Shared<Message>>)>;
 
@@ -60,7 +64,7 @@ fn main(rt: HostRuntime) -> ExitCode {
 // Reads the words, orders the messages and prints what came of it.
 fn run(rt: &HostRuntime, alloc: Global) -> Result<(), Failed> {
     let words: Vec<String> = env::args(rt)?.skip(1).collect(alloc)?;
-    let [nodes, messages, bytes] = words.as_slice() else {
+    let [nodes, messages, bytes, each] = words.as_slice() else {
         return Err(Failed::Words);
     };
     let nodes = u8::try_from(number(nodes)?).map_err(|_| Failed::Words)?;
@@ -68,6 +72,7 @@ fn run(rt: &HostRuntime, alloc: Global) -> Result<(), Failed> {
         return Err(Failed::Words);
     }
     let bytes = number(bytes)?;
+    let each = number(each)?;
     let mut members = opened(alloc, nodes)?;
     let mut packets = 0u64;
     for call in 0..number(messages)? {
@@ -81,6 +86,7 @@ fn run(rt: &HostRuntime, alloc: Global) -> Result<(), Failed> {
             },
         )?;
         packets = packets.saturating_add(order(alloc, &mut members, at, message)?);
+        packets = packets.saturating_add(reset_if_due(alloc, &mut members, nodes, call, each)?);
     }
     let applied = members
         .iter()
@@ -89,6 +95,32 @@ fn run(rt: &HostRuntime, alloc: Global) -> Result<(), Failed> {
         .unwrap_or(0);
     println!(rt; "{packets} packets, {applied} entries applied at each")?;
     Ok(())
+}
+
+// Whether there is a reset behind this message.
+fn is_due(call: u32, each: u32) -> bool
+    ensures { result ≡ true → 0 < each }
+{
+    each > 0 && call % each == each - 1
+}
+
+// The reset behind this message, where there is one; how many packets arrive.
+fn reset_if_due(
+    alloc: Global,
+    members: &mut Vec<Node>,
+    nodes: u8,
+    call: u32,
+    each: u32,
+) -> Result<u64, NoMemory>
+    requires members { All IsMember members.old.items }
+    requires nodes { 0 < nodes }
+    ensures { OnOk result (All IsMember members.new.items) }
+{
+    if !is_due(call, each) {
+        return Ok(0);
+    }
+    let at = ((call / each).saturating_add(1) % nodes as u32) as u8;
+    reset(alloc, members, at)
 }
 
 // The number that a word is.

@@ -25,6 +25,7 @@ pub mod Walk
 pub mod Course
 pub mod Forth
 pub mod Single
+pub mod Stepping
 pub mod Tally
 pub mod Small
 pub mod Sending

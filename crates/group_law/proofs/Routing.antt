@@ -94,7 +94,7 @@ delivered_course {M} {g} {w} event h = record {
   came = λ m q low sent goes. keeps_delivered g m _ w.past low (came_leads g w.past.letters q h sent);
   rests = λ m low. h;
   submits = λ m x low e can. h;
-  notes = λ m n low above le. h;
+  notes = λ m n low e above le. h;
   keeping = λ m k from j low sent o is. (h, λ u b e d best many base. d);
   coordinates = λ m s low when is d. (λ l. ⊎_elim (λ e. rw e (record { to = low; by = next_here g m s.promised low })) (λ i. d l i), λ u b e d best many base. d);
   tells = λ m k from a b members log low sent above le base. h;

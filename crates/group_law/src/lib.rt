@@ -7,11 +7,11 @@
 //! that anything happens in the end, is no part of it.
 #![tactic(auto)]
 
-ghost use Rattle.group_law.specs.Agreed.{AgreedLaw, ForwardLaw};
+ghost use Rattle.group_law.specs.Agreed.{AgreedLaw, ForwardLaw, StepsLaw};
 ghost use Rattle.group_law.specs.Messages.{MessagesLaw};
 ghost use Rattle.group_law.specs.Numbers.{FewEventsLaw, NumbersLaw};
-ghost use Rattle.group_law.specs.Promise.{AgreementLaw, ConditionsLaw, KeptLaw, LastingLaw, ListsLaw};
-ghost use Rattle.group_law.specs.Sends.{OthersLaw, RoutesLaw, SendsLaw};
+ghost use Rattle.group_law.specs.Promise.{AgreementLaw, ChoiceLaw, ConditionsLaw, KeptLaw, LastingLaw, ListsLaw};
+ghost use Rattle.group_law.specs.Sends.{OthersLaw, RoutesLaw, SendersLaw, SendsLaw};
 ghost use Rattle.group_law.specs.SoundPackets.{SoundLaw};
 ghost use Rattle.group_law.specs.Told.{PurgesLaw, StaysLaw, ToldLaw};
 ghost use Rattle.group_law.specs.WrongPurge.{OwnPurgeBreaksTheLaw};
@@ -24,11 +24,14 @@ ghost use Rattle.group_law.specs.WrongPurge.{OwnPurgeBreaksTheLaw};
 ///   from, stay.
 /// - `lasting`: what was accepted is never lost or moved.
 /// - `calls`: what may be delivered or submitted meets the conditions on the calls of members and resets.
+/// - `choice`: the rules take an answer exactly where it has the greatest installed incarnation, then the greatest length, then
+///   the lowest member.
 /// - `kept`: each answer that a member keeps was sent, and each message that it keeps was submitted.
 /// - `messages`: what a process submitted is, at its home, pending or applied, and never both. Each member applies the
 ///   messages of a process in their order, with none left out.
 /// - `forward`: incarnations, accepted and applied numbers of a member never fall, who is outside or crashed stays so, and
 ///   what was sent or submitted stays.
+/// - `steps`: a note alone changes what a member applied, and no event changes an entry that a member applied.
 /// - `agreed`: what members know to be accepted is one list, and so is what they applied. Both only grow at their end.
 /// - `told`: applied and stable numbers that are told are true.
 /// - `purges`: no purge goes beyond what a member that answered for the incarnation has applied.
@@ -46,9 +49,11 @@ pub fn agreement_law<M>()
     ensures lists { ListsLaw M }
     ensures lasting { LastingLaw M }
     ensures calls { ConditionsLaw M }
+    ensures choice { ChoiceLaw M }
     ensures kept { KeptLaw M }
     ensures messages { MessagesLaw M }
     ensures forward { ForwardLaw M }
+    ensures steps { StepsLaw M }
     ensures agreed { AgreedLaw M }
     ensures told { ToldLaw M }
     ensures purges { PurgesLaw M }
@@ -58,6 +63,11 @@ pub fn agreement_law<M>()
     ensures sends { SendsLaw M }
     ensures others { OthersLaw M }
     ensures routes { RoutesLaw M }
+{}
+
+/// What a row posts is its member's, for messages and replies of any types.
+pub fn posts_are_their_members<M, R>()
+    ensures { SendersLaw M R }
 {}
 
 /// In a group of at most 16 members each packet that was sent is sound as it travels, for messages and replies of any

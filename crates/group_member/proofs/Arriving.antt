@@ -10,12 +10,12 @@ use Rattle.group_rules.specs.OnWire.{receive_packet}
 use Rattle.group_rules.specs.Receiver.{nack, take_entry, take_order}
 use Rattle.group_rules.specs.Reset.{listens}
 use Rattle.group_rules.specs.Sequencer.{finish, hears}
-use Rattle.group_rules.specs.Steps.{at_other, at_sequencer, hear, of_later}
+use Rattle.group_rules.specs.Steps.{at_other, at_sequencer, hear, of_installed, of_later, take_heeded}
 use Rattle.group_rules.specs.Work.{Work, becomes, idle}
 use Rattle.group_member.specs.declared.member.Member.{Member}
 use Rattle.group_member.specs.declared.sends.Letter.{Letter}
 use Rattle.group_member.specs.AtWork.{AtWork, GoesOn}
-use Rattle.group_member.specs.Packets.{of_call, received_kind, takes, takes_heeded, takes_installed}
+use Rattle.group_member.specs.Packets.{of_call, received_kind, takes}
 use Rattle.group_member.specs.StandsFor.{Follows, StandsFor}
 use Rattle.group_member.proofs.Rows.{held_then, held_else}
 
@@ -86,13 +86,13 @@ listened : {B R : Type 0} (name : B → MessageId) (bytes : B → ℕ) (s t : Me
 listened name bytes s t from j k is f = subst (λ (n : ℕ). Follows name bytes s t (λ g which. listens g from n)) is f
 
 pub installed_other : {B R : Type 0} (name : B → MessageId) (bytes : B → ℕ) (s mid t : Member B R) (sent new : List (Letter B R)) (from j k : ℕ) (kind : Kind B) (b : Bool) → b ≡ ((s.installed % s.config.nodes) == s.me) → b ≡ false → j ≡ k → k ≡ s.installed → Follows name bytes s mid (λ g which. listens g from j)
-    → GoesOn name bytes mid sent t new (λ g which. at_other g which kind) → GoesOn name bytes s sent t new (λ g which. takes_installed g which from k kind)
+    → GoesOn name bytes mid sent t new (λ g which. at_other g which kind) → GoesOn name bytes s sent t new (λ g which. of_installed g which from k kind)
 installed_other {B} name bytes s mid t sent new from j k kind b is other same here f d = λ N r which v h.
     held_else (AtWork (group_of name bytes N r) which t new) ((k % N) == which) _ _ (sequencer_same k here h.state ∙ (sym is ∙ other))
     (d N r which (becomes (listens (group_of name bytes N r) from k v.state) v) (record { state = listened name bytes s mid from j k same f N r which v.state h.state; sends = h.sends }))
 
 pub installed_leads : {B R : Type 0} (name : B → MessageId) (bytes : B → ℕ) (s mid end t : Member B R) (sent more new : List (Letter B R)) (from j k : ℕ) (kind : Kind B) (b : Bool) → b ≡ ((s.installed % s.config.nodes) == s.me) → b ≡ true → j ≡ k → k ≡ s.installed → Follows name bytes s mid (λ g which. listens g from j)
-    → GoesOn name bytes mid sent end more (λ g which. at_sequencer g which from kind) → GoesOn name bytes end more t new finish → GoesOn name bytes s sent t new (λ g which. takes_installed g which from k kind)
+    → GoesOn name bytes mid sent end more (λ g which. at_sequencer g which from kind) → GoesOn name bytes end more t new finish → GoesOn name bytes s sent t new (λ g which. of_installed g which from k kind)
 installed_leads {B} name bytes s mid end t sent more new from j k kind b is first same here f d e = λ N r which v h.
     held_then (AtWork (group_of name bytes N r) which t new) ((k % N) == which) _ _ (sequencer_same k here h.state ∙ (sym is ∙ first))
     (e N r which _ (d N r which (becomes (listens (group_of name bytes N r) from k v.state) v) (record { state = listened name bytes s mid from j k same f N r which v.state h.state; sends = h.sends })))
@@ -100,7 +100,7 @@ installed_leads {B} name bytes s mid end t sent more new from j k kind b is firs
 -- ---- a later incarnation
 
 pub heeded_later : {B R : Type 0} (name : B → MessageId) (bytes : B → ℕ) (s : Member B R) (sent new : List (Letter B R)) (from j k : ℕ) (kind : Kind B) → j ≡ k → (j ≡ s.installed → ⊥) → GoesOn name bytes s sent s new (λ g which. of_later which from k kind)
-    → GoesOn name bytes s sent s new (λ g which. takes_heeded g which from k kind)
+    → GoesOn name bytes s sent s new (λ g which. take_heeded g which from k kind)
 heeded_later {B} name bytes s sent new from j k kind same other d = λ N r which v h. held_else (AtWork (group_of name bytes N r) which s new) (k == v.state.installed) _ _ (apart v.state.installed (λ e. other (same ∙ (e ∙ h.state.installed)))) (d N r which v h)
   where
     apart : (n : ℕ) → (k ≡ n → ⊥) → (k == n) ≡ false

@@ -1,5 +1,5 @@
 -- A state that stands for a member, after single changes.
-use Rattle.std.proofs.Common.{◌≡◌, ℕ, ◌≤◌, ◌==◌, map, slice_index_or, Bool, true, false, Option, Some, None, Result, Ok, Err, OnOk, OnErr, Vec, Global, List, [], ◌∷◌, length, refl, sym, ap, subst, ◌∙◌, if◌then◌else◌}
+use Rattle.std.proofs.Common.{◌≡◌, ℕ, ◌≤◌, ◌==◌, map, slice_index_or, Bool, true, false, Option, Some, None, Vec, Global, List, [], ◌∷◌, length, refl, sym, ap, subst, ◌∙◌, if◌then◌else◌}
 use Rattle.std.proofs.lemmas.Bool.{eqb-true, eqb-false}
 use Rattle.group_packets.specs.declared.packet.Join.{Join}
 use Rattle.group_rules.specs.Sets.{with_at}
@@ -10,7 +10,7 @@ use Rattle.group_rules.specs.OnWire.{on_join}
 use Rattle.group_rules.specs.Reset.{gathers, keeps, promises}
 use Rattle.group_member.specs.declared.member.Member.{Member}
 use Rattle.orca_base.specs.declared.ids.MessageId.{MessageId}
-use Rattle.group_member.specs.StandsFor.{Follows, IsMember, StandsFor, PutIn, on_answer, on_waiting, join_of, test_of}
+use Rattle.group_member.specs.StandsFor.{Follows, IsMember, KeepsAnswer, StandsFor, PutIn, on_answer, on_waiting, join_of, test_of}
 use Rattle.group_member.proofs.Answering.{named_none, named_one, once_none, once_one}
 
 answers_with : {B R : Type 0} (k from : ℕ) (join : Join B R) (report : Report B) (answers : ℕ → Option (Report B)) (old new : List (ℕ × Join B R)) → on_join k report ≡ join → ((x : ℕ) → on_answer k (answers x) ≡ join_of x old) → PutIn from join old new
@@ -92,15 +92,10 @@ same_answers {s = s} answers e is h = record {
   done = h.done;
 }
 
--- the clauses of the call that keeps an answer
-pub keeps_row : {A E B R : Type 0} (name : B → MessageId) (bytes : B → ℕ) (s : Member B R) (from : ℕ) (join : Join B R) (answers : Vec (ℕ × Join B R) Global) (r : Result A E) → (IsMember s → IsMember (record s { answers = answers })) → OnOk r (PutIn from join s.answers.items answers.items)
-    → OnOk r ((report : Report B) → on_join s.promised report ≡ join → report.base ≤ length report.log → Follows name bytes s (record s { answers = answers }) (λ g which. keeps from report))
-keeps_row name bytes s from join answers (Ok a) is put = λ report wire low nodes resilience which m h. keeps_answer from join report answers (is h.member) h wire low put
-keeps_row name bytes s from join answers (Err e) is put = tt
-
-pub keeps_none : {A E B R : Type 0} (name : B → MessageId) (bytes : B → ℕ) (s : Member B R) (answers : Vec (ℕ × Join B R) Global) (r : Result A E) → (IsMember s → IsMember (record s { answers = answers })) → OnErr r (answers.items ≡ s.answers.items) → OnErr r (Follows name bytes s (record s { answers = answers }) (λ g which m. m))
-keeps_none name bytes s answers (Ok a) is e = tt
-keeps_none name bytes s answers (Err x) is e = λ nodes resilience which m h. same_answers answers e (is h.member) h
+-- a member that keeps an answer, in a list of the same answers
+pub keeps_row : {B R : Type 0} (name : B → MessageId) (bytes : B → ℕ) (s : Member B R) (from : ℕ) (join : Join B R) (old : List (ℕ × Join B R)) (answers : Vec (ℕ × Join B R) Global) → old ≡ s.answers.items → (IsMember s → IsMember (record s { answers = answers })) → PutIn from join old answers.items
+    → KeepsAnswer name bytes from join s (record s { answers = answers })
+keeps_row {B} {R} name bytes s from join old answers same is put = λ report wire low nodes resilience which m h. keeps_answer from join report answers (is h.member) h wire low (subst (λ (l : List (ℕ × Join B R)). PutIn from join l answers.items) same put)
 
 -- what a member tells of itself
 pub own_join_is : {B R : Type 0} (g : Group B) (which : ℕ) (s : Member B R) (base : ℕ) (messages : List B) → base ≡ s.window.base → messages ≡ s.window.items → (m : RulesMember B) → StandsFor g which s m

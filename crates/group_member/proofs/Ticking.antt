@@ -22,7 +22,8 @@ use Rattle.group_member.specs.AtWork.{AtWork, GoesOn, told_to}
 use Rattle.group_member.specs.ByOwn.{active_by, leads_by, stable_by}
 use Rattle.group_member.specs.LastCalls.{TellsRepeat}
 use Rattle.group_member.specs.StandsFor.{Follows, StandsFor, join_of, on_answer, on_waiting}
-use Rattle.group_member.specs.Ticks.{IsToCoordinate, content_by, gathering_by, invites_again, invites_below, requests_again, tells_accepted}
+use Rattle.group_member.specs.Ticks.{IsToCoordinate, content_by, gathering_by, invites_again, invites_below, requests_again}
+use Rattle.group_rules.specs.Sequencer.{tell_accepted}
 use Rattle.group_member.specs.Told.{others_below}
 use Rattle.group_member.proofs.Rows.{LeftOf, held_then, held_else}
 use Rattle.group_member.proofs.Working.{active_same, leads_same, stable_stands, tell_all, whole_length}
@@ -101,7 +102,7 @@ due_where {g = g} {which} m b inside h due = sym (ap (λ (o : Bool). not o && is
 
 -- ---- what is sent again
 
-pub tells_row : {B R : Type 0} (name : B → MessageId) (bytes : B → ℕ) (s : Member B R) (sent : List (Letter B R)) → GoesOn name bytes s sent s (sent ++ others_below s.config.nodes s.me (V.Accept s.installed s.accepted (stable_by s))) tells_accepted
+pub tells_row : {B R : Type 0} (name : B → MessageId) (bytes : B → ℕ) (s : Member B R) (sent : List (Letter B R)) → GoesOn name bytes s sent s (sent ++ others_below s.config.nodes s.me (V.Accept s.installed s.accepted (stable_by s))) tell_accepted
 tells_row name bytes s sent = λ N r which v h.
     tell_all v.state.installed (Accept v.state.accepted (stable_of (group_of name bytes N r) which v.state)) (V.Accept s.installed s.accepted (stable_by s)) (rw (h.state.installed, h.state.accepted, stable_stands h.state) refl) h
 
@@ -131,7 +132,7 @@ again_lacks {B} name bytes s t sent new x y b fails is same d = λ N r which v h
 
 -- ---- an active member
 
-pub again_active_leads : {B R : Type 0} (name : B → MessageId) (bytes : B → ℕ) (s t : Member B R) (sent new : List (Letter B R)) → active_by s ≡ true → leads_by s ≡ true → GoesOn name bytes s sent t new tells_accepted → GoesOn name bytes s sent t new send_again_all
+pub again_active_leads : {B R : Type 0} (name : B → MessageId) (bytes : B → ℕ) (s t : Member B R) (sent new : List (Letter B R)) → active_by s ≡ true → leads_by s ≡ true → GoesOn name bytes s sent t new tell_accepted → GoesOn name bytes s sent t new send_again_all
 again_active_leads name bytes s t sent new holds first d = λ N r which v h.
     held_then (AtWork (group_of name bytes N r) which t new) (is_active v.state) _ _ (active_same h.state ∙ holds) (held_then (AtWork (group_of name bytes N r) which t new) (leads (group_of name bytes N r) which v.state) _ _ (leads_same h.state ∙ first) (d N r which v h))
 

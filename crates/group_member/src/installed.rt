@@ -2,9 +2,10 @@
 
 ghost use Rattle.std.specs.Prelude.{◌≡◌, ◌%◌, ◌+◌, ◌<◌, ◌≤◌, All, IfOk, OnErr, OnOk, length, ℕ};
 ghost use Rattle.group_member.specs.AtWork.{GoesOn};
-ghost use Rattle.group_member.specs.Installs.{acks_log, CanInstall, Installs, is_in, NotesAll, TakesLog, with_log};
+ghost use Rattle.group_member.specs.Installs.{CanInstall, Installs, is_in, NotesAll, TakesLog, with_log};
 ghost use Rattle.group_member.specs.StandsFor.{IsMember, test_of};
 ghost use Rattle.group_member.specs.TakesOver.{InstallsOver};
+ghost use Rattle.group_rules.specs.Receiver.{acknowledge_all};
 ghost use Rattle.group_rules.specs.Reset.{take_news};
 ghost use Rattle.history_buffer.specs.Window.{window};
 ghost use Rattle.orca_base.specs.declared.limits.TheConstants.{WINDOW};
@@ -21,7 +22,7 @@ use std::alloc::Global;
 impl<B: Body> Member<B> {
     /// It installs what a reset decided: the coordinator takes over the log with what it heard of the others' applied numbers,
     /// another member has the log then, and `heard` is for the coordinator alone. The row is told for whichever log the news
-    /// carries.
+    /// carries and that begins with what the member applied.
     pub fn install(
         &mut self,
         alloc: Global,
@@ -38,6 +39,7 @@ impl<B: Body> Member<B> {
             (λ sends. Installs B.id_of B.length_of news self.old self.new sends.items
             (λ g which. take_news g which news.incarnation news.accepted news.base)) }
         ensures member { IsMember self.new }
+        ensures applied { self.new.applied ≡ self.old.applied }
         ensures err { OnErr result (self.new ≡ self.old) }
     {
         let mut next = self.copy(alloc)?;
@@ -66,6 +68,7 @@ impl<B: Body> Member<B> {
         ensures row { OnOk result
             (TakesLog B.id_of B.length_of news self.old self.new (with_log news.incarnation accepted news.base)) }
         ensures member { OnOk result (IsMember self.new) }
+        ensures applied { self.new.applied ≡ self.old.applied }
     {
         let answered = test_of_members(alloc, self.config.nodes, news.members.as_slice())?;
         let acked = no_acks(alloc, self.config.nodes)?;
@@ -89,7 +92,7 @@ impl<B: Body> Member<B> {
     // An acknowledger acknowledges its whole log.
     fn acknowledge_log(&self, sends: &mut Sends<B>) -> Result<(), NoMemory>
         requires { IsMember self.now }
-        ensures { OnOk result (GoesOn B.id_of B.length_of self.now sends.old.items self.now sends.new.items acks_log) }
+        ensures { OnOk result (GoesOn B.id_of B.length_of self.now sends.old.items self.now sends.new.items acknowledge_all) }
     {
         if !self.is_acker() {
             return Ok(());
@@ -106,6 +109,7 @@ impl<B: Body> Member<B> {
             (λ sends. Installs B.id_of B.length_of news self.old self.new sends.items
             (λ g which. take_news g which news.incarnation news.accepted news.base)) }
         ensures member { OnOk result (IsMember self.new) }
+        ensures applied { OnOk result (self.new.applied ≡ self.old.applied) }
     {
         let incarnation = news.incarnation;
         let accepted = news.accepted.max(self.accepted);

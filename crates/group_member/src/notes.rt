@@ -28,6 +28,7 @@ impl<B: Body> Member<B> {
         requires small { number < 2 ^ 62 }
         ensures row { IfOk result (λ sends. Does B.id_of B.length_of self.old self.new sends.items (λ g which. note g which number)) }
         ensures member { IsMember self.new }
+        ensures applied { OnOk result (self.new.applied ≡ number) }
         ensures err { OnErr result (self.new ≡ self.old) }
     {
         let mut next = self.copy(alloc)?;
@@ -58,6 +59,7 @@ impl<B: Body> Member<B> {
         ensures row { OnOk result
             (GoesOn B.id_of B.length_of self.old sends.old.items self.new sends.new.items (λ g which. when due (send_status g which))) }
         ensures member { OnOk result (IsMember self.new) }
+        ensures applied { self.new.applied ≡ self.old.applied }
     {
         if !due {
             return Ok(());
@@ -73,6 +75,7 @@ impl<B: Body> Member<B> {
         requires small { number < 2 ^ 62 }
         ensures row { OnOk result (Follows B.id_of B.length_of self.old self.new (λ g which. noted g number)) }
         ensures member { OnOk result (IsMember self.new) }
+        ensures applied { OnOk result (self.new.applied ≡ number) }
     {
         'entries: while self.applied < number {
             self.apply_next()?;

@@ -2,12 +2,12 @@
 
 ghost use Rattle.std.specs.Prelude.{◌≡◌, IfOk, OnErr, OnOk, None, slice_index_or};
 ghost use Rattle.group_member.specs.AtWork.{Does, GoesOn};
-ghost use Rattle.group_member.specs.Packets.{heeds_by, is_received, of_call, received_kind, takes, takes_heeded, takes_installed};
+ghost use Rattle.group_member.specs.Packets.{heeds_by, is_received, of_call, received_kind, takes};
 ghost use Rattle.group_member.specs.StandsFor.{IsMember};
 ghost use Rattle.group_packets.specs.Packet.{incarnation_of};
 ghost use Rattle.group_rules.specs.OnWire.{receive_packet};
 ghost use Rattle.group_rules.specs.Receiver.{take_order};
-ghost use Rattle.group_rules.specs.Steps.{ask_whole, at_other, at_sequencer, of_later};
+ghost use Rattle.group_rules.specs.Steps.{ask_whole, at_other, at_sequencer, of_installed, of_later, take_heeded};
 
 use crate::member::Member;
 use crate::sends::{Letter, Sends};
@@ -17,7 +17,7 @@ use std::alloc::Global;
 
 impl<B: Body> Member<B> {
     /// A packet came from this member. Packets of an incarnation below the promised one are dropped, and so are those of a
-    /// reset and the nodes' own, which have other calls.
+    /// reset and the nodes' own, which have other calls. A member that is outside drops all.
     pub fn receive(
         &mut self,
         alloc: Global,
@@ -28,6 +28,7 @@ impl<B: Body> Member<B> {
         ensures row { IfOk result
             (λ sends. Does B.id_of B.length_of self.old self.new sends.items (λ g which. receive_packet g which from packet)) }
         ensures member { IsMember self.new }
+        ensures applied { self.new.applied ≡ self.old.applied }
         ensures err { OnErr result (self.new ≡ self.old) }
     {
         let mut next = self.copy(alloc)?;
@@ -49,6 +50,7 @@ impl<B: Body> Member<B> {
         ensures row { OnOk result
             (GoesOn B.id_of B.length_of self.old sends.old.items self.new sends.new.items (λ g which. takes g which from packet)) }
         ensures member { OnOk result (IsMember self.new) }
+        ensures applied { self.new.applied ≡ self.old.applied }
     {
         if !has_row(&packet) {
             return Ok(());
@@ -77,8 +79,9 @@ impl<B: Body> Member<B> {
         requires { IsMember self.old }
         ensures row { OnOk result
             (GoesOn B.id_of B.length_of self.old sends.old.items self.new sends.new.items
-            (λ g which. takes_heeded g which from (incarnation_of packet) (received_kind packet))) }
+            (λ g which. take_heeded g which from (incarnation_of packet) (received_kind packet))) }
         ensures member { OnOk result (IsMember self.new) }
+        ensures applied { self.new.applied ≡ self.old.applied }
     {
         if packet.incarnation() == self.installed {
             return self.take_installed(alloc, sends, from, packet);
@@ -98,8 +101,9 @@ impl<B: Body> Member<B> {
         requires installed { incarnation_of packet ≡ self.old.installed }
         ensures row { OnOk result
             (GoesOn B.id_of B.length_of self.old sends.old.items self.new sends.new.items
-            (λ g which. takes_installed g which from (incarnation_of packet) (received_kind packet))) }
+            (λ g which. of_installed g which from (incarnation_of packet) (received_kind packet))) }
         ensures member { OnOk result (IsMember self.new) }
+        ensures applied { self.new.applied ≡ self.old.applied }
     {
         let numbers = self.is_sequencer();
         self.listen(from, packet.incarnation());
@@ -123,6 +127,7 @@ impl<B: Body> Member<B> {
             (GoesOn B.id_of B.length_of self.old sends.old.items self.new sends.new.items
             (λ g which. at_sequencer g which from (received_kind packet))) }
         ensures member { OnOk result (IsMember self.new) }
+        ensures applied { self.new.applied ≡ self.old.applied }
     {
         match packet {
             Packet::Request {
@@ -182,6 +187,7 @@ impl<B: Body> Member<B> {
             (GoesOn B.id_of B.length_of self.old sends.old.items self.new sends.new.items
             (λ g which. at_other g which (received_kind packet))) }
         ensures member { OnOk result (IsMember self.new) }
+        ensures applied { self.new.applied ≡ self.old.applied }
     {
         match packet {
             Packet::Body { message, .. } => self.keep_body(message),
@@ -227,6 +233,7 @@ impl<B: Body> Member<B> {
             (GoesOn B.id_of B.length_of self.old sends.old.items self.new sends.new.items
             (λ g which v. take_order g which number id.call.0 accepted stable (v.state.bodies id.process.0) v)) }
         ensures member { OnOk result (IsMember self.new) }
+        ensures applied { self.new.applied ≡ self.old.applied }
     {
         match self.kept_body(alloc, id)? {
             Some(message) => self.take_entry(sends, number, accepted, stable, message),

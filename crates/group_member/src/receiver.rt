@@ -46,6 +46,7 @@ impl<B: Body> Member<B> {
         requires { IsMember self.old }
         ensures row { OnOk result (GoesOn B.id_of B.length_of self.old sends.old.items self.new sends.new.items nack) }
         ensures member { OnOk result (IsMember self.new) }
+        ensures applied { self.new.applied ≡ self.old.applied }
     {
         if !self.may_nack() {
             return Ok(());
@@ -70,6 +71,7 @@ impl<B: Body> Member<B> {
             (GoesOn B.id_of B.length_of self.old sends.old.items self.new sends.new.items
             (λ g which v. when (nat_lt (length v.state.log) number) (nack g which) v)) }
         ensures member { OnOk result (IsMember self.new) }
+        ensures applied { self.new.applied ≡ self.old.applied }
     {
         if number <= self.length() {
             return Ok(());
@@ -82,6 +84,7 @@ impl<B: Body> Member<B> {
         requires { IsMember self.old }
         ensures row { Follows B.id_of B.length_of self.old self.new (λ g which. accepts accepted) }
         ensures member { IsMember self.new }
+        ensures applied { self.new.applied ≡ self.old.applied }
     {
         let fits = accepted.min(self.length());
         self.accepted = self.accepted.max(fits);
@@ -99,6 +102,7 @@ impl<B: Body> Member<B> {
             (GoesOn B.id_of B.length_of self.old sends.old.items self.new sends.new.items
             (λ g which. take_accept g which accepted stable)) }
         ensures member { OnOk result (IsMember self.new) }
+        ensures applied { self.new.applied ≡ self.old.applied }
     {
         self.accept(accepted);
         self.nack_below(sends, accepted)?;
@@ -111,6 +115,7 @@ impl<B: Body> Member<B> {
         requires { IsMember self.old }
         ensures row { OnOk result (Follows B.id_of B.length_of self.old self.new (λ g which. appended message)) }
         ensures member { OnOk result (IsMember self.new) }
+        ensures applied { self.new.applied ≡ self.old.applied }
     {
         if !self.has_room() {
             return Ok(());
@@ -146,6 +151,7 @@ impl<B: Body> Member<B> {
             (GoesOn B.id_of B.length_of self.old sends.old.items self.new sends.new.items
             (λ g which. take_number g which number stable message)) }
         ensures member { OnOk result (IsMember self.new) }
+        ensures applied { self.new.applied ≡ self.old.applied }
     {
         let next = self.length() + 1;
         if number == next {
@@ -187,6 +193,7 @@ impl<B: Body> Member<B> {
             (GoesOn B.id_of B.length_of self.old sends.old.items self.new sends.new.items
             (λ g which. take_entry g which number accepted stable message)) }
         ensures member { OnOk result (IsMember self.new) }
+        ensures applied { self.new.applied ≡ self.old.applied }
     {
         self.take_number(sends, number, stable, message)?;
         self.acknowledge(sends, number)?;

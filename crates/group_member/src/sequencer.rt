@@ -43,6 +43,7 @@ impl<B: Body> Member<B> {
         requires { IsMember self.old }
         ensures row { Follows B.id_of B.length_of self.old self.new (λ g which m. purged m stable) }
         ensures member { IsMember self.new }
+        ensures applied { self.new.applied ≡ self.old.applied }
     {
         if self.window.kept() >= ENTRIES_BEFORE_PURGE {
             self.window.purge_to(stable.min(self.applied));
@@ -56,6 +57,7 @@ impl<B: Body> Member<B> {
         ensures row { OnOk result
             (Follows B.id_of B.length_of self.old self.new (λ g which m. record m { log = m.log ++ message ∷ [] })) }
         ensures member { OnOk result (IsMember self.new) }
+        ensures applied { self.new.applied ≡ self.old.applied }
         ensures waits { OnOk result (self.new.waiting ≡ self.old.waiting) }
     {
         self.last.note(&message)?;
@@ -70,6 +72,7 @@ impl<B: Body> Member<B> {
         ensures row { OnOk result
             (Follows B.id_of B.length_of self.old self.new (λ g which m. ordered g.resilience message m)) }
         ensures member { OnOk result (IsMember self.new) }
+        ensures applied { self.new.applied ≡ self.old.applied }
         ensures waits { OnOk result (self.new.waiting ≡ self.old.waiting) }
     {
         self.append(message)?;
@@ -123,6 +126,7 @@ impl<B: Body> Member<B> {
         ensures row { OnOk result
             (GoesOn B.id_of B.length_of self.old sends.old.items self.new sends.new.items (λ g which. order g which by_name message)) }
         ensures member { OnOk result (IsMember self.new) }
+        ensures applied { self.new.applied ≡ self.old.applied }
         ensures waits { OnOk result (self.new.waiting ≡ self.old.waiting) }
     {
         let copied = message.copy(alloc)?;
@@ -144,6 +148,7 @@ impl<B: Body> Member<B> {
             (GoesOn B.id_of B.length_of self.old sends.old.items self.new sends.new.items
             (λ g which. order_waiting g which (on_waiting waiting))) }
         ensures member { OnOk result (IsMember self.new) }
+        ensures applied { self.new.applied ≡ self.old.applied }
         ensures waits { OnOk result (self.new.waiting ≡ self.old.waiting) }
     {
         if self.last.is_repeat(&waiting.message) {
@@ -157,6 +162,7 @@ impl<B: Body> Member<B> {
         requires { IsMember self.old }
         ensures row { OnOk result (GoesOn B.id_of B.length_of self.old sends.old.items self.new sends.new.items order_all_waiting) }
         ensures member { OnOk result (IsMember self.new) }
+        ensures applied { self.new.applied ≡ self.old.applied }
     {
         'waiting: while self.has_room() && !self.none_waits() {
             let first = self.waiting.remove(0);
@@ -170,6 +176,7 @@ impl<B: Body> Member<B> {
         requires { IsMember self.old }
         ensures row { OnOk result (GoesOn B.id_of B.length_of self.old sends.old.items self.new sends.new.items finish) }
         ensures member { OnOk result (IsMember self.new) }
+        ensures applied { self.new.applied ≡ self.old.applied }
     {
         if !self.leads() {
             return Ok(());

@@ -3,10 +3,10 @@
 ghost use Rattle.std.specs.Prelude.{◌≡◌, ◌<◌, IfOk, OnErr, OnOk, length, None, nat_le, slice_index_or};
 ghost use Rattle.std.specs.List.{position_or_len};
 ghost use Rattle.group_member.specs.AtWork.{Does, GoesOn};
-ghost use Rattle.group_member.specs.Bodies.{asks_for, is_newer_by, SameBodies};
+ghost use Rattle.group_member.specs.Bodies.{is_newer_by, SameBodies};
 ghost use Rattle.group_member.specs.StandsFor.{Follows, HasNumbersOf, IsMember};
 ghost use Rattle.group_rules.specs.Receiver.{keep_body, request};
-ghost use Rattle.group_rules.specs.Steps.{pends, submit};
+ghost use Rattle.group_rules.specs.Steps.{ask_for, pends, submit};
 
 use crate::member::Member;
 use crate::sends::{Letter, Sends, tell_others};
@@ -21,6 +21,7 @@ impl<B: Body> Member<B> {
         requires { IsMember self.old }
         ensures row { IfOk result (λ sends. Does B.id_of B.length_of self.old self.new sends.items (λ g which. submit g which body)) }
         ensures member { IsMember self.new }
+        ensures applied { self.new.applied ≡ self.old.applied }
         ensures err { OnErr result (self.new ≡ self.old) }
     {
         let mut next = self.copy(alloc)?;
@@ -37,6 +38,7 @@ impl<B: Body> Member<B> {
         requires { IsMember self.old }
         ensures row { OnOk result (Follows B.id_of B.length_of self.old self.new (λ g which. pends g message)) }
         ensures member { OnOk result (IsMember self.new) }
+        ensures applied { self.new.applied ≡ self.old.applied }
     {
         let place = place_for(self.pending.as_slice(), &message);
         self.pending.insert(place, message)?;
@@ -47,8 +49,9 @@ impl<B: Body> Member<B> {
     fn ask_for(&mut self, alloc: Global, sends: &mut Sends<B>, message: B) -> Result<(), NoMemory>
         requires { IsMember self.old }
         ensures row { OnOk result
-            (GoesOn B.id_of B.length_of self.old sends.old.items self.new sends.new.items (λ g which. asks_for g which message)) }
+            (GoesOn B.id_of B.length_of self.old sends.old.items self.new sends.new.items (λ g which. ask_for g which message)) }
         ensures member { OnOk result (IsMember self.new) }
+        ensures applied { self.new.applied ≡ self.old.applied }
     {
         if !self.is_active() {
             return Ok(());

@@ -28,6 +28,7 @@ impl<B: Body> Member<B> {
         ensures row { IfOk result
             (λ sends. InstallsOver B.id_of B.length_of news heard.now self.old self.new sends.items) }
         ensures member { OnOk result (IsMember self.new) }
+        ensures applied { self.new.applied ≡ self.old.applied }
     {
         let accepted = self.accepted_of(&news);
         self.take_log(alloc, news, accepted)?;
@@ -73,6 +74,7 @@ impl<B: Body> Member<B> {
             (GoesOn B.id_of B.length_of self.old sends.old.items self.new sends.new.items
             (λ g which v. ask_own g which v.state.pending v)) }
         ensures member { OnOk result (IsMember self.new) }
+        ensures applied { self.new.applied ≡ self.old.applied }
     {
         let pending = copy_bodies(alloc, self.pending.as_slice())?;
         'own: for message in &pending {
@@ -93,6 +95,7 @@ impl<B: Body> Member<B> {
             (GoesOn B.id_of B.length_of self.old sends.old.items self.new sends.new.items
             (λ g which. asks_itself_for g which message.now)) }
         ensures member { OnOk result (IsMember self.new) }
+        ensures applied { self.new.applied ≡ self.old.applied }
     {
         let copied = message.copy(alloc)?;
         let me = self.me;

@@ -3,8 +3,9 @@
 ghost use Rattle.std.specs.Prelude.{◌≡◌, ◌++◌, ◌+◌, IfOk, OnErr, OnOk, is_some, nat_le};
 ghost use Rattle.group_member.specs.AtWork.{GoesOn};
 ghost use Rattle.group_member.specs.StandsFor.{Follows, HasNumbersOf, IsMember, join_of};
-ghost use Rattle.group_member.specs.Ticks.{content_by, gathering_by, invites_below, invites_again, IsDueWhere, requests_again, tells_accepted, TicksAs};
+ghost use Rattle.group_member.specs.Ticks.{content_by, gathering_by, invites_below, invites_again, IsDueWhere, requests_again, TicksAs};
 ghost use Rattle.group_rules.specs.Receiver.{request_all};
+ghost use Rattle.group_rules.specs.Sequencer.{tell_accepted};
 ghost use Rattle.group_rules.specs.Steps.{send_again_all, ticked};
 ghost use Rattle.orca_base.specs.declared.limits.TheConstants.{PATIENCE};
 
@@ -108,7 +109,7 @@ impl<B: Body> Member<B> {
     // The others are told how much is accepted.
     pub(crate) fn tell_accepted(&self, alloc: Global, sends: &mut Sends<B>) -> Result<(), NoMemory>
         requires { IsMember self.now }
-        ensures { OnOk result (GoesOn B.id_of B.length_of self.now sends.old.items self.now sends.new.items tells_accepted) }
+        ensures { OnOk result (GoesOn B.id_of B.length_of self.now sends.old.items self.now sends.new.items tell_accepted) }
     {
         let packet = Packet::Accept {
             incarnation: self.installed,

@@ -8,11 +8,11 @@ use Rattle.group_rules.specs.Sets.{count}
 use Rattle.group_rules.specs.Messages.{Group}
 use Rattle.group_rules.specs.Member.{Member as RulesMember, Report}
 use Rattle.group_rules.specs.OnWire.{members_below, on_join}
-use Rattle.group_rules.specs.Reset.{applied_of, beats, best, better, gave, most_accepted, most_of}
+use Rattle.group_rules.specs.Reset.{applied_of, beats, best, better_of, gave, greater_of, most_accepted}
 use Rattle.group_member.specs.declared.member.Member.{Member}
 use Rattle.group_member.specs.StandsFor.{StandsFor, join_of, on_answer}
 use Rattle.group_member.specs.TakesOver.{heard_in}
-use Rattle.group_reset.specs.Choice.{applied_with, beats_by, best_by, better_by, extent_of, gave_by, most_by, most_in}
+use Rattle.group_reset.specs.Choice.{accepted_in, applied_with, beats_by, best_by, extent_of, gave_by, most_by}
 
 -- ---- a list in which an answer is looked for
 
@@ -52,7 +52,7 @@ whole_extent R k r low = let l = length-drop r.base r.log in omega arith
 beats_same : {B : Type 0} (R : Type 0) (k : ℕ) (a b : Report B) → a.base ≤ length a.log → b.base ≤ length b.log → beats b a ≡ beats_by (on_join {R = R} k b) (on_join k a)
 beats_same R k a b la lb = rw (whole_extent R k a la, whole_extent R k b lb) refl
 
-better_same : {B R : Type 0} (k : ℕ) (a b : Option (Report B)) → IsBased a → IsBased b → on_answer {R = R} k (better a b) ≡ better_by (on_answer k a) (on_answer k b)
+better_same : {B R : Type 0} (k : ℕ) (a b : Option (Report B)) → IsBased a → IsBased b → on_answer {R = R} k (better_of beats a b) ≡ better_of beats_by (on_answer k a) (on_answer k b)
 better_same k None b la lb = refl
 better_same k (Some a) None la lb = refl
 better_same {B} {R} k (Some a) (Some b) la lb = go (beats b a) (beats_same R k a b la lb)
@@ -61,7 +61,7 @@ better_same {B} {R} k (Some a) (Some b) la lb = go (beats b a) (beats_same R k a
     go true e = rw (← e) refl
     go false e = rw (← e) refl
 
-better_based : {B : Type 0} (a b : Option (Report B)) → IsBased a → IsBased b → IsBased (better a b)
+better_based : {B : Type 0} (a b : Option (Report B)) → IsBased a → IsBased b → IsBased (better_of beats a b)
 better_based None b la lb = lb
 better_based (Some a) None la lb = la
 better_based (Some a) (Some b) la lb = cond_both (beats b a) (Some b) (Some a) IsBased (λ e. lb) (λ e. la)
@@ -73,7 +73,7 @@ best_based (suc n) f h = better_based (best n f) (f n) (best_based n f h) (h n)
 pub best_same : {B R : Type 0} (k n : ℕ) (f : ℕ → Option (Report B)) (xs : List (ℕ × Join B R)) → ((x : ℕ) → on_answer k (f x) ≡ join_of x xs) → ((x : ℕ) → IsBased (f x)) → on_answer k (best n f) ≡ best_by n xs
 best_same k zero f xs same h = refl
 best_same {B} {R} k (suc n) f xs same h =
-    better_same k (best n f) (f n) (best_based n f h) (h n) ∙ (ap (λ (o : Option (Join B R)). better_by o (on_answer k (f n))) (best_same k n f xs same h) ∙ ap (λ (o : Option (Join B R)). better_by (best_by n xs) o) (same n))
+    better_same k (best n f) (f n) (best_based n f h) (h n) ∙ (ap (λ (o : Option (Join B R)). better_of beats_by o (on_answer k (f n))) (best_same k n f xs same h) ∙ ap (λ (o : Option (Join B R)). better_of beats_by (best_by n xs) o) (same n))
 
 -- an answer as it travels is that of a report
 pub record Travels {B R : Type 0} (k : ℕ) (o : Option (Report B)) (join : Join B R) : Type 0 where
@@ -103,7 +103,7 @@ none_best {B} {R} (suc n) xs e = go (best_by n xs) (join_of n xs) (λ f. none_be
     some a b true f = clash b f
     some a b false f = clash a f
 
-    go : (o p : Option (Join B R)) → (o ≡ None → count n (gave_by xs) ≡ 0) → better_by o p ≡ None → (if is_some p then suc (count n (gave_by xs)) else count n (gave_by xs)) ≡ 0
+    go : (o p : Option (Join B R)) → (o ≡ None → count n (gave_by xs) ≡ 0) → better_of beats_by o p ≡ None → (if is_some p then suc (count n (gave_by xs)) else count n (gave_by xs)) ≡ 0
     go None None ih f = ih refl
     go None (Some b) ih f = absurd (clash b f)
     go (Some a) None ih f = absurd (clash a f)
@@ -113,9 +113,9 @@ none_best {B} {R} (suc n) xs e = go (best_by n xs) (join_of n xs) (λ f. none_be
 
 pub most_same : {B R : Type 0} (k n own : ℕ) (f : ℕ → Option (Report B)) (xs : List (ℕ × Join B R)) → ((x : ℕ) → on_answer k (f x) ≡ join_of x xs) → most_accepted n f own ≡ most_by n xs own
 most_same k zero own f xs same = refl
-most_same {B} {R} k (suc n) own f xs same = one (f n) ∙ (ap (λ (o : Option (Join B R)). most_in o (most_accepted n f own)) (same n) ∙ ap (most_in (join_of n xs)) (most_same k n own f xs same))
+most_same {B} {R} k (suc n) own f xs same = one (f n) ∙ (ap (λ (o : Option (Join B R)). greater_of accepted_in o (most_accepted n f own)) (same n) ∙ ap (greater_of accepted_in (join_of n xs)) (most_same k n own f xs same))
   where
-    one : (o : Option (Report B)) → most_of o (most_accepted n f own) ≡ most_in (on_answer {R = R} k o) (most_accepted n f own)
+    one : (o : Option (Report B)) → greater_of (λ (report : Report B). report.accepted) o (most_accepted n f own) ≡ greater_of accepted_in (on_answer {R = R} k o) (most_accepted n f own)
     one None = refl
     one (Some report) = refl
 
@@ -123,7 +123,7 @@ pub most_own : {B R : Type 0} (n own : ℕ) (xs : List (ℕ × Join B R)) → ow
 most_own zero own xs = omega arith
 most_own {B} {R} (suc n) own xs = go (join_of n xs) (most_own n own xs)
   where
-    go : (o : Option (Join B R)) → own ≤ most_by n xs own → own ≤ most_in o (most_by n xs own)
+    go : (o : Option (Join B R)) → own ≤ most_by n xs own → own ≤ greater_of accepted_in o (most_by n xs own)
     go None h = h
     go (Some join) h = omega arith
 
@@ -131,7 +131,7 @@ pub most_reaches : {B : Type 0} (n own top : ℕ) (f : ℕ → Option (Report B)
 most_reaches zero own top f low h = low
 most_reaches {B} (suc n) own top f low h = go (f n) (λ r e. h n r e) (most_reaches n own top f low h)
   where
-    go : (o : Option (Report B)) → ((r : Report B) → o ≡ Some r → r.accepted ≤ top) → most_accepted n f own ≤ top → most_of o (most_accepted n f own) ≤ top
+    go : (o : Option (Report B)) → ((r : Report B) → o ≡ Some r → r.accepted ≤ top) → most_accepted n f own ≤ top → greater_of (λ (report : Report B). report.accepted) o (most_accepted n f own) ≤ top
     go None g l = l
     go (Some r) g l = let a = g r refl in omega arith
 

@@ -19,7 +19,8 @@ use Rattle.group_member.proofs.Rows.{held_then, held_else}
 use Rattle.group_reset.specs.declared.outcome.Joined.{Joined}
 use Rattle.group_reset.specs.declared.outcome.Joined.TheVariants.{Waiting, GaveUp, Installed}
 use Rattle.group_reset.specs.Choice.{applied_with, best_by, extent_of, gave_by, most_by}
-use Rattle.group_reset.specs.Concludes.{CanConclude, CanGather, CanTake, Concludes, IsNewsOf, gathered, taken}
+use Rattle.group_rules.specs.Reset.{CanGather, CanTake}
+use Rattle.group_reset.specs.Concludes.{CanConclude, Concludes, IsNewsOf, gathered, taken}
 use Rattle.group_reset.proofs.Choosing.{Travels, all_based, best_based, best_same, counts_as, gave_as, heard_as, members_as, members_low, most_own, most_reaches, most_same, none_best, travels, whole_extent, IsBased}
 
 within : (m n : ℕ) → m ≤ n → nat_le m n ≡ true

@@ -14,7 +14,7 @@ use Rattle.group_rules.specs.Messages.{Group, group_of}
 use Rattle.group_rules.specs.Member.{Member as RulesMember, Report, is_gathering, nobody, report_of}
 use Rattle.group_rules.specs.Member.Kind.{Invite, Join as JoinOf}
 use Rattle.group_rules.specs.OnWire.{on_join}
-use Rattle.group_rules.specs.Reset.{best, better, beats, coordinate, gather, gathers, gave, invite, keeps, next_incarnation}
+use Rattle.group_rules.specs.Reset.{best, better_of, beats, CanGather, CanTake, coordinate, gather, gathers, gave, invite, keeps, next_incarnation}
 use Rattle.group_rules.specs.Work.{Act, Work, does, idle}
 use Rattle.group_member.specs.declared.member.Config.{Config}
 use Rattle.group_member.specs.declared.member.Member.{Member}
@@ -29,7 +29,7 @@ use Rattle.group_member.proofs.Working.{tell_all, tell_state, whole_length}
 use Rattle.group_reset.specs.declared.outcome.Joined.{Joined}
 use Rattle.group_reset.specs.declared.outcome.Joined.TheVariants.{Stale}
 use Rattle.group_reset.specs.Calls.{ComesOf, CoordinatesAs, IsSome, Joins, JoinsAs, MayJoin}
-use Rattle.group_reset.specs.Concludes.{CanConclude, CanGather, CanTake, Concludes, gathered}
+use Rattle.group_reset.specs.Concludes.{CanConclude, Concludes, gathered}
 use Rattle.group_reset.proofs.Concluding.{can_conclude}
 
 -- ---- tests
@@ -106,7 +106,7 @@ best_all {B} (suc n) f r h kept e = go (best n f) (f n) (λ k q. best_all n f r 
     either a b true q p s = inside b kept q ∙ s
     either a b false q p s = inside a kept q ∙ p
 
-    go : (o p : Option (Report B)) → ((k : Report B) → o ≡ Some k → k ≡ r) → ((a : Report B) → p ≡ Some a → a ≡ r) → better o p ≡ Some kept → kept ≡ r
+    go : (o p : Option (Report B)) → ((k : Report B) → o ≡ Some k → k ≡ r) → ((a : Report B) → p ≡ Some a → a ≡ r) → better_of beats o p ≡ Some kept → kept ≡ r
     go None p ih one q = one kept q
     go (Some a) None ih one q = inside a kept q ∙ ih a refl
     go (Some a) (Some b) ih one q = either a b (beats b a) q (ih a refl) (one b refl)

@@ -7,7 +7,7 @@ use Rattle.group_packets.specs.declared.packet.News.{News}
 use Rattle.group_rules.specs.Messages.{Group, group_of}
 use Rattle.group_rules.specs.Member.{Member as RulesMember, Report, is_gathering}
 use Rattle.group_rules.specs.OnWire.{members_below, on_join}
-use Rattle.group_rules.specs.Reset.{announced, answer, coordinate, invited, joined, keeps}
+use Rattle.group_rules.specs.Reset.{announced, answer, CanGather, coordinate, invited, joined, keeps}
 use Rattle.group_rules.specs.Work.{idle}
 use Rattle.group_member.specs.declared.member.Member.{Member}
 use Rattle.group_member.specs.declared.sends.Letter.{Letter}
@@ -15,7 +15,7 @@ use Rattle.group_member.specs.AtWork.{AtWork, Does}
 use Rattle.group_member.specs.StandsFor.{StandsFor}
 use Rattle.group_reset.specs.declared.outcome.Joined.{Joined}
 use Rattle.group_reset.specs.declared.outcome.Joined.TheVariants.{Stale}
-use Rattle.group_reset.specs.Concludes.{CanGather, gathered}
+use Rattle.group_reset.specs.Concludes.{gathered}
 
 -- it stands for some member of a group
 abbrev pub IsSome : {B R : Type 0} → (B → MessageId) → (B → ℕ) → Member B R → Type 0
@@ -40,8 +40,8 @@ Answers {B} name bytes k s sends =
 
 -- ---- Join
 
--- the Join carries this report, which it stands to take: where it gathers for that incarnation, the log that it would then install can be
--- taken
+-- the Join carries this report, whose log has at least as many entries as are purged. Where the member gathers for that incarnation, and
+-- enough answered with this one, then the log that it would install can be taken, unless it begins beyond what the member applied
 pub record Joins {B R : Type 0} (g : Group B) (which from : ℕ) (join : Join B R) (s : Member B R) (m : RulesMember B) (report : Report B) :
     Type 0 where
   pub stands : StandsFor g which s m
@@ -76,8 +76,9 @@ ComesOf {B} name bytes from join old done =
 
 -- ---- Result
 
--- the Result carries this log and these members, and comes to another than its coordinator; of a later incarnation than the installed one,
--- it has what the member applied, and reaches what it accepted
+-- the Result carries this log and these members. Its numbers are at most the log's length, what isn't purged fits into a window, and it
+-- comes to another than its coordinator. Of a later incarnation than the installed one, its log has what the member applied, and reaches
+-- what it accepted
 pub record Hears {B R : Type 0} (g : Group B) (which : ℕ) (news : News B R) (s : Member B R) (m : RulesMember B) (named : ℕ → Bool)
     (log : List B) : Type 0 where
   pub stands : StandsFor g which s m

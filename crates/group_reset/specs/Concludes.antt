@@ -1,5 +1,5 @@
 -- What a coordinator does with the answers that it keeps, once enough answered: docs/RUNTIME.md, A reset.
-use Rattle.std.specs.Prelude.{ℕ, List, [], Option, None, Some, ◌≡◌, ◌≤◌, ◌+◌, ◌-◌, ◌%◌, nat_le, length, take, if◌then◌else◌}
+use Rattle.std.specs.Prelude.{ℕ, List, [], Option, None, Some, ◌≡◌, ◌≤◌, ◌-◌, ◌%◌, nat_le, length, if◌then◌else◌}
 use Rattle.orca_base.specs.declared.ids.MessageId.{MessageId}
 use Rattle.orca_base.specs.declared.limits.TheConstants.{WINDOW}
 use Rattle.group_packets.specs.declared.packet.Join.{Join}
@@ -8,7 +8,7 @@ use Rattle.group_rules.specs.Sets.{count}
 use Rattle.group_rules.specs.Messages.{Group, group_of}
 use Rattle.group_rules.specs.Member.{Member as RulesMember, Report}
 use Rattle.group_rules.specs.OnWire.{members_below}
-use Rattle.group_rules.specs.Reset.{best, gather, gave}
+use Rattle.group_rules.specs.Reset.{best, CanGather, gather, gave}
 use Rattle.group_rules.specs.Work.{Work}
 use Rattle.group_member.specs.declared.member.Member.{Member}
 use Rattle.group_member.specs.declared.sends.Letter.{Letter}
@@ -16,19 +16,6 @@ use Rattle.group_member.specs.AtWork.{AtWork}
 use Rattle.group_reset.specs.declared.outcome.Joined.{Joined}
 use Rattle.group_reset.specs.declared.outcome.Joined.TheVariants.{Waiting, GaveUp, Installed}
 use Rattle.group_reset.specs.Choice.{best_by, extent_of, gave_by, most_by}
-
--- the log of this answer has what the member applied, reaches its own accepted number and each that was reported, and fits into a window
-pub record CanTake {M : Type 0} (s : RulesMember M) (kept : Report M) : Type 0 where
-  pub applied : take s.applied kept.log ≡ take s.applied s.log
-  pub own : s.accepted ≤ length kept.log
-  pub reported : (x : ℕ) (report : Report M) → s.answers x ≡ Some report → report.accepted ≤ length kept.log
-  pub window : length kept.log ≤ kept.base + WINDOW
-
--- so it is with the answer that is kept, where enough answered, and it doesn't begin beyond what the member applied
-abbrev pub CanGather : {M : Type 0} → Group M → RulesMember M → Type 0
-CanGather {M} g s =
-    g.nodes - g.resilience ≤ count g.nodes (gave s.answers) → (kept : Report M) → best g.nodes s.answers ≡ Some kept →
-    kept.base ≤ s.applied → CanTake s kept
 
 -- what comes of the answers: by the one that is kept it installs or gives up, and it waits while fewer than N - r answered
 abbrev pub taken : {M : Type 0} → Option (Report M) → ℕ → Joined

@@ -3,8 +3,9 @@
 ghost use Rattle.std.specs.Prelude.{◌≡◌, IfOk, Some, map};
 ghost use Rattle.group_member.specs.StandsFor.{join_of};
 ghost use Rattle.group_rules.specs.OnWire.{members_below};
+ghost use Rattle.group_rules.specs.Reset.{better_of, greater_of};
 ghost use Rattle.group_rules.specs.Sets.{count};
-ghost use Rattle.group_reset.specs.Choice.{applied_with, beats_by, best_by, better_by, extent_of, gave_by, most_by, most_in};
+ghost use Rattle.group_reset.specs.Choice.{accepted_in, applied_with, beats_by, best_by, extent_of, gave_by, most_by};
 
 use group_packets::Join;
 use orca_base::{Body, NoMemory};
@@ -111,7 +112,7 @@ pub(crate) fn choose<B: Body>(
 
 // The greater of a number and the accepted one of an answer.
 fn greater<B: Body>(most: u64, answer: &Option<Join<B>>) -> u64
-    ensures { result ≡ most_in answer.now most }
+    ensures { result ≡ greater_of accepted_in answer.now most }
 {
     match answer {
         Some(join) => join.accepted.max(most),
@@ -121,7 +122,7 @@ fn greater<B: Body>(most: u64, answer: &Option<Join<B>>) -> u64
 
 // The better of two answers, where there are any: the first of equal ones.
 fn better<B: Body>(kept: Option<Join<B>>, answer: Option<Join<B>>) -> Option<Join<B>>
-    ensures { result ≡ better_by kept answer }
+    ensures { result ≡ better_of beats_by kept answer }
 {
     match kept {
         None => answer,
@@ -131,7 +132,7 @@ fn better<B: Body>(kept: Option<Join<B>>, answer: Option<Join<B>>) -> Option<Joi
 
 // The same, where the first is there.
 fn better_than<B: Body>(first: Join<B>, answer: Option<Join<B>>) -> Join<B>
-    ensures { Some result ≡ better_by (Some first) answer }
+    ensures { Some result ≡ better_of beats_by (Some first) answer }
 {
     match answer {
         None => first,

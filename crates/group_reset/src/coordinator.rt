@@ -15,13 +15,15 @@ use group_packets::{Join, News, Packet};
 use orca_base::{Body, Items, NoMemory};
 use std::alloc::Global;
 
-/// The member coordinates a new incarnation: it promises the next one of its own, keeps its own answer and invites the
-/// others. Where it is alone it installs at once.
+/// The member coordinates a new incarnation: it promises its own of the next round, (promised / N + 1) N + m, keeps its own
+/// answer and invites the others. So a new member 1 of three promises 4. Where it is alone it installs at once. A member that
+/// is outside does nothing.
 pub fn coordinate<B: Body>(member: &mut Member<B>, alloc: Global) -> Result<Sends<B>, NoMemory>
     requires stands { IsSome B.id_of B.length_of member.old }
     requires small { member.old.promised < 2 ^ 62 }
     ensures row { IfOk result (λ sends. CoordinatesAs B.id_of B.length_of member.old member.new sends.items) }
     ensures member { IsMember member.new }
+    ensures applied { member.new.applied ≡ member.old.applied }
     ensures err { OnErr result (member.new ≡ member.old) }
 {
     let mut sends = Vec::new(alloc);
@@ -44,9 +46,9 @@ pub fn coordinate<B: Body>(member: &mut Member<B>, alloc: Global) -> Result<Send
     Ok(done.1)
 }
 
-/// An answer to an invitation came from this member. It is kept, in the place of an earlier one of that member. Once enough
-/// answered, itself included, the coordinator installs, or gives up where the log that it would install begins beyond what
-/// it applied.
+/// An answer to an invitation came from this member. Where the receiver gathers for that incarnation, the answer is kept in the
+/// place of an earlier one of that member; else it is stale, and nothing changes. Once enough answered, itself included, the
+/// coordinator installs; or it gives up, and is outside then, where the log that it would install begins beyond what it applied.
 pub fn joined<B: Body>(
     member: &mut Member<B>,
     alloc: Global,
@@ -58,6 +60,7 @@ pub fn joined<B: Body>(
     ensures row { IfOk result (λ done. JoinsAs B.id_of B.length_of from join member.old member.new done.1.items) }
     ensures outcome { IfOk result (λ done. ComesOf B.id_of B.length_of from join member.old done.0) }
     ensures member { IsMember member.new }
+    ensures applied { member.new.applied ≡ member.old.applied }
     ensures err { OnErr result (member.new ≡ member.old) }
 {
     if !is_gathering(member) {
@@ -67,7 +70,7 @@ pub fn joined<B: Body>(
         return Ok((Joined::Stale, Vec::new(alloc)));
     }
     let mut next = member.copy(alloc)?;
-    next.keep_answer(from, join)?;
+    next.keep_answer(alloc, from, join)?;
     let done = conclude(&mut next, alloc)?;
     *member = next;
     Ok(done)
@@ -98,6 +101,7 @@ fn conclude<B: Body>(member: &mut Member<B>, alloc: Global) -> Result<(Joined, S
     ensures row { IfOk result (λ done. Concludes B.id_of B.length_of member.old member.new done.1.items) }
     ensures outcome { IfOk result (λ done. Tells B.id_of B.length_of member.old (λ g which m. done.0 ≡ gathered g m)) }
     ensures member { OnOk result (IsMember member.new) }
+    ensures applied { member.new.applied ≡ member.old.applied }
 {
     let have = answered(member);
     let need = needed(member);
@@ -177,6 +181,7 @@ fn take<B: Body>(
     ensures row { IfOk result (λ done. Concludes B.id_of B.length_of member.old member.new done.1.items) }
     ensures outcome { IfOk result (λ done. Tells B.id_of B.length_of member.old (λ g which m. done.0 ≡ gathered g m)) }
     ensures member { OnOk result (IsMember member.new) }
+    ensures applied { member.new.applied ≡ member.old.applied }
 {
     let applied = member.applied();
     let base = kept.base;

@@ -11,8 +11,8 @@ use group_packets::{News, Packet};
 use orca_base::{Body, NoMemory};
 use std::alloc::Global;
 
-/// An invitation to an incarnation came from this member. It is promised, where it is above the promised one, and answered
-/// where it isn't installed yet.
+/// An invitation to an incarnation came from this member. One below the promised incarnation is dropped, and so is one that the
+/// member coordinates itself. It is promised, where it is above the promised one, and answered where it isn't installed yet.
 pub fn invited<B: Body>(
     member: &mut Member<B>,
     alloc: Global,
@@ -22,6 +22,7 @@ pub fn invited<B: Body>(
     requires { IsMember member.old }
     ensures row { IfOk result (λ sends. InvitedAs B.id_of B.length_of from incarnation member.old member.new sends.items) }
     ensures member { IsMember member.new }
+    ensures applied { member.new.applied ≡ member.old.applied }
     ensures err { OnErr result (member.new ≡ member.old) }
 {
     if !heeds(member, incarnation) {
@@ -38,8 +39,9 @@ pub fn invited<B: Body>(
     Ok(sends)
 }
 
-/// A Result came from this member. The log of a later incarnation is installed; where it begins beyond what the member
-/// applied, or one of the installed incarnation beyond what it has, it takes no part any more.
+/// A Result came from this member. One of an incarnation below the promised one is dropped. The log of a later incarnation than
+/// the installed one is installed; where it begins beyond what the member applied, or one of the installed incarnation beyond
+/// what it has, it takes no part any more.
 pub fn announced<B: Body>(
     member: &mut Member<B>,
     alloc: Global,
@@ -49,6 +51,7 @@ pub fn announced<B: Body>(
     requires { MayHear B.id_of B.length_of news member.old }
     ensures row { IfOk result (λ sends. HearsAs B.id_of B.length_of from news member.old member.new sends.items) }
     ensures member { IsMember member.new }
+    ensures applied { member.new.applied ≡ member.old.applied }
     ensures err { OnErr result (member.new ≡ member.old) }
 {
     let incarnation = news.incarnation;
@@ -96,6 +99,7 @@ fn promise_above<B: Body>(member: &mut Member<B>, incarnation: u64)
     requires { IsMember member.old }
     ensures row { Follows B.id_of B.length_of member.old member.new (λ g which. promises_above incarnation) }
     ensures member { IsMember member.new }
+    ensures applied { member.new.applied ≡ member.old.applied }
 {
     let promised = member.promised();
     if incarnation <= promised {

@@ -1,13 +1,13 @@
 -- Letters and their numbers, and packets as they travel.
 use Rattle.std.proofs.Common.{◌≡◌, ℕ, ◌<◌, ◌==◌, ◌⊎◌, inl, inr, ⊎_elim, Bool, true, false, Some, List, [], ◌∷◌, ◌++◌, length, refl, sym, ap, ◌∙◌, arith, append_assoc, if◌then◌else◌}
-use Rattle.std.proofs.lemmas.Bool.{cond_both, eqb-true, eqb-false, eq-eqb}
+use Rattle.std.proofs.lemmas.Bool.{cond_both, eqb-true, eqb-false}
 use Rattle.std.proofs.lemmas.List.{append-nil, map_push}
 use Rattle.group_rules.specs.Sets.{In}
 use Rattle.group_rules.specs.Member.{Letter}
 use Rattle.group_rules.specs.Member.Kind.{Request, Body, Order, Entry, Ack, Accept, Nack, Status, Invite, Join, News}
-use Rattle.group_rules.specs.World.{Past, after, letter_number, NumberedLaw}
+use Rattle.group_rules.specs.World.{after, letter_number, NumberedLaw, PacketsLaw}
 use Rattle.group_rules.specs.Work.{Act, letters_of}
-use Rattle.group_rules.specs.OnWire.{Posted, post_of, posted, posts_of, ToOthers, AppendedLaw, LettersLaw, PostedLaw, ReceivedLaw, SentLaw}
+use Rattle.group_rules.specs.OnWire.{Posted, post_of, posted, posts_of, AppendedLaw, LettersLaw, PostedLaw, ReceivedLaw, SentLaw}
 
 -- ---- letters and their numbers
 
@@ -35,6 +35,10 @@ numbered_in {M} (y ∷ ls) n l e = go (length ls == n) (λ f. numbered_in ls n l
 
 pub numbered_law : (M : Type 0) → NumberedLaw M
 numbered_law M letters = record { number = λ l t. let o = number_of letters l t in (o.which, o.below, o.is); sent = λ n l e. numbered_in letters n l e }
+
+pub packets_law : (M : Type 0) → PacketsLaw M
+packets_law M [] l t = absurd t
+packets_law M (y ∷ ls) l t = ⊎_elim (λ e. inl (ap (λ (o : Letter M). o.packet) e)) (λ u. inr (packets_law M ls l u)) t
 
 -- ---- posts
 

@@ -1,11 +1,12 @@
 //! The letters of the world, and packets as they travel.
 
 ghost use Rattle.group_rules.specs.OnWire.{AppendedLaw, LettersLaw, PostedLaw, ReceivedLaw, SentLaw};
-ghost use Rattle.group_rules.specs.World.{NumberedLaw};
+ghost use Rattle.group_rules.specs.World.{NumberedLaw, PacketsLaw};
 
 /// What joins the rules' letters to packets that travel, for messages and replies of any types.
 ///
 /// - `numbered`: each letter that was sent has a number, by which an event delivers it.
+/// - `packets`: and its packet was sent.
 /// - `posted`: whatever was posted is such a letter, to another than its sender.
 /// - `appended`: what the acts of a step post to others comes behind all that was posted before, in their order, and
 ///   nothing else does.
@@ -15,6 +16,7 @@ ghost use Rattle.group_rules.specs.World.{NumberedLaw};
 ///   packets of a reset, and to Ask and Answer, `receive` does nothing.
 pub fn wire_law<M, R>()
     ensures numbered { NumberedLaw M }
+    ensures packets { PacketsLaw M }
     ensures posted { PostedLaw M R }
     ensures appended { AppendedLaw M R }
     ensures letters { LettersLaw M R }

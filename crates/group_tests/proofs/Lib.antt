@@ -1,1 +1,1 @@
-pub mod Empties
+pub mod Testing

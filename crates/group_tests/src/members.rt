@@ -25,9 +25,9 @@ fn answers_are_kept(rt: HostRuntime) -> Result<(), NoMemory> {
         messages: Items::new(Vec::new(alloc)),
     };
     assert_eq!(rt; member.promised(), 4);
-    member.keep_answer(2, join(0))?;
+    member.keep_answer(alloc, 2, join(0))?;
     assert_eq!(rt; member.promised(), 4);
-    member.keep_answer(2, join(1))?;
+    member.keep_answer(alloc, 2, join(1))?;
     let copied = member.copy(alloc)?;
     let answers = copied.answers();
     assert_eq!(rt; answers.len(), 2);

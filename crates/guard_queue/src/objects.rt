@@ -13,12 +13,18 @@ use std::marker::Model;
 use std::sync::Arc;
 use value_core::Instance;
 
-/// The most writes that stand beside a shared map.
+/// The most writes that stand beside a shared map of few objects: a look goes over them, and a copy counts them.
 const WRITES: usize = 32;
+
+/// The most that stand beside one of many, since a copy of that costs more than they do.
+const WRITES_OF_MANY: usize = 64;
+
+/// From here on objects are many.
+const MANY: usize = 1024;
 
 /// Objects by their ids, which clauses see as their entries in order.
 ///
-/// They are a map that copies and snapshots share, and the writes since, at most 32. A copy costs a count for the map and one
+/// They are a map that copies and snapshots share, and the writes since, at most 64. A copy costs a count for the map and one
 /// for each of these writes; a write is a push. Where nobody else has the map the writes go into it in place, and else, when
 /// they get too many, into a copy of it, which shares each object.
 #[derive(Drop)]
@@ -54,7 +60,7 @@ impl Model for Objects {
     // The ids rise, the count is right, and there are no more writes than may stand beside the map.
     ghost invariant = { λ o.
         Rises (shown (arc_value o.shared) o.recent.items) × (o.count ≡ length (shown (arc_value o.shared) o.recent.items))
-        × (length o.recent.items ≤ 32) };
+        × (length o.recent.items ≤ 64) };
 }
 
 impl Objects {
@@ -212,6 +218,17 @@ fn find(map: &BTreeMap<ObjectId, Arc<Instance>>, object: ObjectId) -> Option<&In
     }
 }
 
+// The most writes that stand beside a map of so many objects.
+fn most_beside(objects: usize) -> usize
+    ensures { result ≤ 64 }
+{
+    if objects < MANY {
+        WRITES
+    } else {
+        WRITES_OF_MANY
+    }
+}
+
 // Puts the writes into the map, where nobody else has it, or where they are too many to stand beside it.
 fn gather(
     alloc: Global,
@@ -219,15 +236,16 @@ fn gather(
     recent: &mut Vec<Write>,
 ) -> Result<(), NoMemory>
     ensures same { shown (arc_value shared.new) recent.new.items ≡ shown (arc_value shared.old) recent.old.items }
-    ensures room { OnOk result (length recent.new.items < 32) }
+    ensures room { OnOk result (length recent.new.items < 64) }
     ensures fewer { length recent.new.items ≤ length recent.old.items }
 {
-    if recent.len() >= WRITES && Arc::strong_count(shared) > 1 {
+    let are_many = recent.len() >= most_beside(shared.len());
+    if are_many && Arc::strong_count(shared) > 1 {
         *shared = Arc::new(alloc, entries_copy(shared)?)?;
     }
     match Arc::get_mut(shared) {
         Some(map) => write_all(map, recent),
-        None if recent.len() >= WRITES => Err(NoMemory),
+        None if are_many => Err(NoMemory),
         None => Ok(()),
     }
 }

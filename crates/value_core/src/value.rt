@@ -4,7 +4,7 @@ ghost use Rattle.std.specs.Prelude.{◌≡◌, ◌↔◌, ◌<◌, ◌≤◌, �
 ghost use Rattle.std.specs.Option.{option_copied};
 ghost use Rattle.std.specs.Borrow.{sem};
 ghost use Rattle.value_core.specs.Datum.{list_of};
-ghost use Rattle.value_core.specs.Lending.{LendsParts};
+ghost use Rattle.value_core.specs.Lending.{LendsPart, LendsParts};
 ghost use Rattle.value_core.specs.View.{datum_of};
 ghost use Rattle.value_core.specs.Order.{tag, datum_cmp, data_cmp};
 ghost use Rattle.value_core.specs.Lengths.{told_length, value_length, values_length};
@@ -152,6 +152,15 @@ impl Parts {
         ensures { option_map datum_of (option_copied result) ≡ slice_get (list_of self.now) index }
     {
         self.items.get(index)
+    }
+
+    /// The value at this index from 0, to be changed where it stands.
+    pub fn part_mut(&mut self, index: usize) -> &mut Value
+        requires { index < length (list_of self.old) }
+        ensures* writes_back { sem 𝓛 (LendsPart self.entry index result) }
+        ensures value { slice_get (list_of self.old) index ≡ Some (datum_of result.now) }
+    {
+        &mut self.items[index]
     }
 
     /// Puts a value in place of the one at this index from 0, and gives that one.

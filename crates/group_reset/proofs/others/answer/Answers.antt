@@ -8,5 +8,5 @@ returns-then-incarnation-installed g c = answers_not g.B.Body.id_of g.B.Body.len
 
 pub returns : goal.returns
 returns g c =
-    answers_all g.B.Body.id_of g.B.Body.length_of c.args.member.now c.args.incarnation _ c.in_ok-join.join c.new-sends.result.items _ c.new-sends.ensures.items (let p = c.installed-installed.ensures in let t = c.if-incarnation-installed.false in omega arith) (ap (λ (k : Config). c.args.incarnation % k.nodes) c.config.ensures) c.in_ok-join.ensures
+    answers_all g.B.Body.id_of g.B.Body.length_of c.args.member.now c.args.incarnation _ c.in_ok-join.join c.new-sends.result.items _ c.new-sends.ensures.items (let p = c.installed-installed.ensures in let t = c.if-incarnation-installed.false in omega arith) (ap (λ (k : Config). c.args.incarnation % k.nodes) c.config.ensures) c.in_ok-join.ensures.row
     c.in_ok-push.ensures.items

@@ -1,4 +1,4 @@
-use Rattle.group_rules.proofs.Travelling.{appended_law, letters_law, numbered_law, posted_law, sent_law}
+use Rattle.group_rules.proofs.Travelling.{appended_law, letters_law, numbered_law, packets_law, posted_law, sent_law}
 use Rattle.group_rules.proofs.wire.wire_law.Goals as goal
 
 pub returns-clause-numbered : goal.returns-clause-numbered
@@ -15,3 +15,6 @@ returns-clause-letters g c = letters_law _ _
 
 pub returns-clause-sent : goal.returns-clause-sent
 returns-clause-sent g c = sent_law _
+
+pub returns-clause-packets : goal.returns-clause-packets
+returns-clause-packets g c = packets_law _

@@ -1,0 +1,6 @@
+mod Forms
+mod Names
+mod Changes
+mod Kept
+mod Told
+mod Sound

@@ -1,0 +1,9 @@
+pub mod Steady
+pub mod SteadyPhrases
+pub mod Settling
+pub mod Keeping
+pub mod KeepingPhrases
+pub mod ReadsKeeping
+pub mod StaysFit
+pub mod PartsFit
+pub mod ElementsFit

@@ -1,0 +1,5 @@
+pub mod Positions
+pub mod Imports
+pub mod Settling
+pub mod FirstOfBoth
+pub mod ArrayLimits

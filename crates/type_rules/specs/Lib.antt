@@ -1,0 +1,13 @@
+pub mod Types
+pub mod TopLevel
+pub mod Rules
+pub mod Order
+pub mod Constants
+pub mod TypePhrases
+pub mod Scopes
+pub mod Expressions
+pub mod Statements
+pub mod Declarations
+pub mod Breaches
+pub mod Laws
+pub mod Examples

@@ -1,0 +1,11 @@
+//! Tests of operators, graphs and paths: each edge that the language names, and what is written of a value.
+//!
+//! They stand here, so that the crates below have none. Nothing stands on it.
+#![tactic(auto)]
+
+#[cfg(test)]
+mod graphs;
+#[cfg(test)]
+mod operators;
+#[cfg(test)]
+mod paths;

@@ -1,0 +1,9 @@
+pub mod Told
+pub mod Seeds
+pub mod Firsts
+pub mod Deciding
+pub mod Noting
+pub mod Places
+pub mod Asking
+pub mod Scripted
+pub mod Distances

@@ -1,0 +1,10 @@
+pub mod Waiting
+pub mod Homes
+pub mod Submitting
+pub mod Giving
+pub mod Listing
+pub mod Reading
+pub mod Rests
+pub mod Kept
+pub mod Stuck
+pub mod Over

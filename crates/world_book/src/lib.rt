@@ -1,0 +1,39 @@
+//! The book of every run of a program without single objects is legal (docs/RUNTIME.md, The world of a run).
+//!
+//! It joins the two sides of the law of the world: what the group gives in each event (`world_law`), and that each step is a chain of
+//! events of the book's law (`world_course`). Beside both it carries that each process submits at its home, and that who waits with a
+//! read is blocked; and it shows that a process at an action may submit it. It has no code: its function is a law, whose body calls
+//! theirs. Of single objects nothing is said here, nor that a run ends.
+#![tactic(auto)]
+
+ghost use Rattle.world_book.specs.Promise.{ReplaysAreOne, RunsAreKept, RunsEndStuck};
+ghost use Rattle.world_book.specs.Submitting.{ProcessesMaySubmit};
+
+use book_law::stuck_law;
+use group_law::agreement_law;
+use value_core::{Message, Processor};
+use world_course::worlds_are_courses;
+use world_law::{group_steps, replay_law};
+
+/// The law of every run, for every setting that a run may have and that chooses no object to be single, and every list of steps. A call of
+/// this function does nothing.
+///
+/// - `kept`: the kept book is a history of the program; each process's replies are the book's up to what its member applied, and the
+///   whole book has one more at most; and each member's copies are the objects that the book up to there leaves.
+/// - `stuck`: where a member applied the whole list, a process whose call is suspended on its copies is stuck in the book, and so is
+///   one here that waits with a read. So where the run is over, each process of a living member is stuck that hasn't ended or faulted.
+/// - `may`: a process at an action that wasn't carried out may submit it, so that `group_steps` of `world_law` speaks of each of these
+///   runs.
+/// - `once`: a list of steps leads to one world at most.
+pub fn legal_book<P: Processor>(machine: &P)
+    ensures kept { RunsAreKept (P.performs machine.now) (P.computes machine.now) }
+    ensures stuck { RunsEndStuck (P.performs machine.now) (P.computes machine.now) }
+    ensures may { ProcessesMaySubmit (P.performs machine.now) (P.computes machine.now) }
+    ensures once { ReplaysAreOne (P.computes machine.now) }
+{
+    agreement_law::<Message>();
+    group_steps();
+    worlds_are_courses(machine);
+    replay_law(machine);
+    stuck_law(machine);
+}
