@@ -6,3 +6,4 @@ mod Changes
 mod Soundness
 mod Division
 mod Codes
+mod Counts

@@ -6,7 +6,7 @@ ghost use Rattle.std.specs.List.Sorted.{IsSorted, IsStrictlySortedBy};
 ghost use Rattle.value_core.specs.Datum.{data_of, list_of};
 ghost use Rattle.value_core.specs.Order.{datum_cmp};
 ghost use Rattle.value_core.specs.View.{datum_of};
-ghost use Rattle.value_ops.specs.Elements.{IsInOrder, deleted, first_of, has, inserted, least_of, put_in, rest_of, with_once, without, without_least};
+ghost use Rattle.value_ops.specs.Elements.{IsInOrder, deleted, elements, first_of, has, inserted, least_of, put_in, rest_of, with_once, without, without_least};
 ghost use Rattle.value_ops.specs.Spots.{IsSpot, Parted};
 
 use orca_base::{FaultKind, NoMemory};
@@ -48,6 +48,19 @@ pub fn contains(all: &Parts, element: &Value) -> bool
     ensures there { IsTrue result ↔ Contains (list_of all.now) (datum_of element.now) }
 {
     spot_of(all.as_slice(), element).is_there
+}
+
+/// Whether a set or bag has this element: `in`. It compares some log2 of the elements. Other values have none.
+#[tactic(auto, using(crate::proofs::Orders::rising_sorted))]
+pub fn is_in(element: &Value, all: &Value) -> bool
+    requires { IsInOrder (datum_of all.now) }
+    ensures { result ≡ has (datum_of element.now) (elements (datum_of all.now)) }
+{
+    match all {
+        Value::Set(parts) => contains(parts.as_parts(), element),
+        Value::Bag(parts) => contains(parts.as_parts(), element),
+        _ => false,
+    }
 }
 
 // Adds an element to values that never fall.

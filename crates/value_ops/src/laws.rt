@@ -1,13 +1,13 @@
 //! The laws of the operators.
 
-ghost use Rattle.std.specs.Prelude.{◌≡◌, ◌↔◌, ◌+◌, ◌<◌, ◌≤◌, ◌+ℤ◌, ◌++◌, ◌∷◌, [], List, ℕ, ℤ, pos, negsuc, true, Ok, Err, FitsSigned, IsTrue, codes, length};
+ghost use Rattle.std.specs.Prelude.{◌≡◌, ◌↔◌, ◌⊎◌, ◌+◌, ◌<◌, ◌≤◌, ◌+ℤ◌, ◌++◌, ◌∷◌, [], List, ℕ, ℤ, pos, negsuc, true, Ok, Err, FitsSigned, IsTrue, codes, length};
 ghost use Rattle.std.specs.Int.{w64};
 ghost use Rattle.std.specs.List.{All, Contains};
-ghost use Rattle.std.specs.List.Sorted.{IsPermutation};
+ghost use Rattle.std.specs.List.Sorted.{IsPermutation, IsSorted};
 ghost use Rattle.std.specs.Result.{IsOkUnless, OkIff};
 ghost use Rattle.orca_base.specs.declared.fault.FaultKind.TheVariants.{DivideByZero, FromEmpty, IndexOutside, Overflow, TooLarge};
 ghost use Rattle.orca_base.specs.declared.fault.FaultKind.{FaultKind};
-ghost use Rattle.orca_base.specs.declared.limits.TheConstants.{TEXT_LENGTH, VALUE_NESTING};
+ghost use Rattle.orca_base.specs.declared.limits.TheConstants.{TEXT_LENGTH, VALUE_NESTING, VALUE_SIZE};
 ghost use Rattle.value_core.specs.Datum as datum;
 ghost use Rattle.value_core.specs.Datum.{Data, Datum, list_of};
 ghost use Rattle.value_core.specs.Order.{datum_cmp};
@@ -16,7 +16,7 @@ ghost use Rattle.value_core.specs.Sound.{IsCode, IsShort, IsSound, nesting};
 ghost use Rattle.value_ops.specs.Elements.{IsInOrder, IsNotBelow, deleted, elements, has, inserted, least_of, without_least};
 ghost use Rattle.value_ops.specs.Integers.{IsDivision, fitted, negative_of, product_of, quotient_of, remainder_of, sum_of};
 ghost use Rattle.value_ops.specs.Rows.{bag_of, one, set_of, three, two};
-ghost use Rattle.value_ops.specs.Sizes.{IsOutside, place_of};
+ghost use Rattle.value_ops.specs.Sizes.{IsOutside, number_in, place_of, told_size};
 ghost use Rattle.value_ops.specs.Texts.{joined, text_of};
 
 /// The laws of the operators on integers, for proofs that stand on this crate; it does nothing.
@@ -27,6 +27,13 @@ pub fn integers_law()
     // DivideByZero comes exactly where the divisor is 0.
     ensures quotient_by_zero { (x y : ℤ) → (quotient_of x y ≡ Err DivideByZero) ↔ (y ≡ pos 0) }
     ensures remainder_by_zero { (x y : ℤ) → (remainder_of x y ≡ Err DivideByZero) ↔ (y ≡ pos 0) }
+    // Overflow comes exactly where the least integer is divided by -1, and there is no third fault.
+    ensures quotient_above { (x y : ℤ) → FitsSigned w64 x →
+        (quotient_of x y ≡ Err Overflow) ↔ ((x ≡ negsuc 9223372036854775807) × (y ≡ negsuc 0)) }
+    ensures remainder_above { (x y : ℤ) → FitsSigned w64 x →
+        (remainder_of x y ≡ Err Overflow) ↔ ((x ≡ negsuc 9223372036854775807) × (y ≡ negsuc 0)) }
+    ensures quotient_faults { (x y : ℤ) (fault : FaultKind) → quotient_of x y ≡ Err fault → (fault ≡ Overflow) ⊎ (fault ≡ DivideByZero) }
+    ensures remainder_faults { (x y : ℤ) (fault : FaultKind) → remainder_of x y ≡ Err fault → (fault ≡ Overflow) ⊎ (fault ≡ DivideByZero) }
     // A quotient is cut toward zero, and a remainder has the sign of what is divided.
     ensures divides { (x y q r : ℤ) → quotient_of x y ≡ Ok q → remainder_of x y ≡ Ok r → IsDivision x y q r }
 {}
@@ -42,9 +49,14 @@ pub fn elements_law()
     // One equal element is taken out where there is one, and else nothing changes.
     ensures shrinks { (e v : Datum) → Contains (elements v) e → IsPermutation (elements v) (e ∷ elements (deleted e v)) }
     ensures stays { (e v : Datum) → ¬ Contains (elements v) e → deleted e v ≡ v }
+    // FromEmpty comes exactly where there is no element, and no other fault comes.
+    ensures from_none { (v : Datum) → (elements v ≡ []) ↔ (least_of v ≡ Err FromEmpty) }
+    ensures from_faults { (v : Datum) → IsOkUnless (least_of v) FromEmpty }
     // `from` takes an element out to which no other is less.
     ensures least { (v e : Datum) → IsInOrder v → least_of v ≡ Ok e →
         (elements v ≡ e ∷ elements (without_least v)) × All (λ x. IsNotBelow x e) (elements v) }
+    // What is in order never falls.
+    ensures sorted { (v : Datum) → IsInOrder v → IsSorted datum_cmp (elements v) }
     // Elements stay in order, and values sound.
     ensures inserted_in_order { (e v : Datum) → IsInOrder v → IsInOrder (inserted e v) }
     ensures deleted_in_order { (e v : Datum) → IsInOrder v → IsInOrder (deleted e v) }
@@ -54,6 +66,9 @@ pub fn elements_law()
         IsSound (inserted e v) }
     ensures deleted_sound { (e v : Datum) → IsSound v → IsSound (deleted e v) }
     ensures rest_sound { (v : Datum) → IsSound v → IsSound (without_least v) }
+    // A value that a variable may hold has fewer than 10,000 characters or elements, so that one more keeps them short.
+    ensures few { (v : Datum) → size_of v ≤ VALUE_SIZE → number_in v < VALUE_SIZE }
+    ensures short { (e v : Datum) → size_of v ≤ VALUE_SIZE → IsShort (e ∷ elements v) }
     // The sizes of elements add up.
     ensures bag_size { (e : Datum) (w : Data) → size_of (inserted e (datum.bag w)) ≡ size_of (datum.bag w) + size_of e }
     ensures set_size { (e : Datum) (w : Data) → ¬ Contains (list_of w) e →
@@ -95,11 +110,16 @@ pub fn operator_rows()
     // -7 / 2 is -3 and leaves -1; 7 / -2 is -3 and leaves 1.
     ensures cut_below { (quotient_of (negsuc 6) (pos 2) ≡ Ok (negsuc 2)) × (remainder_of (negsuc 6) (pos 2) ≡ Ok (negsuc 0)) }
     ensures cut_above { (quotient_of (pos 7) (negsuc 1) ≡ Ok (negsuc 2)) × (remainder_of (pos 7) (negsuc 1) ≡ Ok (pos 1)) }
+    // 7 is divided by -1 without a fault.
+    ensures turned { (quotient_of (pos 7) (negsuc 0) ≡ Ok (negsuc 6)) × (remainder_of (pos 7) (negsuc 0) ≡ Ok (pos 0)) }
+    // A size is told up to 10,001.
+    ensures sizes { (told_size 10000 ≡ 10000) × (told_size 10001 ≡ 10001) × (told_size 10002 ≡ 10001) }
     // An array of three from -1 on has its parts at -1, 0 and 1.
     ensures places { (place_of 3 (negsuc 0) (negsuc 0) ≡ Ok 0) × (place_of 3 (negsuc 0) (pos 1) ≡ Ok 2) }
     ensures no_places { (place_of 3 (negsuc 0) (negsuc 1) ≡ Err IndexOutside) × (place_of 3 (negsuc 0) (pos 2) ≡ Err IndexOutside) }
     ensures joined { joined (codes "ab") (codes "c") ≡ Ok (codes "abc") }
     ensures told { (text_of [] (datum.char 65) ≡ codes "A") × (text_of [] (datum.truth true) ≡ codes "true") }
+    ensures told_least { text_of [] (datum.int (negsuc 9223372036854775807)) ≡ codes "-9223372036854775808" }
     ensures named { text_of (codes "red" ∷ codes "blue" ∷ []) (datum.enumerated 1) ≡ codes "blue" }
     ensures set_with { inserted two (set_of (one ∷ three ∷ [])) ≡ set_of (one ∷ two ∷ three ∷ []) }
     ensures set_same { inserted one (set_of (one ∷ three ∷ [])) ≡ set_of (one ∷ three ∷ []) }
@@ -107,5 +127,6 @@ pub fn operator_rows()
     ensures bag_without { deleted one (bag_of (one ∷ one ∷ three ∷ [])) ≡ bag_of (one ∷ three ∷ []) }
     ensures from_first { (least_of (set_of (one ∷ three ∷ [])) ≡ Ok one) ×
         (without_least (set_of (one ∷ three ∷ [])) ≡ set_of (three ∷ [])) }
+    ensures from_equals { without_least (bag_of (one ∷ one ∷ [])) ≡ bag_of (one ∷ []) }
     ensures from_empty { least_of (bag_of []) ≡ Err FromEmpty }
 {}

@@ -11,7 +11,7 @@ mod laws;
 mod sizes;
 mod texts;
 
-pub use elements::{contains, delete, insert, take_least};
+pub use elements::{contains, delete, insert, is_in, take_least};
 pub use integers::{add, divide, multiply, negate, remainder, subtract};
 pub use laws::{elements_law, integers_law, operator_rows, places_law, texts_law};
 pub use sizes::{count, ordinal, place_in, size_of, size_of_all};

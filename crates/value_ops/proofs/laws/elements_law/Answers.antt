@@ -1,6 +1,7 @@
 use Rattle.std.proofs.Common.{refl}
 use Rattle.value_core.specs.Datum.{list_of}
 use Rattle.value_ops.specs.Elements.{elements, has}
+use Rattle.value_ops.proofs.Counts as counts
 use Rattle.value_ops.proofs.Members.{has-Contains}
 use Rattle.value_ops.proofs.Soundness as sound
 use Rattle.value_ops.proofs.Soundness.{gone_from, there_from}
@@ -23,6 +24,21 @@ returns-clause-shrinks c e v there = sound.shrinks e v (there_from e (elements v
 
 pub returns-clause-stays : goal.returns-clause-stays
 returns-clause-stays c e v gone = sound.stays e v (gone_from e (elements v) gone)
+
+pub returns-clause-from_none : goal.returns-clause-from_none
+returns-clause-from_none c = counts.from_none
+
+pub returns-clause-from_faults : goal.returns-clause-from_faults
+returns-clause-from_faults c = counts.from_faults
+
+pub returns-clause-sorted : goal.returns-clause-sorted
+returns-clause-sorted c = counts.in_order_sorted
+
+pub returns-clause-few : goal.returns-clause-few
+returns-clause-few c = counts.few
+
+pub returns-clause-short : goal.returns-clause-short
+returns-clause-short c = counts.short
 
 pub returns-clause-least : goal.returns-clause-least
 returns-clause-least c = sound.least
