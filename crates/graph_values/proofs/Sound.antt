@@ -2,12 +2,12 @@
 use Rattle.std.proofs.Common.{◌≡◌, ◌+◌, ◌<◌, ◌≤◌, Bool, true, false, cond, ℤ, pos, negsuc, List, [], ◌∷◌, ◌++◌, map, Some, Result, Ok, Err, refl, ap, sym, ◌∙◌, subst, arith}
 use Rattle.std.specs.Int.{w64}
 use Rattle.std.specs.Prelude.{FitsSigned, ◌+ℤ◌, ◌≤ℤ◌, ◌<ℤ◌, is_some}
-use Rattle.std.specs.List.{AllByRecursion}
+use Rattle.std.specs.List.{All, AllByRecursion}
 use Rattle.std.specs.List.Sorted.{IsStrictlySortedBy}
 use Rattle.std.specs.declared.cmp.Ordering.TheVariants.{Less}
 use Rattle.std.specs.Ordering.{int_cmp, int_eq, ordering_then}
 use Rattle.std.proofs.lemmas.Int.{ints}
-use Rattle.std.proofs.lemmas.List.Elements.{recursion_from_All}
+use Rattle.std.proofs.lemmas.List.Elements.{All-from_recursion, recursion_from_All}
 use Rattle.orca_base.specs.declared.fault.FaultKind.{FaultKind}
 use Rattle.orca_base.specs.declared.fault.FaultKind.TheVariants.{IndexOutside, Overflow}
 use Rattle.orca_base.specs.declared.limits.TheConstants.{VALUE_NESTING}
@@ -105,6 +105,29 @@ graph_sound g h fits sound short =
       );
       shallow = omega (arith, nodes_nest xs nodes sound);
     })
+
+-- and back
+value_sound : (x : Datum) → IsNode x → IsWellFormed x → nesting x + 2 ≤ VALUE_NESTING → IsSoundNode x
+value_sound x node well flat =
+    let e : nesting x ≡ nesting (node_of (name_in x) (value_in x)) = ap nesting node in
+    let both : IsWellFormed (node_of (name_in x) (value_in x)) = subst IsWellFormed node well in
+    record {
+      sound = record { well_formed = both.0.1.0; shallow = omega (arith, e, flat) };
+      shallow = omega (arith, e, flat);
+    }
+
+values_sound : (xs : List Datum) → AllByRecursion IsNode xs → AreWellFormed (data_of xs) → nesting_of_all (data_of xs) + 2 ≤ VALUE_NESTING → AllByRecursion IsSoundNode xs
+values_sound [] nodes well flat = tt
+values_sound (x ∷ xs) nodes well flat = (value_sound x nodes.0 well.0 (omega (arith, flat)), values_sound xs nodes.1 well.1 (omega (arith, flat)))
+
+pub nodes_sound : (g : Datum) → IsGraph g → IsSound g → FitsSigned w64 (name_in g) × All IsSoundNode (nodes_in g) × IsShort (nodes_in g)
+nodes_sound g h sound =
+    let xs = nodes_in g in
+    let whole : IsSound (graph_of (name_in g) xs) = subst IsSound h.form sound in (
+      whole.well_formed.0.0,
+      All-from_recursion IsSoundNode xs (values_sound xs (recursion_from_All IsNode xs h.named.nodes) whole.well_formed.0.1.0.0 (omega (arith, whole.shallow))),
+      subst IsShort (list_of-data_of xs) whole.well_formed.0.1.0.1,
+    )
 
 -- sizes
 size_append : (xs : List Datum) (y : Datum) → size_of_all (data_of (xs ++ y ∷ [])) ≡ size_of_all (data_of xs) + size_of y

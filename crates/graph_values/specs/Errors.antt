@@ -9,3 +9,9 @@ abbrev pub IfFault : {T : Type 0} → Result T GraphError → (FaultKind → Typ
 IfFault (Ok x) P = Unit {0}
 IfFault (Err (Fault fault)) P = P fault
 IfFault (Err NoMemory) P = Unit {0}
+
+-- the error is no want of memory
+abbrev pub NeedsNoMemory : {T : Type 0} → Result T GraphError → Type 0
+NeedsNoMemory (Ok x) = Unit {0}
+NeedsNoMemory (Err (Fault fault)) = Unit {0}
+NeedsNoMemory (Err NoMemory) = ⊥

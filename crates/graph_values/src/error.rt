@@ -10,7 +10,7 @@ use thiserror::Error;
 #[derive(Clone, Copy, Debug, PartialEq, Eq, Error)]
 pub enum GraphError {
     /// `Overflow` where the graph has given its last name, `IndexOutside` where it has no node of the name.
-    #[error("the graph has no such name")]
+    #[error("the graph has no node of the name, or no name left")]
     Fault { fault: FaultKind },
     /// There was no memory.
     #[error("out of memory")]

@@ -9,7 +9,7 @@ ghost use Rattle.value_core.specs.Datum as datum;
 ghost use Rattle.value_core.specs.Datum.{list_of};
 ghost use Rattle.value_core.specs.View.{datum_of};
 ghost use Rattle.graph_values.specs.Graphs.{AreNamed, HasForm, IsGraph, IsRecord, added, assigned, deleted, empty_graph, fields_in, graph_of, name_in, node_in, node_of, nodes_in, value_at};
-ghost use Rattle.graph_values.specs.Errors.{IfFault};
+ghost use Rattle.graph_values.specs.Errors.{IfFault, NeedsNoMemory};
 ghost use Rattle.graph_values.specs.Lending.{LendsFields, LendsNode, LendsNodes};
 ghost use Rattle.graph_values.specs.Places.{Parted, StandsAt};
 
@@ -151,11 +151,12 @@ fn pair_of(alloc: Global, first: i64, second: Value) -> Result<Value, NoMemory>
 /// Gives the node with this name a value. It compares some log2 of the names.
 ///
 /// # Errors
-/// `IndexOutside` where the graph has no node of this name; then nothing has changed.
+/// `IndexOutside` where the graph has no node of this name; then nothing has changed. It never wants memory.
 pub fn set_node(graph: &mut Value, name: i64, value: Value) -> Result<(), GraphError>
     requires { IsGraph (datum_of graph.old) }
     ensures ok { OnOk result (assigned name (datum_of value) (datum_of graph.old) ≡ Ok (datum_of graph.new)) }
     ensures fault { IfFault result (λ fault. assigned name (datum_of value) (datum_of graph.old) ≡ Err fault) }
+    ensures spares { NeedsNoMemory result }
     ensures err { OnErr result (graph.new ≡ graph.old) }
     ensures graph { IsGraph (datum_of graph.new) }
 {
@@ -169,11 +170,12 @@ pub fn set_node(graph: &mut Value, name: i64, value: Value) -> Result<(), GraphE
 /// Takes the node with this name out of a graph: `deletenode`. It compares some log2 of the names, and moves the nodes behind.
 ///
 /// # Errors
-/// `IndexOutside` where the graph has no node of this name; then nothing has changed.
+/// `IndexOutside` where the graph has no node of this name; then nothing has changed. It never wants memory.
 pub fn delete_node(graph: &mut Value, name: i64) -> Result<(), GraphError>
     requires { IsGraph (datum_of graph.old) }
     ensures ok { OnOk result (deleted name (datum_of graph.old) ≡ Ok (datum_of graph.new)) }
     ensures fault { IfFault result (λ fault. deleted name (datum_of graph.old) ≡ Err fault) }
+    ensures spares { NeedsNoMemory result }
     ensures err { OnErr result (graph.new ≡ graph.old) }
     ensures graph { IsGraph (datum_of graph.new) }
 {

@@ -34,6 +34,8 @@ pub fn graphs_law()
     // The set of a graph's nodes rises, and a graph is sound where its values are.
     ensures rises { (g : Datum) → IsGraph g → IsStrictlySortedBy datum_cmp (nodes_in g) }
     ensures sound { (g : Datum) → IsGraph g → FitsSigned w64 (name_in g) → All IsSoundNode (nodes_in g) → IsShort (nodes_in g) → IsSound g }
+    // And a sound graph's values are sound.
+    ensures nodes_sound { (g : Datum) → IsGraph g → IsSound g → FitsSigned w64 (name_in g) × All IsSoundNode (nodes_in g) × IsShort (nodes_in g) }
     // A node has two more than the size of its value, and sizes add up.
     ensures size_added { (fresh g h : Datum) (name : ℤ) → IsGraph g → added fresh g ≡ Ok (name, h) →
         size_of h ≡ size_of g + size_of fresh + 2 }

@@ -23,6 +23,9 @@ returns-clause-rises c = graph.set_rises
 pub returns-clause-sound : goal.returns-clause-sound
 returns-clause-sound c g h fits sound = graph.graph_sound g h fits (recursion_from_All IsSoundNode (nodes_in g) sound)
 
+pub returns-clause-nodes_sound : goal.returns-clause-nodes_sound
+returns-clause-nodes_sound c = graph.nodes_sound
+
 pub returns-clause-size_added : goal.returns-clause-size_added
 returns-clause-size_added c = graph.size_added
 
