@@ -1,5 +1,5 @@
 -- How many elements there are: none, few, and that what is in order never falls.
-use Rattle.std.proofs.Common.{◌≡◌, ◌↔◌, ℕ, ◌<◌, ◌≤◌, List, [], ◌∷◌, length, Err, refl, arith}
+use Rattle.std.proofs.Common.{◌≡◌, ◌↔◌, ◌<◌, ◌≤◌, List, [], ◌∷◌, length, Err, refl, arith}
 use Rattle.std.specs.Prelude.{IsOkUnless}
 use Rattle.std.specs.List.Sorted.{IsSorted}
 use Rattle.orca_base.specs.declared.fault.FaultKind.TheVariants.{FromEmpty}

@@ -1,2 +1,4 @@
 mod Steps
 mod Measured
+mod Exchanges
+mod Elsewhere

@@ -17,7 +17,7 @@ size_set [] i p x h = absurd cc
 size_set (y ∷ xs) zero p x h = let same : y ≡ p = cc in omega (arith, ap size_of same)
 size_set (y ∷ xs) (suc i) p x h = omega (arith, size_set xs i p x h)
 
-found_is : (o : Option Datum) (p : Datum) → found o ≡ Ok p → o ≡ Some p
+pub found_is : (o : Option Datum) (p : Datum) → found o ≡ Ok p → o ≡ Some p
 found_is None p h = absurd cc
 found_is (Some x) p h = cc
 
@@ -25,16 +25,21 @@ array_size : (w : Data) (q : Result ℕ FaultKind) (p x : Datum) → at_place q 
 array_size w (Ok i) p x h = omega (arith, size_set (list_of w) i p x (found_is (slice_get (list_of w) i) p h), ap size_of_all (data_of-list_of w))
 array_size w (Err fault) p x h = absurd cc
 
-no_part : (q : Result ℕ FaultKind) (p : Datum) → at_place q [] ≡ Ok p → ⊥
+pub no_part : (q : Result ℕ FaultKind) (p : Datum) → at_place q [] ≡ Ok p → ⊥
 no_part (Ok i) p h = cc
 no_part (Err fault) p h = cc
 
-no_field : (i : ℕ) (p : Datum) → found (slice_get [] i) ≡ Ok p → ⊥
+pub no_field : (i : ℕ) (p : Datum) → found (slice_get [] i) ≡ Ok p → ⊥
 no_field i p h = cc
 
 -- what assigning to a node leaves of sizes
 abbrev pub GraphSizes : Type 0
 GraphSizes = (name : ℤ) (u v g h : Datum) → IsGraph g → node_in name g ≡ Some u → assigned name v g ≡ Ok h → size_of h + size_of u ≡ size_of g + size_of v
+
+-- what is put into a node is assigned to it
+pub is_assigned : (name : ℤ) (v p x : Datum) → node_in name v ≡ Some p → assigned name x v ≡ Ok (with_step (Node name) v x)
+is_assigned name v p x there =
+    ap (λ o. cond {A = Result Datum FaultKind} (is_some o) (Ok (graph_of (name_in v) (with_node name (node_of name x) (nodes_in v)))) (Err IndexOutside)) there
 
 step_size : GraphSizes → (step : Step) (v p x : Datum) → CanStep step v → part_to step v ≡ Ok p → size_of (with_step step v x) + size_of p ≡ size_of v + size_of x
 step_size graphs (Index low index) (datum.array w) p x can is = array_size w (place_of (length (list_of w)) low index) p x is
@@ -43,8 +48,7 @@ step_size graphs (Field place) (datum.fields w) p x can is = omega (arith, size_
 step_size graphs (Field place) v p x can is = absurd (no_field place p is)
 step_size graphs (Node name) v p x can is =
     let there : node_in name v ≡ Some p = found_is (node_in name v) p is in
-    graphs name p x v (with_step (Node name) v x) can there
-    (ap (λ o. cond {A = Result Datum FaultKind} (is_some o) (Ok (graph_of (name_in v) (with_node name (node_of name x) (nodes_in v)))) (Err IndexOutside)) there)
+    graphs name p x v (with_step (Node name) v x) can there (is_assigned name v p x there)
 
 pub path_size : GraphSizes → (path : List Step) (v p x : Datum) → CanWalk path v → part_at path v ≡ Ok p → size_of (with_part path v x) + size_of p ≡ size_of v + size_of x
 path_size graphs [] v p x walks is = let same : v ≡ p = cc in omega (arith, ap size_of same)

@@ -77,7 +77,7 @@ record_puts field path x old c c' w u r is same stands put =
     (ap found stands) refl (ap (λ xs. datum.fields (data_of xs)) (set_same (list_of u) field (datum_of c) stands) ∙ ap datum.fields (data_of-list_of u)) put)
 
 -- a graph
-node_same : (name : ℤ) (u : Datum) (xs : List Datum) → AllByRecursion IsNode xs → value_at name xs ≡ Some u → with_node name (node_of name u) xs ≡ xs
+pub node_same : (name : ℤ) (u : Datum) (xs : List Datum) → AllByRecursion IsNode xs → value_at name xs ≡ Some u → with_node name (node_of name u) xs ≡ xs
 node_same name u [] nodes is = absurd cc
 node_same name u (x ∷ xs) nodes is = by_first (is_named name x) refl (node_same name u xs nodes.1)
   where

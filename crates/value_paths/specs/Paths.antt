@@ -1,5 +1,5 @@
 -- Parts of values at the ends of paths, and values with another part there (docs/LANGUAGE.md, Operators).
-use Rattle.std.specs.Prelude.{◌≡◌, MatchResult, ℕ, ◌<◌, ◌^◌, List, [], ◌∷◌, Option, Some, None, Result, Ok, Err, IfOk, length, slice_get, slice_set}
+use Rattle.std.specs.Prelude.{◌≡◌, ◌≢◌, ◌⊎◌, MatchResult, ℕ, List, [], ◌∷◌, Option, Some, None, Result, Ok, Err, IfOk, length, slice_get, slice_set}
 use Rattle.orca_base.specs.declared.fault.FaultKind.{FaultKind}
 use Rattle.orca_base.specs.declared.fault.FaultKind.TheVariants.{IndexOutside}
 use Rattle.value_core.specs.Datum.{Datum, data_of, list_of}
@@ -59,9 +59,9 @@ abbrev pub with_part : List Step → Datum → Datum → Datum
 with_part [] v x = x
 with_part (step ∷ path) v x = where_found (part_to step v) v (λ p. with_step step v (with_part path p x))
 
--- a value at which a step can be taken: an array whose length fits 32 bits, any record, and a graph
+-- a value at which a step can be taken: a step to a node asks for a graph
 abbrev pub CanStep : Step → Datum → Type 0
-CanStep (Index low index) v = length (array_in v) < 2 ^ 32
+CanStep (Index low index) v = Unit {0}
 CanStep (Field place) v = Unit {0}
 CanStep (Node name) v = IsGraph v
 
@@ -69,6 +69,18 @@ CanStep (Node name) v = IsGraph v
 abbrev pub CanWalk : List Step → Datum → Type 0
 CanWalk [] v = Unit {0}
 CanWalk (step ∷ path) v = CanStep step v × IfOk (part_to step v) (CanWalk path)
+
+-- two steps of one kind that lead to different parts
+abbrev pub LeadApart : Step → Step → Datum → Type 0
+LeadApart (Index low i) (Index bound j) v = place_of (length (array_in v)) low i ≢ place_of (length (array_in v)) bound j
+LeadApart (Field i) (Field j) v = i ≢ j
+LeadApart (Node m) (Node n) v = m ≢ n
+LeadApart s t v = ⊥
+
+-- two paths that lead the same way up to steps that lead to different parts
+abbrev pub GoApart : List Step → List Step → Datum → Type 0
+GoApart (s ∷ path) (t ∷ other) v = LeadApart s t v ⊎ ((s ≡ t) × IfOk (part_to s v) (GoApart path other))
+GoApart path other v = ⊥
 
 -- x stands at the end of a path, and what stood there is given; or a step leads nowhere, and nothing has changed
 abbrev pub Puts : List Step → Datum → Value → Result Value FaultKind → Value → Type 0

@@ -1,27 +1,26 @@
 //! Parts that are read.
 
-ghost use Rattle.std.specs.Prelude.{◌≡◌, ◌<◌, ◌^◌, Ok, Err, MatchOption, MatchResult, None, length};
+ghost use Rattle.std.specs.Prelude.{◌≡◌, Ok, Err, MatchResult};
 ghost use Rattle.value_core.specs.View.{datum_of};
 ghost use Rattle.value_paths.specs.declared.step.Step.TheVariants.{Index, Field, Node};
-ghost use Rattle.value_paths.specs.Paths.{CanStep, CanWalk, array_in, part_at, part_to};
+ghost use Rattle.value_paths.specs.Paths.{CanStep, CanWalk, part_at, part_to};
 
+use crate::place::place_of;
 use crate::step::Step;
 use graph_values::node;
 use orca_base::FaultKind;
 use value_core::Value;
-use value_ops::place_in;
 
 // The part of an array at an index.
 fn part_of_array(value: &Value, low: i64, index: i64) -> Result<&Value, FaultKind>
-    requires { length (array_in (datum_of value.now)) < 2 ^ 32 }
     ensures { MatchResult result (λ p. part_to (Index low index) (datum_of value.now) ≡ Ok (datum_of p.now))
         (λ f. part_to (Index low index) (datum_of value.now) ≡ Err f) }
 {
     match value {
         Value::Array(parts) => {
             let parts = parts.as_parts();
-            let place = place_in(parts.len() as u32, low, index)?;
-            parts.get(place as usize).ok_or(FaultKind::IndexOutside)
+            let place = place_of(parts.len(), low, index)?;
+            parts.get(place).ok_or(FaultKind::IndexOutside)
         }
         _ => Err(FaultKind::IndexOutside),
     }

@@ -5,12 +5,12 @@ ghost use Rattle.value_core.specs.View.{datum_of};
 ghost use Rattle.value_paths.specs.declared.step.Step.TheVariants.{Index, Field, Node};
 ghost use Rattle.value_paths.specs.Paths.{CanWalk, Puts};
 
+use crate::place::place_of;
 use crate::step::Step;
 use graph_values::{node, node_mut};
 use orca_base::FaultKind;
 use std::mem;
 use value_core::Value;
-use value_ops::place_in;
 
 // Puts a part into an array, at the end of a path behind an index.
 #[cycle(puts)]
@@ -28,8 +28,8 @@ fn put_in_array(
     match value {
         Value::Array(parts) => {
             let parts = parts.as_parts_mut();
-            let place = place_in(parts.len() as u32, low, index)?;
-            put_from(parts.part_mut(place as usize), path, from, part)
+            let place = place_of(parts.len(), low, index)?;
+            put_from(parts.part_mut(place), path, from, part)
         }
         _ => Err(FaultKind::IndexOutside),
     }

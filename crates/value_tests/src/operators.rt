@@ -9,7 +9,7 @@ use std::alloc::Global;
 use std::test::Fail;
 use value_core::{BoxedParts, Parts, TextValue, Value};
 use value_ops::{
-    add, contains, count, delete, divide, insert, join_texts, multiply, negate, ordinal, place_in,
+    add, contains, count, delete, divide, insert, is_in, join_texts, multiply, negate, ordinal, place_in,
     remainder, size_of, size_of_all, subtract, take_least, text_of,
 };
 
@@ -41,7 +41,8 @@ const QUOTIENTS: [Row; 4] = [
     (1, 0, None),
 ];
 
-const REMAINDERS: [Row; 4] = [
+const REMAINDERS: [Row; 5] = [
+    (7, -1, Some(0)),
     (-7, 2, Some(-1)),
     (7, -2, Some(1)),
     (i64::MIN, -1, None),
@@ -260,6 +261,9 @@ fn members_are_counted(rt: HostRuntime) -> Result<(), Fail> {
     assert_eq!(rt; counted(&set), Some(2));
     let bag = filled(rt.alloc(), true, &[2, 1, 2])?;
     assert!(rt; holds(&bag, 2) && !holds(&bag, 3));
+    assert!(rt; is_in(&Value::Int(2), &bag) && !is_in(&Value::Int(3), &bag));
+    assert!(rt; is_in(&Value::Int(1), &set) && !is_in(&Value::Int(0), &set));
+    assert!(rt; !is_in(&Value::Int(1), &Value::Int(1)));
     Ok(())
 }
 
