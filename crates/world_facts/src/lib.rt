@@ -7,9 +7,12 @@
 #![tactic(auto)]
 
 ghost use Rattle.world_facts.specs.Counted.{AllCounted, StepsLeave};
+ghost use Rattle.world_facts.specs.Ends.{AllEndsStand, FinishedRunsEnd};
 ghost use Rattle.world_facts.specs.Places.{AllPlaced, FrontsOfBooks};
 ghost use Rattle.world_facts.specs.Possible.{StepsMay};
+ghost use Rattle.world_facts.specs.Processes.{AllStand, HomesAreMembers};
 ghost use Rattle.world_facts.specs.Rows.{AllRead};
+ghost use Rattle.world_facts.specs.WorkedEnds.{PremisesMet, WorkedEnds};
 
 /// The book by places, of every world.
 ///
@@ -39,4 +42,32 @@ pub fn steps_may()
 pub fn worlds_count()
     ensures counted { AllCounted }
     ensures leaves { StepsLeave }
+{}
+
+/// Processes at their members, in every run, whatever the group did.
+///
+/// - `homes`: each process is on a member, in whatever world.
+/// - `stands`: a member knows no process beyond those that its copies count; a process takes no more turns than it may; and one that
+///   isn't computing is at what it does next, and is over exactly where that is its end or a fault.
+pub fn processes_stand()
+    ensures homes { HomesAreMembers }
+    ensures stands { AllStand }
+{}
+
+/// Where members and processes stand at the end.
+///
+/// - `all`: there is one end of each member and of each process, in whatever world; who is busy is on a living member, and whose member
+///   crashed on a crashed one. Where the run stands at Faulted some process has faulted, and where it is Blocked one of a living member
+///   waits for a reply.
+/// - `finished`: at the end of a run that has finished each process of a living member has ended.
+/// - `worked`: the ends of worked worlds, which the check computes.
+pub fn ends_stand()
+    ensures all { AllEndsStand }
+    ensures finished { FinishedRunsEnd }
+    ensures worked { WorkedEnds }
+{}
+
+/// What the law of runs asks of a run can be met together: it is, by the run of one cell.
+pub fn premises_met()
+    ensures { PremisesMet }
 {}
