@@ -7,7 +7,6 @@ use Rattle.orca_base.specs.declared.ids.ProcessNo.{ProcessNo}
 use Rattle.value_core.specs.declared.action.Action.{Action}
 use Rattle.value_core.specs.declared.action.Action.TheVariants as action
 use Rattle.world_rules.specs.declared.event.Step.{Step}
-use Rattle.world_rules.specs.declared.standing.Standing.TheVariants.{Faulted, Blocked, Finished}
 use Rattle.world_rules.specs.Frame.{Frame}
 use Rattle.world_rules.specs.Played.{Played, Stage, has_faulted, is_fault, is_over}
 use Rattle.world_rules.specs.Played.Stage.{Computing, Acting, Submitted, Reading, Asking, Over}
@@ -18,7 +17,7 @@ use Rattle.world_facts.specs.Ends.{AllEndsStand, EndsStand, FinishedEnds, Finish
 use Rattle.world_facts.specs.Processes.{IsPlayed, StandsAt, is_last}
 use Rattle.world_facts.specs.Rows.{AllEnded, AllRest, IsBegun, SomeFaulted}
 use Rattle.world_facts.proofs.Processes.{all_stand}
-use Rattle.world_facts.proofs.Rows.{all_read, over_is}
+use Rattle.world_facts.proofs.Rows.{all_read}
 
 -- ---- lists by numbers
 
@@ -174,7 +173,7 @@ blocked f w over i r begun lives left = ⊎_elim
     let e = h.processes i begun.exists lives in
     let k = waits_at f w i r.stage left (resting f w i r e.0 begun.here e.1.here e.2) in
     (i, (begun.exists, lives), (k.0, stand_is f w i r true lives begun.here ∙ k.1)))
-    (over_is f w over)
+    ((all_read f w).over over)
 
 pub ends_stand : AllEndsStand
 ends_stand f w =

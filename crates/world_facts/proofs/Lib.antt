@@ -7,3 +7,4 @@ pub mod Held
 pub mod Processes
 pub mod Ends
 pub mod WorkedEnds
+pub mod TooManyCrashes

@@ -6,7 +6,7 @@ use Rattle.value_core.specs.declared.action.Action.{Action}
 use Rattle.value_core.specs.declared.action.Action.TheVariants as action
 use Rattle.value_core.specs.declared.action.Reply.{Reply}
 use Rattle.world_rules.specs.declared.event.Step.{Step}
-use Rattle.world_rules.specs.declared.standing.Standing.TheVariants.{Faulted, Blocked, Finished}
+use Rattle.world_rules.specs.declared.standing.Standing.TheVariants as row
 use Rattle.world_rules.specs.Frame.{Frame}
 use Rattle.world_rules.specs.Played.{Played, Stage}
 use Rattle.world_rules.specs.Played.Stage.{Computing, Acting, Submitted, Reading, Asking, Over}
@@ -131,13 +131,13 @@ pub record EndsStand (f : Frame) (w : World) : Type 0 where
   pub busy : (i : ℕ) → (process_end f w i).stand ≡ Stand.Busy → w.lives (home_of f w i) ≡ true
   pub crashed : (i : ℕ) → (process_end f w i).stand ≡ Stand.Crashed → w.lives (home_of f w i) ≡ false
   pub faulted :
-      standing f w ≡ Faulted →
+      standing f w ≡ row.Faulted →
       (i : ℕ) × (i < process_count f w) × ((fault : FaultKind) × ((process_end f w i).stand ≡ Stand.Faulted fault))
-  pub blocked : standing f w ≡ Blocked → (i : ℕ) × Lives f w i × ((act : Action) × ((process_end f w i).stand ≡ Stand.Waits act))
+  pub blocked : standing f w ≡ row.Blocked → (i : ℕ) × Lives f w i × ((act : Action) × ((process_end f w i).stand ≡ Stand.Waits act))
 
 -- and at the end of a run that has finished each process of a living member has ended
 abbrev pub FinishedEnds : Frame → World → Type 0
-FinishedEnds f w = standing f w ≡ Finished → (i : ℕ) → Lives f w i → (process_end f w i).stand ≡ Stand.Ended
+FinishedEnds f w = standing f w ≡ row.Finished → (i : ℕ) → Lives f w i → (process_end f w i).stand ≡ Stand.Ended
 
 abbrev pub AllEndsStand : Type 0
 AllEndsStand = (f : Frame) (w : World) → EndsStand f w

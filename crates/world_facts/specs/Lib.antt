@@ -5,3 +5,4 @@ pub mod Counted
 pub mod Processes
 pub mod Ends
 pub mod WorkedEnds
+pub mod TooManyCrashes

@@ -12,6 +12,7 @@ ghost use Rattle.world_facts.specs.Places.{AllPlaced, FrontsOfBooks};
 ghost use Rattle.world_facts.specs.Possible.{StepsMay};
 ghost use Rattle.world_facts.specs.Processes.{AllStand, HomesAreMembers};
 ghost use Rattle.world_facts.specs.Rows.{AllRead};
+ghost use Rattle.world_facts.specs.TooManyCrashes.{TooManyCrashes};
 ghost use Rattle.world_facts.specs.WorkedEnds.{PremisesMet, WorkedEnds};
 
 /// The book by places, of every world.
@@ -70,4 +71,10 @@ pub fn ends_stand()
 /// What the law of runs asks of a run can be met together: it is, by the run of one cell.
 pub fn premises_met()
     ensures { PremisesMet }
+{}
+
+/// Two of three members crash, where one may be lost, while a packet is held: after 200 idle ticks there is no group, and after one less
+/// the run goes on. 205 steps, which the check computes.
+pub fn too_many_crashes()
+    ensures { TooManyCrashes }
 {}
