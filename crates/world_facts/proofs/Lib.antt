@@ -1,0 +1,10 @@
+pub mod Places
+pub mod Rows
+pub mod Possible
+pub mod Counted
+pub mod Homes
+pub mod Held
+pub mod Processes
+pub mod Ends
+pub mod WorkedEnds
+pub mod TooManyCrashes

@@ -1,0 +1,51 @@
+-- What is so of the processes at their members in every run, whatever the group did: a process has a member, who knows it has counted it,
+-- it takes no more turns than it may, and where it isn't computing it stands at what it does next.
+use Rattle.std.specs.Prelude.{◌≡◌, ◌≤◌, ◌<◌, ◌+◌, ℕ, Bool, true, false, List, Some}
+use Rattle.orca_base.specs.declared.ids.ProcessNo.{ProcessNo}
+use Rattle.value_core.specs.declared.action.Action.{Action}
+use Rattle.value_core.specs.declared.action.Action.TheVariants as action
+use Rattle.value_core.specs.declared.meaning.Doing.TheVariants as doing
+use Rattle.world_rules.specs.declared.event.Step.{Step}
+use Rattle.world_rules.specs.Frame.{Frame}
+use Rattle.world_rules.specs.Played.{Played, Stage}
+use Rattle.world_rules.specs.Played.Stage.{Computing, Acting, Submitted, Reading, Asking, Over}
+use Rattle.world_rules.specs.Steps.{Replays}
+use Rattle.world_rules.specs.Worlds.{World, home_of}
+
+-- it has ended, or faulted
+abbrev pub is_last : Action → Bool
+is_last (action.Make kind object) = false
+is_last (action.Call kind op object args) = false
+is_last (action.Fork text args place_on) = false
+is_last action.Ended = true
+is_last (action.Faulted fault) = true
+
+-- process i, which is r, does this next, after its replies and its turns, of which it has one left at least
+pub record DoesNext (f : Frame) (i : ProcessNo) (r : Played) (act : Action) : Type 0 where
+  pub turns : r.turns < f.settings.turns
+  pub next : f.computes.doing r.text i r.args r.replies (r.turns + 1) ≡ doing.At act
+
+-- so it stands there
+abbrev pub StandsAt : Frame → ProcessNo → Played → Stage → Type 0
+StandsAt f i r Computing = Unit {0}
+StandsAt f i r (Acting act) = DoesNext f i r act × (is_last act ≡ false)
+StandsAt f i r (Submitted act) = DoesNext f i r act × (is_last act ≡ false)
+StandsAt f i r (Reading act) = DoesNext f i r act × (is_last act ≡ false)
+StandsAt f i r (Asking act) = DoesNext f i r act × (is_last act ≡ false)
+StandsAt f i r (Over act) = DoesNext f i r act × (is_last act ≡ true)
+
+pub record IsPlayed (f : Frame) (i : ProcessNo) (r : Played) : Type 0 where
+  pub turns : r.turns ≤ f.settings.turns
+  pub stands : StandsAt f i r r.stage
+
+-- `fresh`, a member knows no process beyond those that its copies count
+pub record ProcessesStand (f : Frame) (w : World) : Type 0 where
+  pub fresh : (m i : ℕ) (r : Played) → (w.nodes m).played i ≡ Some r → i < (w.nodes m).copies.processes
+  pub each : (m : ℕ) (i : ProcessNo) (r : Played) → (w.nodes m).played i.0 ≡ Some r → IsPlayed f i r
+
+abbrev pub AllStand : Type 0
+AllStand = (f : Frame) (steps : List Step) (w : World) → Replays f steps w → ProcessesStand f w
+
+-- each process is on a member, in whatever world
+abbrev pub HomesAreMembers : Type 0
+HomesAreMembers = (f : Frame) (w : World) (i : ℕ) → 0 < f.settings.nodes → home_of f w i < f.settings.nodes
