@@ -6,3 +6,6 @@ pub mod Answers
 pub mod Going
 pub mod Asks
 pub mod Gives
+pub mod Counts
+pub mod Packets
+pub mod CaughtUp
