@@ -24,3 +24,5 @@ pub mod Sending
 pub mod Flying
 pub mod Numbering
 pub mod CatchingUp
+pub mod Spelling
+pub mod Exchanging

@@ -9,3 +9,5 @@ pub mod Gives
 pub mod Counts
 pub mod Packets
 pub mod CaughtUp
+pub mod SoundPackets
+pub mod Acts
