@@ -383,14 +383,14 @@ moments_count laws law f small = record {
       let a = applied_one f (group f) m m x v in
       at_moment f w m s c (applies_one f m x v) (at_member f w m s c v (applies_one f m x v) a.member (a.past w.past) (of_moment f w m s c v h));
   notes = λ w m s c v on is h. at_moment f w m s c (notes f m v) (at_notes f w m s c v on is.noted is.below (of_moment f w m s c v h));
-  ticks = λ w m s c v on h. at_moment f w m s (suc c) _ (at_ticks f w m s c v on (of_moment f w m s c v h));
-  coordinates = λ w m s c v on h. at_moment f w m s (suc c) _ (at_coordinates f w m s c v on (of_moment f w m s c v h));
+  ticks = λ w m s c v on h. at_moment f w m s (suc c) (joins (timer (group f) m v.node.member) v) (at_ticks f w m s c v on (of_moment f w m s c v h));
+  coordinates = λ w m s c v on h. at_moment f w m s (suc c) (joins (coordinate (group f) m v.node.member) v) (at_coordinates f w m s c v on (of_moment f w m s c v h));
   submits = λ w m s c x v on may h.
       let allowed : may_submit (group f) (at_work (group f) w m v) m x ≡ true =
       subst (λ z. may_submit (group f) z m x ≡ true) (world_is f m v (untouched w)) may in
-      at_moment f w m (suc s) c _ (at_submits f w m s c x v on allowed (of_moment f w m s c v h));
+      at_moment f w m (suc s) c (joins (submit (group f) m x v.node.member) (does (Submits x) v)) (at_submits f w m s c x v on allowed (of_moment f w m s c v h));
   delivers = λ w s c v letter on comes h.
-      at_moment f w letter.to s c _ (at_delivers laws f w s c v letter on comes (of_moment f w letter.to s c v h));
+      at_moment f w letter.to s c (joins (deliver (group f) letter.to letter.packet v.node.member) v) (at_delivers laws f w s c v letter on comes (of_moment f w letter.to s c v h));
   part = λ u m s c v h. h;
   small = λ w m s c v nodes few rare h. small_numbers law f small nodes (group_world (world_at f w m v)) s c few rare h;
 }

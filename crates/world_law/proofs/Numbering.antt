@@ -78,7 +78,7 @@ forward_part laws f small w m v h r =
 -- ---- what an event sends
 
 -- an Ask or Answer in this world, with S of the message of an Ask
-abbrev Sent_by : (Message → Type 0) → Frame → (ℕ → Node) → Mail → Type 0
+abbrev pub Sent_by : (Message → Type 0) → Frame → (ℕ → Node) → Mail → Type 0
 Sent_by S f nodes (Mail.Grouped letter) = Unit {0}
 Sent_by S f nodes (Mail.Sends incarnation from to errand) =
     IsSent f nodes (Mail.Sends incarnation from to errand) × Says S errand

@@ -88,18 +88,18 @@ noted_on f m v may up = cond_both (nat_lt v.node.member.applied v.node.copies.ap
       may = record { noted = omega (arith, told); below = omega (arith, below, more); logged = n.grows.logged may.logged };
       told = told;
       waits = n.waits;
-      settles = by n.accepts n.grows.log.0 n.grows.log.1;
+      settles = by t n.accepts n.grows.log.0 n.grows.log.1;
     })
     (λ e.
     let not_less = ltb-false v.node.member.applied v.node.copies.applied e in
     let at_least = may.noted in
     record { may = may; told = omega (arith, not_less, at_least); waits = omega arith; settles = inl up })
   where
-    by : {t : Member Message} → (t.accepted ≡ v.node.member.accepted) ⊎ (suc (length t.waiting) ≤ length v.node.member.waiting) →
+    by : (t : Member Message) → (t.accepted ≡ v.node.member.accepted) ⊎ (suc (length t.waiting) ≤ length v.node.member.waiting) →
         (more : List Message) → t.log ≡ v.node.member.log ++ more →
         HasCaughtUp f (record v.node { member = t }) ⊎ (suc (length t.waiting) ≤ length v.node.member.waiting)
-    by {t} (inl same) more log = inl (up_noted f v t up may.logged same more log)
-    by {t} (inr fewer) more log = inr fewer
+    by t (inl same) more log = inl (up_noted f v t up may.logged same more log)
+    by t (inr fewer) more log = inr fewer
 
 -- after the entries that are due
 may_applies : (f : Frame) (m : ℕ) (v : NodeWork) → MayCatchUp v → MayCatchUp (applies f m v)
