@@ -1,8 +1,7 @@
 -- Submissions, ticks and coordinations are counted along a run.
 use Rattle.std.proofs.Common.{◌≡◌, ◌&&◌, ◌+◌, ◌≤◌, ◌<◌, ◌*◌, if◌then◌else◌, ℕ, zero, suc, Bool, true, false, List, [], ◌∷◌, ◌++◌, Option, None, Some, refl, sym, ap, ◌∙◌, arith, subst, nat_lt, length}
-use Rattle.std.proofs.Math.Nat.{mul-le-mul_left, mul-suc}
+use Rattle.std.proofs.Math.Nat.{mul-suc}
 use Rattle.std.proofs.lemmas.Bool.{cond_both, le-leb, leb-false}
-use Rattle.std.specs.List.{AllByRecursion as Each}
 use Rattle.orca_base.specs.declared.limits.TheConstants.{EVENTS, NODES}
 use Rattle.orca_base.specs.declared.what.What.{What}
 use Rattle.value_core.specs.declared.action.Action.{Action}
@@ -17,15 +16,15 @@ use Rattle.group_rules.specs.Member.{Letter, Waiting}
 use Rattle.group_rules.specs.Messages.{Group}
 use Rattle.group_rules.specs.Reset.{coordinate}
 use Rattle.group_rules.specs.Steps.{deliver, note, submit, timer}
-use Rattle.group_rules.specs.World.{Event, GroupWorld, Sent, gnext, may_apply, may_submit, opening, run}
+use Rattle.group_rules.specs.World.{Event, GroupWorld, gnext, may_apply, may_submit, opening, run}
 use Rattle.net_rules.specs.declared.fate.Fate.{Fate}
-use Rattle.net_rules.specs.declared.flight.Flight.{Flight}
+use Rattle.world_rules.specs.declared.event.Event as world
 use Rattle.world_rules.specs.declared.event.Step.{Step}
 use Rattle.world_rules.specs.declared.standing.Standing.{Standing}
 use Rattle.world_rules.specs.declared.standing.Standing.TheVariants.{OutOfTurns, OutOfEvents, Going}
 use Rattle.world_rules.specs.Applying.{applies, applies_all, applies_one, notes, round, rounds}
 use Rattle.world_rules.specs.Frame.{Frame, group}
-use Rattle.world_rules.specs.Mail.{Carried, Mail, receiver_of}
+use Rattle.world_rules.specs.Mail.{Mail, receiver_of}
 use Rattle.world_rules.specs.Nodes.{Node, NodeWork, does, idle, joins, known, past_after, plays}
 use Rattle.world_rules.specs.Nodes.Deed.{Submits}
 use Rattle.world_rules.specs.Owners.{takes_reached}
@@ -34,11 +33,11 @@ use Rattle.world_rules.specs.Played.{Played, Stage, moves_to, next_call}
 use Rattle.world_rules.specs.Played.Stage.{Computing, Acting, Submitted, Reading, Asking, Over}
 use Rattle.world_rules.specs.Processes.{singles_of}
 use Rattle.world_rules.specs.Standings.{after_limit, is_out_of_events, is_out_of_turns, limit}
-use Rattle.world_rules.specs.Steps.{AtWork, Next, after_part, happens, posts, posts_all, untouched}
+use Rattle.world_rules.specs.Steps.{AtWork, Known, Next, Possible, after_part, happens, posts, posts_all, untouched}
 use Rattle.world_rules.specs.Worlds.{World, group_world, home_of}
-use Rattle.world_law.specs.Counts.{AfterSteps, AreSmall, Counted, CountedAt, IsSmallMail, MomentsCount, StepsCount}
+use Rattle.world_law.specs.Counts.{AfterSteps, AreSmall, Counted, CountedAt, MomentsCount}
 use Rattle.world_law.specs.Gives.{acted, came, coordinated, timed}
-use Rattle.world_law.specs.Grouped.{AllFly, Come, Comes, Grouped}
+use Rattle.world_law.specs.Grouped.{Come, Comes, Grouped}
 use Rattle.world_law.specs.Grouped.{Submits as MayAll}
 use Rattle.world_law.specs.Moments.{IsMoment, Lives, world_at}
 use Rattle.world_law.proofs.Applied.{applied_due, applied_one}
@@ -308,17 +307,23 @@ group_after f w v step next =
     let u : AtWork = happens f w step.event next.given in
     ap group_world next.after ∙ group_posts f u.mails step.fates u.world
 
-steps_counted : (laws : Laws) (f : Frame) → 2 * (group f).resilience < (group f).nodes → (w v : World) (step : Step) → Next f w step v →
+pub event_counted : (laws : Laws) (f : Frame) → 2 * (group f).resilience < (group f).nodes → (w : World) (event : world.Event) (given : Known event) →
+    Possible f w event given → MayAll f w event → Grouped f w → AfterSteps f w w.steps → AfterSteps f (happens f w event given).world (suc w.steps)
+event_counted laws f small w event given may submit grouped h =
+    let n : ℕ = f.settings.nodes in
+    let more = mul-suc n w.steps in
+    let counted : Counted f (group_world (happens f w event given).world) (suc w.steps) (n * w.steps + n) =
+    walk_event laws f (Count f) (Count f) small (count_walks laws f small) w event given w.steps (n * w.steps) grouped may submit h in
+    counted_within f _ (suc w.steps) (suc w.steps) (n * w.steps + n) (n * suc w.steps) (omega arith) (omega (arith, more)) counted
+
+pub steps_counted : (laws : Laws) (f : Frame) → 2 * (group f).resilience < (group f).nodes → (w v : World) (step : Step) → Next f w step v →
     MayAll f w step.event → Grouped f w → AfterSteps f w w.steps → AfterSteps f v v.steps
 steps_counted laws f small w v step next submit grouped h =
     let n : ℕ = f.settings.nodes in
     let steps : v.steps ≡ suc w.steps = ap (λ (z : World). z.steps) next.after in
-    let more = mul-suc n w.steps in
-    let counted : Counted f (group_world (happens f w step.event next.given).world) (suc w.steps) (n * w.steps + n) =
-    walk_event laws f (Count f) (Count f) small (count_walks laws f small) w step.event next.given w.steps (n * w.steps) grouped next.possible submit h in
     subst (λ k. Counted f (group_world v) k (n * k)) (sym steps)
     (subst (λ z. Counted f z (suc w.steps) (n * suc w.steps)) (sym (group_after f w v step next))
-    (counted_within f _ (suc w.steps) (suc w.steps) (n * w.steps + n) (n * suc w.steps) (omega arith) (omega (arith, more)) counted))
+    (event_counted laws f small w step.event next.given next.possible submit grouped h))
 
 -- in a run that is going there are steps left
 picks : (a b : Bool) (x : Standing) → (if a then OutOfTurns else (if b then OutOfEvents else x)) ≡ Going → b ≡ false
@@ -330,14 +335,14 @@ left_by : (f : Frame) (w : World) (o : Option (What × ℕ)) → after_limit f w
 left_by f w None e = picks (is_out_of_turns f w) (is_out_of_events f w) _ e
 left_by f w (Some passed) e = absurd cc
 
-steps_left : (f : Frame) (w v : World) (step : Step) → Next f w step v → (v.steps ≡ suc w.steps) × (w.steps < f.settings.events)
+pub steps_left : (f : Frame) (w v : World) (step : Step) → Next f w step v → (v.steps ≡ suc w.steps) × (w.steps < f.settings.events)
 steps_left f w v step next =
     let not_out = leb-false f.settings.events w.steps (left_by f w (limit f w) next.going) in
     (ap (λ (z : World). z.steps) next.after, omega (arith, not_out))
 
 -- ---- so the numbers fit
 
-small_numbers : (law : FewEventsLaw Message) (f : Frame) → 2 * (group f).resilience < (group f).nodes → f.settings.nodes ≤ NODES →
+pub small_numbers : (law : FewEventsLaw Message) (f : Frame) → 2 * (group f).resilience < (group f).nodes → f.settings.nodes ≤ NODES →
     (w : GroupWorld Message) (s c : ℕ) → s ≤ EVENTS → c ≤ f.settings.nodes * EVENTS → Counted f w s c → Numbers w MOST MOST
 small_numbers law f small nodes w s c few rare h =
     let submitted = h.few in
@@ -345,27 +350,27 @@ small_numbers law f small nodes w s c few rare h =
     subst (λ z. Numbers z MOST MOST) (sym h.run)
     ((law (group f) (omega (arith, nodes)) h.events (omega (arith, submitted, few)) (omega (arith, ticked, rare))).2 small)
 
-small_mail : (laws : Laws) (w : World) (mail : Mail) → AreSmall w → Come w.past.letters mail → IsSmallMail mail
-small_mail laws w (Mail.Grouped letter) numbers come =
-    let sent : Sent w.past.letters letter.packet = laws.packets w.past.letters letter come.sent in
-    (numbers.of letter.packet sent, numbers.packets letter.packet sent)
-small_mail laws w (Mail.Sends incarnation from to errand) numbers come = tt
-
-small_flights : (laws : Laws) (w : World) (flights : List (Flight Carried)) → AreSmall w → AllFly w.past.letters flights →
-    Each (λ (flight : Flight Carried). IsSmallMail flight.packet.mail) flights
-small_flights laws w [] numbers h = tt
-small_flights laws w (flight ∷ flights) numbers h = (small_mail laws w flight.packet.mail numbers h.0, small_flights laws w flights numbers h.1)
-
-pub steps_count : (laws : Laws) (law : FewEventsLaw Message) (f : Frame) → 2 * (group f).resilience < (group f).nodes → StepsCount f
-steps_count laws law f small = record {
-  opening = record { events = []; run = refl; few = omega arith; rare = omega arith };
-  step = steps_counted laws f small;
-  within = steps_left f;
-  small = λ w steps nodes few h.
-      let rare = mul-le-mul_left f.settings.nodes few in
-      small_numbers law f small nodes (group_world w) steps (f.settings.nodes * steps) few rare h;
-  flights = λ w grouped numbers. small_flights laws w w.flights numbers grouped.travels;
-}
+pub small_world : (law : FewEventsLaw Message) (f : Frame) → 2 * (group f).resilience < (group f).nodes → f.settings.nodes ≤ NODES →
+    (w : World) (s c : ℕ) → s ≤ EVENTS → c ≤ f.settings.nodes * EVENTS → Counted f (group_world w) s c → AreSmall w
+small_world law f small nodes w s c few rare h =
+    let numbers : Numbers (group_world w) MOST MOST = small_numbers law f small nodes (group_world w) s c few rare h in
+    record {
+      members = λ m.
+          let within = numbers.members m in
+          let installed = numbers.installed m in
+          let promised = numbers.promised m in
+          let applied = within.applied in
+          let accepted = within.accepted in
+          let log = within.log in
+          record {
+            installed = omega (arith, installed, promised);
+            promised = omega (arith, promised);
+            applied = omega (arith, applied);
+            accepted = omega (arith, accepted);
+            entries = omega (arith, log);
+          };
+      numbers = numbers;
+    }
 
 -- ---- at each moment
 
@@ -392,5 +397,5 @@ moments_count laws law f small = record {
   delivers = λ w s c v letter on comes h.
       at_moment f w letter.to s c (joins (deliver (group f) letter.to letter.packet v.node.member) v) (at_delivers laws f w s c v letter on comes (of_moment f w letter.to s c v h));
   part = λ u m s c v h. h;
-  small = λ w m s c v nodes few rare h. small_numbers law f small nodes (group_world (world_at f w m v)) s c few rare h;
+  small = λ w m s c v nodes few rare h. small_world law f small nodes (world_at f w m v) s c few rare h;
 }

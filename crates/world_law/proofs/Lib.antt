@@ -26,3 +26,4 @@ pub mod Numbering
 pub mod CatchingUp
 pub mod Spelling
 pub mod Exchanging
+pub mod Smallness

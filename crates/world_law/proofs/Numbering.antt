@@ -390,7 +390,7 @@ step_numbered laws routes f small w v step next submit grouped places h =
       },
     )
 
-letters_sent : (laws : Laws) (routes : RoutesLaw Message) (f : Frame) → 2 * (group f).resilience < (group f).nodes → (w : World) (event : world.Event)
+pub letters_sent : (laws : Laws) (routes : RoutesLaw Message) (f : Frame) → 2 * (group f).resilience < (group f).nodes → (w : World) (event : world.Event)
     (given : Known event) → Possible f w event given → MayAll f w event → Grouped f w → PlacesWithin w → AreNumbered f w →
     Each (IsSent f (happens f w event given).world.nodes) (happens f w event given).mails
 letters_sent laws routes f small w event given may submit grouped places h =

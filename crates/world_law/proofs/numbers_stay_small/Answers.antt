@@ -1,5 +1,6 @@
-use Rattle.world_law.proofs.Counting.{moments_count, steps_count}
+use Rattle.world_law.proofs.Counting.{moments_count}
 use Rattle.world_law.proofs.Grouping.{Laws}
+use Rattle.world_law.proofs.Smallness.{steps_count}
 use Rattle.world_law.proofs.numbers_stay_small.Goals as goal
 
 pub returns : goal.returns
@@ -15,6 +16,6 @@ returns c =
       packets = c.wire_law.ensures.packets;
     } in
     record {
-      steps = λ f small. steps_count laws c.agreement_law.ensures.few_events f small;
+      steps = λ f small. steps_count laws c.agreement_law.ensures.few_events c.agreement_law.ensures.routes f small;
       moments = λ f small. moments_count laws c.agreement_law.ensures.few_events f small;
     }
