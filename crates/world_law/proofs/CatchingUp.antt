@@ -24,7 +24,7 @@ use Rattle.world_rules.specs.Mail.Errand.{Ask, Answer}
 use Rattle.world_rules.specs.Nodes.{Given, NodeWork, becomes, does, if_played, known}
 use Rattle.world_rules.specs.Nodes.Deed.{Performs as Performing}
 use Rattle.world_rules.specs.Owners.{hands, hands_all, hands_to, hears_as, hears_of, holds, performs_call, takes, takes_asked, takes_call, takes_each, takes_reached, waits_here}
-use Rattle.world_rules.specs.Parts.{catches_up, computes, performs_all}
+use Rattle.world_rules.specs.Parts.{catches_up, computes}
 use Rattle.world_rules.specs.Played.{Played, Stage, receives}
 use Rattle.world_rules.specs.Played.Stage.{Computing, Acting, Submitted, Reading, Asking, Over}
 use Rattle.world_rules.specs.Processes.{home_in}
@@ -41,7 +41,7 @@ use Rattle.world_law.proofs.Grouping.{Good, Laws, members_at}
 use Rattle.world_law.proofs.Maps.{at_both}
 use Rattle.world_law.proofs.Settling.{may_round, settles, settles_once}
 use Rattle.world_law.proofs.Still.{Still, still_reached}
-use Rattle.world_law.proofs.Walking.{Walks, begun, good_begun, walk_event}
+use Rattle.world_law.proofs.Walking.{Walks, begun, good_begun, performed_node, walk_event}
 
 -- ---- calls on single objects leave what a limit looks at
 
@@ -144,10 +144,6 @@ up_part f m v may =
     subst (StopsAt f t.node.copies) (sym due)
     (stops_seen f u.node.copies t.node.copies (due_entries u.node) (same_reached f m u) (settles f m v may).up)
 
-performed_same : (place : ℕ) (lines : List Line) (v : NodeWork) → (performs_all place lines v).node ≡ v.node
-performed_same place [] v = refl
-performed_same place (l ∷ ls) v = performed_same place ls (does (Performing (record { place = place; line = l })) v)
-
 up_walks : (laws : Laws) (f : Frame) → 2 * (group f).resilience < (group f).nodes →
     Walks f (λ s c u. AllCaughtUp f u.world) (λ s c u. AllCaughtUp f u.world)
 up_walks laws f small = record {
@@ -156,7 +152,7 @@ up_walks laws f small = record {
   burst = λ w i place turns burst s c grouped is h m low lives.
       let k : ℕ = home_of f w i.0 in
       at_both w.nodes k (computes i.0 place burst.reads burst.end (w.nodes k)).node m (HasCaughtUp f)
-      (λ e. subst (HasCaughtUp f) (sym (performed_same place burst.reads (record { node = w.nodes k; deeds = [] })))
+      (λ e. subst (HasCaughtUp f) (sym (performed_node place burst.reads (record { node = w.nodes k; deeds = [] })))
       (subst (λ j. HasCaughtUp f (w.nodes j)) e (h m low lives)))
       (λ no. h m low lives);
   taken = λ w number copy s c h. h;

@@ -1,7 +1,7 @@
 -- Flights: what holds of each of them, their order, and what is told of them, as letters are posted.
-use Rattle.std.proofs.Common.{◌≡◌, ◌==◌, ◌||◌, ◌+◌, ◌≤◌, ◌<◌, if◌then◌else◌, ℕ, zero, suc, Bool, true, false, List, [], ◌∷◌, ◌++◌, append_assoc, append-nil, length, length-append, map, refl, sym, ap, ◌∙◌, arith, subst, inl, inr, ltb}
+use Rattle.std.proofs.Common.{◌≡◌, ◌==◌, ◌||◌, ◌+◌, ◌≤◌, ◌<◌, if◌then◌else◌, ℕ, zero, suc, Bool, true, false, cond, Option, None, Some, List, [], ◌∷◌, ◌++◌, append_assoc, append-nil, length, length-append, map, refl, sym, ap, ◌∙◌, arith, subst, inl, inr, ltb}
 use Rattle.std.proofs.lemmas.Bool.{cond_both, eqb-true, ltb-false, ne_eqb}
-use Rattle.std.specs.List.{AllByRecursion as Each}
+use Rattle.std.specs.List.{AllByRecursion as Each, find}
 use Rattle.net_rules.specs.Flights.{ComesBefore, InOrder, copies, joined, nearer, ticked, travels}
 use Rattle.net_rules.specs.Script.{without_first}
 use Rattle.net_rules.specs.declared.asked.Asked.{Asked}
@@ -29,6 +29,16 @@ pub each_first : (P : Flight Carried → Type 0) (test : Flight Carried → Bool
 each_first P test [] h = tt
 each_first P test (flight ∷ flights) h = cond_both (test flight) flights (flight ∷ without_first test flights) (Each P) (λ e. h.1)
     (λ e. (h.0, each_first P test flights h.1))
+
+each_by : (P : Flight Carried → Type 0) (b : Bool) (one flight : Flight Carried) (rest : Option (Flight Carried)) → cond b (Some one) rest ≡ Some flight →
+    P one → (rest ≡ Some flight → P flight) → P flight
+each_by P true one flight rest e h later = let same : one ≡ flight = cc e in subst P same h
+each_by P false one flight rest e h later = later e
+
+pub each_found : (P : Flight Carried → Type 0) (test : Flight Carried → Bool) (flights : List (Flight Carried)) (flight : Flight Carried) →
+    find test flights ≡ Some flight → Each P flights → P flight
+each_found P test [] flight e h = absurd (cc e)
+each_found P test (one ∷ flights) flight e h = each_by P (test one) one flight (find test flights) e h.0 (λ later. each_found P test flights flight later h.1)
 
 pub each_ticked : (P : Flight Carried → Type 0) → ((flight : Flight Carried) → P flight → P (nearer flight)) → (flights : List (Flight Carried)) →
     Each P flights → Each P (ticked flights)

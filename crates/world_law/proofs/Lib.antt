@@ -27,3 +27,4 @@ pub mod CatchingUp
 pub mod Spelling
 pub mod Exchanging
 pub mod Smallness
+pub mod Climbing

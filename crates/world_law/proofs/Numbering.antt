@@ -29,7 +29,7 @@ use Rattle.world_rules.specs.Frame.{Frame, group}
 use Rattle.world_rules.specs.Mail.{Carried, Errand, Mail, place_of}
 use Rattle.world_rules.specs.Mail.Errand.{Ask, Answer}
 use Rattle.world_rules.specs.Nodes.{Given, Node, NodeWork, idle, joins, mails_of, opening_node, plays}
-use Rattle.world_rules.specs.Parts.{acts_of, asks_again, catches_up, computes, performs_all, receives_mail}
+use Rattle.world_rules.specs.Parts.{catches_up, computes, performs_all}
 use Rattle.world_rules.specs.Played.{Played, newborn}
 use Rattle.world_rules.specs.Steps.{AtWork, Burst, IsBurst, Known, Next, Possible, after_part, asked_of, closes, crashes, happens, posts, posts_all, swaps, untouched}
 use Rattle.world_rules.specs.Processes.{first_process}
@@ -48,7 +48,7 @@ use Rattle.world_law.proofs.Lists.{run_append}
 use Rattle.world_law.proofs.Maps.{at_both}
 use Rattle.world_law.proofs.Sending.{AllFrom, Holds, IsFrom, Says, Sends, SendsOf, StandsBy, from_acts, sends_acts, sends_again, sends_arrives, sends_up, stands_free}
 use Rattle.world_law.proofs.Travels.{AllCome, posted_all}
-use Rattle.world_law.proofs.Walking.{Allowed, Start, Walks, asked_by, begun, good_begun, ticked_by, walk_event}
+use Rattle.world_law.proofs.Walking.{Allowed, Start, Walks, asked_by, begun, good_begun, performed_mails, performed_node, ticked_by, walk_event}
 
 -- ---- members go forward
 
@@ -183,22 +183,13 @@ module _ (S : Message → Type 0) (laws : Laws) (f : Frame) (small : 2 * (group 
   ran_place objects place i last r (line ∷ lines) end le ran =
       ran_place objects place i last (reads_on place ran.1 line r) lines end (omega arith) ran.5
 
-  -- it sends nothing, and its member and its other processes stay
-  performed_same : (place : ℕ) (lines : List Line) (v : NodeWork) → (performs_all place lines v).node ≡ v.node
-  performed_same place [] v = refl
-  performed_same place (l ∷ ls) v = performed_same place ls _
-
-  performed_none : (place : ℕ) (lines : List Line) (v : NodeWork) → mails_of (performs_all place lines v).deeds ≡ mails_of v.deeds
-  performed_none place [] v = refl
-  performed_none place (l ∷ ls) v = performed_none place ls _
-
   burst_left : (w : World) (i : ProcessNo) (place turns : ℕ) (burst : Burst) → Grouped f w → IsBurst f w i place turns burst →
       Placed_so S f (untouched w) → Left_so S f (happens f w (event.Burst i place turns) burst)
   burst_left w i place turns burst grouped is h =
       let m : ℕ = home_of f w i.0 in
       let v : NodeWork = computes i.0 place burst.reads burst.end (w.nodes m) in
       let u : NodeWork = performs_all place burst.reads (idle (w.nodes m)) in
-      let same : u.node ≡ w.nodes m = performed_same place burst.reads (idle (w.nodes m)) in
+      let same : u.node ≡ w.nodes m = performed_node place burst.reads (idle (w.nodes m)) in
       let level = grouped.level m in
       let before = is.before in
       let end : burst.end.place ≤ place = ran_place _ place i _ is.start burst.reads burst.end is.after is.ran in
@@ -228,7 +219,7 @@ module _ (S : Message → Type 0) (laws : Laws) (f : Frame) (small : 2 * (group 
         };
         flights = each_more (λ (flight : Flight Carried). Sent_by S f w.nodes flight.packet.mail)
             (λ (flight : Flight Carried). Sent_by S f nodes flight.packet.mail) (λ flight. sent_forth S f w.nodes nodes forth flight.packet.mail) w.flights h.flights;
-        mails = subst (Each (Sent_by S f nodes)) (sym (performed_none place burst.reads (idle (w.nodes m)))) tt;
+        mails = subst (Each (Sent_by S f nodes)) (sym (performed_mails place burst.reads (idle (w.nodes m)))) tt;
       }
 
   places_of : (u : AtWork) → Placed_so S f u → Left_so S f u

@@ -122,12 +122,12 @@ pub record SendsOf (S : Message → Type 0) (nodes m : ℕ) (played : ℕ → Op
   pub answered : (i : ℕ) (one : Given) → given i ≡ Some one → one.place ≤ applied
   pub from : AllFrom S nodes m applied installed mails
 
-applied_if : (change : Played → Played) (i : ℕ) (r : Option Played) (v : NodeWork) →
+pub applied_if : (change : Played → Played) (i : ℕ) (r : Option Played) (v : NodeWork) →
     (if_played change i r v).node.copies.applied ≡ v.node.copies.applied
 applied_if change i None v = refl
 applied_if change i (Some r) v = refl
 
-applied_answers : (place : ℕ) (lines : List Line) (v : NodeWork) → (answers place lines v).node.copies.applied ≡ v.node.copies.applied
+pub applied_answers : (place : ℕ) (lines : List Line) (v : NodeWork) → (answers place lines v).node.copies.applied ≡ v.node.copies.applied
 applied_answers place [] v = refl
 applied_answers place (l ∷ ls) v =
     applied_answers place ls (changes (receives place l.reply) l.process.0 v)

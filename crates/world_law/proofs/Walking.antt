@@ -1,9 +1,10 @@
 -- An event as parts of members, each of which begins in one of four ways and then catches up: whatever holds before and after each part
 -- holds after the event. Beside it the messages that were submitted, and the ticks and coordinations, are counted.
-use Rattle.std.proofs.Common.{◌≡◌, ◌&&◌, ◌+◌, ◌≤◌, ◌<◌, ◌*◌, ℕ, zero, suc, true, List, Option, None, Some, refl, sym, ap, ◌∙◌, arith, subst, nat_lt, length}
+use Rattle.std.proofs.Common.{◌≡◌, ◌&&◌, ◌+◌, ◌≤◌, ◌<◌, ◌*◌, ℕ, zero, suc, true, List, [], ◌∷◌, Option, None, Some, refl, sym, ap, ◌∙◌, arith, subst, nat_lt, length}
 use Rattle.std.proofs.lemmas.Bool.{and_parts, cond_both, lt-ltb}
 use Rattle.orca_base.specs.declared.ids.ProcessNo.{ProcessNo}
 use Rattle.value_core.specs.declared.action.Action.{Action}
+use Rattle.value_core.specs.declared.action.Line.{Line}
 use Rattle.value_core.specs.declared.message.Message.{Message}
 use Rattle.group_rules.specs.Steps.{timer}
 use Rattle.group_rules.specs.World.{Event, may_submit}
@@ -13,8 +14,9 @@ use Rattle.world_rules.specs.declared.event.Event as world
 use Rattle.world_rules.specs.declared.event.Event.TheVariants as event
 use Rattle.world_rules.specs.Frame.{Frame, group}
 use Rattle.world_rules.specs.Mail.{Carried, Mail, is_whole, receiver_of}
-use Rattle.world_rules.specs.Nodes.{NodeWork, idle, joins}
-use Rattle.world_rules.specs.Parts.{acts, asks_again, catches_up, receives, receives_mail, suspects, ticks}
+use Rattle.world_rules.specs.Nodes.{NodeWork, does, idle, mails_of}
+use Rattle.world_rules.specs.Nodes.Deed.{Performs}
+use Rattle.world_rules.specs.Parts.{asks_again, catches_up, performs_all, receives_mail}
 use Rattle.world_rules.specs.Played.{Played}
 use Rattle.world_rules.specs.Played.Stage.{Acting}
 use Rattle.world_rules.specs.Steps.{AtWork, Burst, IsBurst, Known, Possible, after_part, bursts, comes, comes_whole, crashes, delivers, happens, lives_in, may_act_as, passes_tick, swaps, ticks_at, ticks_below, untouched}
@@ -151,3 +153,13 @@ module _ (laws : Laws) (f : Frame) (P Q : ℕ → ℕ → AtWork → Type 0) (sm
       (walks.weaken (s + 0) (suc s) (c + 1) (c + f.settings.nodes) _ (omega arith) (omega (arith, small))
       (walks.part Start.Coordinated (untouched w) node s c grouped may tt h))
   walk_event w event.Swap given s c grouped may submit h = walks.swapped w (suc s) (c + f.settings.nodes) (more s c (untouched w) h)
+
+-- ---- a burst leaves its node but for its process, and sends nothing
+
+pub performed_node : (place : ℕ) (lines : List Line) (v : NodeWork) → (performs_all place lines v).node ≡ v.node
+performed_node place [] v = refl
+performed_node place (l ∷ ls) v = performed_node place ls (does (Performs (record { place = place; line = l })) v)
+
+pub performed_mails : (place : ℕ) (lines : List Line) (v : NodeWork) → mails_of (performs_all place lines v).deeds ≡ mails_of v.deeds
+performed_mails place [] v = refl
+performed_mails place (l ∷ ls) v = performed_mails place ls (does (Performs (record { place = place; line = l })) v)

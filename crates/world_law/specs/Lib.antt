@@ -11,3 +11,4 @@ pub mod Packets
 pub mod CaughtUp
 pub mod SoundPackets
 pub mod Acts
+pub mod Places

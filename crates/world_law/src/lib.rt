@@ -18,6 +18,7 @@ ghost use Rattle.world_law.specs.Lists.{AllGrow};
 ghost use Rattle.world_law.specs.Moments.{AllMoments};
 ghost use Rattle.world_law.specs.Once.{RunsOnce};
 ghost use Rattle.world_law.specs.Packets.{AllNumber};
+ghost use Rattle.world_law.specs.Places.{PlacesNeverFall};
 ghost use Rattle.world_law.specs.SoundPackets.{AllLettersSound};
 
 use group_law::{agreement_law, packets_are_sound};
@@ -56,6 +57,12 @@ pub fn answers_are_true()
 /// In every run processes go on at their members: text and arguments stay, replies and turns only grow.
 pub fn processes_go_on()
     ensures { ProcessesGoOn }
+{}
+
+/// In every run no process's place falls, where each Answer on its way to a process is an old one, or of the call that the process asks,
+/// and then from no lower a place.
+pub fn places_never_fall()
+    ensures { PlacesNeverFall }
 {}
 
 /// In every run each Ask that is in flight, or waits for its place, is of a process that asks this call of an owner, from this place, or
