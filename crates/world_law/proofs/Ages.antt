@@ -353,7 +353,7 @@ happens_later f w (event.Suspect node) given may h =
     (goes_joins (coordinate (group f) node (w.nodes node).member) (idle (w.nodes node))) (h node))
 happens_later f w event.Swap given may h = record { later = λ m i r is. (r, is, later_same r); fresh = h }
 
-posted_nodes : (f : Frame) (mails : List Mail) (fates : List Fate) (w : World) → (posts_all f w mails fates).nodes ≡ w.nodes
+pub posted_nodes : (f : Frame) (mails : List Mail) (fates : List Fate) (w : World) → (posts_all f w mails fates).nodes ≡ w.nodes
 posted_nodes f [] fates w = refl
 posted_nodes f (mail ∷ mails) [] w = refl
 posted_nodes f (mail ∷ mails) (one ∷ fates) w = posted_nodes f mails fates (posts f w mail one)

@@ -16,3 +16,15 @@ pub mod Ages
 pub mod Quiet
 pub mod Asking
 pub mod Gives
+pub mod Noted
+pub mod Settling
+pub mod Walking
+pub mod Counting
+pub mod Sending
+pub mod Flying
+pub mod Numbering
+pub mod CatchingUp
+pub mod Spelling
+pub mod Exchanging
+pub mod Smallness
+pub mod Climbing
