@@ -15,7 +15,7 @@ use Rattle.world_rules.specs.declared.standing.PlaceNote.{PlaceNote}
 use Rattle.world_rules.specs.declared.standing.PlaceNote.TheVariants as note
 use Rattle.world_rules.specs.Frame.{Frame}
 use Rattle.world_rules.specs.Worlds.{World, agreed, aside_note, aside_notes, called_note, notes_from, singles_in}
-use Rattle.world_facts.specs.Places.{AllPlaced, FrontsOfBooks, IsPlaced, lines_to, number_of}
+use Rattle.world_facts.specs.Places.{AllPlaced, FrontsOfBooks, IsPlaced, WorkedPlaces, lines_to, number_of}
 
 -- ---- lists side by side
 
@@ -165,3 +165,6 @@ placed f w =
           ∙ ap (λ (r : List Line). aside_at 0 w.aside ++ r) (lines_from f single opening_copies list w.aside n n (omega arith)));
       whole = ap (λ (l : List Message). book single f.performs l w.aside) (take_all (length list) list (omega arith));
     }
+
+pub worked_places : WorkedPlaces
+worked_places = record { front = refl; rest = refl; lines = refl; none = refl }

@@ -8,7 +8,7 @@
 
 ghost use Rattle.world_facts.specs.Counted.{AllCounted, StepsLeave};
 ghost use Rattle.world_facts.specs.Ends.{AllEndsStand, FinishedRunsEnd};
-ghost use Rattle.world_facts.specs.Places.{AllPlaced, FrontsOfBooks};
+ghost use Rattle.world_facts.specs.Places.{AllPlaced, FrontsOfBooks, WorkedPlaces};
 ghost use Rattle.world_facts.specs.Possible.{StepsMay};
 ghost use Rattle.world_facts.specs.Processes.{AllStand, HomesAreMembers};
 ghost use Rattle.world_facts.specs.Rows.{AllRead};
@@ -20,9 +20,11 @@ ghost use Rattle.world_facts.specs.WorkedEnds.{PremisesMet, WorkedEnds};
 /// - `fronts`: whatever list, and whatever stands beside it, the book is what it is up to a place and what stands behind that.
 /// - `placed`: so it is of a world's book; its lines up to a place are those that were performed there or before, and each line has one
 ///   place.
+/// - `worked`: a worked run's book, cut at a place, which the check computes.
 pub fn book_by_places()
     ensures fronts { FrontsOfBooks }
     ensures placed { AllPlaced }
+    ensures worked { WorkedPlaces }
 {}
 
 /// What each standing of a run says of its members and processes, of every world.
