@@ -1,20 +1,18 @@
 -- What the ends of processes say.
-use Rattle.std.proofs.Common.{◌≡◌, ◌<◌, ◌+◌, ◌++◌, ◌⊎◌, ⊎_elim, inl, inr, if◌then◌else◌, ℕ, zero, suc, Bool, true, false, List, [], ◌∷◌, length, length-append, Option, None, Some, refl, sym, ap, ◌∙◌, arith, subst}
+use Rattle.std.proofs.Common.{◌≡◌, ◌<◌, ◌++◌, ⊎_elim, ℕ, zero, suc, Bool, true, false, List, [], ◌∷◌, length, length-append, Option, None, Some, refl, sym, ap, ◌∙◌, arith, subst}
 use Rattle.std.specs.Prelude.{slice_get}
 use Rattle.std.proofs.lemmas.Bool.{cases_eq}
 use Rattle.orca_base.specs.declared.fault.FaultKind.{FaultKind}
 use Rattle.orca_base.specs.declared.ids.ProcessNo.{ProcessNo}
 use Rattle.value_core.specs.declared.action.Action.{Action}
 use Rattle.value_core.specs.declared.action.Action.TheVariants as action
-use Rattle.world_rules.specs.declared.event.Step.{Step}
 use Rattle.world_rules.specs.Frame.{Frame}
 use Rattle.world_rules.specs.Played.{Played, Stage, has_faulted, is_fault, is_over}
 use Rattle.world_rules.specs.Played.Stage.{Computing, Acting, Submitted, Reading, Asking, Over}
-use Rattle.world_rules.specs.Standings.{process_count, standing}
+use Rattle.world_rules.specs.Standings.{process_count}
 use Rattle.world_rules.specs.declared.standing.Standing.TheVariants as row
-use Rattle.world_rules.specs.Steps.{Replays}
 use Rattle.world_rules.specs.Worlds.{World, home_of, played_in}
-use Rattle.world_facts.specs.Ends.{AllEndsStand, EndsStand, FinishedEnds, FinishedRunsEnd, Lives, ProcessEnd, Stand, end_at, end_crashed, end_living, end_of, end_over, listed, node_end, node_ends, process_end, process_ends}
+use Rattle.world_facts.specs.Ends.{AllEndsStand, FinishedRunsEnd, Lives, Stand, end_at, end_crashed, end_living, end_of, end_over, listed, node_end, process_end}
 use Rattle.world_facts.specs.Processes.{IsPlayed, StandsAt, is_last}
 use Rattle.world_facts.specs.Rows.{AllEnded, AllRest, IsBegun, IsOver, Rests, Row, SomeFaulted}
 use Rattle.world_facts.proofs.Processes.{all_stand}

@@ -1,6 +1,6 @@
 -- Whatever holds of each process as it begins, and stays as it receives a reply, as its action is carried out and as it computes, holds of
 -- each process in every run; and no member knows a process that its copies don't count.
-use Rattle.std.proofs.Common.{◌≡◌, ◌==◌, ◌||◌, ◌≤◌, ◌<◌, ◌+◌, ◌-◌, if◌then◌else◌, ℕ, zero, suc, Bool, true, false, List, [], ◌∷◌, length, Option, Some, None, refl, sym, ap, ◌∙◌, arith, subst, nat_lt, nat_le}
+use Rattle.std.proofs.Common.{◌≡◌, ◌==◌, ◌||◌, ◌≤◌, ◌<◌, ◌+◌, if◌then◌else◌, ℕ, zero, suc, Bool, true, false, List, [], ◌∷◌, length, Option, Some, None, refl, sym, ap, ◌∙◌, arith, subst, nat_lt, nat_le}
 use Rattle.std.proofs.lemmas.Bool.{cond_both, eqb-true}
 use Rattle.orca_base.specs.declared.ids.CallNo.{CallNo}
 use Rattle.orca_base.specs.declared.ids.ProcessNo.{ProcessNo}
@@ -24,7 +24,7 @@ use Rattle.book_law.specs.Passes.{Test, is_passed, lines_after}
 use Rattle.group_rules.specs.Member.{Waiting, nobody}
 use Rattle.group_rules.specs.Reset.{coordinate}
 use Rattle.group_rules.specs.Sets.{with_at}
-use Rattle.group_rules.specs.Steps.{note, submit, timer}
+use Rattle.group_rules.specs.Steps.{timer}
 use Rattle.net_rules.specs.Flights.{ready_copy, ticked, without}
 use Rattle.net_rules.specs.declared.fate.Fate.{Fate}
 use Rattle.net_rules.specs.declared.flight.Flight.{Flight}
@@ -37,9 +37,9 @@ use Rattle.world_rules.specs.Frame.{Frame, group}
 use Rattle.world_rules.specs.Mail.{Carried, Errand, Mail, is_whole, place_of, receiver_of}
 use Rattle.world_rules.specs.Mail.Errand.{Ask, Answer}
 use Rattle.world_rules.specs.Nodes.{Given, Node, NodeWork, becomes, changes, does, idle, if_played, joins, known, opening_node, plays}
-use Rattle.world_rules.specs.Nodes.Deed.{Performs as Performing, Submits}
+use Rattle.world_rules.specs.Nodes.Deed.{Performs as Performing}
 use Rattle.world_rules.specs.Owners.{arrives, hands, hands_all, hands_to, hears_as, hears_of, holds, is_held, performs_call, takes, takes_asked, takes_call, takes_each, takes_reached, waits_here}
-use Rattle.world_rules.specs.Parts.{acts, acts_at, acts_by, acts_of, asks, asks_again, asks_again_at, asks_again_by, asks_again_of, asks_below, asks_owner, calls, calls_as, catches_up, computes, performs_all, reads, receives_mail, submits, suspects, ticks}
+use Rattle.world_rules.specs.Parts.{acts, acts_at, acts_by, acts_of, asks, asks_again, asks_again_at, asks_again_by, asks_again_of, asks_below, asks_owner, calls, calls_as, catches_up, computes, performs_all, receives_mail, submits, suspects, ticks}
 use Rattle.world_rules.specs.Parts.{receives as receives_at}
 use Rattle.world_rules.specs.Played.{Played, Stage, moves_to, newborn, next_call, receives}
 use Rattle.world_rules.specs.Played.Stage.{Computing, Acting, Submitted, Reading, Asking, Over}
@@ -309,7 +309,7 @@ module _ (f : Frame) (P : ℕ → Played → Type 0) (c : Closed f P) where
   asked m i r call v here is h =
       let u : NodeWork = plays i (moves_to (Asking (message_of call).action) r) v in
       let k : On u = plays_on i r (moves_to (Asking (message_of call).action) r) v here
-          (c.moved i r (message_of call).action (h i r here).1 is).2 h in
+      (c.moved i r (message_of call).action (h i r here).1 is).2 h in
       cond_both (owner_in (known f v.node) call.object == m) _ _ On (λ e. call_performed m (message_of call) u k) (λ e. k)
 
   called_as : (m i : ℕ) (r : Played) (call : Suspended) (class : Class) (v : NodeWork) → v.node.played i ≡ Some r →

@@ -1,6 +1,6 @@
 -- The table of standings, read in both directions.
 use Rattle.std.proofs.Common.{◌≡◌, ◌≤◌, ◌<◌, ◌==◌, ◌⊎◌, ⊎_elim, inl, inr, ◌||◌, ◌&&◌, not, ℕ, zero, suc, Bool, true, false, if◌then◌else◌, is_some, nat_le, length, List, [], ◌∷◌, Option, None, Some, refl, sym, ap, ◌∙◌, arith, subst}
-use Rattle.std.proofs.lemmas.Bool.{and_cases, and_from, and_parts, cases_Bool, cases_eq, eq-eqb, eqb-true, false_from_ne_true, le-leb, leb-false, leb-true, lt-leb, lt-ltb, ltb-true, not-false, not-true, not_from_false, not_from_true, or_cases, or_left, or_parts, or_right}
+use Rattle.std.proofs.lemmas.Bool.{and_cases, and_from, and_parts, cases_eq, eq-eqb, eqb-true, false_from_ne_true, le-leb, leb-false, leb-true, lt-leb, lt-ltb, ltb-true, not-false, not-true, not_from_false, or_cases, or_left, or_parts, or_right}
 use Rattle.orca_base.specs.declared.limits.TheConstants.{HISTORY_LINES, IDLE_TICKS}
 use Rattle.orca_base.specs.declared.what.What.{What}
 use Rattle.orca_base.specs.declared.what.What.TheVariants as what
@@ -15,9 +15,9 @@ use Rattle.world_rules.specs.Frame.{Frame, group}
 use Rattle.world_rules.specs.Nodes.{Node}
 use Rattle.world_rules.specs.Played.{Played, Stage, has_faulted, is_computing, is_over, is_ready}
 use Rattle.world_rules.specs.Played.Stage.{Computing, Acting, Submitted, Reading, Asking, Over}
-use Rattle.world_rules.specs.Standings.{after_limit, all_below, all_ended, all_rest, any_below, each_process, first_of, has_fault, has_lost_too_many, has_no_turns, is_blocked_run, is_done, is_faulted, is_no_group, is_out_of_events, is_out_of_turns, is_over_run, is_quiet, limit, limit_at, limit_below, lines_limit, lives_at_home, members_done, nobody_lives, process_count, rests, rests_at, some_process, standing, stands, waits_for_group, waits_in}
+use Rattle.world_rules.specs.Standings.{after_limit, all_below, all_ended, all_rest, any_below, each_process, first_of, has_fault, has_lost_too_many, has_no_turns, is_blocked_run, is_done, is_faulted, is_no_group, is_out_of_events, is_out_of_turns, is_over_run, is_quiet, limit, limit_at, limit_below, lines_limit, lives_at_home, members_done, nobody_lives, process_count, rests, rests_at, some_process, standing, stands, waits_for_group}
 use Rattle.world_rules.specs.Worlds.{Book, World, agreed, home_of, played_in}
-use Rattle.world_facts.specs.Rows.{AllEnded, AllRead, AllRest, IsBegun, IsDone, IsLimited, IsOver, IsQuiet, IsUnlimited, LacksGroup, LivesAtHome, MayGoOn, NoneFaulted, NoneSpent, ReadsStanding, Rests, Row, SomeFaulted, SomeLeft, SomeSpent, SomeWaits, is_limit}
+use Rattle.world_facts.specs.Rows.{AllEnded, AllRead, AllRest, IsBegun, IsDone, IsLimited, IsOver, IsQuiet, IsUnlimited, LacksGroup, LivesAtHome, MayGoOn, NoneFaulted, NoneSpent, Rests, Row, SomeFaulted, SomeLeft, SomeSpent, SomeWaits, is_limit}
 
 -- ---- each number below a bound, and some
 
@@ -506,8 +506,7 @@ row_from f w Faulted h =
     (goes_on f w h.0, over_is f w parts.0, faulted_is f w parts.1)
 row_from f w Blocked h =
     let parts = and_parts (is_over_run f w) (not (all_ended f w)) h.2 in
-    let over = over_is f w parts.0 in
-    (
+    let over = over_is f w parts.0 in (
       goes_on f w h.0,
       over,
       none_faulted_is f w (not_at_home (is_over_run f w) (has_fault f w) parts.0 h.1),

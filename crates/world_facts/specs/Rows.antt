@@ -1,6 +1,6 @@
 -- What each standing of a run says of its members and processes: the table of standings, row by row, in plain words. So it is of every
 -- world, in both directions.
-use Rattle.std.specs.Prelude.{◌≡◌, ◌≤◌, ◌<◌, ◌⊎◌, ◌↔◌, ◌||◌, not, ℕ, Bool, true, false, length, List, [], Option, None, Some}
+use Rattle.std.specs.Prelude.{◌≡◌, ◌≤◌, ◌<◌, ◌⊎◌, ◌↔◌, ◌||◌, not, ℕ, Bool, true, false, length, [], None, Some}
 use Rattle.orca_base.specs.declared.limits.TheConstants.{HISTORY_LINES, IDLE_TICKS}
 use Rattle.orca_base.specs.declared.what.What.{What}
 use Rattle.orca_base.specs.declared.what.What.TheVariants as what
