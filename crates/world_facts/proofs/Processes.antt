@@ -84,6 +84,7 @@ pub all_stand : AllStand
 all_stand f steps w replays =
     let h = held f (Said f) (closed f) steps w replays in
     record {
-      fresh = λ m i r is. (h m i r is).0;
-      each = λ m i r is. (h m i.0 r is).1;
+      few = λ m. (h m).0;
+      fresh = λ m i r is. ((h m).1 i r is).0;
+      each = λ m i r is. ((h m).1 i.0 r is).1;
     }
