@@ -1,8 +1,8 @@
 -- What each event leaves as it is, and what a step adds.
-use Rattle.std.proofs.Common.{◌≡◌, ◌+◌, ◌==◌, ℕ, zero, suc, Bool, true, false, cond, List, [], ◌∷◌, ◌++◌, length, length-append, map, Option, Some, None, append-nil, append_assoc, refl, sym, ap, ◌∙◌, arith, subst, ◌⊎◌, inl, inr, ⊎_elim}
+use Rattle.std.proofs.Common.{◌≡◌, ◌+◌, ◌==◌, ℕ, zero, suc, Bool, true, false, cond, List, [], ◌∷◌, ◌++◌, length, length-append, map, Option, Some, None, append-nil, append_assoc, refl, sym, ap, ◌∙◌, arith, subst}
 use Rattle.std.specs.Prelude.{slice_get}
-use Rattle.std.specs.List.{count_by, flat_map}
-use Rattle.std.proofs.lemmas.Bool.{and_parts, cond_both, eqb-true, eqb-false}
+use Rattle.std.specs.List.{flat_map}
+use Rattle.std.proofs.lemmas.Bool.{and_parts, cond_both, eqb-true}
 use Rattle.std.proofs.lemmas.List.Sums.{sum_by-cons}
 use Rattle.book_law.specs.declared.placing.Placed.{Placed}
 use Rattle.group_rules.specs.Sets.{with_at}
@@ -16,9 +16,9 @@ use Rattle.world_rules.specs.Frame.{Frame}
 use Rattle.world_rules.specs.Mail.{Carried, Mail, is_whole, posted, receiver_of}
 use Rattle.world_rules.specs.Nodes.{Node, NodeWork, aside_of}
 use Rattle.world_rules.specs.Parts.{acts, computes, receives, suspects, ticks}
-use Rattle.world_rules.specs.Steps.{AtWork, Burst, IsBurst, Known, Leads, Next, Possible, after_part, closes, comes, comes_whole, happens, lives_in, may_act_as, posts, posts_all, ticks_below, told_of, untouched}
+use Rattle.world_rules.specs.Steps.{AtWork, Known, Leads, Next, Possible, after_part, closes, comes, comes_whole, happens, lives_in, may_act_as, posts, posts_all, ticks_below, told_of, untouched}
 use Rattle.world_rules.specs.Worlds.{Told, World, home_of, opening_world, played_in}
-use Rattle.world_facts.specs.Counted.{AllCounted, IsCounted, StepLeaves, StepsLeave, count_swaps, is_swap}
+use Rattle.world_facts.specs.Counted.{AllCounted, StepLeaves, StepsLeave, count_swaps, is_swap}
 
 -- ---- maps
 

@@ -1,21 +1,20 @@
 -- What the ends of processes say.
-use Rattle.std.proofs.Common.{◌≡◌, ◌<◌, ◌+◌, ◌++◌, ◌⊎◌, ⊎_elim, inl, inr, if◌then◌else◌, ℕ, zero, suc, Bool, true, false, List, [], ◌∷◌, length, length-append, Option, None, Some, refl, sym, ap, ◌∙◌, arith, subst}
+use Rattle.std.proofs.Common.{◌≡◌, ◌<◌, ◌++◌, ⊎_elim, ℕ, zero, suc, Bool, true, false, List, [], ◌∷◌, length, length-append, Option, None, Some, refl, sym, ap, ◌∙◌, arith, subst}
 use Rattle.std.specs.Prelude.{slice_get}
 use Rattle.std.proofs.lemmas.Bool.{cases_eq}
 use Rattle.orca_base.specs.declared.fault.FaultKind.{FaultKind}
 use Rattle.orca_base.specs.declared.ids.ProcessNo.{ProcessNo}
 use Rattle.value_core.specs.declared.action.Action.{Action}
 use Rattle.value_core.specs.declared.action.Action.TheVariants as action
-use Rattle.world_rules.specs.declared.event.Step.{Step}
 use Rattle.world_rules.specs.Frame.{Frame}
 use Rattle.world_rules.specs.Played.{Played, Stage, has_faulted, is_fault, is_over}
 use Rattle.world_rules.specs.Played.Stage.{Computing, Acting, Submitted, Reading, Asking, Over}
-use Rattle.world_rules.specs.Standings.{is_over_run, process_count, rests_at, standing}
-use Rattle.world_rules.specs.Steps.{Replays}
+use Rattle.world_rules.specs.Standings.{process_count}
+use Rattle.world_rules.specs.declared.standing.Standing.TheVariants as row
 use Rattle.world_rules.specs.Worlds.{World, home_of, played_in}
-use Rattle.world_facts.specs.Ends.{AllEndsStand, EndsStand, FinishedEnds, FinishedRunsEnd, Lives, ProcessEnd, Stand, end_at, end_crashed, end_living, end_of, end_over, listed, node_end, node_ends, process_end, process_ends}
+use Rattle.world_facts.specs.Ends.{AllEndsStand, FinishedRunsEnd, Lives, Stand, end_at, end_crashed, end_living, end_of, end_over, listed, node_end, process_end}
 use Rattle.world_facts.specs.Processes.{IsPlayed, StandsAt, is_last}
-use Rattle.world_facts.specs.Rows.{AllEnded, AllRest, IsBegun, SomeFaulted}
+use Rattle.world_facts.specs.Rows.{AllEnded, AllRest, IsBegun, IsOver, Rests, Row, SomeFaulted}
 use Rattle.world_facts.proofs.Processes.{all_stand}
 use Rattle.world_facts.proofs.Rows.{all_read}
 
@@ -108,10 +107,10 @@ fault_at lives (Asking act) e = absurd (cc e)
 fault_at true (Over act) e = fault_over act e
 fault_at false (Over act) e = fault_over act e
 
-waits_at : (f : Frame) (w : World) (i : ℕ) (stage : Stage) → is_over stage ≡ false → rests_at f w i stage ≡ true →
+waits_at : (f : Frame) (w : World) (i : ℕ) (stage : Stage) → is_over stage ≡ false → Rests f w i stage →
     (act : Action) × (end_at true stage ≡ Stand.Waits act)
-waits_at f w i Computing living rests = absurd (cc rests)
-waits_at f w i (Acting act) living rests = absurd (cc rests)
+waits_at f w i Computing living rests = absurd rests
+waits_at f w i (Acting act) living rests = absurd rests
 waits_at f w i (Submitted act) living rests = (act, refl)
 waits_at f w i (Reading act) living rests = (act, refl)
 waits_at f w i (Asking act) living rests = (act, refl)
@@ -157,13 +156,13 @@ not_ended r s o one two over left =
     cc e
 
 resting : (f : Frame) (w : World) (i : ℕ) (r s : Played) → played_in f w i ≡ Some r → played_in f w i ≡ Some s →
-    rests_at f w i s.stage ≡ true → rests_at f w i r.stage ≡ true
+    Rests f w i s.stage → Rests f w i r.stage
 resting f w i r s one two rests =
     let found : Some r ≡ Some s = sym one ∙ two in
     let same : r ≡ s = cc in
-    ap (λ (z : Played). rests_at f w i z.stage) same ∙ rests
+    subst (λ (z : Played). Rests f w i z.stage) (sym same) rests
 
-blocked : (f : Frame) (w : World) → is_over_run f w ≡ true → (i : ℕ) (r : Played) → IsBegun f w i r → w.lives (home_of f w i) ≡ true →
+blocked : (f : Frame) (w : World) → IsOver f w → (i : ℕ) (r : Played) → IsBegun f w i r → w.lives (home_of f w i) ≡ true →
     is_over r.stage ≡ false → (j : ℕ) × Lives f w j × ((act : Action) × ((process_end f w j).stand ≡ Stand.Waits act))
 blocked f w over i r begun lives left = ⊎_elim
     (λ (h : AllEnded f w).
@@ -173,7 +172,7 @@ blocked f w over i r begun lives left = ⊎_elim
     let e = h.processes i begun.exists lives in
     let k = waits_at f w i r.stage left (resting f w i r e.0 begun.here e.1.here e.2) in
     (i, (begun.exists, lives), (k.0, stand_is f w i r true lives begun.here ∙ k.1)))
-    ((all_read f w).over over)
+    over
 
 pub ends_stand : AllEndsStand
 ends_stand f w =
@@ -185,23 +184,20 @@ ends_stand f w =
       process = λ i low. listed_at (process_count f w) (process_end f w) i low;
       busy = λ i e. busy_lives (w.lives (home_of f w i)) (played_in f w i) e;
       crashed = λ i e. crashed_fell (w.lives (home_of f w i)) (played_in f w i) e;
-      faulted = λ e. faulted f w (reads.faulted e).1;
+      faulted = λ e.
+          let h : Row f w row.Faulted = reads.says row.Faulted e in
+          faulted f w h.2;
       blocked = λ e.
-          let h = reads.blocked e in
-          let one = h.2 in
-          blocked f w h.0 one.0 one.1 one.2 one.3 one.4;
+          let h : Row f w row.Blocked = reads.says row.Blocked e in
+          let one = h.3 in
+          blocked f w h.1 one.0 one.1 one.2 one.3 one.4;
     }
-
--- a process that is over and hasn't faulted has ended
-sound_end : (test : Bool) → (test ≡ true → ⊥) → test ≡ false
-sound_end true h = absurd (h refl)
-sound_end false h = refl
 
 pub finished_end : FinishedRunsEnd
 finished_end f steps w replays finished i lives =
-    let h = (all_read f w).finished finished in
-    let e = h.0 i lives.0 lives.1 in
+    let h : Row f w row.Finished = (all_read f w).says row.Finished finished in
+    let e = h.2 i lives.0 lives.1 in
     let r : Played = e.0 in
     let played : IsPlayed f (record { 0 = i }) r = (all_stand f steps w replays).each (home_of f w i) (record { 0 = i }) r e.1.here in
-    let sound : has_faulted r.stage ≡ false = sound_end (has_faulted r.stage) (λ bad. h.1 (i, r, e.1, bad)) in
+    let sound : has_faulted r.stage ≡ false = h.1 i r e.1 in
     stand_is f w i r true lives.1 e.1.here ∙ ended_at f (record { 0 = i }) r r.stage played.stands e.2 sound

@@ -1,9 +1,13 @@
 -- Whatever holds of each process as it begins, and stays as it receives a reply, as its action is carried out and as it computes, holds of
 -- each process in every run; and no member knows a process that its copies don't count.
-use Rattle.std.proofs.Common.{◌≡◌, ◌==◌, ◌||◌, ◌≤◌, ◌<◌, ◌+◌, ◌-◌, if◌then◌else◌, ℕ, zero, suc, Bool, true, false, List, [], ◌∷◌, length, Option, Some, None, refl, sym, ap, ◌∙◌, arith, subst, nat_lt, nat_le}
-use Rattle.std.proofs.lemmas.Bool.{cond_both, eqb-true}
+use Rattle.std.proofs.Common.{◌≡◌, ◌==◌, ◌||◌, ◌≤◌, ◌<◌, ◌+◌, if◌then◌else◌, ℕ, zero, suc, Bool, true, false, List, [], ◌∷◌, length, Option, Some, None, refl, sym, ap, ◌∙◌, arith, subst, nat_lt, nat_le, is_some, leb}
+use Rattle.std.proofs.lemmas.Bool.{cond_both, eqb-true, leb-false}
 use Rattle.orca_base.specs.declared.ids.CallNo.{CallNo}
 use Rattle.orca_base.specs.declared.ids.ProcessNo.{ProcessNo}
+use Rattle.orca_base.specs.declared.limits.TheConstants.{PROCESSES}
+use Rattle.orca_base.specs.declared.what.What.{What}
+use Rattle.orca_base.specs.declared.what.What.TheVariants as what
+use Rattle.object_manager.specs.Limits.{too_many}
 use Rattle.value_core.specs.Meaning.{Performs}
 use Rattle.value_core.specs.History.{Objects, forked}
 use Rattle.value_core.specs.declared.action.Action.{Action}
@@ -24,7 +28,7 @@ use Rattle.book_law.specs.Passes.{Test, is_passed, lines_after}
 use Rattle.group_rules.specs.Member.{Waiting, nobody}
 use Rattle.group_rules.specs.Reset.{coordinate}
 use Rattle.group_rules.specs.Sets.{with_at}
-use Rattle.group_rules.specs.Steps.{note, submit, timer}
+use Rattle.group_rules.specs.Steps.{timer}
 use Rattle.net_rules.specs.Flights.{ready_copy, ticked, without}
 use Rattle.net_rules.specs.declared.fate.Fate.{Fate}
 use Rattle.net_rules.specs.declared.flight.Flight.{Flight}
@@ -37,15 +41,16 @@ use Rattle.world_rules.specs.Frame.{Frame, group}
 use Rattle.world_rules.specs.Mail.{Carried, Errand, Mail, is_whole, place_of, receiver_of}
 use Rattle.world_rules.specs.Mail.Errand.{Ask, Answer}
 use Rattle.world_rules.specs.Nodes.{Given, Node, NodeWork, becomes, changes, does, idle, if_played, joins, known, opening_node, plays}
-use Rattle.world_rules.specs.Nodes.Deed.{Performs as Performing, Submits}
+use Rattle.world_rules.specs.Nodes.Deed.{Performs as Performing}
 use Rattle.world_rules.specs.Owners.{arrives, hands, hands_all, hands_to, hears_as, hears_of, holds, is_held, performs_call, takes, takes_asked, takes_call, takes_each, takes_reached, waits_here}
-use Rattle.world_rules.specs.Parts.{acts, acts_at, acts_by, acts_of, asks, asks_again, asks_again_at, asks_again_by, asks_again_of, asks_below, asks_owner, calls, calls_as, catches_up, computes, performs_all, reads, receives_mail, submits, suspects, ticks}
+use Rattle.world_rules.specs.Parts.{acts, acts_at, acts_by, acts_of, asks, asks_again, asks_again_at, asks_again_by, asks_again_of, asks_below, asks_owner, calls, calls_as, catches_up, computes, performs_all, receives_mail, submits, suspects, ticks}
 use Rattle.world_rules.specs.Parts.{receives as receives_at}
 use Rattle.world_rules.specs.Played.{Played, Stage, moves_to, newborn, next_call, receives}
 use Rattle.world_rules.specs.Played.Stage.{Computing, Acting, Submitted, Reading, Asking, Over}
 use Rattle.world_rules.specs.Processes.{Begun, begun_by, first_process, home_in, owner_in, singles_of}
 use Rattle.world_rules.specs.Steps.{AtWork, Burst, IsBurst, Known, Leads, Next, Possible, after_part, closes, comes, comes_whole, happens, lives_in, posts, posts_all, ticks_below, untouched}
 use Rattle.world_rules.specs.Worlds.{World, home_of, opening_world}
+use Rattle.world_facts.proofs.Homes.{born_many}
 
 -- ---- maps
 
@@ -65,9 +70,10 @@ pub record Closed (f : Frame) (P : ℕ → Played → Type 0) : Type 0 where
       (objects : Objects) (place : ℕ) (i : ProcessNo) (r : Played) (lines : List Line) (end : Played) → P i.0 r → r.stage ≡ Computing →
       Ran f objects place i (last_turn f r) r lines end → P i.0 end
 
--- so it is of each process that a member knows, and the member's copies count it
+-- so it is of each process that a member knows; the member's copies count it, and they count no more processes than there may be
 abbrev pub Holds : (ℕ → Played → Type 0) → Node → Type 0
-Holds P node = (i : ℕ) (r : Played) → node.played i ≡ Some r → (i < node.copies.processes) × P i r
+Holds P node =
+    (node.copies.processes ≤ PROCESSES) × ((i : ℕ) (r : Played) → node.played i ≡ Some r → (i < node.copies.processes) × P i r)
 
 abbrev pub AllHold : (ℕ → Played → Type 0) → World → Type 0
 AllHold P w = (m : ℕ) → Holds P (w.nodes m)
@@ -86,12 +92,26 @@ counts : (single : Test) (p : Performs) (c : Copied) (x : Message) (keeps : Bool
 counts single p c x keeps = cond_both (is_passed single x.action) _ _ (λ (z : Copied). z.processes ≡ c.processes + length (forked x.action))
     (λ e. let n = passed_forks_none single x.action e in omega (arith, n)) (λ e. refl)
 
-born_many : (nodes parent place : ℕ) (a : Action) → length (begun_by nodes parent place a) ≡ length (forked a)
-born_many nodes parent place (action.Make kind object) = refl
-born_many nodes parent place (action.Call kind op object args) = refl
-born_many nodes parent place (action.Fork text args place_on) = refl
-born_many nodes parent place action.Ended = refl
-born_many nodes parent place (action.Faulted fault) = refl
+-- a limit that isn't passed
+below : (most n : ℕ) (passed : What × ℕ) → (if leb most n then Some passed else None) ≡ None → n < most
+below most n passed e = go (leb most n) refl e
+  where
+    go : (b : Bool) → leb most n ≡ b → (if b then Some passed else None) ≡ None → n < most
+    go true is h = absurd (cc h)
+    go false is h = leb-false most n is
+
+few_after : (p : Performs) (c : Copied) (a : Action) → c.processes ≤ PROCESSES → too_many p c a ≡ None →
+    c.processes + length (forked a) ≤ PROCESSES
+few_after p c (action.Make kind object) few none = omega (arith, few)
+few_after p c (action.Call kind op object args) few none = omega (arith, few)
+few_after p c (action.Fork text args place_on) few none =
+    let less = below PROCESSES c.processes (what.Processes, PROCESSES) none in omega (arith, less)
+few_after p c action.Ended few none = omega (arith, few)
+few_after p c (action.Faulted fault) few none = omega (arith, few)
+
+none_of : {A : Type 0} (o : Option A) → is_some o ≡ false → o ≡ None
+none_of None e = refl
+none_of (Some x) e = absurd (cc e)
 
 count_if : (change : Played → Played) (i : ℕ) (o : Option Played) (v : NodeWork) →
     (if_played change i o v).node.copies.processes ≡ v.node.copies.processes
@@ -110,20 +130,23 @@ module _ (f : Frame) (P : ℕ → Played → Type 0) (c : Closed f P) where
   On v = Holds P v.node
 
   plays_new : (i : ℕ) (t : Played) (v : NodeWork) → i < v.node.copies.processes → P i t → On v → On (plays i t v)
-  plays_new i t v low p h j s is = at_both v.node.played i (Some t) j
-      (λ (z : Option Played). z ≡ Some s → (j < v.node.copies.processes) × P j s)
-      (λ e found.
-      let same : t ≡ s = cc in
-      (omega (arith, low, e), subst (λ k. P k s) (sym e) (subst (P i) same p)))
-      (λ found. h j s found) is
+  plays_new i t v low p h = (
+    h.0,
+    λ j s is. at_both v.node.played i (Some t) j
+        (λ (z : Option Played). z ≡ Some s → (j < v.node.copies.processes) × P j s)
+        (λ e found.
+        let same : t ≡ s = cc in
+        (omega (arith, low, e), subst (λ k. P k s) (sym e) (subst (P i) same p)))
+        (λ found. h.1 j s found) is,
+  )
 
   plays_on : (i : ℕ) (r t : Played) (v : NodeWork) → v.node.played i ≡ Some r → P i t → On v → On (plays i t v)
-  plays_on i r t v here p h = plays_new i t v (h i r here).0 p h
+  plays_on i r t v here p h = plays_new i t v (h.1 i r here).0 p h
 
   replies_if : (place : ℕ) (reply : Reply) (i : ℕ) (o : Option Played) (v : NodeWork) → v.node.played i ≡ o → On v →
       On (if_played (receives place reply) i o v)
   replies_if place reply i None v is h = h
-  replies_if place reply i (Some r) v is h = plays_on i r (receives place reply r) v is (c.replied i place reply r (h i r is).1) h
+  replies_if place reply i (Some r) v is h = plays_on i r (receives place reply r) v is (c.replied i place reply r (h.1 i r is).1) h
 
   replies_on : (place : ℕ) (reply : Reply) (i : ℕ) (v : NodeWork) → On v → On (changes (receives place reply) i v)
   replies_on place reply i v h = replies_if place reply i (v.node.played i) v refl h
@@ -136,7 +159,7 @@ module _ (f : Frame) (P : ℕ → Played → Type 0) (c : Closed f P) where
       (λ e.
       let line : Line = read_line (record { 0 = i }) r act t in
       let u : NodeWork = does (Performing (record { place = v.node.copies.applied; line = line })) v in
-      plays_on i r (receives v.node.copies.applied line.reply r) u here (c.replied i v.node.copies.applied line.reply r (h i r here).1) h)
+      plays_on i r (receives v.node.copies.applied line.reply r) u here (c.replied i v.node.copies.applied line.reply r (h.1 i r here).1) h)
 
   tried_as : (i : ℕ) (r : Played) (stage : Stage) (v : NodeWork) → v.node.played i ≡ Some r → On v → On (tries_as f i r stage v)
   tried_as i r (Reading act) v here h = read_performed i r act _ v here h
@@ -169,15 +192,15 @@ module _ (f : Frame) (P : ℕ → Played → Type 0) (c : Closed f P) where
   begun m count (process ∷ processes) v room h = cond_both (process.home == m) _ _ On
       (λ e. plays_new count (newborn process) v (omega (arith, room)) (c.born count process) h) (λ e. h)
 
-  taken : (m : ℕ) (processes : List Begun) (x : Message) (v : NodeWork) → On v → On (copies_take f m processes x v)
-  taken m processes x v h i r is =
+  taken : (m : ℕ) (processes : List Begun) (x : Message) (v : NodeWork) → too_many f.performs v.node.copies x.action ≡ None → On v →
+      On (copies_take f m processes x v)
+  taken m processes x v none h =
       let new = counts (singles_of f processes) f.performs v.node.copies x (home_in processes x.process.0 == m) in
-      let k = h i r is in
-      let low = k.0 in
-      (omega (arith, low, new), k.1)
+      let few = few_after f.performs v.node.copies x.action h.0 none in
+      (omega (arith, new, few), λ i r is. let k = h.1 i r is in let low = k.0 in (omega (arith, low, new), k.1))
 
-  applied_one : (m : ℕ) (x : Message) (v : NodeWork) → On v → On (applies_one f m x v)
-  applied_one m x v h =
+  applied_one : (m : ℕ) (x : Message) (v : NodeWork) → too_many f.performs v.node.copies x.action ≡ None → On v → On (applies_one f m x v)
+  applied_one m x v none h =
       let ps : List Begun = known f v.node in
       let count : ℕ = v.node.copies.processes in
       let place : ℕ = suc v.node.copies.applied in
@@ -190,12 +213,12 @@ module _ (f : Frame) (P : ℕ → Played → Type 0) (c : Closed f P) where
       let new = counts (singles_of f ps) f.performs v.node.copies x (home_in ps x.process.0 == m) in
       let now = count_answers place lines t in
       tried_all u.node.copies.processes u
-      (begun m count born told (omega (arith, many, new, now)) (answered place lines t (taken m ps x v h)))
+      (begun m count born told (omega (arith, many, new, now)) (answered place lines t (taken m ps x v none h)))
 
   applied_each : (m : ℕ) (xs : List Message) (v : NodeWork) → On v → On (applies_each f m xs v)
   applied_each m [] v h = h
   applied_each m (x ∷ xs) v h = cond_both (passes_limit f v.node x) _ _ On (λ e. h)
-      (λ e. applied_each m xs (applies_one f m x v) (applied_one m x v h))
+      (λ e. applied_each m xs (applies_one f m x v) (applied_one m x v (none_of (too_many f.performs v.node.copies x.action) e) h))
 
   noted : (m : ℕ) (v : NodeWork) → On v → On (notes f m v)
   noted m v h = cond_both (nat_lt v.node.member.applied v.node.copies.applied) _ _ On (λ e. h) (λ e. h)
@@ -235,7 +258,7 @@ module _ (f : Frame) (P : ℕ → Played → Type 0) (c : Closed f P) where
   heard_as : (place i : ℕ) (call : CallNo) (reply : Reply) (r : Played) (stage : Stage) (v : NodeWork) → v.node.played i ≡ Some r → On v →
       On (hears_as place i call reply r stage v)
   heard_as place i call reply r (Asking act) v here h = cond_both (call.0 == length r.replies) _ _ On
-      (λ e. plays_on i r (receives place reply r) v here (c.replied i place reply r (h i r here).1) h) (λ e. h)
+      (λ e. plays_on i r (receives place reply r) v here (c.replied i place reply r (h.1 i r here).1) h) (λ e. h)
   heard_as place i call reply r Computing v here h = h
   heard_as place i call reply r (Acting act) v here h = h
   heard_as place i call reply r (Submitted act) v here h = h
@@ -302,21 +325,21 @@ module _ (f : Frame) (P : ℕ → Played → Type 0) (c : Closed f P) where
 
   submitted : (m i : ℕ) (r : Played) (act : Action) (x : Message) (v : NodeWork) → v.node.played i ≡ Some r → r.stage ≡ Acting act → On v →
       On (submits f m i r act x v)
-  submitted m i r act x v here is h = plays_on i r (moves_to (Submitted act) r) v here (c.moved i r act (h i r here).1 is).0 h
+  submitted m i r act x v here is h = plays_on i r (moves_to (Submitted act) r) v here (c.moved i r act (h.1 i r here).1 is).0 h
 
   asked : (m i : ℕ) (r : Played) (call : Suspended) (v : NodeWork) → v.node.played i ≡ Some r → r.stage ≡ Acting (message_of call).action →
       On v → On (asks f m i r call v)
   asked m i r call v here is h =
       let u : NodeWork = plays i (moves_to (Asking (message_of call).action) r) v in
       let k : On u = plays_on i r (moves_to (Asking (message_of call).action) r) v here
-          (c.moved i r (message_of call).action (h i r here).1 is).2 h in
+      (c.moved i r (message_of call).action (h.1 i r here).1 is).2 h in
       cond_both (owner_in (known f v.node) call.object == m) _ _ On (λ e. call_performed m (message_of call) u k) (λ e. k)
 
   called_as : (m i : ℕ) (r : Played) (call : Suspended) (class : Class) (v : NodeWork) → v.node.played i ≡ Some r →
       r.stage ≡ Acting (message_of call).action → On v → On (calls_as f m i r call class v)
   called_as m i r call Reads v here is h =
       let act : Action = (message_of call).action in
-      tried i (plays i (moves_to (Reading act) r) v) (plays_on i r (moves_to (Reading act) r) v here (c.moved i r act (h i r here).1 is).1 h)
+      tried i (plays i (moves_to (Reading act) r) v) (plays_on i r (moves_to (Reading act) r) v here (c.moved i r act (h.1 i r here).1 is).1 h)
   called_as m i r call Writes v here is h = submitted m i r (message_of call).action (message_of call) v here is h
 
   called : (m i : ℕ) (r : Played) (call : Suspended) (v : NodeWork) → v.node.played i ≡ Some r → r.stage ≡ Acting (message_of call).action →
@@ -368,7 +391,7 @@ module _ (f : Frame) (P : ℕ → Played → Type 0) (c : Closed f P) where
       let v : NodeWork = performs_all place burst.reads (idle node) in
       let same : v.node ≡ node = played_same place burst.reads (idle node) i.0 in
       plays_on i.0 b.start burst.end v (ap (λ (n : Node). n.played i.0) same ∙ b.here)
-      (c.ran _ place i b.start burst.reads burst.end (h i.0 b.start b.here).1 b.computing b.ran)
+      (c.ran _ place i b.start burst.reads burst.end (h.1 i.0 b.start b.here).1 b.computing b.ran)
       (subst (Holds P) (sym same) h)
 
   -- ---- a world
@@ -433,13 +456,16 @@ module _ (f : Frame) (P : ℕ → Played → Type 0) (c : Closed f P) where
   leads_held w (step ∷ steps) v leads h = leads_held leads.0 steps v leads.2 (step_held w leads.0 step leads.1 h)
 
   opening_held : (m : ℕ) → Holds P (opening_node f m)
-  opening_held zero i r is = at_both nobody 0 (Some (newborn (first_process f))) i
-      (λ (z : Option Played). z ≡ Some r → (i < 1) × P i r)
-      (λ e found.
-      let same : newborn (first_process f) ≡ r = cc in
-      (omega (arith, e), subst (P i) same (c.born i (first_process f))))
-      (λ found. absurd (cc found)) is
-  opening_held (suc m) i r is = absurd (cc is)
+  opening_held zero = (
+    omega arith,
+    λ i r is. at_both nobody 0 (Some (newborn (first_process f))) i
+        (λ (z : Option Played). z ≡ Some r → (i < 1) × P i r)
+        (λ e found.
+        let same : newborn (first_process f) ≡ r = cc in
+        (omega (arith, e), subst (P i) same (c.born i (first_process f))))
+        (λ found. absurd (cc found)) is,
+  )
+  opening_held (suc m) = (omega arith, λ i r is. absurd (cc is))
 
   pub held : (steps : List Step) (w : World) → Leads f (opening_world f) steps w → AllHold P w
   held steps w leads = leads_held (opening_world f) steps w leads opening_held

@@ -1,6 +1,6 @@
 -- The notes and the lines of a book stand side by side, place by place.
-use Rattle.std.proofs.Common.{◌≡◌, ◌<◌, ◌≤◌, ◌+◌, ◌==◌, ℕ, zero, suc, Bool, true, false, if◌then◌else◌, List, [], ◌∷◌, ◌++◌, length, length-append, take, map, nat_le, refl, sym, ap, ◌∙◌, arith, subst}
-use Rattle.std.proofs.lemmas.Bool.{cases_lt, eqb-true, le-leb, lt-leb}
+use Rattle.std.proofs.Common.{◌≡◌, ◌<◌, ◌≤◌, ◌+◌, ◌==◌, ℕ, zero, suc, Bool, true, false, if◌then◌else◌, List, [], ◌∷◌, ◌++◌, length, length-append, take, map, nat_le, refl, sym, ap, ◌∙◌, arith}
+use Rattle.std.proofs.lemmas.Bool.{le-leb, lt-leb}
 use Rattle.std.proofs.lemmas.List.{take_all}
 use Rattle.value_core.specs.declared.action.Action.{Action}
 use Rattle.value_core.specs.declared.action.Action.TheVariants as action
@@ -14,8 +14,8 @@ use Rattle.book_law.proofs.Books.{cut}
 use Rattle.world_rules.specs.declared.standing.PlaceNote.{PlaceNote}
 use Rattle.world_rules.specs.declared.standing.PlaceNote.TheVariants as note
 use Rattle.world_rules.specs.Frame.{Frame}
-use Rattle.world_rules.specs.Worlds.{World, agreed, aside_note, aside_notes, called_note, notes_from, singles_in}
-use Rattle.world_facts.specs.Places.{AllPlaced, FrontsOfBooks, IsPlaced, lines_to, number_of}
+use Rattle.world_rules.specs.Worlds.{agreed, aside_note, aside_notes, called_note, notes_from, singles_in}
+use Rattle.world_facts.specs.Places.{AllPlaced, FrontsOfBooks, WorkedPlaces, lines_to, number_of}
 
 -- ---- lists side by side
 
@@ -165,3 +165,6 @@ placed f w =
           ∙ ap (λ (r : List Line). aside_at 0 w.aside ++ r) (lines_from f single opening_copies list w.aside n n (omega arith)));
       whole = ap (λ (l : List Message). book single f.performs l w.aside) (take_all (length list) list (omega arith));
     }
+
+pub worked_places : WorkedPlaces
+worked_places = record { front = refl; rest = refl; lines = refl; none = refl }

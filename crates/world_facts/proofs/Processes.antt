@@ -1,21 +1,18 @@
 -- What is said of each process stays, in each event of a run.
-use Rattle.std.proofs.Common.{◌≡◌, ◌≤◌, ◌<◌, ◌+◌, ◌-◌, min, ℕ, true, false, List, [], ◌∷◌, Some, refl, sym, ap, ◌∙◌, arith, subst}
+use Rattle.std.proofs.Common.{◌≡◌, ◌≤◌, ◌+◌, ℕ, List, [], ◌∷◌, refl, sym, ap, ◌∙◌, arith, subst}
 use Rattle.orca_base.specs.declared.ids.ProcessNo.{ProcessNo}
-use Rattle.orca_base.specs.declared.limits.TheConstants.{BURST_TURNS}
 use Rattle.value_core.specs.History.{Objects}
 use Rattle.value_core.specs.declared.action.Action.{Action}
 use Rattle.value_core.specs.declared.action.Action.TheVariants as action
 use Rattle.value_core.specs.declared.action.Line.{Line}
-use Rattle.value_core.specs.declared.action.Reply.{Reply}
 use Rattle.value_core.specs.declared.meaning.Doing.TheVariants as doing
 use Rattle.value_core.specs.declared.processor.Halt.{Halt}
 use Rattle.value_core.specs.declared.processor.Halt.TheVariants as halt
 use Rattle.world_rules.specs.Bursts.{Halts, Ran, last_turn, reads_on}
 use Rattle.world_rules.specs.Frame.{Frame}
-use Rattle.world_rules.specs.Played.{Played, Stage, at_action, halted, moves_to, newborn, receives}
-use Rattle.world_rules.specs.Played.Stage.{Computing, Acting, Submitted, Reading, Asking, Over}
-use Rattle.world_rules.specs.Processes.{Begun}
-use Rattle.world_facts.specs.Processes.{AllStand, DoesNext, IsPlayed, StandsAt, is_last}
+use Rattle.world_rules.specs.Played.{Played, at_action, halted, moves_to}
+use Rattle.world_rules.specs.Played.Stage.{Acting, Submitted, Reading, Asking}
+use Rattle.world_facts.specs.Processes.{AllStand, DoesNext, IsPlayed, StandsAt}
 use Rattle.world_facts.proofs.Held.{Closed, held}
 
 abbrev pub Said : Frame → ℕ → Played → Type 0
@@ -69,8 +66,7 @@ moved : (f : Frame) (i : ℕ) (r : Played) (act : Action) → Said f i r → r.s
     Said f i (moves_to (Submitted act) r) × Said f i (moves_to (Reading act) r) × Said f i (moves_to (Asking act) r)
 moved f i r act h is =
     let s : StandsAt f (record { 0 = i }) r (Acting act) = subst (StandsAt f (record { 0 = i }) r) is h.stands in
-    let next = s.0 in
-    (
+    let next = s.0 in (
       record { turns = h.turns; stands = (record { turns = next.turns; next = next.next }, s.1) },
       record { turns = h.turns; stands = (record { turns = next.turns; next = next.next }, s.1) },
       record { turns = h.turns; stands = (record { turns = next.turns; next = next.next }, s.1) },
@@ -88,6 +84,7 @@ pub all_stand : AllStand
 all_stand f steps w replays =
     let h = held f (Said f) (closed f) steps w replays in
     record {
-      fresh = λ m i r is. (h m i r is).0;
-      each = λ m i r is. (h m i.0 r is).1;
+      few = λ m. (h m).0;
+      fresh = λ m i r is. ((h m).1 i r is).0;
+      each = λ m i r is. ((h m).1 i.0 r is).1;
     }

@@ -1,9 +1,7 @@
 -- Two of three members crash: each tick is possible, which one test computes for all of them.
-use Rattle.std.proofs.Common.{◌≡◌, ◌&&◌, ◌++◌, ℕ, zero, suc, Bool, true, false, List, [], ◌∷◌, refl, sym, ap, ◌∙◌, arith, subst}
+use Rattle.std.proofs.Common.{◌≡◌, ◌&&◌, ◌++◌, ℕ, zero, suc, Bool, true, false, List, [], ◌∷◌, refl, arith, subst}
 use Rattle.std.proofs.lemmas.Bool.{and_parts}
 use Rattle.std.proofs.lemmas.List.{length-map}
-use Rattle.orca_base.specs.declared.what.What.{What}
-use Rattle.net_rules.specs.declared.fate.Fate.{Fate}
 use Rattle.net_rules.specs.declared.fate.Fate.TheVariants as fate
 use Rattle.world_rules.specs.declared.event.Step.{Step}
 use Rattle.world_rules.specs.declared.standing.Standing.{Standing}
@@ -17,7 +15,7 @@ use Rattle.world_rules.specs.Standings.{is_quiet, standing}
 use Rattle.world_rules.specs.Steps.{Leads, passes_tick}
 use Rattle.world_rules.specs.Worlds.{World, opening_world}
 use Rattle.world_rules.proofs.Scenes.{checks_in, first, leads}
-use Rattle.world_facts.specs.TooManyCrashes.{TooManyCrashes, after_tick, after_ticks, alone, lost_tick, lost_ticks, scenes}
+use Rattle.world_facts.specs.TooManyCrashes.{TooManyCrashes, after_tick, after_ticks, alone, lost_ticks, scenes}
 
 abbrev pub is_going : Standing → Bool
 is_going (Limit what number) = false
@@ -48,8 +46,7 @@ ticks_lead : (f : Frame) (n : ℕ) (w : World) → may_tick f n w ≡ true → L
 ticks_lead f zero w may = refl
 ticks_lead f (suc n) w may =
     let parts = and_parts (is_going (standing f w) && is_quiet f w) (may_tick f n (after_tick f w)) may in
-    let now = and_parts (is_going (standing f w)) (is_quiet f w) parts.0 in
-    (
+    let now = and_parts (is_going (standing f w)) (is_quiet f w) parts.0 in (
       after_tick f w,
       record {
         given = tt;

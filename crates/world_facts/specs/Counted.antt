@@ -1,9 +1,8 @@
 -- What a world counts, and what a step leaves as it is: members that crashed stay as they are, and what was performed beside the list and
 -- what wires were asked grow at the end alone.
-use Rattle.std.specs.Prelude.{◌≡◌, ℕ, suc, ◌+◌, Bool, true, false, List, ◌++◌, length, map, Some, slice_get}
+use Rattle.std.specs.Prelude.{◌≡◌, ℕ, suc, Bool, true, false, List, ◌++◌, length, map, Some, slice_get}
 use Rattle.std.specs.List.{count_by, flat_map}
 use Rattle.book_law.specs.declared.placing.Placed.{Placed}
-use Rattle.net_rules.specs.declared.fate.Fate.{Fate}
 use Rattle.world_rules.specs.declared.event.Event.{Event}
 use Rattle.world_rules.specs.declared.event.Event.TheVariants as event
 use Rattle.world_rules.specs.declared.event.Step.{Step}

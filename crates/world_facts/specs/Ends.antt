@@ -121,8 +121,8 @@ node_ends f w = listed f.settings.nodes (node_end w)
 abbrev pub Lives : Frame → World → ℕ → Type 0
 Lives f w i = (i < process_count f w) × (w.lives (home_of f w i) ≡ true)
 
--- `busy` and `waits`, only of a living member; `crashed`, only of a crashed one. Where the run stands at Faulted some process has faulted, and
--- where it is Blocked some process of a living member waits
+-- `busy`, only of a living member; `crashed`, only of a crashed one. Where the run stands at Faulted some process has faulted, and where it
+-- is Blocked some process of a living member waits
 pub record EndsStand (f : Frame) (w : World) : Type 0 where
   pub nodes : length (node_ends f w) ≡ f.settings.nodes
   pub node : (m : ℕ) → m < f.settings.nodes → slice_get (node_ends f w) m ≡ Some (node_end w m)

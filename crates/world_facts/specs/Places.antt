@@ -2,6 +2,7 @@
 -- places are at most that one. So it is of every world.
 use Rattle.std.specs.Prelude.{◌≡◌, ℕ, nat_le, if◌then◌else◌, List, [], ◌∷◌, ◌++◌, length}
 use Rattle.value_core.specs.declared.action.Line.{Line}
+use Rattle.value_core.specs.declared.action.Reply.TheVariants as answer
 use Rattle.value_core.specs.declared.message.Message.{Message}
 use Rattle.value_core.specs.Meaning.{Performs}
 use Rattle.book_law.specs.Book.{behind, book, up_to}
@@ -10,6 +11,8 @@ use Rattle.book_law.specs.declared.placing.Placed.{Placed}
 use Rattle.world_rules.specs.declared.standing.PlaceNote.{PlaceNote}
 use Rattle.world_rules.specs.declared.standing.PlaceNote.TheVariants as note
 use Rattle.world_rules.specs.Frame.{Frame}
+use Rattle.world_rules.specs.LostEntry.{early_read, late_read, lost_entry, lost_entry_book, lost_entry_end, lost_entry_places}
+use Rattle.world_rules.specs.Programs.{assign, fork_on, line, make, write}
 use Rattle.world_rules.specs.Worlds.{Book, World, agreed, places, singles_in}
 
 -- the lines of the book up to this place, and those behind it
@@ -48,3 +51,17 @@ pub record IsPlaced (f : Frame) (w : World) : Type 0 where
 
 abbrev pub AllPlaced : Type 0
 AllPlaced = (f : Frame) (w : World) → IsPlaced f w
+
+-- ---- the run with a lost entry, cut at its place 2, at which a process read after the assignment had been applied
+
+abbrev pub front_of_two : List Line
+front_of_two = line 0 0 make 0 answer.Done ∷ line 0 1 (fork_on 1) 0 answer.Done ∷ early_read ∷ []
+
+abbrev pub rest_of_two : List Line
+rest_of_two = line 0 2 (assign 6) 0 answer.Done ∷ line 1 1 (write 48) 0 answer.Done ∷ late_read ∷ []
+
+pub record WorkedPlaces : Type 0 where
+  pub front : book_up_to lost_entry lost_entry_end 2 ≡ front_of_two
+  pub rest : book_behind lost_entry lost_entry_end 2 ≡ rest_of_two
+  pub lines : lines_to 2 lost_entry_places lost_entry_book ≡ front_of_two
+  pub none : lines_to 0 lost_entry_places lost_entry_book ≡ []

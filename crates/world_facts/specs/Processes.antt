@@ -1,14 +1,19 @@
 -- What is so of the processes at their members in every run, whatever the group did: a process has a member, who knows it has counted it,
 -- it takes no more turns than it may, and where it isn't computing it stands at what it does next.
-use Rattle.std.specs.Prelude.{◌≡◌, ◌≤◌, ◌<◌, ◌+◌, ℕ, Bool, true, false, List, Some}
+use Rattle.std.specs.Prelude.{◌≡◌, ◌≤◌, ◌<◌, ◌+◌, ◌++◌, ℕ, Bool, true, false, List, Some, length, slice_get}
 use Rattle.orca_base.specs.declared.ids.ProcessNo.{ProcessNo}
+use Rattle.orca_base.specs.declared.limits.TheConstants.{PROCESSES}
 use Rattle.value_core.specs.declared.action.Action.{Action}
 use Rattle.value_core.specs.declared.action.Action.TheVariants as action
 use Rattle.value_core.specs.declared.meaning.Doing.TheVariants as doing
+use Rattle.value_core.specs.declared.message.Message.{Message}
+use Rattle.object_manager.specs.After.{opening_copies}
+use Rattle.book_law.specs.Passes.{Test, after_all}
 use Rattle.world_rules.specs.declared.event.Step.{Step}
 use Rattle.world_rules.specs.Frame.{Frame}
 use Rattle.world_rules.specs.Played.{Played, Stage}
 use Rattle.world_rules.specs.Played.Stage.{Computing, Acting, Submitted, Reading, Asking, Over}
+use Rattle.world_rules.specs.Processes.{Begun, first_process, processes_in}
 use Rattle.world_rules.specs.Steps.{Replays}
 use Rattle.world_rules.specs.Worlds.{World, home_of}
 
@@ -38,8 +43,9 @@ pub record IsPlayed (f : Frame) (i : ProcessNo) (r : Played) : Type 0 where
   pub turns : r.turns ≤ f.settings.turns
   pub stands : StandsAt f i r r.stage
 
--- `fresh`, a member knows no process beyond those that its copies count
+-- `few`, copies count no more processes than there may be; `fresh`, a member knows no process beyond those that its copies count
 pub record ProcessesStand (f : Frame) (w : World) : Type 0 where
+  pub few : (m : ℕ) → (w.nodes m).copies.processes ≤ PROCESSES
   pub fresh : (m i : ℕ) (r : Played) → (w.nodes m).played i ≡ Some r → i < (w.nodes m).copies.processes
   pub each : (m : ℕ) (i : ProcessNo) (r : Played) → (w.nodes m).played i.0 ≡ Some r → IsPlayed f i r
 
@@ -49,3 +55,14 @@ AllStand = (f : Frame) (steps : List Step) (w : World) → Replays f steps w →
 -- each process is on a member, in whatever world
 abbrev pub HomesAreMembers : Type 0
 HomesAreMembers = (f : Frame) (w : World) (i : ℕ) → 0 < f.settings.nodes → home_of f w i < f.settings.nodes
+
+-- ---- the processes of a list of entries
+
+-- process 0 is there first, a longer list begins with the same processes, and there are as many as copies count after these entries
+pub record EntriesBegin (f : Frame) (list : List Message) : Type 0 where
+  pub first : slice_get (processes_in f list) 0 ≡ Some (first_process f)
+  pub longer : (more : List Message) → (later : List Begun) × (processes_in f (list ++ more) ≡ processes_in f list ++ later)
+  pub counted : (single : Test) → length (processes_in f list) ≡ (after_all single f.performs opening_copies list).processes
+
+abbrev pub AllBegin : Type 0
+AllBegin = (f : Frame) (list : List Message) → EntriesBegin f list

@@ -1,7 +1,6 @@
 -- A whole run: two of three members crash, where one may be lost. The process makes the cell. One packet of its message is held for 300
 -- ticks, the other is lost, and both other members crash. Member 0 goes on alone, for 200 ticks: then there is no group.
 use Rattle.std.specs.Prelude.{◌≡◌, ◌++◌, ℕ, zero, suc, true, false, List, [], ◌∷◌, map}
-use Rattle.net_rules.specs.declared.fate.Fate.{Fate}
 use Rattle.net_rules.specs.declared.fate.Fate.TheVariants as fate
 use Rattle.world_rules.specs.declared.event.Event.TheVariants as event
 use Rattle.world_rules.specs.declared.event.Step.{Step}

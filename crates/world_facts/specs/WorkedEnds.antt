@@ -1,5 +1,5 @@
 -- The ends of worked worlds, which the check computes; and that the premises of the law of runs can be met together.
-use Rattle.std.specs.Prelude.{◌≡◌, ◌==◌, ℕ, true, false, List, [], ◌∷◌}
+use Rattle.std.specs.Prelude.{◌≡◌, ◌==◌, ℕ, true, false, [], ◌∷◌}
 use Rattle.orca_base.specs.declared.fault.FaultKind.TheVariants as fault
 use Rattle.orca_base.specs.declared.ids.TextNo.{TextNo}
 use Rattle.value_core.specs.History.{objects_of}

@@ -8,9 +8,9 @@
 
 ghost use Rattle.world_facts.specs.Counted.{AllCounted, StepsLeave};
 ghost use Rattle.world_facts.specs.Ends.{AllEndsStand, FinishedRunsEnd};
-ghost use Rattle.world_facts.specs.Places.{AllPlaced, FrontsOfBooks};
+ghost use Rattle.world_facts.specs.Places.{AllPlaced, FrontsOfBooks, WorkedPlaces};
 ghost use Rattle.world_facts.specs.Possible.{StepsMay};
-ghost use Rattle.world_facts.specs.Processes.{AllStand, HomesAreMembers};
+ghost use Rattle.world_facts.specs.Processes.{AllBegin, AllStand, HomesAreMembers};
 ghost use Rattle.world_facts.specs.Rows.{AllRead};
 ghost use Rattle.world_facts.specs.TooManyCrashes.{TooManyCrashes};
 ghost use Rattle.world_facts.specs.WorkedEnds.{PremisesMet, WorkedEnds};
@@ -20,9 +20,11 @@ ghost use Rattle.world_facts.specs.WorkedEnds.{PremisesMet, WorkedEnds};
 /// - `fronts`: whatever list, and whatever stands beside it, the book is what it is up to a place and what stands behind that.
 /// - `placed`: so it is of a world's book; its lines up to a place are those that were performed there or before, and each line has one
 ///   place.
+/// - `worked`: a worked run's book, cut at a place, which the check computes.
 pub fn book_by_places()
     ensures fronts { FrontsOfBooks }
     ensures placed { AllPlaced }
+    ensures worked { WorkedPlaces }
 {}
 
 /// What each standing of a run says of its members and processes, of every world.
@@ -48,10 +50,13 @@ pub fn worlds_count()
 /// Processes at their members, in every run, whatever the group did.
 ///
 /// - `homes`: each process is on a member, in whatever world.
-/// - `stands`: a member knows no process beyond those that its copies count; a process takes no more turns than it may; and one that
+/// - `begins`: whatever entries there are, process 0 is the first that they begin, a longer list begins with the same processes, and there are
+///   as many as copies count after these entries.
+/// - `stands`: copies count no more processes than there may be, and a member knows no process beyond those; a process takes no more turns than it may; and one that
 ///   isn't computing is at what it does next, and is over exactly where that is its end or a fault.
 pub fn processes_stand()
     ensures homes { HomesAreMembers }
+    ensures begins { AllBegin }
     ensures stands { AllStand }
 {}
 
