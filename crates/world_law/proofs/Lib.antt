@@ -28,3 +28,4 @@ pub mod Spelling
 pub mod Exchanging
 pub mod Smallness
 pub mod Climbing
+pub mod Holding
