@@ -29,3 +29,4 @@ pub mod Exchanging
 pub mod Smallness
 pub mod Climbing
 pub mod Holding
+pub mod Homing

@@ -13,3 +13,4 @@ pub mod SoundPackets
 pub mod Acts
 pub mod Places
 pub mod Holds
+pub mod Homes
