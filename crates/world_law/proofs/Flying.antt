@@ -191,7 +191,7 @@ pub record CountsOf (f : Frame) (flights : List (Flight Carried)) (sent : ℕ) (
 abbrev pub Counts : Frame → World → Type 0
 Counts f w = CountsOf f w.flights w.sent w.told
 
-counts_post : (f : Frame) (w : World) (mail : Mail) (one : Fate) → Counts f w → Counts f (posts f w mail one)
+pub counts_post : (f : Frame) (w : World) (mail : Mail) (one : Fate) → Counts f w → Counts f (posts f w mail one)
 counts_post f w mail one h =
     let n : ℕ = suc w.sent in
     let from : ℕ = (posted f.settings.nodes mail).from in
@@ -217,11 +217,6 @@ counts_post f w mail one h =
       asked_so = asked_append 0 w.told it h.asked_so (omega (arith, told));
       as_many = omega (arith, told, longer);
     }
-
-pub counts_posts : (f : Frame) (mails : List Mail) (fates : List Fate) (w : World) → Counts f w → Counts f (posts_all f w mails fates)
-counts_posts f [] fates w h = h
-counts_posts f (mail ∷ mails) [] w h = h
-counts_posts f (mail ∷ mails) (one ∷ fates) w h = counts_posts f mails fates (posts f w mail one) (counts_post f w mail one h)
 
 -- the next number is in flight nowhere
 pub none_travels : (f : Frame) (sent : ℕ) (flights : List (Flight Carried)) → Each (IsNumbered f sent) flights → travels (suc sent) flights ≡ false

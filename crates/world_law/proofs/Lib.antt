@@ -28,3 +28,5 @@ pub mod Spelling
 pub mod Exchanging
 pub mod Smallness
 pub mod Climbing
+pub mod Holding
+pub mod Homing

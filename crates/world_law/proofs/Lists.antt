@@ -39,7 +39,7 @@ here : (law : AgreedLaw Message) (f : Frame) → 2 * (group f).resilience < (gro
     GroupsList (group f) (group_world w) (group_world w)
 here law f small w h = two_moments law f small w w h (record { grouped = h; more = []; since = sym (append-nil h.events) })
 
-one_list : (law : AgreedLaw Message) (f : Frame) → 2 * (group f).resilience < (group f).nodes → (w : World) → Grouped f w → OneList f w
+pub one_list : (law : AgreedLaw Message) (f : Frame) → 2 * (group f).resilience < (group f).nodes → (w : World) → Grouped f w → OneList f w
 one_list law f small w h =
     let one = here law f small w h in
     record {

@@ -42,7 +42,7 @@ use Rattle.world_law.specs.Packets.{AreNumbered, IsNumbered, IsSent, PlacesWithi
 use Rattle.world_law.proofs.AtWork.{at_work}
 use Rattle.world_law.proofs.Events.{Going, goes_on, going_happens}
 use Rattle.world_law.proofs.Ages.{posted_nodes}
-use Rattle.world_law.proofs.Flying.{Counts, CountsOf, asked_others, counts_posts, each_append, each_first, each_more, each_posted, each_ticked, none_travels, order_first, order_ticked, posts_tell}
+use Rattle.world_law.proofs.Flying.{Counts, CountsOf, asked_others, counts_post, each_append, each_first, each_more, each_posted, each_ticked, none_travels, order_first, order_ticked, posts_tell}
 use Rattle.world_law.proofs.Grouping.{Good, Laws, Rounded, caught_up, members_at}
 use Rattle.world_law.proofs.Lists.{run_append}
 use Rattle.world_law.proofs.Maps.{at_both}
@@ -352,34 +352,45 @@ placed_so f w places h = record {
   mails = tt;
 }
 
-step_numbered : (laws : Laws) (routes : RoutesLaw Message) (f : Frame) → 2 * (group f).resilience < (group f).nodes → (w v : World) (step : Step) →
-    Next f w step v → MayAll f w step.event → Grouped f w → PlacesWithin w → AreNumbered f w → AreNumbered f v × PlacesWithin v
-step_numbered laws routes f small w v step next submit grouped places h =
-    let u : AtWork = happens f w step.event next.given in
-    let c : World = closes f w step u in
-    let left : Left_so Whatever f u = left_happens Whatever laws f small w step.event next.given grouped next.possible submit (placed_so f w places h) in
-    let told : Tells f w u = telling laws f small w step.event next.given grouped next.possible submit h in
-    let after : Grouped f c = subst (Grouped f) next.after (goes_on laws f small w v step next submit grouped).grouped in
-    let nodes : c.nodes ≡ u.world.nodes = posted_nodes f u.mails step.fates u.world in
-    let counts : Counts f c = counts_posts f u.mails step.fates u.world told.counts in
-    let flies : Each (λ (flight : Flight Carried). Sent_by Whatever f u.world.nodes flight.packet.mail) c.flights =
-    each_posted f (Sent_by Whatever f u.world.nodes) u.mails step.fates u.world left.mails left.flights in
-    let sent : Each (λ (flight : Flight Carried). IsSent f u.world.nodes flight.packet.mail) c.flights =
-    flights_sent laws routes f small c after Whatever u.world.nodes c.flights after.travels flies in
-    subst (λ z. AreNumbered f z × PlacesWithin z) (sym next.after) (
+-- after an event
+event_numbered : (laws : Laws) (routes : RoutesLaw Message) (f : Frame) → 2 * (group f).resilience < (group f).nodes → (w : World) (event : world.Event)
+    (given : Known event) → Possible f w event given → MayAll f w event → Grouped f w → PlacesWithin w → AreNumbered f w →
+    AreNumbered f (happens f w event given).world × PlacesWithin (happens f w event given).world
+event_numbered laws routes f small w event given may submit grouped places h =
+    let u : AtWork = happens f w event given in
+    let left : Left_so Whatever f u = left_happens Whatever laws f small w event given grouped may submit (placed_so f w places h) in
+    let told : Tells f w u = telling laws f small w event given grouped may submit h in
+    let after : Grouped f u.world = (going_happens laws f w event given small may submit grouped).grouped in
+    (
       record {
-        order = counts.order;
-        each = counts.each;
-        mails = subst (λ n. Each (λ (flight : Flight Carried). IsSent f n flight.packet.mail) c.flights) (sym nodes) sent;
-        asked = counts.asked_so;
-        told = counts.as_many;
-        new = none_travels f c.sent c.flights counts.each;
+        order = told.counts.order;
+        each = told.counts.each;
+        mails = flights_sent laws routes f small u.world after Whatever u.world.nodes u.world.flights after.travels left.flights;
+        asked = told.counts.asked_so;
+        told = told.counts.as_many;
+        new = none_travels f u.world.sent u.world.flights told.counts.each;
       },
-      record {
-        processes = λ m i r. subst (λ (n : ℕ → Node). (n m).played i ≡ Some r → r.place ≤ (n m).copies.applied) (sym nodes) (left.places.processes m i r);
-        given = λ m i one. subst (λ (n : ℕ → Node). (n m).given i ≡ Some one → one.place ≤ (n m).copies.applied) (sym nodes) (left.places.given m i one);
-      },
+      left.places,
     )
+
+-- a letter is posted
+post_numbered : (f : Frame) (w : World) (mail : Mail) (one : Fate) → IsSent f w.nodes mail → AreNumbered f w → AreNumbered f (posts f w mail one)
+post_numbered f w mail one sent h =
+    let counts : Counts f (posts f w mail one) = counts_post f w mail one (record { order = h.order; each = h.each; asked_so = h.asked; as_many = h.told }) in
+    record {
+      order = counts.order;
+      each = counts.each;
+      mails = each_posted f (IsSent f w.nodes) (mail ∷ []) (one ∷ []) w (sent, tt) h.mails;
+      asked = counts.asked_so;
+      told = counts.as_many;
+      new = none_travels f (suc w.sent) (posts f w mail one).flights counts.each;
+    }
+
+posts_numbered : (f : Frame) (mails : List Mail) (fates : List Fate) (w : World) → Each (IsSent f w.nodes) mails → AreNumbered f w →
+    AreNumbered f (posts_all f w mails fates)
+posts_numbered f [] fates w sent h = h
+posts_numbered f (mail ∷ mails) [] w sent h = h
+posts_numbered f (mail ∷ mails) (one ∷ fates) w sent h = posts_numbered f mails fates (posts f w mail one) sent.1 (post_numbered f w mail one sent.0 h)
 
 pub letters_sent : (laws : Laws) (routes : RoutesLaw Message) (f : Frame) → 2 * (group f).resilience < (group f).nodes → (w : World) (event : world.Event)
     (given : Known event) → Possible f w event given → MayAll f w event → Grouped f w → PlacesWithin w → AreNumbered f w →
@@ -389,6 +400,30 @@ letters_sent laws routes f small w event given may submit grouped places h =
     let going : Going f grouped.events u = going_happens laws f w event given small may submit grouped in
     let left : Left_so Whatever f u = left_happens Whatever laws f small w event given grouped may submit (placed_so f w places h) in
     mails_sent laws routes f small u.world going.grouped Whatever u.world.nodes u.mails going.mails left.mails
+
+step_numbered : (laws : Laws) (routes : RoutesLaw Message) (f : Frame) → 2 * (group f).resilience < (group f).nodes → (w v : World) (step : Step) →
+    Next f w step v → MayAll f w step.event → Grouped f w → PlacesWithin w → AreNumbered f w → AreNumbered f v × PlacesWithin v
+step_numbered laws routes f small w v step next submit grouped places h =
+    let u : AtWork = happens f w step.event next.given in
+    let c : World = closes f w step u in
+    let event = event_numbered laws routes f small w step.event next.given next.possible submit grouped places h in
+    let sent = letters_sent laws routes f small w step.event next.given next.possible submit grouped places h in
+    let nodes : c.nodes ≡ u.world.nodes = posted_nodes f u.mails step.fates u.world in
+    let posted_so : AreNumbered f (posts_all f u.world u.mails step.fates) = posts_numbered f u.mails step.fates u.world sent event.0 in
+    subst (λ z. AreNumbered f z × PlacesWithin z) (sym next.after) (
+      record {
+        order = posted_so.order;
+        each = posted_so.each;
+        mails = posted_so.mails;
+        asked = posted_so.asked;
+        told = posted_so.told;
+        new = posted_so.new;
+      },
+      record {
+        processes = λ m i r. subst (λ (n : ℕ → Node). (n m).played i ≡ Some r → r.place ≤ (n m).copies.applied) (sym nodes) (event.1.processes m i r);
+        given = λ m i one. subst (λ (n : ℕ → Node). (n m).given i ≡ Some one → one.place ≤ (n m).copies.applied) (sym nodes) (event.1.given m i one);
+      },
+    )
 
 step_tells : (laws : Laws) (f : Frame) → 2 * (group f).resilience < (group f).nodes → (w v : World) (step : Step) → Next f w step v →
     MayAll f w step.event → Grouped f w → AreNumbered f w → TellsWire w v step
@@ -422,7 +457,9 @@ steps_number laws routes f small = record {
     record { order = tt; each = tt; mails = tt; asked = tt; told = refl; new = refl },
     record { processes = opening_place f; given = λ m i one found. cc found },
   );
-  step = step_numbered laws routes f small;
+  event = event_numbered laws routes f small;
   letters = letters_sent laws routes f small;
+  posts = post_numbered f;
+  step = step_numbered laws routes f small;
   tells = step_tells laws f small;
 }

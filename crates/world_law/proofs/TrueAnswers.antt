@@ -183,7 +183,7 @@ closes_true f w step u h =
           (subst (λ nodes. GivenTrue u.world.aside (nodes m).given) (sym p.nodes) (h.answers.given m));
     }
 
-step_true : (f : Frame) (w v : World) (step : Step) → Next f w step v → AnswersTrue w → AnswersTrue v
+pub step_true : (f : Frame) (w v : World) (step : Step) → Next f w step v → AnswersTrue w → AnswersTrue v
 step_true f w v step next h = subst AnswersTrue (sym next.after)
     (closes_true f w step (happens f w step.event next.given) (happens_true f w step.event next.given h))
 

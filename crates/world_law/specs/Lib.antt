@@ -12,3 +12,5 @@ pub mod CaughtUp
 pub mod SoundPackets
 pub mod Acts
 pub mod Places
+pub mod Holds
+pub mod Homes

@@ -11,7 +11,7 @@ use Rattle.world_rules.specs.Frame.{Frame}
 use Rattle.world_rules.specs.Mail.{Carried, Mail, place_of, posted}
 use Rattle.world_rules.specs.Nodes.{Given, Node}
 use Rattle.world_rules.specs.Played.{Played}
-use Rattle.world_rules.specs.Steps.{Known, Next, Possible, asked_of, happens}
+use Rattle.world_rules.specs.Steps.{Known, Next, Possible, asked_of, happens, posts}
 use Rattle.world_rules.specs.Worlds.{Told, World, opening_world}
 use Rattle.world_law.specs.Grouped.{Grouped, Submits}
 
@@ -66,15 +66,20 @@ pub record TellsWire (w v : World) (step : Step) : Type 0 where
   pub sent : v.sent ≡ w.sent + length step.fates
   pub others : (wire : ℕ) → (wire ≡ v.swaps → ⊥) → asked_of wire v.told ≡ asked_of wire w.told
 
--- `letters`, so is each letter that an event sends, in the world that the event leaves
+-- `event`, an event leaves what is in flight numbered; `letters`, each letter that it sends goes so in the world that it leaves; `posts`, and is
+-- numbered once it is posted; so it is after a step, which tells the wire in use
 pub record StepsNumber (f : Frame) : Type 0 where
   pub opening : AreNumbered f (opening_world f) × PlacesWithin (opening_world f)
-  pub step :
-      (w v : World) (step : Step) → Next f w step v → Submits f w step.event → Grouped f w → PlacesWithin w → AreNumbered f w →
-      AreNumbered f v × PlacesWithin v
+  pub event :
+      (w : World) (event : Event) (given : Known event) → Possible f w event given → Submits f w event → Grouped f w → PlacesWithin w →
+      AreNumbered f w → AreNumbered f (happens f w event given).world × PlacesWithin (happens f w event given).world
   pub letters :
       (w : World) (event : Event) (given : Known event) → Possible f w event given → Submits f w event → Grouped f w → PlacesWithin w →
       AreNumbered f w → Each (IsSent f (happens f w event given).world.nodes) (happens f w event given).mails
+  pub posts : (w : World) (mail : Mail) (fate : Fate) → IsSent f w.nodes mail → AreNumbered f w → AreNumbered f (posts f w mail fate)
+  pub step :
+      (w v : World) (step : Step) → Next f w step v → Submits f w step.event → Grouped f w → PlacesWithin w → AreNumbered f w →
+      AreNumbered f v × PlacesWithin v
   pub tells : (w v : World) (step : Step) → Next f w step v → Submits f w step.event → Grouped f w → AreNumbered f w → TellsWire w v step
 
 abbrev pub AllNumber : Type 0

@@ -14,6 +14,8 @@ ghost use Rattle.world_law.specs.Counts.{AllCount, AllMomentsCount};
 ghost use Rattle.world_law.specs.Gives.{AllGive};
 ghost use Rattle.world_law.specs.Going.{ProcessesGoOn};
 ghost use Rattle.world_law.specs.Grouped.{AllGrouped};
+ghost use Rattle.world_law.specs.Holds.{AllHold};
+ghost use Rattle.world_law.specs.Homes.{AllHome};
 ghost use Rattle.world_law.specs.Lists.{AllGrow};
 ghost use Rattle.world_law.specs.Moments.{AllMoments};
 ghost use Rattle.world_law.specs.Once.{RunsOnce};
@@ -123,3 +125,19 @@ pub fn members_catch_up()
 pub fn acts_meet_runs()
     ensures { AllActsMeet }
 {}
+
+/// All that the group's side says of each world of a run, carried from step to step, where what is submitted may be.
+pub fn runs_hold()
+    ensures { AllHold }
+{
+    agreement_law::<Message>();
+    wire_law::<Message, Reply>();
+}
+
+/// In every run whose submissions are allowed, each process is at its home: who plays it is the member that its fork named, and no other.
+pub fn processes_are_home()
+    ensures { AllHome }
+{
+    agreement_law::<Message>();
+    wire_law::<Message, Reply>();
+}
