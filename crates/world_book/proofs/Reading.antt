@@ -198,27 +198,11 @@ blocked_round f m v fresh all =
     cond_both (nat_lt u.node.member.applied u.node.copies.applied) (joins (note (group f) m u.node.copies.applied u.node.member) u) u
     (λ (t : NodeWork). AllBlocked f t.node) (λ e. h) (λ e. h)
 
-blocked_rounds : (f : Frame) (m : ℕ) (waiting : List (Waiting Message)) (v : NodeWork) → Fresh v.node → AllBlocked f v.node → AllBlocked f (rounds f m waiting v).node
+pub blocked_rounds : (f : Frame) (m : ℕ) (waiting : List (Waiting Message)) (v : NodeWork) → Fresh v.node → AllBlocked f v.node → AllBlocked f (rounds f m waiting v).node
 blocked_rounds f m [] v fresh all = blocked_round f m v fresh all
 blocked_rounds f m (one ∷ more) v fresh all =
     let a = ages_round f m v fresh in
     blocked_rounds f m more (round f m v) a.fresh (blocked_round f m v fresh all)
-
--- where nothing waits for its place
-pub blocked_caught : (f : Frame) (m : ℕ) (v : NodeWork) → (applies_all f m v).node.held ≡ [] → Fresh v.node → AllBlocked f v.node → AllBlocked f (catches_up f m v).node
-blocked_caught f m v none fresh all =
-    cond_both u.node.member.outside u (takes_each f m u.node.held (becomes (record u.node { held = [] }) u)) (λ (t : NodeWork). AllBlocked f t.node)
-    (λ e. h) (λ e. go u.node.held none)
-  where
-    u : NodeWork
-    u = applies_all f m v
-
-    h : AllBlocked f u.node
-    h = blocked_rounds f m v.node.member.waiting v fresh all
-
-    go : (errands : List Errand) → errands ≡ [] → AllBlocked f (takes_each f m errands (becomes (record u.node { held = [] }) u)).node
-    go [] e = h
-    go (errand ∷ errands) e = absurd (cc e)
 
 -- ---- one process changes
 

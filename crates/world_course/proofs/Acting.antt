@@ -103,7 +103,7 @@ pub record IsMessage (single : Test) (i : ℕ) (r : Played) (act : Action) (x : 
   pub action : x.action ≡ act
   pub shared : (o : ObjectId) → Calls act o → single o ≡ false
 
-submitting_lifts : (f : Frame) (single : Test) (w : World) (c : Course) (m i : ℕ) (r : Played) (act : Action) (x : Message) (v : NodeWork) → IsActing f single w c m i r act v → IsMessage single i r act x
+pub submitting_lifts : (f : Frame) (single : Test) (w : World) (c : Course) (m i : ℕ) (r : Played) (act : Action) (x : Message) (v : NodeWork) → IsActing f single w c m i r act v → IsMessage single i r act x
     → Lifts f single c (at_work f m w (submitting i r act x v))
 submitting_lifts f single w c m i r act x v a is = (
   d,
@@ -184,12 +184,6 @@ submitting_lifts f single w c m i r act x v a is = (
             first (inr among) = old z (subst (λ (n : ℕ). IsIn z (now.past.submitted n)) (sym e) among)
         by (inr apart) = old z (subst (λ (l : List Message). IsIn z l) (at_other now.past.submitted x.process.0 (x ∷ now.past.submitted x.process.0) z.process.0 apart) there)
 
-pub submits_lift : (f : Frame) (single : Test) (w : World) (c : Course) (m i : ℕ) (r : Played) (act : Action) (x : Message) (v : NodeWork) → IsActing f single w c m i r act v → IsMessage single i r act x
-    → KeepsEntries v.node (submits f m i r act x v).node → Lifts f single c (at_work f m w (submits f m i r act x v))
-submits_lift f single w c m i r act x v a is entries =
-    let l = submitting_lifts f single w c m i r act x v a is in
-    (l.0, l.1, joins_on f single m w l.0 (submit (group f) m x v.node.member) (submitting i r act x v) entries l.2)
-
 -- ---- its read is tried
 
 pub reading_lifts : (f : Frame) (single : Test) (w : World) (c : Course) (m i : ℕ) (r : Played) (act : Action) (v : NodeWork) → IsActing f single w c m i r act v → Corresponds f single (at_work f m w (moving i (Reading act) r v)) c
@@ -225,11 +219,6 @@ reading_lifts f single w c m i r act v a = record {
             stage = subst (StageStands f.computes i s.process.runner) a.acts s.is.stage;
           },
         ))
-
-pub reads_try : (f : Frame) (single : Test) (fits_state : StateFits) (fits_args : ArgsFit) (fits_text : TextFits) (fits_reply : ReplyFits) (w : World) (c : Course) (m i : ℕ) (r : Played) (act : Action) (v : NodeWork)
-    → Program f fits_state fits_args fits_text fits_reply → IsActing f single w c m i r act v → Lifts f single c (at_work f m w (reads f i r act v))
-reads_try f single fits_state fits_args fits_text fits_reply w c m i r act v program a =
-    read_lifts f single fits_state fits_args fits_text fits_reply w c m i (moving i (Reading act) r v) program (reading_lifts f single w c m i r act v a)
 
 -- ---- what a member finds replicated is so
 

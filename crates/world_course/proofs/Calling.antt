@@ -50,7 +50,7 @@ use Rattle.world_course.proofs.Later.{Later, errand_later, leads_later}
 use Rattle.world_course.proofs.Listing.{runs_below}
 use Rattle.world_course.proofs.Owning.{only_line}
 use Rattle.world_course.proofs.Program.{Program}
-use Rattle.world_course.proofs.Silent.{Waits}
+use Rattle.world_course.proofs.Silent.{Waits, asks_waits, shares_waits}
 use Rattle.world_course.proofs.Taking.{Parts, Taken, begun_call, call_taken}
 use Rattle.world_course.proofs.Tries.{node_at}
 
@@ -100,7 +100,7 @@ first_calls c o call tried.Blocked is its = record {
 first_calls c o call (tried.Did guard state reply) is its = record { lines = one_calls o call (tried.Did guard state reply) is; queue = its }
 first_calls c o call (tried.Broke guard fault) is its = record { lines = one_calls o call (tried.Broke guard fault) is; queue = its }
 
-lines_call : (p : Performs) (x : Single) (call : Suspended) → call.object ≡ x.object → ((other : Suspended) → In other x.queue → other.object ≡ x.object) → (l : Line) → In l (lines_on p x call) → Calls l.action x.object
+pub lines_call : (p : Performs) (x : Single) (call : Suspended) → call.object ≡ x.object → ((other : Suspended) → In other x.queue → other.object ≡ x.object) → (l : Line) → In l (lines_on p x call) → Calls l.action x.object
 lines_call p x call is its l h =
     let s : Settling = called (side (alone x)) call (tried_in p (side (alone x)).objects call) in
     let whole : settled_from p s ≡ behind s.lines (settled p s.objects s.queue) = settled_behind p s.objects s.queue s.lines (settled_from p s) refl in
@@ -184,10 +184,10 @@ done_comes f single w c d m n lines object v u node corresponds z = record {
         (λ same. answer_later c d one.place i one.call one.reply more.aside (node.given i one (sym same ∙ is)))
         (λ set. kept_answers f c d m n lines object v u z i one is set)
         (z.given i.0);
-    asks = λ j r act o is stage calls.
-        let a = node.asks j r act o (z.waits j r is (subst Waits (sym stage) tt)) stage calls in
+    asks = λ j r o is at.
+        let a = node.asks j r o (z.waits j r is (asks_waits r.stage o at)) at in
         record { alone = a.alone; maker = let lt = a.maker in let e = z.count in omega (arith, lt, e) };
-    reads = λ j r act o is stage calls. node.reads j r act o (z.waits j r is (subst Waits (sym stage) tt)) stage calls;
+    shares = λ j r o is at. node.shares j r o (z.waits j r is (shares_waits r.stage o at)) at;
   };
   mails = λ mail is. ⊎_elim (λ old. inl old) (λ sent. inr (sent_stands f single c d m n lines object v u z mail sent)) (z.mails mail is);
   beside = λ r o is calls alone. ⊎_elim (λ old. inl old)

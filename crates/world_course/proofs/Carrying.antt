@@ -6,8 +6,8 @@ use Rattle.orca_base.specs.declared.ids.ObjectId.{ObjectId}
 use Rattle.orca_base.specs.declared.ids.ProcessNo.{ProcessNo}
 use Rattle.value_core.specs.declared.action.Line.{Line}
 use Rattle.value_core.specs.declared.action.Reply.{Reply}
-use Rattle.group_rules.specs.Member.{Member}
 use Rattle.value_core.specs.declared.message.Message.{Message}
+use Rattle.group_rules.specs.Work.{Work}
 use Rattle.book_law.specs.Passes.{Test}
 use Rattle.book_law.specs.declared.placing.Placed.{Placed}
 use Rattle.book_law.specs.Course.{Course}
@@ -17,19 +17,22 @@ use Rattle.book_law.proofs.Lists.{in_push}
 use Rattle.book_law.proofs.Objects.{in_append, in_first, in_second}
 use Rattle.world_rules.specs.Frame.{Frame}
 use Rattle.world_rules.specs.Mail.{Errand, Mail}
-use Rattle.world_rules.specs.Nodes.{Given, Node, NodeWork, aside_of, becomes, does, mails_of}
+use Rattle.world_rules.specs.Nodes.{Given, Node, NodeWork, aside_of, becomes, does, joins, mails_of}
 use Rattle.world_rules.specs.Nodes.Deed.{Mails}
 use Rattle.world_rules.specs.Owners.{holds}
+use Rattle.world_rules.specs.Played.{Stage}
 use Rattle.world_rules.specs.Worlds.{World}
 use Rattle.world_course.specs.Chain.{Leads}
 use Rattle.world_course.specs.Chain.Leads.{Stays}
 use Rattle.world_course.specs.Corresponds.{Corresponds, Lifts}
-use Rattle.world_course.specs.Errands.{AllStand, ErrandStands, IsAnswer, IsGiven, MailStands, NodeStands, WasPerformed}
+use Rattle.world_course.specs.Errands.{AllStand, ErrandStands, IsAnswer, IsGiven, MailStands, NodeStands, WaitsOn, WasPerformed}
+use Rattle.world_course.specs.Group.{KeepsEntries}
 use Rattle.world_course.specs.Works.{at_work}
+use Rattle.world_course.proofs.Catching.{joins_on}
 use Rattle.world_course.proofs.Changing.{leads_on}
 use Rattle.world_course.proofs.Events.{OnlySends, sends_on}
 use Rattle.world_course.proofs.Later.{Later, errand_later, later_self, leads_later}
-use Rattle.world_course.proofs.Silent.{IsGrouped, Silent, Waits}
+use Rattle.world_course.proofs.Silent.{IsGrouped, Silent, asks_waits, shares_waits, silent_joins}
 use Rattle.world_course.proofs.Tries.{node_at}
 
 -- ---- at work
@@ -67,7 +70,7 @@ node_later f single c d m node l n = record {
   held = λ errand is. errand_later f single c d m errand l (n.held errand is);
   given = λ i one is. answer_later c d one.place i one.call one.reply l.aside (n.given i one is);
   asks = n.asks;
-  reads = n.reads;
+  shares = n.shares;
 }
 
 pub grouped_stands : (f : Frame) (single : Test) (c : Course) (mail : Mail) → IsGrouped mail → MailStands f single c mail
@@ -148,14 +151,14 @@ silent_carries f single w c d m v u h s leads corresponds = carry f single w c d
   node = record {
     held = λ errand is. errand_later f single c d m errand later (n.held errand (subst (λ (l : List Errand). In errand l) s.held is));
     given = λ i one is. answer_later c d one.place i one.call one.reply later.aside (n.given i one (ap (λ (g : ℕ → Option Given). g i.0) (sym s.given) ∙ is));
-    asks = λ j r act o is stage calls.
-        let a = n.asks j r act o (s.waits j r is (subst Waits (sym stage) tt)) stage calls in
+    asks = λ j r o is at.
+        let a = n.asks j r o (s.waits j r is (asks_waits r.stage o at)) at in
         record { alone = a.alone; maker = let lt = a.maker in let le = s.count in omega (arith, lt, le) };
-    reads = λ j r act o is stage calls. n.reads j r act o (s.waits j r is (subst Waits (sym stage) tt)) stage calls;
+    shares = λ j r o is at. n.shares j r o (s.waits j r is (shares_waits r.stage o at)) at;
   };
   mails = λ mail is. ⊎_elim (λ old. inl old) (λ g. inr (grouped_stands f single d mail g)) (s.mails mail is);
   beside = λ r o is calls alone. ⊎_elim (λ old. inl old)
-      (λ was. let e : true ≡ false = sym alone ∙ n.reads was.process was.played r.line.action o was.here was.reads calls in absurd (cc e))
+      (λ was. let e : true ≡ false = sym alone ∙ n.shares was.process was.played o was.here (subst (λ (z : Stage). WaitsOn z o) (sym was.reads) calls) in absurd (cc e))
       (s.beside r is);
   given = λ r is g. record { given = g.given; there = ap (λ (gs : ℕ → Option Given). gs r.line.process.0) s.given ∙ g.there; call = g.call };
 })
@@ -168,6 +171,10 @@ silent_carries f single w c d m v u h s leads corresponds = carry f single w c d
 
 pub silent_lifts : (f : Frame) (single : Test) (w : World) (c : Course) (m : ℕ) (v u : NodeWork) → Carries f single w c m v → Silent v u → Lifts f single c (at_work f m w u) → CarriesOn f single w c m u
 silent_lifts f single w c m v u h s l = (l.0, l.1, silent_carries f single w c l.0 m v u h s l.1 l.2)
+
+-- a step in the group
+pub joins_carries : (f : Frame) (single : Test) (w : World) (c : Course) (m : ℕ) (work : Work Message) (v : NodeWork) → KeepsEntries v.node (joins work v).node → Carries f single w c m v → Carries f single w c m (joins work v)
+joins_carries f single w c m work v entries h = silent_carries f single w c c m v (joins work v) h (silent_joins work v) (Stays c) (joins_on f single m w c work v entries h.corresponds)
 
 -- ---- what waits for its place, and what is sent
 
@@ -195,7 +202,7 @@ held_carries f single w c m held v h stand =
     let n = own_node f single w c m v h in
     only_carries f single w c m v (becomes (record v.node { held = held }) v) h
     (record { copies = refl; member = refl; plays = refl; aside = refl; past = λ p. refl })
-    (record { held = stand; given = n.given; asks = n.asks; reads = n.reads }) refl (λ mail is. inl is)
+    (record { held = stand; given = n.given; asks = n.asks; shares = n.shares }) refl (λ mail is. inl is)
 
 pub holds_carries : (f : Frame) (single : Test) (w : World) (c : Course) (m : ℕ) (errand : Errand) (v : NodeWork) → Carries f single w c m v → ErrandStands f single c m errand → Carries f single w c m (holds errand v)
 holds_carries f single w c m errand v h stands =

@@ -17,35 +17,32 @@ use Rattle.group_rules.specs.Sets.{with_at}
 use Rattle.group_rules.specs.Steps.{submit}
 use Rattle.book_law.specs.Passes.{Test}
 use Rattle.book_law.specs.Course.{Course}
-use Rattle.book_law.specs.Events.{Calls}
 use Rattle.book_law.specs.Fitness.{ArgsFit, StateFits}
 use Rattle.book_law.proofs.Courses.{at_other, at_own}
 use Rattle.book_law.proofs.Fits.{ReplyFits, TextFits}
 use Rattle.world_rules.specs.Frame.{Frame, group}
 use Rattle.world_rules.specs.Mail.Errand.{Ask}
-use Rattle.world_rules.specs.Nodes.{Node, NodeWork, does, known, plays}
-use Rattle.world_rules.specs.Nodes.Deed.{Submits}
+use Rattle.world_rules.specs.Nodes.{NodeWork, known}
 use Rattle.world_rules.specs.Owners.{performs_call, sends}
 use Rattle.world_rules.specs.Parts.{acts_at, acts_by, acts_of, asks, calls_as, reads, submits}
 use Rattle.world_rules.specs.Played.{Played, Stage, moves_to, next_call}
 use Rattle.world_rules.specs.Played.Stage.{Computing, Acting, Submitted, Reading, Asking, Over}
 use Rattle.world_rules.specs.Processes.{Begun, owner_in, processes_in, single_by, singles_of}
 use Rattle.world_rules.specs.Worlds.{World}
-use Rattle.world_course.specs.Chain.Leads.{Stays}
-use Rattle.world_course.specs.Corresponds.{Corresponds, IsMember, IsOf, Stands}
-use Rattle.world_course.specs.Errands.{IsAlone, NodeStands}
+use Rattle.world_course.specs.Corresponds.{Corresponds, IsMember, IsOf, Lifts, Stands}
+use Rattle.world_course.specs.Errands.{AsksFor, IsAlone, NodeStands, WaitsOn}
 use Rattle.world_course.specs.Group.{KeepsEntries}
 use Rattle.world_course.specs.Works.{at_work}
-use Rattle.world_course.proofs.Acting.{IsActing, IsMessage, moving, reading_lifts, shared_if_known, submits_lift}
+use Rattle.world_course.proofs.Acting.{IsActing, IsMessage, moving, reading_lifts, shared_if_known, submitting, submitting_lifts}
 use Rattle.world_course.proofs.Asked.{ask_stands, call_of, member_here, owner_of}
 use Rattle.world_course.proofs.Asking.{HasAsked, asks_out, own_may}
 use Rattle.world_course.proofs.Begun.{known_agrees}
 use Rattle.world_course.proofs.Calling.{call_carries}
-use Rattle.world_course.proofs.Carrying.{Carries, CarriesOn, carries_on, carries_stay, carry, node_later, own_node, sends_carries, silent_lifts}
+use Rattle.world_course.proofs.Carrying.{Carries, CarriesOn, carries_on, carries_stay, carry, joins_carries, node_later, own_node, sends_carries, silent_lifts}
 use Rattle.world_course.proofs.Later.{Later, later_self, leads_later}
 use Rattle.world_course.proofs.Listing.{got_less}
 use Rattle.world_course.proofs.Program.{Program}
-use Rattle.world_course.proofs.Silent.{Silent, silent_joins, silent_on, silent_plays, silent_read}
+use Rattle.world_course.proofs.Silent.{silent_read}
 use Rattle.world_course.proofs.Tries.{node_at, read_lifts}
 use Rattle.world_course.proofs.Working.{known_count}
 
@@ -58,48 +55,24 @@ set_or_old i t played j s is = ⊎_elim
     (λ apart. inr (sym (at_other played i (Some t) j apart) ∙ is))
     (cases_eq j i)
 
--- it is at a call on a single object, whose maker its member knows; or it waits with a read of a replicated one
-asks_node : (f : Frame) (single : Test) (c : Course) (m i : ℕ) (r : Played) (kind : KindNo) (op : OpNo) (object : ObjectId) (args : Data) (v : NodeWork) → NodeStands f single c m v.node → IsAlone single v.node object
-    → NodeStands f single c m (moving i (Asking (action.Call kind op object args)) r v).node
-asks_node f single c m i r kind op object args v n alone = record {
+-- it asks for a single object, whose maker its member knows, and waits for a replicated one
+moved_node : (f : Frame) (single : Test) (c : Course) (m i : ℕ) (stage : Stage) (r : Played) (v : NodeWork) → NodeStands f single c m v.node → ((o : ObjectId) → AsksFor stage o → IsAlone single v.node o)
+    → ((o : ObjectId) → WaitsOn stage o → single o ≡ false) → NodeStands f single c m (moving i stage r v).node
+moved_node f single c m i stage r v n asks shares = record {
   held = n.held;
   given = n.given;
-  asks = λ j s act o is stage calls. ⊎_elim
-      (λ e. new act o (ap (λ (z : Played). z.stage) e ∙ stage) calls)
-      (λ old. let a = n.asks j s act o old stage calls in record { alone = a.alone; maker = a.maker })
-      (set_or_old i (moves_to (Asking (action.Call kind op object args)) r) v.node.played j s is);
-  reads = λ j s act o is stage calls. ⊎_elim
-      (λ e. let g : Asking (action.Call kind op object args) ≡ Reading act = ap (λ (z : Played). z.stage) e ∙ stage in absurd (cc g))
-      (λ old. n.reads j s act o old stage calls)
-      (set_or_old i (moves_to (Asking (action.Call kind op object args)) r) v.node.played j s is);
+  asks = λ j s o is at. ⊎_elim
+      (λ e. let a = asks o (subst (λ (z : Played). AsksFor z.stage o) (sym e) at) in record { alone = a.alone; maker = a.maker })
+      (λ old. let a = n.asks j s o old at in record { alone = a.alone; maker = a.maker })
+      (set_or_old i (moves_to stage r) v.node.played j s is);
+  shares = λ j s o is at. ⊎_elim
+      (λ e. shares o (subst (λ (z : Played). WaitsOn z.stage o) (sym e) at))
+      (λ old. n.shares j s o old at)
+      (set_or_old i (moves_to stage r) v.node.played j s is);
 }
-  where
-    new : (act : Action) (o : ObjectId) → Asking (action.Call kind op object args) ≡ Asking act → Calls act o → IsAlone single (moving i (Asking (action.Call kind op object args)) r v).node o
-    new act o same calls =
-        let e : action.Call kind op object args ≡ act = cc in
-        let is : o ≡ object = subst (λ (a : Action). Calls a o) (sym e) calls in
-        record { alone = ap single is ∙ alone.alone; maker = let lt = alone.maker in let k : o.process ≡ object.process = ap (λ (z : ObjectId). z.process) is in omega (arith, lt, k) }
 
-reads_node : (f : Frame) (single : Test) (c : Course) (m i : ℕ) (r : Played) (kind : KindNo) (op : OpNo) (object : ObjectId) (args : Data) (v : NodeWork) → NodeStands f single c m v.node → single object ≡ false
-    → NodeStands f single c m (moving i (Reading (action.Call kind op object args)) r v).node
-reads_node f single c m i r kind op object args v n shared = record {
-  held = n.held;
-  given = n.given;
-  asks = λ j s act o is stage calls. ⊎_elim
-      (λ e. let g : Reading (action.Call kind op object args) ≡ Asking act = ap (λ (z : Played). z.stage) e ∙ stage in absurd (cc g))
-      (λ old. let a = n.asks j s act o old stage calls in record { alone = a.alone; maker = a.maker })
-      (set_or_old i (moves_to (Reading (action.Call kind op object args)) r) v.node.played j s is);
-  reads = λ j s act o is stage calls. ⊎_elim
-      (λ e. new act o (ap (λ (z : Played). z.stage) e ∙ stage) calls)
-      (λ old. n.reads j s act o old stage calls)
-      (set_or_old i (moves_to (Reading (action.Call kind op object args)) r) v.node.played j s is);
-}
-  where
-    new : (act : Action) (o : ObjectId) → Reading (action.Call kind op object args) ≡ Reading act → Calls act o → single o ≡ false
-    new act o same calls =
-        let e : action.Call kind op object args ≡ act = cc in
-        let is : o ≡ object = subst (λ (a : Action). Calls a o) (sym e) calls in
-        ap single is ∙ shared
+same_alone : (single : Test) (v : NodeWork) (object o : ObjectId) → IsAlone single v.node object → o ≡ object → IsAlone single v.node o
+same_alone single v object o alone is = record { alone = ap single is ∙ alone.alone; maker = let lt = alone.maker in let k : o.process ≡ object.process = ap (λ (z : ObjectId). z.process) is in omega (arith, lt, k) }
 
 -- only it changes
 moving_carries : (f : Frame) (single : Test) (w : World) (c d : Course) (m i : ℕ) (stage : Stage) (r : Played) (v : NodeWork) → Carries f single w c m v → Corresponds f single (at_work f m w (moving i stage r v)) d → Later f c d
@@ -168,7 +141,8 @@ asks_carries f single fits_state fits_args fits_text fits_reply w c m i r kind o
 
     k : Carries f single w o.course m u
     k = moving_carries f single w c o.course m i (Asking (action.Call kind op object args)) r v h o.corresponds later
-        (asks_node f single o.course m i r kind op object args v (node_later f single c o.course m v.node later (own_node f single w c m v h)) alone)
+        (moved_node f single o.course m i (Asking (action.Call kind op object args)) r v (node_later f single c o.course m v.node later (own_node f single w c m v h))
+        (λ z at. same_alone single v object z alone at) (λ z at. absurd at))
 
     go : (b : Bool) → (owner_in (known f v.node) object == m) ≡ b
         → CarriesOn f single w o.course m (if b then performs_call f m (message_of call) u else sends m (owner_in (known f v.node) object) (Ask r.place (message_of call)) u)
@@ -190,21 +164,35 @@ reads_carries f single fits_state fits_args fits_text fits_reply w c m i r kind 
     let u : NodeWork = moving i (Reading (action.Call kind op object args)) r v in
     let now = reading_lifts f single w c m i r (action.Call kind op object args) v a in
     let k : Carries f single w c m u = moving_carries f single w c c m i (Reading (action.Call kind op object args)) r v h now (later_self f c)
-    (reads_node f single c m i r kind op object args v (own_node f single w c m v h) shared) in
+    (moved_node f single c m i (Reading (action.Call kind op object args)) r v (own_node f single w c m v h) (λ z at. absurd at) (λ z at. ap single at ∙ shared)) in
     silent_lifts f single w c m u (reads f i r (action.Call kind op object args) v) k (silent_read f i u) (read_lifts f single fits_state fits_args fits_text fits_reply w c m i u program now)
 
-submits_silent : (f : Frame) (m i : ℕ) (r : Played) (act : Action) (x : Message) (v : NodeWork) → Silent v (submits f m i r act x v)
-submits_silent f m i r act x v =
-    let u : NodeWork = plays i (moves_to (Submitted act) r) v in
-    let t : NodeWork = does (Submits x) u in
-    silent_on v u (submits f m i r act x v) (silent_plays i (moves_to (Submitted act) r) v (λ waits. absurd waits))
-    (silent_on u t (submits f m i r act x v) (record { held = refl; given = refl; count = omega arith; mails = λ mail is. inl is; waits = λ j q is waits. is; beside = λ s is. inl is })
-    (silent_joins (submit (group f) m x v.node.member) t))
-
+-- the message is submitted, and the group takes it
 submits_carries : (f : Frame) (single : Test) (w : World) (c : Course) (m i : ℕ) (r : Played) (act : Action) (x : Message) (v : NodeWork) → Carries f single w c m v → IsActing f single w c m i r act v → IsMessage single i r act x
     → KeepsEntries v.node (submits f m i r act x v).node → CarriesOn f single w c m (submits f m i r act x v)
-submits_carries f single w c m i r act x v h a is entries =
-    silent_lifts f single w c m v (submits f m i r act x v) h (submits_silent f m i r act x v) (submits_lift f single w c m i r act x v a is entries)
+submits_carries f single w c m i r act x v h a is entries = (l.0, l.1, joins_carries f single w l.0 m (submit (group f) m x u.node.member) u entries k)
+  where
+    u : NodeWork
+    u = submitting i r act x v
+
+    l : Lifts f single c (at_work f m w u)
+    l = submitting_lifts f single w c m i r act x v a is
+
+    later : Later f c l.0
+    later = let z = h.corresponds in let st = z.stands in leads_later f single c l.0 st.came l.1
+
+    n : NodeStands f single l.0 m (moving i (Submitted act) r v).node
+    n = moved_node f single l.0 m i (Submitted act) r v (node_later f single c l.0 m v.node later (own_node f single w c m v h)) (λ o at. absurd at) (λ o at. is.shared o at)
+
+    k : Carries f single w l.0 m u
+    k = carry f single w c l.0 m v u h (record {
+      corresponds = l.2;
+      later = later;
+      node = record { held = n.held; given = n.given; asks = n.asks; shares = n.shares };
+      mails = λ mail at. inl at;
+      beside = λ s o at calls alone. inl at;
+      given = λ s at g. record { given = g.given; there = g.there; call = g.call };
+    })
 
 -- ---- an action is carried out
 

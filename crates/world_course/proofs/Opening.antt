@@ -18,7 +18,7 @@ use Rattle.world_course.specs.Corresponds.{Agrees, Corresponds, IsMember, IsOf}
 use Rattle.world_course.specs.Errands.{AllStand}
 use Rattle.world_course.specs.Law.{OpeningFollows}
 use Rattle.world_course.specs.Processes.{IsProcess, as_runner}
-use Rattle.world_course.proofs.Silent.{Waits}
+use Rattle.world_course.proofs.Silent.{Waits, asks_waits, shares_waits}
 
 -- the output object, whose number is 0, isn't chosen
 not_chosen : (choices : Option (List Choice)) → is_single (choice_in choices 0) ≡ false
@@ -86,8 +86,8 @@ opening_stands f single = record {
   nodes = λ m. record {
     held = λ errand is. absurd is;
     given = λ i one is. absurd (cc is);
-    asks = λ j r act o is stage calls. absurd (computes_first f m j r is (subst Waits (sym stage) tt));
-    reads = λ j r act o is stage calls. absurd (computes_first f m j r is (subst Waits (sym stage) tt));
+    asks = λ j r o is at. absurd (computes_first f m j r is (asks_waits r.stage o at));
+    shares = λ j r o is at. absurd (computes_first f m j r is (shares_waits r.stage o at));
   };
   travels = λ flight is. absurd is;
   performed = λ r o is calls alone. absurd is;

@@ -29,15 +29,15 @@ use Rattle.world_course.specs.Errands.{AllStand, Follows, IsGiven, MailStands, N
 use Rattle.world_course.specs.Gives.{GivesTick, acted, came, timed}
 use Rattle.world_course.specs.Group.{AreNotes, Gives, IsAgreed, KeepsEntries}
 use Rattle.world_course.specs.Works.{at_work}
-use Rattle.world_course.proofs.Carrying.{Carries, CarriesOn, carries_on, mail_later, silent_carries, silent_lifts}
-use Rattle.world_course.proofs.Catching.{all_lifts, joins_on}
+use Rattle.world_course.proofs.Carrying.{Carries, CarriesOn, carries_on, joins_carries, mail_later, silent_lifts}
+use Rattle.world_course.proofs.Catching.{all_lifts}
 use Rattle.world_course.proofs.Doing.{acts_carry}
 use Rattle.world_course.proofs.Entry.{Stills}
 use Rattle.world_course.proofs.Events.{idle_on}
 use Rattle.world_course.proofs.Later.{Later, leads_later}
 use Rattle.world_course.proofs.Program.{Program}
 use Rattle.world_course.proofs.Reaching.{again_carries, arrives_carries, reached_carries, reached_still}
-use Rattle.world_course.proofs.Silent.{silent_all, silent_joins}
+use Rattle.world_course.proofs.Silent.{silent_all}
 use Rattle.world_course.proofs.Tries.{node_at}
 
 -- ---- worlds and works
@@ -86,9 +86,6 @@ part_follows f single m part u c h (d, leads, k) = (d, leads, record {
     later = let g = h.follows in let z = g.corresponds in let st = z.stands in leads_later f single c d st.came leads
 
 -- ---- parts
-
-joins_carries : (f : Frame) (single : Test) (w : World) (c : Course) (m : ℕ) (work : Work Message) (v : NodeWork) → KeepsEntries v.node (joins work v).node → Carries f single w c m v → Carries f single w c m (joins work v)
-joins_carries f single w c m work v entries h = silent_carries f single w c c m v (joins work v) h (silent_joins work v) (Stays c) (joins_on f single m w c work v entries h.corresponds)
 
 -- a member catches up
 pub up_carries : (f : Frame) (single : Test) (fits_state : StateFits) (fits_args : ArgsFit) (fits_text : TextFits) (fits_reply : ReplyFits) (w : World) (c : Course) (m : ℕ) (v : NodeWork)

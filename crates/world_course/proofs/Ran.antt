@@ -36,7 +36,7 @@ use Rattle.world_course.proofs.Later.{Later, leads_later}
 use Rattle.world_course.proofs.Lifting.{BurstLifts, burst_lifts, performs_aside, performs_node}
 use Rattle.world_course.proofs.Parts.{idle_carries}
 use Rattle.world_course.proofs.Program.{Program}
-use Rattle.world_course.proofs.Silent.{Waits}
+use Rattle.world_course.proofs.Silent.{Waits, asks_waits, shares_waits}
 
 action_rests : (a : Action) → Waits (at_action a) → ⊥
 action_rests (action.Make kind object) waits = waits
@@ -63,13 +63,13 @@ ended_node : (f : Frame) (single : Test) (c : Course) (m i : ℕ) (end : Played)
 ended_node f single c m i end node rests n = record {
   held = n.held;
   given = n.given;
-  asks = λ j s act o is stage calls. ⊎_elim
-      (λ e. absurd (rests (subst Waits (sym (ap (λ (z : Played). z.stage) e ∙ stage)) tt)))
-      (λ old. let a = n.asks j s act o old stage calls in record { alone = a.alone; maker = a.maker })
+  asks = λ j s o is at. ⊎_elim
+      (λ e. absurd (rests (subst Waits (ap (λ (z : Played). z.stage) (sym e)) (asks_waits s.stage o at))))
+      (λ old. let a = n.asks j s o old at in record { alone = a.alone; maker = a.maker })
       (set_or_old i end node.played j s is);
-  reads = λ j s act o is stage calls. ⊎_elim
-      (λ e. absurd (rests (subst Waits (sym (ap (λ (z : Played). z.stage) e ∙ stage)) tt)))
-      (λ old. n.reads j s act o old stage calls)
+  shares = λ j s o is at. ⊎_elim
+      (λ e. absurd (rests (subst Waits (ap (λ (z : Played). z.stage) (sym e)) (shares_waits s.stage o at))))
+      (λ old. n.shares j s o old at)
       (set_or_old i end node.played j s is);
 }
 

@@ -33,7 +33,7 @@ use Rattle.world_rules.specs.Played.Stage.{Computing, Acting, Submitted, Reading
 use Rattle.world_rules.specs.Processes.{home_in, owner_in}
 use Rattle.world_rules.specs.Worlds.{World}
 use Rattle.world_course.specs.Corresponds.{Lifts}
-use Rattle.world_course.specs.Errands.{ErrandStands, IsAnswer, IsAsk, MayTake}
+use Rattle.world_course.specs.Errands.{AsksFor, ErrandStands, IsAnswer, IsAsk}
 use Rattle.world_course.specs.Works.{at_work}
 use Rattle.world_course.proofs.Asked.{ask_stands, ask_taken, call_of}
 use Rattle.world_course.proofs.Calling.{call_carries}
@@ -224,7 +224,7 @@ again_owner f single w c m i r kind op object args v h here is = go (owner_in (k
     go : (b : Bool) → (owner_in (known f v.node) object == m) ≡ b → Carries f single w c m (if b then v else sends m (owner_in (known f v.node) object) (Ask r.place (message_of (call_of i r kind op object args))) v)
     go true e = h
     go false e = sends_carries f single w c m _ v h
-        (ask_stands f single w c m i r kind op object args v h.corresponds here is (let n = own_node f single w c m v h in n.asks i r (action.Call kind op object args) object here is refl) (eqb-false (owner_in (known f v.node) object) m e))
+        (ask_stands f single w c m i r kind op object args v h.corresponds here is (let n = own_node f single w c m v h in n.asks i r object here (subst (λ (z : Stage). AsksFor z object) (sym is) refl)) (eqb-false (owner_in (known f v.node) object) m e))
 
 again_by : (f : Frame) (single : Test) (w : World) (c : Course) (m i : ℕ) (r : Played) (act : Action) (v : NodeWork) → Carries f single w c m v → v.node.played i ≡ Some r → r.stage ≡ Asking act → Carries f single w c m (asks_again_by f m i r act v)
 again_by f single w c m i r (action.Call kind op object args) v h here is = again_owner f single w c m i r kind op object args v h here is

@@ -1,7 +1,8 @@
--- Works in which no Ask or Answer is at work: nothing more waits for its place or is kept, letters are the group's, who waits with a read
--- or asks an owner did so before, and what is performed beside the list are such reads.
+-- Works in which no Ask or Answer is at work: nothing more waits for its place or is kept, letters are the group's, who waits did so
+-- before, and what is performed beside the list are reads that waited.
 use Rattle.std.proofs.Common.{◌≡◌, ◌≤◌, ◌==◌, nat_lt, ℕ, zero, suc, ◌⊎◌, inl, inr, ⊎_elim, Bool, true, false, List, [], ◌∷◌, ◌++◌, Option, Some, None, refl, sym, ap, ◌∙◌, subst, arith, length, map, if◌then◌else◌}
 use Rattle.std.proofs.lemmas.Bool.{cases_eq}
+use Rattle.orca_base.specs.declared.ids.ObjectId.{ObjectId}
 use Rattle.value_core.specs.declared.action.Action.{Action}
 use Rattle.value_core.specs.declared.action.Line.{Line}
 use Rattle.value_core.specs.declared.message.Message.{Message}
@@ -29,6 +30,7 @@ use Rattle.world_rules.specs.Nodes.Deed.{Acts}
 use Rattle.world_rules.specs.Played.{Played, Stage, newborn, receives}
 use Rattle.world_rules.specs.Played.Stage.{Computing, Acting, Submitted, Reading, Asking, Over}
 use Rattle.world_rules.specs.Processes.{Begun, begun_by, home_in, singles_of}
+use Rattle.world_course.specs.Errands.{AsksFor, WaitsOn}
 use Rattle.world_course.proofs.Tries.{performing}
 use Rattle.world_course.proofs.Working.{takes_entry}
 
@@ -37,14 +39,30 @@ abbrev pub IsGrouped : Mail → Type 0
 IsGrouped (Mail.Grouped letter) = Unit {0}
 IsGrouped (Mail.Sends incarnation from to errand) = ⊥
 
--- it waits with a read, or asks an owner
+-- it waits for the group, or with a read, or asks an owner
 abbrev pub Waits : Stage → Type 0
 Waits Computing = ⊥
 Waits (Acting act) = ⊥
-Waits (Submitted act) = ⊥
+Waits (Submitted act) = Unit {0}
 Waits (Reading act) = Unit {0}
 Waits (Asking act) = Unit {0}
 Waits (Over act) = ⊥
+
+pub asks_waits : (stage : Stage) (o : ObjectId) → AsksFor stage o → Waits stage
+asks_waits Computing o h = h
+asks_waits (Acting act) o h = h
+asks_waits (Submitted act) o h = absurd h
+asks_waits (Reading act) o h = absurd h
+asks_waits (Asking act) o h = tt
+asks_waits (Over act) o h = h
+
+pub shares_waits : (stage : Stage) (o : ObjectId) → WaitsOn stage o → Waits stage
+shares_waits Computing o h = h
+shares_waits (Acting act) o h = h
+shares_waits (Submitted act) o h = tt
+shares_waits (Reading act) o h = tt
+shares_waits (Asking act) o h = absurd h
+shares_waits (Over act) o h = h
 
 -- a process of the work waited with this read
 pub record WasRead (v : NodeWork) (r : Placed) : Type 0 where

@@ -3,7 +3,6 @@ use Rattle.std.specs.Prelude.{◌≡◌, ◌<◌, ◌≤◌, ◌⊎◌, ℕ, tru
 use Rattle.orca_base.specs.declared.ids.ObjectId.{ObjectId}
 use Rattle.orca_base.specs.declared.ids.CallNo.{CallNo}
 use Rattle.orca_base.specs.declared.ids.ProcessNo.{ProcessNo}
-use Rattle.value_core.specs.declared.action.Action.{Action}
 use Rattle.value_core.specs.declared.action.Line.{Line}
 use Rattle.value_core.specs.declared.action.Reply.{Reply}
 use Rattle.value_core.specs.declared.message.Message.{Message}
@@ -16,8 +15,8 @@ use Rattle.book_law.specs.Course.{Course}
 use Rattle.book_law.specs.Events.{Calls, In, Runner}
 use Rattle.world_rules.specs.Frame.{Frame}
 use Rattle.world_rules.specs.Nodes.{Given, Node, NodeWork}
-use Rattle.world_rules.specs.Played.{Played, next_call}
-use Rattle.world_rules.specs.Played.Stage.{Acting, Asking, Reading}
+use Rattle.world_rules.specs.Played.{Played, Stage, next_call}
+use Rattle.world_rules.specs.Played.Stage.{Computing, Acting, Submitted, Reading, Asking, Over}
 use Rattle.world_rules.specs.Mail.{Carried, Errand, Mail}
 use Rattle.world_rules.specs.Mail.Errand.{Ask, Answer}
 use Rattle.world_rules.specs.Worlds.{World}
@@ -66,17 +65,30 @@ pub record IsAlone (single : Test) (node : Node) (object : ObjectId) : Type 0 wh
   pub alone : single object ≡ true
   pub maker : object.process < node.copies.processes
 
+-- a process asks the owner of this object; it waits to read it, or its call on it was submitted to the group
+abbrev pub AsksFor : Stage → ObjectId → Type 0
+AsksFor Computing object = ⊥
+AsksFor (Acting act) object = ⊥
+AsksFor (Submitted act) object = ⊥
+AsksFor (Reading act) object = ⊥
+AsksFor (Asking act) object = Calls act object
+AsksFor (Over act) object = ⊥
+
+abbrev pub WaitsOn : Stage → ObjectId → Type 0
+WaitsOn Computing object = ⊥
+WaitsOn (Acting act) object = ⊥
+WaitsOn (Submitted act) object = Calls act object
+WaitsOn (Reading act) object = Calls act object
+WaitsOn (Asking act) object = ⊥
+WaitsOn (Over act) object = ⊥
+
 -- at member m: Asks and Answers that wait for their place stand, and so does each Answer that it keeps; who asks an owner asks it of a
--- single object, and who waits with a read reads a replicated one
+-- single object, and who waits for the group, or with a read, does so for a replicated one
 pub record NodeStands (f : Frame) (single : Test) (c : Course) (m : ℕ) (node : Node) : Type 0 where
   pub held : (errand : Errand) → In errand node.held → ErrandStands f single c m errand
   pub given : (i : ProcessNo) (one : Given) → node.given i.0 ≡ Some one → IsAnswer c one.place i one.call one.reply
-  pub asks :
-      (j : ℕ) (r : Played) (act : Action) (object : ObjectId) → node.played j ≡ Some r → r.stage ≡ Asking act → Calls act object →
-      IsAlone single node object
-  pub reads :
-      (j : ℕ) (r : Played) (act : Action) (object : ObjectId) → node.played j ≡ Some r → r.stage ≡ Reading act → Calls act object →
-      single object ≡ false
+  pub asks : (j : ℕ) (r : Played) (object : ObjectId) → node.played j ≡ Some r → AsksFor r.stage object → IsAlone single node object
+  pub shares : (j : ℕ) (r : Played) (object : ObjectId) → node.played j ≡ Some r → WaitsOn r.stage object → single object ≡ false
 
 -- the Answer that the member keeps for the line's process is of this call, or of a later one
 pub record IsGiven (node : Node) (line : Line) : Type 0 where
