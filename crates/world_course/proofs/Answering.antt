@@ -92,37 +92,32 @@ more_sent n l ls mail s = record { line = s.line; among = only_one l s.line ls s
 rest_sent : (n : ℕ) (l : Line) (ls : List Line) (mail : Mail) → IsSent n ls mail → IsSent n (l ∷ ls) mail
 rest_sent n l ls mail s = record { line = s.line; among = inr s.among; incarnation = s.incarnation; from = s.from; to = s.to; is = s.is }
 
-pub hands_away : (f : Frame) (m n : ℕ) (processes : List Begun) (lines : List Line) (v : NodeWork) → known f v.node ≡ processes → v.node.copies.applied ≡ n → HandsAway m n processes lines v (hands_all f m lines v)
-hands_away f m n processes [] v knows applied = record { held = refl; mails = λ mail is. inl is; given = λ j. inl refl; had = λ each l is. absurd is }
-hands_away f m n processes (l ∷ ls) v knows applied = record {
+-- the first line is handed on, and then the others
+hands_more : (f : Frame) (m n : ℕ) (processes : List Begun) (l : Line) (ls : List Line) (v u t : NodeWork) → OneAway n (home_in processes l.process.0 == m) l v u → HandsAway m n processes ls u t → HandsAway m n processes (l ∷ ls) v t
+hands_more f m n processes l ls v u t one rest = record {
   held = rest.held ∙ one.held;
   mails = λ mail is. ⊎_elim (λ old. ⊎_elim (λ first. inl first) (λ sent. inr (more_sent n l ls mail sent)) (one.mails mail old)) (λ sent. inr (rest_sent n l ls mail sent)) (rest.mails mail is);
   given = λ j. ⊎_elim
       (λ same. ⊎_elim (λ old. inl (same ∙ old)) (λ set. inr (record { line = set.line; among = only_one l set.line ls set.among; process = set.process; is = same ∙ set.is })) (one.given j))
       (λ set. inr (record { line = set.line; among = inr set.among; process = set.process; is = set.is }))
       (rest.given j);
-  had = λ each a is elsewhere. kept each a is elsewhere;
+  had = kept;
 }
   where
-    u : NodeWork
-    u = hands f m l v
-
-    one : OneAway n (home_in processes l.process.0 == m) l v u
-    one = away_one f m n processes l v knows applied
-
-    same : HandsOn f m n processes (l ∷ []) v u
-    same = hands_on f m n processes (l ∷ []) v knows applied
-
-    knows_on : known f u.node ≡ processes
-    knows_on = ap (λ (k : Copied). processes_in f (take k.applied u.node.member.log)) same.copies ∙ ap (λ (s : Member Message). processes_in f (take v.node.copies.applied s.log)) same.member ∙ knows
-
-    rest : HandsAway m n processes ls u (hands_all f m ls u)
-    rest = hands_away f m n processes ls u knows_on (ap (λ (k : Copied). k.applied) same.copies ∙ applied)
-
     -- no later line is of the first one's process
-    kept : OneEach (l ∷ ls) → (a : Line) → In a (l ∷ ls) → (home_in processes a.process.0 == m) ≡ false → (hands_all f m ls u).node.given a.process.0 ≡ Some (answer_to n a)
+    kept : OneEach (l ∷ ls) → (a : Line) → In a (l ∷ ls) → (home_in processes a.process.0 == m) ≡ false → t.node.given a.process.0 ≡ Some (answer_to n a)
     kept each a (inr is) elsewhere = rest.had (rest_each l ls each) a is elsewhere
     kept each a (inl e) elsewhere = ⊎_elim
         (λ stays. stays ∙ subst (λ (k : Line). u.node.given k.process.0 ≡ Some (answer_to n k)) (sym e) (one.had (subst (λ (k : Line). (home_in processes k.process.0 == m) ≡ false) e elsewhere)))
         (λ set. absurd (by_none l.process.0 set.line ls (rest_none l ls each) set.among (set.process ∙ ap (λ (k : Line). k.process.0) e)))
         (rest.given a.process.0)
+
+pub hands_away : (f : Frame) (m n : ℕ) (processes : List Begun) (lines : List Line) (v : NodeWork) → known f v.node ≡ processes → v.node.copies.applied ≡ n → HandsAway m n processes lines v (hands_all f m lines v)
+hands_away f m n processes [] v knows applied = record { held = refl; mails = λ mail is. inl is; given = λ j. inl refl; had = λ each l is. absurd is }
+hands_away f m n processes (l ∷ ls) v knows applied =
+    let u : NodeWork = hands f m l v in
+    let same : HandsOn f m n processes (l ∷ []) v u = hands_on f m n processes (l ∷ []) v knows applied in
+    let knows_on : known f u.node ≡ processes =
+    ap (λ (k : Copied). processes_in f (take k.applied u.node.member.log)) same.copies ∙ ap (λ (s : Member Message). processes_in f (take v.node.copies.applied s.log)) same.member ∙ knows in
+    hands_more f m n processes l ls v u (hands_all f m ls u) (away_one f m n processes l v knows applied)
+    (hands_away f m n processes ls u knows_on (ap (λ (k : Copied). k.applied) same.copies ∙ applied))

@@ -1,7 +1,7 @@
 -- A call that an owner takes: what it performs stands beside the list, its own processes hear it, and others are sent Answers that stand.
 use Rattle.std.proofs.Common.{◌≡◌, ◌≤◌, ◌<◌, ◌==◌, ℕ, zero, suc, ◌⊎◌, inl, inr, ⊎_elim, Bool, true, false, List, [], ◌∷◌, ◌++◌, Option, Some, None, refl, sym, ap, ◌∙◌, subst, arith, length, if◌then◌else◌}
 use Rattle.std.proofs.lemmas.Bool.{cases_eq, cases_lt, eqb-true}
-use Rattle.std.specs.Prelude.{option_map, remove, slice_get}
+use Rattle.std.specs.Prelude.{option_map, slice_get}
 use Rattle.orca_base.specs.declared.ids.ObjectId.{ObjectId}
 use Rattle.orca_base.specs.declared.ids.ProcessNo.{ProcessNo}
 use Rattle.value_core.specs.Meaning.{Performs}
@@ -27,7 +27,7 @@ use Rattle.book_law.proofs.Courses.{came_sound}
 use Rattle.book_law.proofs.Fits.{ReplyFits, TextFits}
 use Rattle.book_law.proofs.Inserting.{calls_one}
 use Rattle.book_law.proofs.Kept.{Owns}
-use Rattle.book_law.proofs.Lists.{in_push}
+use Rattle.book_law.proofs.Lists.{in_push, in_remove}
 use Rattle.book_law.proofs.Objects.{in_append, in_first, in_second}
 use Rattle.book_law.proofs.Processes.{get_some}
 use Rattle.book_law.proofs.Replying.{answers_stand, in_placed}
@@ -66,18 +66,12 @@ in_queue [] at call is = absurd (cc is)
 in_queue (x ∷ queue) zero call is = let e : x ≡ call = cc in inl (sym e)
 in_queue (x ∷ queue) (suc at) call is = inr (in_queue queue at call is)
 
-in_removed : (queue : List Suspended) (at : ℕ) (call : Suspended) → In call (remove queue at) → In call queue
-in_removed [] at call h = h
-in_removed (x ∷ queue) zero call h = inr h
-in_removed (x ∷ queue) (suc at) call (inl e) = inl e
-in_removed (x ∷ queue) (suc at) call (inr h) = inr (in_removed queue at call h)
-
 performed_calls : (p : Performs) (o : ObjectId) (s : Settling) (at : ℕ) (found : Option Suspended) → slice_get s.queue at ≡ found → AllCall o s → AllCall o (performed p s at found)
 performed_calls p o s at None is all = all
 performed_calls p o s at (Some call) is all = record {
   lines = λ l h. ⊎_elim (λ old. all.lines l old) (λ (e : l ≡ answered call (tried_in p s.objects call)). subst (λ (z : Line). Calls z.action o) (sym e) (sym (all.queue call (in_queue s.queue at call is))))
       (in_push l (answered call (tried_in p s.objects call)) s.lines h);
-  queue = λ other h. all.queue other (in_removed s.queue at other h);
+  queue = λ other h. all.queue other (in_remove other s.queue at h);
 }
 
 stepped_calls : (p : Performs) (o : ObjectId) (s : Settling) (found : Option ℕ) → AllCall o s → AllCall o (stepped p s found)
@@ -117,12 +111,12 @@ waited n true [] (Some s) r is waits = is
 waited n true (l ∷ ls) None r is waits = absurd (cc is)
 waited n true (l ∷ ls) (Some s) r is waits = absurd (computes n l ls s r is waits)
   where
-    computes : (n : ℕ) (l : Line) (ls : List Line) (s r : Played) → option_map (received n (l ∷ ls)) (Some s) ≡ Some r → Waits r.stage → ⊥
-    computes n l ls s r is waits = let e : received n (l ∷ ls) s ≡ r = cc in never n ls (receives n l.reply s) r refl e waits
-
     never : (n : ℕ) (ls : List Line) (s r : Played) → s.stage ≡ Computing → received n ls s ≡ r → Waits r.stage → ⊥
     never n [] s r computes e waits = subst Waits (ap (λ (z : Played). z.stage) (sym e) ∙ computes) waits
     never n (l ∷ ls) s r computes e waits = never n ls (receives n l.reply s) r refl e waits
+
+    computes : (n : ℕ) (l : Line) (ls : List Line) (s r : Played) → option_map (received n (l ∷ ls)) (Some s) ≡ Some r → Waits r.stage → ⊥
+    computes n l ls s r is waits = let e : received n (l ∷ ls) s ≡ r = cc in never n ls (receives n l.reply s) r refl e waits
 
 -- ---- the call is taken
 

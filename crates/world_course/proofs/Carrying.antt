@@ -202,7 +202,12 @@ held_carries f single w c m held v h stand =
     let n = own_node f single w c m v h in
     only_carries f single w c m v (becomes (record v.node { held = held }) v) h
     (record { copies = refl; member = refl; plays = refl; aside = refl; past = λ p. refl })
-    (record { held = stand; given = n.given; asks = n.asks; shares = n.shares }) refl (λ mail is. inl is)
+    (record {
+      held = stand;
+      given = n.given;
+      asks = λ j r o is at. let a = n.asks j r o is at in record { alone = a.alone; maker = a.maker };
+      shares = n.shares;
+    }) refl (λ mail is. inl is)
 
 pub holds_carries : (f : Frame) (single : Test) (w : World) (c : Course) (m : ℕ) (errand : Errand) (v : NodeWork) → Carries f single w c m v → ErrandStands f single c m errand → Carries f single w c m (holds errand v)
 holds_carries f single w c m errand v h stands =

@@ -21,6 +21,7 @@ use Rattle.book_law.specs.Fitness.{ArgsFit, StateFits}
 use Rattle.book_law.proofs.Courses.{at_other, at_own}
 use Rattle.book_law.proofs.Fits.{ReplyFits, TextFits}
 use Rattle.world_rules.specs.Frame.{Frame, group}
+use Rattle.world_rules.specs.Mail.{Mail}
 use Rattle.world_rules.specs.Mail.Errand.{Ask}
 use Rattle.world_rules.specs.Nodes.{NodeWork, known}
 use Rattle.world_rules.specs.Owners.{performs_call, sends}
@@ -49,7 +50,7 @@ use Rattle.world_course.proofs.Working.{known_count}
 -- ---- one process stands elsewhere
 
 -- a process is the one that was set, or it was there
-set_or_old : (i : ℕ) (t : Played) (played : ℕ → Option Played) (j : ℕ) (s : Played) → with_at played i (Some t) j ≡ Some s → (t ≡ s) ⊎ (played j ≡ Some s)
+pub set_or_old : (i : ℕ) (t : Played) (played : ℕ → Option Played) (j : ℕ) (s : Played) → with_at played i (Some t) j ≡ Some s → (t ≡ s) ⊎ (played j ≡ Some s)
 set_or_old i t played j s is = ⊎_elim
     (λ (e : j ≡ i). let g : Some t ≡ Some s = sym (ap (with_at played i (Some t)) e ∙ at_own played i (Some t)) ∙ is in inl cc)
     (λ apart. inr (sym (at_other played i (Some t) j apart) ∙ is))
@@ -151,7 +152,7 @@ asks_carries f single fits_state fits_args fits_text fits_reply w c m i r kind o
         (owner_of f single c st.came m v.node (member_here f single w c m v st) object alone.maker) in
         call_carries f single fits_state fits_args fits_text fits_reply w o.course m call u program k (own_may f single w c m i r call v a alone.alone own o)
     go false e = carries_stay f single w o.course m (sends m (owner_in (known f v.node) object) (Ask r.place (message_of call)) u)
-        (sends_carries f single w o.course m _ u k
+        (sends_carries f single w o.course m (Mail.Sends u.node.member.installed m (owner_in (known f v.node) object) (Ask r.place (message_of call))) u k
         (ask_stands f single w o.course m i (moves_to (Asking (action.Call kind op object args)) r) kind op object args u o.corresponds (at_own v.node.played i (Some (moves_to (Asking (action.Call kind op object args)) r))) refl
         (record { alone = alone.alone; maker = alone.maker }) (eqb-false (owner_in (known f v.node) object) m e)))
 
@@ -188,7 +189,12 @@ submits_carries f single w c m i r act x v h a is entries = (l.0, l.1, joins_car
     k = carry f single w c l.0 m v u h (record {
       corresponds = l.2;
       later = later;
-      node = record { held = n.held; given = n.given; asks = n.asks; shares = n.shares };
+      node = record {
+        held = n.held;
+        given = n.given;
+        asks = λ j s o here at. let a = n.asks j s o here at in record { alone = a.alone; maker = a.maker };
+        shares = n.shares;
+      };
       mails = λ mail at. inl at;
       beside = λ s o at calls alone. inl at;
       given = λ s at g. record { given = g.given; there = g.there; call = g.call };

@@ -33,7 +33,6 @@ use Rattle.world_rules.specs.Worlds.{World}
 use Rattle.world_course.specs.Corresponds.{Agrees, Corresponds, Lifts}
 use Rattle.world_course.specs.Group.{AreNotes, Gives, IsAgreed, KeepsEntries}
 use Rattle.world_course.specs.Works.{at_work}
-use Rattle.world_course.proofs.Acting.{acts_lift}
 use Rattle.world_course.proofs.Catching.{all_lifts, joins_on, steps_on}
 use Rattle.world_course.proofs.Changing.{SameCopies, lifts_on}
 use Rattle.world_course.proofs.Program.{Program}

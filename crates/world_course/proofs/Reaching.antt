@@ -23,7 +23,7 @@ use Rattle.book_law.specs.Fitness.{ArgsFit, StateFits}
 use Rattle.book_law.proofs.Fits.{ReplyFits, TextFits}
 use Rattle.object_manager.specs.Singles.{after_single, lines_single}
 use Rattle.world_rules.specs.Frame.{Frame, group}
-use Rattle.world_rules.specs.Mail.{Errand, place_of}
+use Rattle.world_rules.specs.Mail.{Errand, Mail, place_of}
 use Rattle.world_rules.specs.Mail.Errand.{Ask, Answer}
 use Rattle.world_rules.specs.Nodes.{Given, NodeWork, becomes, entries_of, known, plays}
 use Rattle.world_rules.specs.Owners.{arrives, hears_as, hears_of, holds, is_held, performs_call, sends, sends_given, takes, takes_answer, takes_ask, takes_asked, takes_call, takes_each, takes_reached, waits_here}
@@ -69,7 +69,8 @@ asked_carries f single fits_state fits_args fits_text fits_reply w c m place x (
     again = sends_given m (home_in (known f v.node) x.process.0) x.process given v
 
     old : (b : Bool) → CarriesOn f single w c m (if b then again else v)
-    old true = carries_stay f single w c m again (sends_carries f single w c m _ v h (let n = own_node f single w c m v h in n.given x.process given is))
+    old true = carries_stay f single w c m again (sends_carries f single w c m (Mail.Sends v.node.member.installed m (home_in (known f v.node) x.process.0) (Answer given.place x.process given.call given.reply)) v h
+        (let n = own_node f single w c m v h in n.given x.process given is))
     old false = carries_stay f single w c m v h
 
     go : (b : Bool) → nat_lt given.call.0 x.call.0 ≡ b → CarriesOn f single w c m (if b then takes_call f m x v else (if given.call.0 == x.call.0 then again else v))
@@ -223,7 +224,7 @@ again_owner f single w c m i r kind op object args v h here is = go (owner_in (k
   where
     go : (b : Bool) → (owner_in (known f v.node) object == m) ≡ b → Carries f single w c m (if b then v else sends m (owner_in (known f v.node) object) (Ask r.place (message_of (call_of i r kind op object args))) v)
     go true e = h
-    go false e = sends_carries f single w c m _ v h
+    go false e = sends_carries f single w c m (Mail.Sends v.node.member.installed m (owner_in (known f v.node) object) (Ask r.place (message_of (call_of i r kind op object args)))) v h
         (ask_stands f single w c m i r kind op object args v h.corresponds here is (let n = own_node f single w c m v h in n.asks i r object here (subst (λ (z : Stage). AsksFor z object) (sym is) refl)) (eqb-false (owner_in (known f v.node) object) m e))
 
 again_by : (f : Frame) (single : Test) (w : World) (c : Course) (m i : ℕ) (r : Played) (act : Action) (v : NodeWork) → Carries f single w c m v → v.node.played i ≡ Some r → r.stage ≡ Asking act → Carries f single w c m (asks_again_by f m i r act v)

@@ -1,6 +1,6 @@
 -- Works in which no Ask or Answer is at work: nothing more waits for its place or is kept, letters are the group's, who waits did so
 -- before, and what is performed beside the list are reads that waited.
-use Rattle.std.proofs.Common.{◌≡◌, ◌≤◌, ◌==◌, nat_lt, ℕ, zero, suc, ◌⊎◌, inl, inr, ⊎_elim, Bool, true, false, List, [], ◌∷◌, ◌++◌, Option, Some, None, refl, sym, ap, ◌∙◌, subst, arith, length, map, if◌then◌else◌}
+use Rattle.std.proofs.Common.{◌≡◌, ◌≤◌, ◌+◌, ◌==◌, nat_lt, ℕ, zero, suc, ◌⊎◌, inl, inr, ⊎_elim, Bool, true, false, List, [], ◌∷◌, ◌++◌, Option, Some, None, refl, sym, ap, ◌∙◌, subst, arith, length, map, if◌then◌else◌}
 use Rattle.std.proofs.lemmas.Bool.{cases_eq}
 use Rattle.orca_base.specs.declared.ids.ObjectId.{ObjectId}
 use Rattle.value_core.specs.declared.action.Action.{Action}
@@ -79,8 +79,14 @@ pub record Silent (v u : NodeWork) : Type 0 where
   pub waits : (j : ℕ) (r : Played) → u.node.played j ≡ Some r → Waits r.stage → v.node.played j ≡ Some r
   pub beside : (r : Placed) → In r (aside_of u.deeds) → In r (aside_of v.deeds) ⊎ WasRead v r
 
+no_fewer : (n : ℕ) → n ≤ n
+no_fewer n = omega arith
+
+no_less : (n k : ℕ) → n ≤ n + k
+no_less n k = omega arith
+
 pub silent : (v : NodeWork) → Silent v v
-silent v = record { held = refl; given = refl; count = omega arith; mails = λ mail is. inl is; waits = λ j r is waits. is; beside = λ r is. inl is }
+silent v = record { held = refl; given = refl; count = no_fewer v.node.copies.processes; mails = λ mail is. inl is; waits = λ j r is waits. is; beside = λ r is. inl is }
 
 was_before : (v u : NodeWork) (r : Placed) → ((j : ℕ) (s : Played) → u.node.played j ≡ Some s → Waits s.stage → v.node.played j ≡ Some s) → WasRead u r → WasRead v r
 was_before v u r back was = record {
@@ -115,7 +121,7 @@ pub silent_plays : (i : ℕ) (s : Played) (v : NodeWork) → (Waits s.stage → 
 silent_plays i s v never = record {
   held = refl;
   given = refl;
-  count = omega arith;
+  count = no_fewer v.node.copies.processes;
   mails = λ mail is. inl is;
   waits = λ j r is waits. played_by i s v.node.played never j r (cases_eq j i) is waits;
   beside = λ r is. inl is;
@@ -128,8 +134,8 @@ entry_more : (test : Test) (p : Performs) (c : Copied) (x : Message) (keeps : Bo
 entry_more test p c x keeps = go (is_passed test x.action)
   where
     go : (b : Bool) → c.processes ≤ (if b then after_passed p keeps c x else after_applied p c x).processes
-    go true = omega arith
-    go false = omega arith
+    go true = no_fewer c.processes
+    go false = no_less c.processes (length (forked x.action))
 
 silent_if : (change : Played → Played) (i : ℕ) (o : Option Played) (v : NodeWork) → ((r : Played) → Waits (change r).stage → ⊥) → Silent v (if_played change i o v)
 silent_if change i None v never = silent v
@@ -170,7 +176,7 @@ silent_try i r act f v true here reads = silent v
 silent_try i r act f v false here reads = record {
   held = refl;
   given = refl;
-  count = omega arith;
+  count = no_fewer v.node.copies.processes;
   mails = λ mail is. inl is;
   waits = λ j q is waits. played_by i after v.node.played (λ never. absurd never) j q (cases_eq j i) is waits;
   beside = λ s is. ⊎_elim (λ old. inl old) (λ (e : s ≡ done). inr (record { process = i; played = r; here = here; reads = reads ∙ ap (λ (z : Placed). Reading z.line.action) (sym e) })) (in_push s done (aside_of v.deeds) is);
@@ -234,7 +240,7 @@ pub silent_joins : (work : Work Message) (v : NodeWork) → Silent v (joins work
 silent_joins work v = record {
   held = refl;
   given = refl;
-  count = omega arith;
+  count = no_fewer v.node.copies.processes;
   mails = λ mail is. acts_grouped work.acts v.deeds mail is;
   waits = λ j r is waits. is;
   beside = λ r is. inl (subst (λ (l : List Placed). In r l) (acts_beside work.acts v.deeds) is);
