@@ -16,7 +16,7 @@ use Rattle.world_course.proofs.Entry.{agrees_take}
 use Rattle.world_book.proofs.Listing.{outside_idle}
 
 begins_take : {A : Type 0} (xs ys : List A) → Begins xs ys → xs ≡ take (length xs) ys
-begins_take xs ys b = sym (take_all xs (length xs) (omega arith)) ∙ b.is
+begins_take xs ys b = sym (take_all (length xs) xs (omega arith)) ∙ b.is
 
 -- a test that agrees with the list's choices agrees with those that each member knows
 pub agrees_all : (f : Frame) (single : Test) (w : World) → Grouped f w → OneList f w → Agrees f single (agreed f w) → AgreesIn f single w
@@ -32,5 +32,5 @@ agrees_all f single w grouped one agrees m = ⊎_elim
 -- it agreed before entries were put at the list's end
 pub agrees_before : (f : Frame) (single : Test) (list more longer : List Message) → longer ≡ list ++ more → Agrees f single longer → Agrees f single list
 agrees_before f single list more longer is agrees =
-    subst (Agrees f single) (ap (take (length list)) is ∙ take-append-le (length list) list more (omega arith) ∙ take_all list (length list) (omega arith))
+    subst (Agrees f single) (ap (take (length list)) is ∙ take-append-le (length list) list more (omega arith) ∙ take_all (length list) list (omega arith))
     (agrees_take f single longer (length list) agrees)

@@ -66,7 +66,7 @@ in_by j l ls (k ∷ lines) is = go (k.process.0 == j) is (in_by j l ls lines)
 
 answering_single : (single : Test) (place : ℕ) (lines : List Line) (x : Runner) → ((l : Line) (ls : List Line) → lines ≡ l ∷ ls → (o : ObjectId) × Calls l.action o × (single o ≡ true)) → OfSingle single x.answer
     → OfSingle single (answering place lines x).answer
-answering_single single place [] x all own = own
+answering_single single place [] x all own r is = own r is
 answering_single single place (l ∷ ls) x all own r is =
     let e : record { place = place; line = l } ≡ r = cc in
     subst (λ (z : Placed). (o : ObjectId) × Calls z.line.action o × (single o ≡ true)) e (all l ls refl)
