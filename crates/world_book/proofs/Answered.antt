@@ -119,6 +119,9 @@ pub answered_asks : (f : Frame) (single : Test) (c : Course) → Came single f.p
 answered_asks f single c came j x stage r runs answer stands shared =
     let u = answers_single single f.performs f.computes c came j x runs r answer in
     let s = answers_stand single f.performs f.computes c came j x runs in
-    let a = s.is r answer in
-    (u.0, asks_by f.computes j x stage a.message u.0 stands a.out (subst (λ (z : Action). Calls z u.0) a.action u.1)
-    (λ waits. let e : false ≡ true = sym (shared u.0 waits) ∙ u.2 in absurd (cc e)), u.2)
+    let a = s.is r answer in (
+      u.0,
+      asks_by f.computes j x stage a.message u.0 stands a.out (subst (λ (z : Action). Calls z u.0) a.action u.1)
+          (λ waits. let e : false ≡ true = sym (shared u.0 waits) ∙ u.2 in absurd (cc e)),
+      u.2,
+    )

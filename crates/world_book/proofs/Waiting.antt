@@ -162,7 +162,7 @@ free_listed single p q c came x y here free asked shared =
     (λ r. let same : r.0 ≡ x = some_same (c.runners y.process.0) r.0 x r.1 here in
     absurd (not_both x.message y free (ap (λ (z : Runner). z.message) (sym same) ∙ r.2))) (sound.accounted y asked) in (
       ⊎_elim (λ h. h)
-      (λ u. let e : false ≡ true = sym (shared u.0.object (subst (λ (m : Message). Calls m.action u.0.object) (sym u.1) refl)) ∙ u.2 in absurd (cc e))
-      (sound.from y entered),
+          (λ u. let e : false ≡ true = sym (shared u.0.object (subst (λ (m : Message). Calls m.action u.0.object) (sym u.1) refl)) ∙ u.2 in absurd (cc e))
+          (sound.from y entered),
       ⊎_elim (λ lt. lt) (λ e. absurd (not_both x.message y free e)) (s.earlier y entered refl),
     )

@@ -1,5 +1,5 @@
 -- A process's action is carried out: its message is submitted, or its read is tried.
-use Rattle.std.proofs.Common.{◌≡◌, ◌≤◌, ◌<◌, ℕ, ◌⊎◌, inl, inr, Bool, true, false, List, ◌∷◌, Option, Some, None, refl, sym, ap, ◌∙◌, subst, arith, length, take, if◌then◌else◌}
+use Rattle.std.proofs.Common.{◌≡◌, ◌≤◌, ◌<◌, ℕ, ◌⊎◌, inl, inr, Bool, true, false, List, ◌∷◌, Some, refl, sym, ap, ◌∙◌, subst, arith, length, take}
 use Rattle.std.proofs.lemmas.Bool.{cases_eq}
 use Rattle.orca_base.specs.declared.ids.CallNo.{CallNo}
 use Rattle.orca_base.specs.declared.ids.KindNo.{KindNo}
@@ -9,15 +9,10 @@ use Rattle.orca_base.specs.declared.ids.ProcessNo.{ProcessNo}
 use Rattle.value_core.specs.Datum.{Data}
 use Rattle.value_core.specs.declared.action.Action.{Action}
 use Rattle.value_core.specs.declared.action.Action.TheVariants as action
-use Rattle.value_core.specs.declared.action.Class.{Class}
-use Rattle.value_core.specs.declared.action.Class.TheVariants.{Reads as IsReads, Writes}
 use Rattle.value_core.specs.declared.message.Message.{Message}
 use Rattle.value_core.specs.declared.meaning.Doing.TheVariants as doing
 use Rattle.value_core.specs.History.{most_turns}
-use Rattle.guard_queue.specs.declared.queue.Suspended.{Suspended}
 use Rattle.group_rules.specs.Sets.{In as IsIn, with_at}
-use Rattle.group_rules.specs.Steps.{submit}
-use Rattle.object_manager.specs.State.{message_of}
 use Rattle.book_law.specs.Passes.{Test}
 use Rattle.book_law.specs.Course.{Came, Course, Next, submitted}
 use Rattle.book_law.specs.Course.Next.{Submits as CourseSubmits}
@@ -28,26 +23,23 @@ use Rattle.book_law.proofs.Courses.{at_other, at_own, one_of}
 use Rattle.book_law.proofs.Fits.{ReplyFits, TextFits}
 use Rattle.book_law.proofs.Lists.{in_at}
 use Rattle.book_law.proofs.Makers.{copies_made}
-use Rattle.world_rules.specs.Frame.{Frame, group}
+use Rattle.world_rules.specs.Frame.{Frame}
 use Rattle.world_rules.specs.Nodes.{Node, NodeWork, does, known, plays}
 use Rattle.world_rules.specs.Nodes.Deed.{Submits}
-use Rattle.world_rules.specs.Parts.{acts_at, acts_by, acts_of, asks, calls_as, reads, submits}
 use Rattle.world_rules.specs.Played.{Played, Stage, moves_to, next_call}
-use Rattle.world_rules.specs.Played.Stage.{Computing, Acting, Submitted, Reading, Asking, Over}
+use Rattle.world_rules.specs.Played.Stage.{Acting, Submitted, Reading}
 use Rattle.world_rules.specs.Processes.{Begun, processes_in, singles_of}
 use Rattle.world_rules.specs.Worlds.{World}
 use Rattle.world_course.specs.Chain.Leads.{Stays, By}
 use Rattle.world_course.specs.Corresponds.{Corresponds, IsAsked, IsMember, Lifts, Stands}
-use Rattle.world_course.specs.Group.{KeepsEntries}
 use Rattle.world_course.specs.Processes.{IsFreeAt, IsRunner, StageStands}
 use Rattle.world_course.specs.Works.{at_work}
 use Rattle.world_course.proofs.Begun.{known_agrees, maker_known}
-use Rattle.world_course.proofs.Catching.{joins_on}
 use Rattle.world_course.proofs.Changing.{Changed, NodeWith, OneProcess, one_process, one_reached}
 use Rattle.world_course.proofs.Lifting.{Starts, starts}
 use Rattle.world_course.proofs.Listing.{get_take}
 use Rattle.world_course.proofs.Program.{Program, callable, fitting}
-use Rattle.world_course.proofs.Tries.{node_at, read_lifts, stays}
+use Rattle.world_course.proofs.Tries.{node_at}
 
 -- ---- a process at work
 

@@ -1,19 +1,19 @@
 -- What an owner performs for processes elsewhere is sent to them as Answers, which it keeps.
-use Rattle.std.proofs.Common.{◌≡◌, ◌≤◌, ◌==◌, ℕ, ◌⊎◌, inl, inr, ⊎_elim, Bool, true, false, List, [], ◌∷◌, ◌++◌, Option, Some, None, refl, sym, ap, ◌∙◌, subst, take, if◌then◌else◌}
-use Rattle.std.proofs.lemmas.Bool.{cases_eq, eq-eqb}
+use Rattle.std.proofs.Common.{◌≡◌, ◌==◌, ℕ, ◌⊎◌, inl, inr, ⊎_elim, Bool, true, false, List, [], ◌∷◌, Option, Some, None, refl, sym, ap, ◌∙◌, subst, take, if◌then◌else◌}
+use Rattle.std.proofs.lemmas.Bool.{cases_eq}
 use Rattle.value_core.specs.declared.action.Line.{Line}
 use Rattle.value_core.specs.declared.message.Message.{Message}
 use Rattle.group_rules.specs.Member.{Member}
 use Rattle.group_rules.specs.Sets.{with_at}
 use Rattle.object_manager.specs.After.{Copied}
-use Rattle.book_law.specs.Events.{In, lines_by}
+use Rattle.book_law.specs.Events.{In}
 use Rattle.book_law.proofs.Books.{by_none}
 use Rattle.book_law.proofs.Courses.{at_other, at_own}
 use Rattle.book_law.proofs.Lists.{in_push}
 use Rattle.world_rules.specs.Frame.{Frame}
 use Rattle.world_rules.specs.Mail.{Errand, Mail}
-use Rattle.world_rules.specs.Nodes.{Given, NodeWork, becomes, changes, if_played, known, mails_of}
-use Rattle.world_rules.specs.Owners.{hands, hands_all, sends_given}
+use Rattle.world_rules.specs.Nodes.{Given, NodeWork, changes, if_played, known, mails_of}
+use Rattle.world_rules.specs.Owners.{hands, hands_all}
 use Rattle.world_rules.specs.Played.{Played, receives}
 use Rattle.world_rules.specs.Processes.{Begun, home_in, processes_in}
 use Rattle.world_course.proofs.Handing.{HandsOn, OneEach, away, hands_on, performing, rest_each, rest_none}

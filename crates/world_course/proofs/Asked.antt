@@ -1,7 +1,7 @@
 -- Asks that processes send stand, and an owner that an Ask comes to takes its call, or has answered it.
-use Rattle.std.proofs.Common.{◌≡◌, ◌≤◌, ◌<◌, ◌==◌, ◌||◌, ◌&&◌, nat_lt, ℕ, zero, suc, ◌⊎◌, inl, inr, ⊎_elim, Bool, true, false, cond, List, [], ◌∷◌, ◌++◌, Option, Some, None, refl, sym, ap, ◌∙◌, subst, arith, length, take, if◌then◌else◌}
+use Rattle.std.proofs.Common.{◌≡◌, ◌≤◌, ◌<◌, ◌==◌, ◌||◌, ◌&&◌, ℕ, ◌⊎◌, inl, inr, ⊎_elim, Bool, true, false, cond, List, [], ◌∷◌, Some, refl, sym, ap, ◌∙◌, subst, arith, length, take}
 use Rattle.std.proofs.Math.Bool.{Bool-set}
-use Rattle.std.proofs.lemmas.Bool.{cases_lt, eq-eqb, eqb-true, lt-ltb, ltb-false, ltb-true}
+use Rattle.std.proofs.lemmas.Bool.{cases_lt, eq-eqb}
 use Rattle.std.specs.List.{filter}
 use Rattle.std.specs.Prelude.{IsTrue, slice_get}
 use Rattle.orca_base.specs.declared.ids.CallNo.{CallNo}
@@ -19,7 +19,6 @@ use Rattle.guard_queue.specs.declared.queue.Suspended.{Suspended}
 use Rattle.object_manager.specs.After.{Copied}
 use Rattle.object_manager.specs.State.{message_of}
 use Rattle.book_law.specs.Passes.{Test}
-use Rattle.book_law.specs.declared.placing.Placed.{Placed}
 use Rattle.book_law.specs.Course.{Came, Course}
 use Rattle.book_law.specs.Events.{Asks, Calls, In, Runner}
 use Rattle.book_law.specs.Fitness.{ArgsFit, StateFits}

@@ -1,11 +1,10 @@
 -- A call that an owner takes: what it performs stands beside the list, its own processes hear it, and others are sent Answers that stand.
 use Rattle.std.proofs.Common.{◌≡◌, ◌≤◌, ◌<◌, ◌==◌, ℕ, zero, suc, ◌⊎◌, inl, inr, ⊎_elim, Bool, true, false, List, [], ◌∷◌, ◌++◌, Option, Some, None, refl, sym, ap, ◌∙◌, subst, arith, length, if◌then◌else◌}
-use Rattle.std.proofs.lemmas.Bool.{cases_eq, cases_lt, eqb-true}
+use Rattle.std.proofs.lemmas.Bool.{cases_lt, eqb-true}
 use Rattle.std.specs.Prelude.{option_map, slice_get}
 use Rattle.orca_base.specs.declared.ids.ObjectId.{ObjectId}
 use Rattle.orca_base.specs.declared.ids.ProcessNo.{ProcessNo}
 use Rattle.value_core.specs.Meaning.{Performs}
-use Rattle.value_core.specs.declared.action.Action.{Action}
 use Rattle.value_core.specs.declared.action.Line.{Line}
 use Rattle.value_core.specs.declared.meaning.Tried.{Tried}
 use Rattle.value_core.specs.declared.meaning.Tried.TheVariants as tried
@@ -301,7 +300,10 @@ pub call_carries : (f : Frame) (single : Test) (fits_state : StateFits) (fits_ar
     → Program f fits_state fits_args fits_text fits_reply → Carries f single w c m v → MayTake f single c m call v → CarriesOn f single w c m (performs_call f m (message_of call) v)
 call_carries f single fits_state fits_args fits_text fits_reply w c m call v program h may =
     let t = call_taken f single fits_state fits_args fits_text fits_reply w c m call v program h.corresponds may in
-    let u : NodeWork = performs_call f m (message_of call) v in
-    (t.parts.done.course, t.leads, carry f single w c t.parts.done.course m v u h
-    (done_comes f single w c t.parts.done.course m v.node.copies.applied (lines_on f.performs t.parts.here.copy call) call.object v u (own_node f single w c m v h) t.corresponds
-    (taken_done f single w c m call v may t)))
+    let u : NodeWork = performs_call f m (message_of call) v in (
+      t.parts.done.course,
+      t.leads,
+      carry f single w c t.parts.done.course m v u h
+          (done_comes f single w c t.parts.done.course m v.node.copies.applied (lines_on f.performs t.parts.here.copy call) call.object v u (own_node f single w c m v h) t.corresponds
+          (taken_done f single w c m call v may t)),
+    )

@@ -1,5 +1,5 @@
 -- A process's action is carried out: its message is submitted, its read is tried, or it asks an owner; and Asks and Answers stand.
-use Rattle.std.proofs.Common.{◌≡◌, ◌≤◌, ◌<◌, ◌==◌, ℕ, ◌⊎◌, inl, inr, ⊎_elim, Bool, true, false, List, [], ◌∷◌, Option, Some, None, refl, sym, ap, ◌∙◌, subst, arith, length, take, if◌then◌else◌}
+use Rattle.std.proofs.Common.{◌≡◌, ◌<◌, ◌==◌, ℕ, ◌⊎◌, inl, inr, ⊎_elim, Bool, true, false, List, Option, Some, None, refl, sym, ap, ◌∙◌, subst, arith, length, take, if◌then◌else◌}
 use Rattle.std.proofs.lemmas.Bool.{cases_eq, eqb-false, eqb-true}
 use Rattle.std.specs.Prelude.{slice_get}
 use Rattle.orca_base.specs.declared.ids.KindNo.{KindNo}
@@ -44,7 +44,7 @@ use Rattle.world_course.proofs.Later.{Later, later_self, leads_later}
 use Rattle.world_course.proofs.Listing.{got_less}
 use Rattle.world_course.proofs.Program.{Program}
 use Rattle.world_course.proofs.Silent.{silent_read}
-use Rattle.world_course.proofs.Tries.{node_at, read_lifts}
+use Rattle.world_course.proofs.Tries.{read_lifts}
 use Rattle.world_course.proofs.Working.{known_count}
 
 -- ---- one process stands elsewhere

@@ -1,41 +1,22 @@
 -- What a course doesn't see of an event.
-use Rattle.std.proofs.Common.{◌≡◌, ◌==◌, ℕ, zero, suc, Bool, true, false, List, [], ◌∷◌, ◌++◌, Option, Some, None, refl, sym, ap, ◌∙◌, subst, take, append-nil, if◌then◌else◌}
-use Rattle.orca_base.specs.declared.ids.ObjectId.{ObjectId}
-use Rattle.value_core.specs.declared.action.Action.{Action}
-use Rattle.value_core.specs.declared.action.Action.TheVariants as action
+use Rattle.std.proofs.Common.{◌≡◌, ℕ, List, [], ◌∷◌, ◌++◌, refl, sym, ap, ◌∙◌, subst, take, append-nil}
 use Rattle.value_core.specs.declared.message.Message.{Message}
 use Rattle.net_rules.specs.declared.fate.Fate.{Fate}
-use Rattle.guard_queue.specs.declared.queue.Suspended.{Suspended}
 use Rattle.group_rules.specs.World.{Past}
-use Rattle.group_rules.specs.Member.{Letter, Member}
-use Rattle.group_rules.specs.Reset.{coordinate}
-use Rattle.group_rules.specs.Steps.{deliver, timer}
-use Rattle.group_rules.specs.Work.{Work}
-use Rattle.object_manager.specs.After.{Copied}
-use Rattle.object_manager.specs.State.{message_of}
+use Rattle.group_rules.specs.Member.{Member}
 use Rattle.book_law.specs.Passes.{Test}
 use Rattle.book_law.specs.Course.{Course}
 use Rattle.book_law.specs.declared.placing.Placed.{Placed}
-use Rattle.book_law.specs.Fitness.{ArgsFit, StateFits}
 use Rattle.book_law.proofs.Courses.{at_other}
-use Rattle.book_law.proofs.Fits.{ReplyFits, TextFits}
-use Rattle.world_rules.specs.Applying.{applies_all}
 use Rattle.world_rules.specs.Frame.{Frame, group}
-use Rattle.world_rules.specs.Mail.{Errand, Mail}
-use Rattle.world_rules.specs.Nodes.{Node, NodeWork, aside_of, becomes, entries_of, idle, joins, known, past_after}
-use Rattle.world_rules.specs.Owners.{sends, takes_each, takes_reached}
-use Rattle.world_rules.specs.Parts.{acts, acts_of, asks_again, asks_again_at, asks_again_by, asks_again_of, asks_below, asks_owner, catches_up, receives, receives_mail, suspects, ticks}
-use Rattle.world_rules.specs.Played.{Played, Stage}
-use Rattle.world_rules.specs.Played.Stage.{Computing, Acting, Submitted, Reading, Asking, Over}
-use Rattle.world_rules.specs.Processes.{owner_in, singles_of}
+use Rattle.world_rules.specs.Mail.{Mail}
+use Rattle.world_rules.specs.Nodes.{Node, NodeWork, aside_of, idle, past_after}
 use Rattle.world_rules.specs.Steps.{posts, posts_all}
 use Rattle.world_rules.specs.Worlds.{World}
-use Rattle.world_course.specs.Corresponds.{Agrees, Corresponds, Lifts}
-use Rattle.world_course.specs.Group.{AreNotes, Gives, IsAgreed, KeepsEntries}
+use Rattle.world_course.specs.Corresponds.{Corresponds}
 use Rattle.world_course.specs.Works.{at_work}
-use Rattle.world_course.proofs.Catching.{all_lifts, joins_on, steps_on}
-use Rattle.world_course.proofs.Changing.{SameCopies, lifts_on}
-use Rattle.world_course.proofs.Program.{Program}
+use Rattle.world_course.proofs.Catching.{steps_on}
+use Rattle.world_course.proofs.Changing.{SameCopies}
 use Rattle.world_course.proofs.Tries.{node_at}
 
 -- ---- what isn't seen

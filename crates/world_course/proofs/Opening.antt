@@ -13,7 +13,7 @@ use Rattle.world_rules.specs.Played.{Played, newborn}
 use Rattle.world_rules.specs.Processes.{Begun, first_process}
 use Rattle.world_rules.specs.Worlds.{opening_world}
 use Rattle.group_rules.specs.Member.{nobody}
-use Rattle.book_law.proofs.Courses.{at_other, at_own}
+use Rattle.book_law.proofs.Courses.{at_other}
 use Rattle.world_course.specs.Corresponds.{Agrees, Corresponds, IsMember, IsOf}
 use Rattle.world_course.specs.Errands.{AllStand}
 use Rattle.world_course.specs.Law.{OpeningFollows}

@@ -1,7 +1,6 @@
 -- A member's part in an event: it acts, and catches up; the world follows the course, and so does each Ask and Answer.
-use Rattle.std.proofs.Common.{◌≡◌, ◌==◌, ℕ, ◌⊎◌, inl, inr, ⊎_elim, Bool, true, false, List, [], ◌∷◌, ◌++◌, Option, Some, None, refl, sym, ap, ◌∙◌, subst, take, if◌then◌else◌}
+use Rattle.std.proofs.Common.{◌≡◌, ℕ, ◌⊎◌, inl, inr, ⊎_elim, refl, sym, ap, ◌∙◌, subst, take}
 use Rattle.std.proofs.lemmas.Bool.{cases_eq}
-use Rattle.value_core.specs.declared.action.Line.{Line}
 use Rattle.value_core.specs.declared.message.Message.{Message}
 use Rattle.net_rules.specs.declared.flight.Flight.{Flight}
 use Rattle.group_rules.specs.Member.{Member}
@@ -19,14 +18,14 @@ use Rattle.world_rules.specs.Applying.{applies_all}
 use Rattle.world_rules.specs.Frame.{Frame, group}
 use Rattle.world_rules.specs.Mail.{Carried, Mail, receiver_of}
 use Rattle.world_rules.specs.Nodes.{Node, NodeWork, entries_of, idle, joins, mails_of}
-use Rattle.world_rules.specs.Parts.{acts, acts_of, asks_again, catches_up, receives, receives_mail, suspects, ticks}
+use Rattle.world_rules.specs.Parts.{acts, acts_of, asks_again, catches_up, receives, suspects, ticks}
 use Rattle.world_rules.specs.Steps.{AtWork, does_part}
 use Rattle.world_rules.specs.Worlds.{World}
 use Rattle.world_course.specs.Chain.{Leads}
 use Rattle.world_course.specs.Chain.Leads.{Stays}
-use Rattle.world_course.specs.Corresponds.{Agrees, Corresponds}
+use Rattle.world_course.specs.Corresponds.{Agrees}
 use Rattle.world_course.specs.Errands.{AllStand, Follows, IsGiven, MailStands, NodeStands}
-use Rattle.world_course.specs.Gives.{GivesTick, acted, came, timed}
+use Rattle.world_course.specs.Gives.{GivesTick, acted, came}
 use Rattle.world_course.specs.Group.{AreNotes, Gives, IsAgreed, KeepsEntries}
 use Rattle.world_course.specs.Works.{at_work}
 use Rattle.world_course.proofs.Carrying.{Carries, CarriesOn, carries_on, joins_carries, mail_later, silent_lifts}
@@ -77,10 +76,14 @@ goes_stay f single c u h = (c, Stays c, h)
 
 -- a member did its part
 pub part_follows : (f : Frame) (single : Test) (m : ℕ) (part : Node → NodeWork) (u : AtWork) (c : Course) → FollowsAt f single u c → CarriesOn f single u.world c m (part (u.world.nodes m)) → GoesAt f single c (does_part f m part u)
-part_follows f single m part u c h (d, leads, k) = (d, leads, record {
-  follows = record { corresponds = k.corresponds; errands = k.errands };
-  mails = λ mail is. ⊎_elim (λ old. mail_later f single c d mail later (h.mails mail old)) (λ new. k.mails mail new) (in_append mail u.mails (mails_of (part (u.world.nodes m)).deeds) is);
-})
+part_follows f single m part u c h (d, leads, k) = (
+  d,
+  leads,
+  record {
+    follows = record { corresponds = k.corresponds; errands = k.errands };
+    mails = λ mail is. ⊎_elim (λ old. mail_later f single c d mail later (h.mails mail old)) (λ new. k.mails mail new) (in_append mail u.mails (mails_of (part (u.world.nodes m)).deeds) is);
+  },
+)
   where
     later : Later f c d
     later = let g = h.follows in let z = g.corresponds in let st = z.stands in leads_later f single c d st.came leads

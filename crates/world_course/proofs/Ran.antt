@@ -1,5 +1,5 @@
 -- A burst: its process doesn't wait at its end, and Asks and Answers stand.
-use Rattle.std.proofs.Common.{◌≡◌, ◌≤◌, ℕ, ◌⊎◌, inl, inr, ⊎_elim, true, false, List, [], ◌∷◌, ◌++◌, Option, Some, None, refl, sym, ap, ◌∙◌, subst}
+use Rattle.std.proofs.Common.{◌≡◌, ◌≤◌, ℕ, inl, ⊎_elim, true, false, List, [], ◌∷◌, Some, refl, sym, ap, ◌∙◌, subst}
 use Rattle.orca_base.specs.declared.ids.ObjectId.{ObjectId}
 use Rattle.orca_base.specs.declared.ids.ProcessNo.{ProcessNo}
 use Rattle.value_core.specs.declared.action.Action.{Action}
@@ -21,7 +21,7 @@ use Rattle.book_law.proofs.Replying.{in_placed}
 use Rattle.world_rules.specs.Bursts.{Ran, reads_on}
 use Rattle.world_rules.specs.Frame.{Frame}
 use Rattle.world_rules.specs.Mail.{Mail}
-use Rattle.world_rules.specs.Nodes.{Given, Node, NodeWork, aside_of, does, idle, mails_of}
+use Rattle.world_rules.specs.Nodes.{Node, NodeWork, aside_of, does, idle, mails_of}
 use Rattle.world_rules.specs.Nodes.Deed.{Performs}
 use Rattle.world_rules.specs.Parts.{computes, performs_all}
 use Rattle.world_rules.specs.Played.{Played, at_action, stage_at}
@@ -75,17 +75,21 @@ ended_node f single c m i end node rests n = record {
 
 burst_carries : (f : Frame) (single : Test) (w : World) (c : Course) (m i place : ℕ) (lines : List Line) (end : Played) → Follows f single w c → (Waits end.stage → ⊥) → Lifts f single c (at_work f m w (computes i place lines end (w.nodes m)))
     → ((l : Line) (o : ObjectId) → In l lines → Calls l.action o → single o ≡ false) → CarriesOn f single w c m (computes i place lines end (w.nodes m))
-burst_carries f single w c m i place lines end h rests (d, leads, corresponds) shared = (d, leads, carry f single w c d m (idle (w.nodes m)) u k (record {
-  corresponds = corresponds;
-  later = later;
-  node = subst (λ (n : Node). NodeStands f single d m (record n { played = with_at n.played i (Some end) })) (sym same)
-      (ended_node f single d m i end (w.nodes m) rests (node_later f single c d m (w.nodes m) later (own_node f single w c m (idle (w.nodes m)) k)));
-  mails = λ mail is. inl (subst (λ (l : List Mail). In mail l) (performs_mails place lines (idle (w.nodes m))) is);
-  beside = λ r o is calls alone. ⊎_elim (λ old. inl old)
-      (λ new. let e : true ≡ false = sym alone ∙ shared r.line o (in_placed place r lines new).1 calls in absurd (cc e))
-      (in_append r (aside_of (idle (w.nodes m)).deeds) (placed place lines) (subst (λ (l : List Placed). In r l) (performs_aside place lines (idle (w.nodes m))) is));
-  given = λ r is g. record { given = g.given; there = ap (λ (n : Node). n.given r.line.process.0) same ∙ g.there; call = g.call };
-}))
+burst_carries f single w c m i place lines end h rests (d, leads, corresponds) shared = (
+  d,
+  leads,
+  carry f single w c d m (idle (w.nodes m)) u k (record {
+    corresponds = corresponds;
+    later = later;
+    node = subst (λ (n : Node). NodeStands f single d m (record n { played = with_at n.played i (Some end) })) (sym same)
+        (ended_node f single d m i end (w.nodes m) rests (node_later f single c d m (w.nodes m) later (own_node f single w c m (idle (w.nodes m)) k)));
+    mails = λ mail is. inl (subst (λ (l : List Mail). In mail l) (performs_mails place lines (idle (w.nodes m))) is);
+    beside = λ r o is calls alone. ⊎_elim (λ old. inl old)
+        (λ new. let e : true ≡ false = sym alone ∙ shared r.line o (in_placed place r lines new).1 calls in absurd (cc e))
+        (in_append r (aside_of (idle (w.nodes m)).deeds) (placed place lines) (subst (λ (l : List Placed). In r l) (performs_aside place lines (idle (w.nodes m))) is));
+    given = λ r is g. record { given = g.given; there = ap (λ (n : Node). n.given r.line.process.0) same ∙ g.there; call = g.call };
+  }),
+)
   where
     u : NodeWork
     u = computes i place lines end (w.nodes m)

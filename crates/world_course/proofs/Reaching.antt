@@ -1,5 +1,5 @@
 -- The Asks and Answers whose place a member has reached are taken, in order of arrival; others wait on.
-use Rattle.std.proofs.Common.{◌≡◌, ◌≤◌, ◌<◌, ◌==◌, ◌||◌, nat_le, nat_lt, ℕ, zero, suc, ◌⊎◌, inl, inr, ⊎_elim, Bool, true, false, List, [], ◌∷◌, ◌++◌, Option, Some, None, refl, sym, ap, ◌∙◌, subst, arith, length, take, if◌then◌else◌}
+use Rattle.std.proofs.Common.{◌≡◌, ◌≤◌, ◌<◌, ◌==◌, ◌||◌, nat_le, nat_lt, ℕ, zero, suc, inl, inr, Bool, true, false, List, [], ◌∷◌, Option, Some, None, refl, sym, ap, ◌∙◌, subst, arith, length, if◌then◌else◌}
 use Rattle.std.proofs.lemmas.Bool.{eqb-false, leb-true, ltb-true}
 use Rattle.orca_base.specs.declared.ids.CallNo.{CallNo}
 use Rattle.orca_base.specs.declared.ids.KindNo.{KindNo}
@@ -11,10 +11,8 @@ use Rattle.value_core.specs.declared.action.Action.{Action}
 use Rattle.value_core.specs.declared.action.Action.TheVariants as action
 use Rattle.value_core.specs.declared.action.Reply.{Reply}
 use Rattle.value_core.specs.declared.message.Message.{Message}
-use Rattle.guard_queue.specs.declared.queue.Suspended.{Suspended}
 use Rattle.object_manager.specs.After.{Copied}
 use Rattle.object_manager.specs.State.{message_of}
-use Rattle.group_rules.specs.Member.{Member}
 use Rattle.group_rules.specs.Messages.{Group}
 use Rattle.book_law.specs.Passes.{Test}
 use Rattle.book_law.specs.Course.{Course}
@@ -25,16 +23,14 @@ use Rattle.object_manager.specs.Singles.{after_single, lines_single}
 use Rattle.world_rules.specs.Frame.{Frame, group}
 use Rattle.world_rules.specs.Mail.{Errand, Mail, place_of}
 use Rattle.world_rules.specs.Mail.Errand.{Ask, Answer}
-use Rattle.world_rules.specs.Nodes.{Given, NodeWork, becomes, entries_of, known, plays}
-use Rattle.world_rules.specs.Owners.{arrives, hears_as, hears_of, holds, is_held, performs_call, sends, sends_given, takes, takes_answer, takes_ask, takes_asked, takes_call, takes_each, takes_reached, waits_here}
-use Rattle.world_rules.specs.Parts.{asks_again, asks_again_at, asks_again_by, asks_again_of, asks_below, asks_owner}
+use Rattle.world_rules.specs.Nodes.{Given, NodeWork, becomes, known, plays}
+use Rattle.world_rules.specs.Owners.{arrives, hears_as, hears_of, holds, is_held, performs_call, sends, sends_given, takes, takes_answer, takes_asked, takes_call, takes_each, takes_reached, waits_here}
+use Rattle.world_rules.specs.Parts.{asks_again, asks_again_at, asks_again_by, asks_again_of, asks_below}
 use Rattle.world_rules.specs.Played.{Played, Stage, receives}
 use Rattle.world_rules.specs.Played.Stage.{Computing, Acting, Submitted, Reading, Asking, Over}
 use Rattle.world_rules.specs.Processes.{home_in, owner_in}
 use Rattle.world_rules.specs.Worlds.{World}
-use Rattle.world_course.specs.Corresponds.{Lifts}
 use Rattle.world_course.specs.Errands.{AsksFor, ErrandStands, IsAnswer, IsAsk}
-use Rattle.world_course.specs.Works.{at_work}
 use Rattle.world_course.proofs.Asked.{ask_stands, ask_taken, call_of}
 use Rattle.world_course.proofs.Calling.{call_carries}
 use Rattle.world_course.proofs.Carrying.{Carries, CarriesOn, carries_on, carries_stay, held_carries, holds_carries, own_node, sends_carries, silent_lifts}
@@ -44,7 +40,6 @@ use Rattle.world_course.proofs.Hearing.{answer_lifts}
 use Rattle.world_course.proofs.Later.{errand_later, leads_later}
 use Rattle.world_course.proofs.Program.{Program}
 use Rattle.world_course.proofs.Silent.{Silent, silent, silent_plays}
-use Rattle.world_course.proofs.Taking.{begun_call}
 
 -- ---- an Ask
 

@@ -9,7 +9,6 @@ use Rattle.book_law.specs.Events.{In}
 use Rattle.book_law.specs.Fitness.{ArgsFit, StateFits}
 use Rattle.book_law.proofs.Courses.{at_other, at_own}
 use Rattle.book_law.proofs.Fits.{ReplyFits, TextFits}
-use Rattle.group_rules.specs.Work.{Act}
 use Rattle.world_rules.specs.declared.event.Event.{Event}
 use Rattle.world_rules.specs.declared.event.Event.TheVariants as event
 use Rattle.world_rules.specs.declared.event.Step.{Step}
@@ -156,9 +155,13 @@ happens_lifts f single fits_state fits_args fits_text fits_reply w c event.Swap 
 pub step_lifts : (f : Frame) (single : Test) (fits_state : StateFits) (fits_args : ArgsFit) (fits_text : TextFits) (fits_reply : ReplyFits) (w v : World) (c : Course) (step : Step)
     → Program f fits_state fits_args fits_text fits_reply → Follows f single w c → Next f w step v → GivesEvent f w step.event → AgreesIn f single v → FollowsOn f single c v
 step_lifts f single fits_state fits_args fits_text fits_reply w v c step program h next gives agrees =
-    subst (FollowsOn f single c) (sym next.after) (l.0, l.1, same_follows f single u.world (closes f w step u) l.0 kept.0 kept.1 kept.2
-    (let k = l.2 in let g = k.follows in let e = g.errands in posts_fly (MailStands f single l.0) f u.world u.mails step.fates e.travels k.mails)
-    (let k = l.2 in k.follows))
+    subst (FollowsOn f single c) (sym next.after) (
+      l.0,
+      l.1,
+      same_follows f single u.world (closes f w step u) l.0 kept.0 kept.1 kept.2
+          (let k = l.2 in let g = k.follows in let e = g.errands in posts_fly (MailStands f single l.0) f u.world u.mails step.fates e.travels k.mails)
+          (let k = l.2 in k.follows),
+    )
   where
     u : AtWork
     u = happens f w step.event next.given

@@ -1,5 +1,5 @@
 -- Packets: what is in flight after letters were posted, one was delivered, or time passed.
-use Rattle.std.proofs.Common.{◌≡◌, nat_lt, ℕ, suc, ◌⊎◌, inl, inr, ⊎_elim, Bool, true, false, cond, List, [], ◌∷◌, ◌++◌, Option, Some, None, refl, sym, ap, ◌∙◌, subst, if◌then◌else◌}
+use Rattle.std.proofs.Common.{◌≡◌, nat_lt, ℕ, suc, ◌⊎◌, inl, inr, ⊎_elim, Bool, true, false, cond, List, [], ◌∷◌, ◌++◌, Some, refl, sym, subst, if◌then◌else◌}
 use Rattle.std.specs.List.{find}
 use Rattle.net_rules.specs.declared.fate.Fate.{Fate}
 use Rattle.net_rules.specs.declared.fate.Fate.TheVariants as fate

@@ -13,19 +13,19 @@ returns g c =
     let m = c.args.machine.now in
     let laws : (f : Frame) → f.performs ≡ g.P.Performer.performs m → f.computes ≡ g.P.Processor.computes m → AreSettings f.settings → Laws f =
     λ f same_p same_q settings.
-        let fit : RunsFit f.performs f.computes (g.P.Performer.fits_args m) (g.P.Performer.fits_text m) (g.P.Performer.fits_reply m) =
-        subst (λ (p : Performs). RunsFit p f.computes (g.P.Performer.fits_args m) (g.P.Performer.fits_text m) (g.P.Performer.fits_reply m)) (sym same_p)
-        (subst (λ (q : Computes). RunsFit (g.P.Performer.performs m) q (g.P.Performer.fits_args m) (g.P.Performer.fits_text m) (g.P.Performer.fits_reply m)) (sym same_q)
-        c.every_call_fits.ensures.machines) in
-        record {
-          small = settings.resilience;
-          messages = c.agreement_law.ensures.messages;
-          grouped = c.group_steps.ensures.events;
-          gives = c.group_steps.ensures.gives;
-          lists = c.group_steps.ensures.lists;
-          courses = c.worlds_are_courses.ensures.courses f same_p same_q settings;
-          owners = λ single course came i x there. let all = fit single course came in all.owners i x there;
-        } in
+    let fit : RunsFit f.performs f.computes (g.P.Performer.fits_args m) (g.P.Performer.fits_text m) (g.P.Performer.fits_reply m) =
+    subst (λ (p : Performs). RunsFit p f.computes (g.P.Performer.fits_args m) (g.P.Performer.fits_text m) (g.P.Performer.fits_reply m)) (sym same_p)
+    (subst (λ (q : Computes). RunsFit (g.P.Performer.performs m) q (g.P.Performer.fits_args m) (g.P.Performer.fits_text m) (g.P.Performer.fits_reply m)) (sym same_q)
+    c.every_call_fits.ensures.machines) in
+    record {
+      small = settings.resilience;
+      messages = c.agreement_law.ensures.messages;
+      grouped = c.group_steps.ensures.events;
+      gives = c.group_steps.ensures.gives;
+      lists = c.group_steps.ensures.lists;
+      courses = c.worlds_are_courses.ensures.courses f same_p same_q settings;
+      owners = λ single course came i x there. let all = fit single course came in all.owners i x there;
+    } in
     record {
       kept = λ f same_p same_q settings steps w replays.
           let l = laws f same_p same_q settings in is_kept f w l (replayed f steps w l replays);
