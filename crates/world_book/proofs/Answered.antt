@@ -20,7 +20,7 @@ use Rattle.book_law.proofs.Courses.{at_other, at_own, came_sound}
 use Rattle.book_law.proofs.Hearing.{mapped}
 use Rattle.book_law.proofs.Replying.{answers_stand}
 use Rattle.world_rules.specs.Frame.{Frame}
-use Rattle.world_rules.specs.Played.{Played, Stage}
+use Rattle.world_rules.specs.Played.{Stage}
 use Rattle.world_rules.specs.Played.Stage.{Computing, Acting, Submitted, Reading, Asking, Over}
 use Rattle.world_course.specs.Errands.{AsksFor, WaitsOn}
 use Rattle.world_course.specs.Processes.{IsOut, StageStands}

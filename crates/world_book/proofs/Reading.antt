@@ -12,13 +12,11 @@ use Rattle.guard_queue.specs.Settles.{is_blocked}
 use Rattle.book_law.specs.Passes.{lines_after}
 use Rattle.group_rules.specs.Member.{Waiting}
 use Rattle.group_rules.specs.Steps.{note}
-use Rattle.world_rules.specs.Applying.{answers, applies, applies_all, applies_each, applies_one, begins, copies_take, due_entries, passes_limit, round, rounds, tries_as, tries_of, tries_read, tries_reads}
+use Rattle.world_rules.specs.Applying.{answers, applies, applies_each, applies_one, begins, copies_take, due_entries, passes_limit, round, rounds, tries_as, tries_of, tries_read, tries_reads}
 use Rattle.world_rules.specs.Bursts.{read_line, read_on}
 use Rattle.world_rules.specs.Frame.{Frame, group}
-use Rattle.world_rules.specs.Mail.{Errand}
-use Rattle.world_rules.specs.Nodes.{Node, NodeWork, becomes, changes, if_played, joins, known, plays}
-use Rattle.world_rules.specs.Owners.{takes_each}
-use Rattle.world_rules.specs.Parts.{catches_up, reads}
+use Rattle.world_rules.specs.Nodes.{Node, NodeWork, changes, if_played, joins, known, plays}
+use Rattle.world_rules.specs.Parts.{reads}
 use Rattle.world_rules.specs.Played.{Played, Stage, moves_to, newborn, receives}
 use Rattle.world_rules.specs.Played.Stage.{Computing, Acting, Submitted, Reading, Asking, Over}
 use Rattle.world_rules.specs.Processes.{Begun, begun_by, home_in, singles_of}

@@ -1,5 +1,5 @@
 -- What owners do with Asks and Answers leaves replicated objects, and who waits with a read did so before.
-use Rattle.std.proofs.Common.{◌≡◌, ◌==◌, ◌||◌, nat_le, nat_lt, ℕ, ◌⊎◌, inl, inr, ⊎_elim, Bool, true, false, List, [], ◌∷◌, length, Option, Some, None, refl, sym, ap, ◌∙◌, subst, if◌then◌else◌}
+use Rattle.std.proofs.Common.{◌≡◌, ◌==◌, ◌||◌, nat_le, nat_lt, ℕ, ⊎_elim, List, [], ◌∷◌, length, Option, Some, None, refl, sym, ap, ◌∙◌, subst, if◌then◌else◌}
 use Rattle.std.proofs.lemmas.Bool.{cases_eq, cond_both}
 use Rattle.orca_base.specs.declared.ids.CallNo.{CallNo}
 use Rattle.value_core.specs.declared.action.Action.{Action}
@@ -14,9 +14,9 @@ use Rattle.book_law.proofs.Courses.{at_other, at_own}
 use Rattle.world_rules.specs.Frame.{Frame}
 use Rattle.world_rules.specs.Mail.{Errand, place_of}
 use Rattle.world_rules.specs.Mail.Errand.{Ask, Answer}
-use Rattle.world_rules.specs.Nodes.{Given, NodeWork, becomes, changes, does, if_played, known, plays}
+use Rattle.world_rules.specs.Nodes.{Given, NodeWork, becomes, does, if_played, known, plays}
 use Rattle.world_rules.specs.Nodes.Deed.{Performs}
-use Rattle.world_rules.specs.Owners.{arrives, hands, hands_all, hands_to, hears_as, hears_of, holds, is_held, performs_call, takes, takes_asked, takes_call, takes_each, takes_reached, waits_here}
+use Rattle.world_rules.specs.Owners.{arrives, hands, hands_all, hears_as, hears_of, holds, is_held, performs_call, takes, takes_asked, takes_call, takes_each, takes_reached, waits_here}
 use Rattle.world_rules.specs.Applying.{applies_all}
 use Rattle.world_rules.specs.Parts.{asks, catches_up}
 use Rattle.world_rules.specs.Played.{Played, Stage, moves_to, receives}
