@@ -6,7 +6,7 @@ use Rattle.world_rules.specs.declared.event.Event.{Event}
 use Rattle.world_rules.specs.declared.event.Event.TheVariants as event
 use Rattle.world_rules.specs.Applying.{applies, round}
 use Rattle.world_rules.specs.Frame.{Frame}
-use Rattle.world_rules.specs.Mail.{Mail}
+use Rattle.world_rules.specs.Mail.{Mail, receiver_of}
 use Rattle.world_rules.specs.Nodes.{Node, NodeWork}
 use Rattle.world_rules.specs.Parts.{asks_again}
 use Rattle.world_rules.specs.Steps.{AtWork, ticks_below, untouched}
@@ -39,8 +39,7 @@ gives : (f : Frame) (m : ℕ) (w : World) (v : NodeWork) → law.Gives f m w v �
 gives f m w v h = record { entries = h.entries; agreed = agreed (at_work f m w v) h.agreed; notes = notes f m w v.node.member.waiting v h.notes }
 
 mail : (f : Frame) (w : World) (letter : Mail) → law.GivesMail f w letter → course.GivesMail f w letter
-mail f w (Mail.Grouped letter) h = λ lives. gives f letter.to w (course.came f letter.to (Mail.Grouped letter) w) (h lives)
-mail f w (Mail.Sends incarnation from to errand) h = tt
+mail f w letter h = λ lives. gives f (receiver_of letter) w (course.came f (receiver_of letter) letter w) (h lives)
 
 ticks : (f : Frame) (n : ℕ) (u : AtWork) → law.GivesTicks f n u → course.GivesTicks f n u
 ticks f zero u h = tt

@@ -3,7 +3,10 @@ pub mod Homes
 pub mod Submitting
 pub mod Giving
 pub mod Listing
+pub mod Agreeing
+pub mod Answered
 pub mod Reading
+pub mod Staying
 pub mod Rests
 pub mod Kept
 pub mod Stuck

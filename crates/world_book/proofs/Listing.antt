@@ -4,7 +4,7 @@ use Rattle.std.proofs.lemmas.Bool.{and_parts, cases_lt, cond_both, ltb-true}
 use Rattle.std.proofs.lemmas.List.{length-take-le, take_all}
 use Rattle.value_core.specs.declared.message.Message.{Message}
 use Rattle.book_law.specs.Course.{Course}
-use Rattle.book_law.specs.Replicated.{all_replicated}
+use Rattle.book_law.specs.Passes.{Test}
 use Rattle.group_rules.specs.Member.{Letter, Member}
 use Rattle.group_rules.specs.Messages.{Group}
 use Rattle.group_rules.specs.Sets.{Begins}
@@ -59,6 +59,12 @@ idle_run : {M : Type 0} (g : Group M) (w : GroupWorld M) (m : ℕ) (events : Lis
 idle_run g w m [] le idle = idle
 idle_run g w m (event ∷ events) le idle = idle_run g (gnext g w event) m events le (idle_next g w m event le idle)
 
+pub outside_idle : (f : Frame) (w : World) (m : ℕ) → Grouped f w → f.settings.nodes ≤ m → (w.nodes m).copies.applied ≡ 0
+outside_idle f w m grouped le =
+    let none : (w.nodes m).member.applied ≡ 0 =
+    subst (λ (z : GroupWorld Message). IsIdle z m) (sym grouped.run) (idle_run (group f) opening m grouped.events le refl) in
+    sym (grouped.level m) ∙ none
+
 -- ---- the list
 
 -- a beginning of a list that isn't shorter is the list
@@ -68,18 +74,18 @@ whole xs n le = ⊎_elim
     (λ (most : length xs ≤ n). take_all n xs most)
     (cases_lt n (length xs))
 
-entries_are : (f : Frame) (w : World) (c : Course) (m : ℕ) → Stands f all_replicated w c → entries_of (w.nodes m) ≡ take (w.nodes m).copies.applied c.list
-entries_are f w c m st = let mem = st.members m in mem.entries
+entries_are : (f : Frame) (single : Test) (w : World) (c : Course) (m : ℕ) → Stands f single w c → entries_of (w.nodes m) ≡ take (w.nodes m).copies.applied c.list
+entries_are f single w c m st = let mem = st.members m in mem.entries
 
 -- the world's list is the course's
-pub list_is : (f : Frame) (w : World) (c : Course) → Corresponds f all_replicated w c → Grouped f w → OneList f w → agreed f w ≡ c.list
-list_is f w c h grouped one = is ∙ whole c.list (w.nodes k).copies.applied (subst (λ (l : List Message). length c.list ≤ length l) is long)
+pub list_is : (f : Frame) (single : Test) (w : World) (c : Course) → Corresponds f single w c → Grouped f w → OneList f w → agreed f w ≡ c.list
+list_is f single w c h grouped one = is ∙ whole c.list (w.nodes k).copies.applied (subst (λ (l : List Message). length c.list ≤ length l) is long)
   where
     k : ℕ
     k = one.some.0
 
     is : agreed f w ≡ take (w.nodes k).copies.applied c.list
-    is = one.some.2 ∙ sym (one.copies k one.some.1) ∙ entries_are f w c k h.stands
+    is = one.some.2 ∙ sym (one.copies k one.some.1) ∙ entries_are f single w c k h.stands
 
     m : ℕ
     m = h.reached.0
@@ -91,12 +97,10 @@ list_is f w c h grouped one = is ∙ whole c.list (w.nodes k).copies.applied (su
         let b : Begins (applied_at w m) (agreed f w) = one.begin m lt in
         let most = b.right in
         let e : length (applied_at w m) ≡ length c.list =
-        ap (λ (l : List Message). length l) (sym (one.copies m lt) ∙ entries_are f w c m h.stands ∙ take_all (w.nodes m).copies.applied c.list h.reached.1) in
+        ap (λ (l : List Message). length l) (sym (one.copies m lt) ∙ entries_are f single w c m h.stands ∙ take_all (w.nodes m).copies.applied c.list h.reached.1) in
         omega (arith, most, e))
         (λ (le : f.settings.nodes ≤ m).
-        let none : (w.nodes m).member.applied ≡ 0 =
-        subst (λ (z : GroupWorld Message). IsIdle z m) (sym grouped.run) (idle_run (group f) opening m grouped.events le refl) in
-        let level = grouped.level m in
+        let none = outside_idle f w m grouped le in
         let reached = h.reached.1 in
-        omega (arith, none, level, reached))
+        omega (arith, none, reached))
         (cases_lt m f.settings.nodes)

@@ -3,6 +3,8 @@ use Rattle.std.proofs.Common.{◌≡◌, ◌==◌, ◌&&◌, ◌||◌, ◌<◌, 
 use Rattle.std.specs.Prelude.{slice_get}
 use Rattle.std.proofs.lemmas.Bool.{and_parts, cases_eq, eqb-true, ltb-true}
 use Rattle.orca_base.specs.declared.ids.ProcessNo.{ProcessNo}
+use Rattle.value_core.specs.declared.action.Action.{Action}
+use Rattle.value_core.specs.declared.action.Action.TheVariants as action
 use Rattle.value_core.specs.declared.message.Message.{Message}
 use Rattle.value_core.specs.History.{IsStuck}
 use Rattle.guard_queue.specs.declared.queue.Suspended.{Suspended}
@@ -13,14 +15,14 @@ use Rattle.book_law.proofs.Lists.{one_other, waiting-cons}
 use Rattle.world_rules.specs.Frame.{Frame}
 use Rattle.world_rules.specs.Played.{Played, Stage, is_over}
 use Rattle.world_rules.specs.Played.Stage.{Computing, Acting, Submitted, Reading, Asking, Over}
-use Rattle.world_rules.specs.Processes.{processes_in}
-use Rattle.world_rules.specs.Standings.{all_below, all_ended, all_rest, each_process, is_done, members_done, process_count, rests, rests_at, stands}
-use Rattle.world_rules.specs.Worlds.{Book, World, agreed, home_of, played_in}
+use Rattle.world_rules.specs.Processes.{owner_in, processes_in}
+use Rattle.world_rules.specs.Standings.{all_below, all_ended, all_rest, each_process, is_done, members_done, process_count, rests, rests_at, stands, waits_at_owner, waits_in}
+use Rattle.world_rules.specs.Worlds.{Book, World, agreed, home_of, played_in, processes_of, singles_in}
 use Rattle.world_law.proofs.Homes.{home_low}
 use Rattle.world_course.specs.Corresponds.{IsOf}
-use Rattle.world_book.specs.Promise.{IsStuckAt, LivingAreStuck}
-use Rattle.world_book.proofs.Kept.{Kept, Laws, list_kept}
-use Rattle.world_book.proofs.Stuck.{stuck_at}
+use Rattle.world_book.specs.Promise.{IsStuckAt, LivingAreStuck, OwnersWaitersAreStuck}
+use Rattle.world_book.proofs.Kept.{Kept, Laws, course_of, list_kept, stands_for}
+use Rattle.world_book.proofs.Stuck.{single_stuck, stuck_at}
 
 -- ---- tests
 
@@ -65,30 +67,42 @@ waiter i (call ∷ calls) lt = ⊎_elim
 
 -- ---- at the end
 
-rests_stuck : (f : Frame) (w : World) → Kept f w → (i : ProcessNo) (r : Played) (stage : Stage) → played_in f w i.0 ≡ Some r → r.stage ≡ stage →
+asked_stuck : (f : Frame) (w : World) → OwnersWaitersAreStuck f w → (i : ProcessNo) (act : Action) → waits_at_owner f w i.0 act ≡ true → IsStuck f.performs f.computes (Book f w) i
+asked_stuck f w singles i (action.Call kind op object args) rest =
+    let owner : ℕ = owner_in (processes_of f w) object in
+    let waits = (and_parts (not (w.nodes owner).member.outside) (waits_in i.0 (w.nodes owner).copies.waits) (and_parts (w.lives owner) _ rest).1).1 in
+    let one : Waiter i.0 (w.nodes owner).copies.waits = waiter i.0 (w.nodes owner).copies.waits (ltb-true 0 _ waits) in
+    let same : one.call.process ≡ i = ap (λ (n : ℕ). record { 0 = n }) one.process in
+    subst (λ (j : ProcessNo). IsStuck f.performs f.computes (Book f w) j) same (singles owner one.call one.among)
+asked_stuck f w singles i (action.Make kind object) rest = absurd (cc rest)
+asked_stuck f w singles i (action.Fork text args place_on) rest = absurd (cc rest)
+asked_stuck f w singles i action.Ended rest = absurd (cc rest)
+asked_stuck f w singles i (action.Faulted fault) rest = absurd (cc rest)
+
+rests_stuck : (f : Frame) (w : World) → OwnersWaitersAreStuck f w → (i : ProcessNo) (r : Played) (stage : Stage) → played_in f w i.0 ≡ Some r → r.stage ≡ stage →
     IsStuckAt f w (home_of f w i.0) → is_over stage ≡ false → rests_at f w i.0 stage ≡ true → IsStuck f.performs f.computes (Book f w) i
-rests_stuck f w k i r (Reading act) here is stuck unended rest = stuck.reads i r act here is
-rests_stuck f w k i r (Submitted act) here is stuck unended rest =
+rests_stuck f w singles i r (Reading act) here is stuck unended rest = stuck.reads i r act here is
+rests_stuck f w singles i r (Submitted act) here is stuck unended rest =
     let one : Waiter i.0 (w.nodes (home_of f w i.0)).copies.queue = waiter i.0 (w.nodes (home_of f w i.0)).copies.queue (ltb-true 0 _ rest) in
     let same : one.call.process ≡ i = ap (λ (n : ℕ). record { 0 = n }) one.process in
     subst (λ (j : ProcessNo). IsStuck f.performs f.computes (Book f w) j) same (stuck.suspended one.call one.among)
-rests_stuck f w k i r (Asking act) here is stuck unended rest = let plain = k.plain in absurd (plain.asks (home_of f w i.0) i.0 r here (act, is))
-rests_stuck f w k i r Computing here is stuck unended rest = absurd (cc rest)
-rests_stuck f w k i r (Acting act) here is stuck unended rest = absurd (cc rest)
-rests_stuck f w k i r (Over act) here is stuck unended rest = absurd (cc unended)
+rests_stuck f w singles i r (Asking act) here is stuck unended rest = asked_stuck f w singles i act rest
+rests_stuck f w singles i r Computing here is stuck unended rest = absurd (cc rest)
+rests_stuck f w singles i r (Acting act) here is stuck unended rest = absurd (cc rest)
+rests_stuck f w singles i r (Over act) here is stuck unended rest = absurd (cc unended)
 
 pub living_stuck : (f : Frame) (w : World) → 0 < f.settings.nodes → Laws f → EndsStuck f.performs f.computes → Kept f w → LivingAreStuck f w
-living_stuck f w some laws ends k over i r here lives unended = rests_stuck f w k i r r.stage here refl (stuck_at f w laws ends k m applied) unended rest
+living_stuck f w some laws ends k over i r here lives unended = rests_stuck f w (single_stuck f w laws ends k) i r r.stage here refl (stuck_at f w laws ends k m applied) unended rest
   where
     m : ℕ
     m = home_of f w i.0
 
     low : i.0 < process_count f w
     low =
-        let is = k.is in
-        let st = is.stands in
-        let of : IsOf f k.course m i.0 = st.played m i.0 r here in
-        low_in _ i.0 of.begun (ap (λ (l : List Message). slice_get (processes_in f l) i.0) (list_kept f w laws k) ∙ of.there)
+        let h = course_of f w k in
+        let st = stands_for f (singles_in f w) w h in
+        let of : IsOf f h.course m i.0 = st.played m i.0 r here in
+        low_in _ i.0 of.begun (ap (λ (l : List Message). slice_get (processes_in f l) i.0) (list_kept f (singles_in f w) w laws k h) ∙ of.there)
 
     -- not all have ended
     resting : all_rest f w ≡ true

@@ -12,13 +12,11 @@ use Rattle.guard_queue.specs.Settles.{is_blocked}
 use Rattle.book_law.specs.Passes.{lines_after}
 use Rattle.group_rules.specs.Member.{Waiting}
 use Rattle.group_rules.specs.Steps.{note}
-use Rattle.world_rules.specs.Applying.{answers, applies, applies_all, applies_each, applies_one, begins, copies_take, due_entries, passes_limit, round, rounds, tries_as, tries_of, tries_read, tries_reads}
+use Rattle.world_rules.specs.Applying.{answers, applies, applies_each, applies_one, begins, copies_take, due_entries, passes_limit, round, rounds, tries_as, tries_of, tries_read, tries_reads}
 use Rattle.world_rules.specs.Bursts.{read_line, read_on}
 use Rattle.world_rules.specs.Frame.{Frame, group}
-use Rattle.world_rules.specs.Mail.{Errand}
-use Rattle.world_rules.specs.Nodes.{Node, NodeWork, becomes, changes, if_played, joins, known, plays}
-use Rattle.world_rules.specs.Owners.{takes_each}
-use Rattle.world_rules.specs.Parts.{catches_up, reads}
+use Rattle.world_rules.specs.Nodes.{Node, NodeWork, changes, if_played, joins, known, plays}
+use Rattle.world_rules.specs.Parts.{reads}
 use Rattle.world_rules.specs.Played.{Played, Stage, moves_to, newborn, receives}
 use Rattle.world_rules.specs.Played.Stage.{Computing, Acting, Submitted, Reading, Asking, Over}
 use Rattle.world_rules.specs.Processes.{Begun, begun_by, home_in, singles_of}
@@ -198,27 +196,11 @@ blocked_round f m v fresh all =
     cond_both (nat_lt u.node.member.applied u.node.copies.applied) (joins (note (group f) m u.node.copies.applied u.node.member) u) u
     (λ (t : NodeWork). AllBlocked f t.node) (λ e. h) (λ e. h)
 
-blocked_rounds : (f : Frame) (m : ℕ) (waiting : List (Waiting Message)) (v : NodeWork) → Fresh v.node → AllBlocked f v.node → AllBlocked f (rounds f m waiting v).node
+pub blocked_rounds : (f : Frame) (m : ℕ) (waiting : List (Waiting Message)) (v : NodeWork) → Fresh v.node → AllBlocked f v.node → AllBlocked f (rounds f m waiting v).node
 blocked_rounds f m [] v fresh all = blocked_round f m v fresh all
 blocked_rounds f m (one ∷ more) v fresh all =
     let a = ages_round f m v fresh in
     blocked_rounds f m more (round f m v) a.fresh (blocked_round f m v fresh all)
-
--- where nothing waits for its place
-pub blocked_caught : (f : Frame) (m : ℕ) (v : NodeWork) → (applies_all f m v).node.held ≡ [] → Fresh v.node → AllBlocked f v.node → AllBlocked f (catches_up f m v).node
-blocked_caught f m v none fresh all =
-    cond_both u.node.member.outside u (takes_each f m u.node.held (becomes (record u.node { held = [] }) u)) (λ (t : NodeWork). AllBlocked f t.node)
-    (λ e. h) (λ e. go u.node.held none)
-  where
-    u : NodeWork
-    u = applies_all f m v
-
-    h : AllBlocked f u.node
-    h = blocked_rounds f m v.node.member.waiting v fresh all
-
-    go : (errands : List Errand) → errands ≡ [] → AllBlocked f (takes_each f m errands (becomes (record u.node { held = [] }) u)).node
-    go [] e = h
-    go (errand ∷ errands) e = absurd (cc e)
 
 -- ---- one process changes
 

@@ -8,7 +8,7 @@ use Rattle.value_core.specs.declared.message.Message.{Message}
 use Rattle.book_law.specs.Course.{Course}
 use Rattle.book_law.specs.Events.{Runner}
 use Rattle.book_law.specs.Events.{In as InBook}
-use Rattle.book_law.specs.Replicated.{all_replicated}
+use Rattle.book_law.specs.Passes.{Test}
 use Rattle.group_rules.specs.Messages.{all_are}
 use Rattle.group_rules.specs.Sets.{In}
 use Rattle.group_rules.specs.World.{is_at_home}
@@ -48,8 +48,8 @@ pub record IsRun (f : Frame) (c : Course) (m i : ℕ) (r : Played) : Type 0 wher
   pub member : runner.member ≡ m
   pub is : IsRunner f.computes i r runner
 
-pub run_of : (f : Frame) (w : World) (c : Course) (m i : ℕ) (r : Played) → Stands f all_replicated w c → (w.nodes m).played i ≡ Some r → IsRun f c m i r
-run_of f w c m i r st here =
+pub run_of : (f : Frame) (single : Test) (w : World) (c : Course) (m i : ℕ) (r : Played) → Stands f single w c → (w.nodes m).played i ≡ Some r → IsRun f c m i r
+run_of f single w c m i r st here =
     let of : IsOf f c m i = st.played m i r here in
     let p = st.processes i of.begun of.there in
     let stands : StandsHere f.computes i of.begun p.runner (w.nodes m).copies.applied ((w.nodes m).played i) =
@@ -59,9 +59,9 @@ run_of f w c m i r st here =
     record { runner = p.runner; runs = p.runs; member = p.member ∙ of.home; is = known.2 }
 
 -- what its member applied is the course's
-pub applied_is : (f : Frame) (w : World) (c : Course) (m : ℕ) → Stands f all_replicated w c → (w.nodes m).member.applied ≡ (w.nodes m).copies.applied →
+pub applied_is : (f : Frame) (single : Test) (w : World) (c : Course) (m : ℕ) → Stands f single w c → (w.nodes m).member.applied ≡ (w.nodes m).copies.applied →
     take (c.applied m) c.list ≡ take (w.nodes m).member.applied (w.nodes m).member.log
-applied_is f w c m st level =
+applied_is f single w c m st level =
     let mem = st.members m in
     ap (λ n. take n c.list) mem.applied ∙ sym mem.entries ∙ ap (λ n. take n (w.nodes m).member.log) (sym level)
 
@@ -72,25 +72,25 @@ record IsDone (w : World) (m : ℕ) (replies : List Reply) (y : Message) : Type 
   applied : In y (take (w.nodes m).member.applied (w.nodes m).member.log)
   call : y.call.0 < length replies
 
-done : (f : Frame) (w : World) (c : Course) (m i : ℕ) (r : Played) (act : Action) → Stands f all_replicated w c →
+done : (f : Frame) (single : Test) (w : World) (c : Course) (m i : ℕ) (r : Played) (act : Action) → Stands f single w c →
     (w.nodes m).member.applied ≡ (w.nodes m).copies.applied → (w.nodes m).played i ≡ Some r → r.stage ≡ Acting act →
     (y : Message) → y.process.0 ≡ i → In y (w.past.submitted i) → IsDone w m r.replies y
-done f w c m i r act st level here acting y of was =
-    let one : IsRun f c m i r = run_of f w c m i r st here in
+done f single w c m i r act st level here acting y of was =
+    let one : IsRun f c m i r = run_of f single w c m i r st here in
     let x : Runner = one.runner in
     let is = one.is in
     let stage : StageStands f.computes i x (Acting act) = subst (λ (s : Stage). StageStands f.computes i x s) acting is.stage in
     let runs : c.runners y.process.0 ≡ Some x = ap c.runners of ∙ one.runs in
     let asked = st.asked y (subst (λ (j : ℕ). In y (w.past.submitted j)) (sym of) was) in
-    let listed = free_listed f.performs f.computes c st.came x y runs stage.0 asked.among in
-    let applied = free_applied f.performs f.computes c st.came x y runs stage.0 listed.0 in
+    let listed = free_listed single f.performs f.computes c st.came x y runs stage.0 asked.among asked.shared in
+    let applied = free_applied single f.performs f.computes c st.came x y runs stage.0 listed.0 in
     record {
-      applied = in_group y _ (subst (λ (l : List Message). InBook y l) (ap (λ n. take (c.applied n) c.list) one.member ∙ applied_is f w c m st level) applied);
+      applied = in_group y _ (subst (λ (l : List Message). InBook y l) (ap (λ n. take (c.applied n) c.list) one.member ∙ applied_is f single w c m st level) applied);
       call = subst (λ (l : List Reply). y.call.0 < length l) is.replies listed.1;
     }
 
-at_home : (f : Frame) (w : World) (c : Course) (m i : ℕ) → Stands f all_replicated w c → AtHome w → IsOf f c m i → is_at_home m (w.past.homes i) ≡ true
-at_home f w c m i st homes of = go (w.past.homes i) refl
+at_home : (f : Frame) (single : Test) (w : World) (c : Course) (m i : ℕ) → Stands f single w c → AtHome w → IsOf f c m i → is_at_home m (w.past.homes i) ≡ true
+at_home f single w c m i st homes of = go (w.past.homes i) refl
   where
     go : (o : Option ℕ) → w.past.homes i ≡ o → is_at_home m o ≡ true
     go None e = refl
@@ -100,10 +100,10 @@ at_home f w c m i st homes of = go (w.past.homes i) refl
         let same : of.begun ≡ other.begun = same_begun (slice_get _ i) of.begun other.begun of.there other.there in
         eq-eqb k m (sym other.home ∙ ap (λ (b : Begun). b.home) (sym same) ∙ of.home)
 
-pub may : (law : MessagesLaw Message) (f : Frame) → 2 * (group f).resilience < (group f).nodes → (w : World) (c : Course) → Stands f all_replicated w c →
+pub may : (law : MessagesLaw Message) (f : Frame) (single : Test) → 2 * (group f).resilience < (group f).nodes → (w : World) (c : Course) → Stands f single w c →
     Grouped f w → AtHome w → (i : ℕ) → MaySubmit f w i
-may law f small w c st grouped homes i r act here acting x of number =
-    both_true _ _ (subst (λ (j : ℕ). is_at_home m (w.past.homes j) ≡ true) (sym of) (at_home f w c m i st homes (st.played m i r here)))
+may law f single small w c st grouped homes i r act here acting x of number =
+    both_true _ _ (subst (λ (j : ℕ). is_at_home m (w.past.homes j) ≡ true) (sym of) (at_home f single w c m i st homes (st.played m i r here)))
     (both_true _ _
     (all_true _ (w.nodes m).member.pending (λ y h. ⊎_elim
     (λ (e : y.process.0 ≡ x.process.0).
@@ -125,4 +125,4 @@ may law f small w c st grouped homes i r act here acting x of number =
     messages = subst (Messages (group f)) (sym grouped.run) (law (group f) small grouped.events)
 
     all_done : (y : Message) → y.process.0 ≡ i → In y (w.past.submitted i) → IsDone w m r.replies y
-    all_done y its was = done f w c m i r act st (grouped.level m) here acting y its was
+    all_done y its was = done f single w c m i r act st (grouped.level m) here acting y its was

@@ -1,9 +1,8 @@
 -- A process that has no message out waits for nothing: each message of it in the list is among what its member applied.
 use Rattle.std.proofs.Common.{◌≡◌, ◌==◌, ◌<◌, ◌≤◌, ◌+◌, inl, inr, ⊎_elim, ℕ, zero, suc, Bool, true, false, if◌then◌else◌, Option, Some, None, List, [], ◌∷◌, ◌++◌, length, take, drop, append-nil, refl, sym, ap, ◌∙◌, arith, subst}
 use Rattle.std.specs.Prelude.{IsTrue, slice_get}
-use Rattle.std.proofs.lemmas.Bool.{cases_eq}
 use Rattle.std.proofs.lemmas.List.{length-append, take-append-drop}
-use Rattle.value_core.specs.Datum as datum
+use Rattle.orca_base.specs.declared.ids.ObjectId.{ObjectId}
 use Rattle.value_core.specs.declared.action.Action.{Action}
 use Rattle.value_core.specs.declared.action.Action.TheVariants as action
 use Rattle.value_core.specs.declared.action.Line.{Line}
@@ -20,16 +19,12 @@ use Rattle.guard_queue.proofs.Behind.{settled_behind}
 use Rattle.object_manager.specs.After.{Copied, acted, acted_by, after as after_applied, as_call, called, line_of, lines_after as lines_applied, making_reply, opening_copies}
 use Rattle.object_manager.specs.Singles.{after_passed}
 use Rattle.book_law.specs.Book.{behind, book_from, copies_at}
-use Rattle.book_law.specs.Course.{Came, Course, Next, with_at}
-use Rattle.book_law.specs.Course.Next.{Submits, Orders, Forks, Applies, Reads_at, Takes_call, Hears_answer}
-use Rattle.book_law.specs.Course.Came.{Opens, Then}
-use Rattle.book_law.specs.Events.{In, Runner, asking, handed, lines_by, newborn, told, took}
-use Rattle.book_law.specs.Passes.{after, after_all, is_passed, lines_after}
-use Rattle.book_law.specs.Replicated.{all_replicated}
+use Rattle.book_law.specs.Course.{Came, Course}
+use Rattle.book_law.specs.Events.{Calls, In, Runner, lines_by}
+use Rattle.book_law.specs.Passes.{Test, after, after_all, is_passed, lines_after}
 use Rattle.book_law.specs.Singles.{waiting, waits}
 use Rattle.book_law.proofs.Books.{after_all-append}
-use Rattle.book_law.proofs.Courses.{at_other, at_own, came_sound}
-use Rattle.book_law.proofs.Hearing.{mapped}
+use Rattle.book_law.proofs.Courses.{came_sound}
 use Rattle.book_law.proofs.Lists.{lines_by-append, one, one_same, waiting-push, waiting-remove}
 use Rattle.book_law.proofs.Objects.{in_append}
 use Rattle.book_law.proofs.Stages.{not_both, some_same, stage_free}
@@ -88,18 +83,22 @@ applied_holds p j c x =
     let whole : settled_from p s ≡ lines_behind s.lines (settled p s.objects s.queue) = settled_behind p s.objects s.queue s.lines (settled_from p s) refl in
     ap (λ (t : Settling). held j t) (sym whole) ∙ settled_holds p j (length s.queue) s ∙ acted_holds p j c x x.action x.performable
 
-none_passes : (a : Action) → is_passed all_replicated a ≡ false
-none_passes (action.Make kind object) = refl
-none_passes (action.Call kind op object args) = refl
-none_passes (action.Fork text args place_on) = refl
-none_passes action.Ended = refl
-none_passes (action.Faulted fault) = refl
+-- a make of a single object leaves the queue
+passed_queue : (single : Test) (p : Performs) (c : Copied) (x : Message) (a : Action) → is_passed single a ≡ true → (acted_by p c x a).queue ≡ c.queue
+passed_queue single p c x (action.Make kind object) is = refl
+passed_queue single p c x (action.Call kind op object args) is = absurd (cc is)
+passed_queue single p c x (action.Fork text args place_on) is = refl
+passed_queue single p c x action.Ended is = refl
+passed_queue single p c x (action.Faulted fault) is = refl
 
-entry_holds : (p : Performs) (j : ℕ) (c : Copied) (x : Message) → waiting j (after all_replicated p c x).queue + length (lines_by j (lines_after all_replicated p c x)) ≡ waiting j c.queue + one x.process.0 j
-entry_holds p j c x = go (is_passed all_replicated x.action) (none_passes x.action)
+entry_holds : (single : Test) (p : Performs) (j : ℕ) (c : Copied) (x : Message) → waiting j (after single p c x).queue + length (lines_by j (lines_after single p c x)) ≡ waiting j c.queue + one x.process.0 j
+entry_holds single p j c x = go (is_passed single x.action) refl
   where
-    go : (b : Bool) → b ≡ false → waiting j (if b then after_passed p false c x else after_applied p c x).queue + length (lines_by j (if b then (acted p c x).lines else lines_applied p c x)) ≡ waiting j c.queue + one x.process.0 j
-    go true e = absurd (cc e)
+    go : (b : Bool) → is_passed single x.action ≡ b → waiting j (if b then after_passed p false c x else after_applied p c x).queue + length (lines_by j (if b then (acted p c x).lines else lines_applied p c x)) ≡ waiting j c.queue + one x.process.0 j
+    go true e =
+        let h = acted_holds p j c x x.action x.performable in
+        let same : waiting j (acted p c x).queue ≡ waiting j c.queue = ap (λ (q : List Suspended). waiting j q) (passed_queue single p c x x.action e) in
+        omega (arith, h, same)
     go false e = applied_holds p j c x
 
 -- ---- so are entries
@@ -109,13 +108,13 @@ abbrev entries_by : ℕ → List Message → ℕ
 entries_by j [] = 0
 entries_by j (x ∷ xs) = one x.process.0 j + entries_by j xs
 
-entries_hold : (p : Performs) (j : ℕ) (c : Copied) (xs : List Message) → waiting j (after_all all_replicated p c xs).queue + length (lines_by j (book_from all_replicated p c xs [])) ≡ waiting j c.queue + entries_by j xs
-entries_hold p j c [] = refl
-entries_hold p j c (x ∷ xs) =
-    let ls : List Line = lines_after all_replicated p c x in
-    let rest : List Line = book_from all_replicated p (after all_replicated p c x) xs [] in
-    let a = entry_holds p j c x in
-    let b = entries_hold p j (after all_replicated p c x) xs in
+entries_hold : (single : Test) (p : Performs) (j : ℕ) (c : Copied) (xs : List Message) → waiting j (after_all single p c xs).queue + length (lines_by j (book_from single p c xs [])) ≡ waiting j c.queue + entries_by j xs
+entries_hold single p j c [] = refl
+entries_hold single p j c (x ∷ xs) =
+    let ls : List Line = lines_after single p c x in
+    let rest : List Line = book_from single p (after single p c x) xs [] in
+    let a = entry_holds single p j c x in
+    let b = entries_hold single p j (after single p c x) xs in
     let d = ap (λ (l : List Line). length l) (lines_by-append j (ls ++ []) rest) ∙ length-append (lines_by j (ls ++ [])) (lines_by j rest) in
     let e = ap (λ (l : List Line). length (lines_by j l)) (append-nil ls) in
     omega (arith, a, b, d, e)
@@ -126,88 +125,42 @@ some_entry y (x ∷ xs) (inl e) = let a = one_same x.process.0 y.process.0 (ap (
 some_entry y (x ∷ xs) (inr h) = let a = some_entry y xs h in omega (arith, a)
 
 -- where nothing of a process waits at the end, and it has no line behind a place, it has no entry behind it
-none_entered : (p : Performs) (list : List Message) (n : ℕ) (y : Message) → waiting y.process.0 (after_all all_replicated p opening_copies list).queue ≡ 0 →
-    lines_by y.process.0 (behind all_replicated p list [] n) ≡ [] → In y (drop n list) → ⊥
-none_entered p list n y idle unseen h =
-    let all = entries_hold p y.process.0 (copies_at all_replicated p list n) (drop n list) in
-    let whole = ap (λ (c : Copied). waiting y.process.0 c.queue) (sym (after_all-append all_replicated p opening_copies (take n list) (drop n list)) ∙ ap (after_all all_replicated p opening_copies) (take-append-drop n list)) in
+none_entered : (single : Test) (p : Performs) (list : List Message) (n : ℕ) (y : Message) → waiting y.process.0 (after_all single p opening_copies list).queue ≡ 0 →
+    lines_by y.process.0 (behind single p list [] n) ≡ [] → In y (drop n list) → ⊥
+none_entered single p list n y idle unseen h =
+    let all = entries_hold single p y.process.0 (copies_at single p list n) (drop n list) in
+    let whole = ap (λ (c : Copied). waiting y.process.0 c.queue) (sym (after_all-append single p opening_copies (take n list) (drop n list)) ∙ ap (after_all single p opening_copies) (take-append-drop n list)) in
     let some = some_entry y (drop n list) h in
     let no = ap (λ (l : List Line). length l) unseen in
     omega (arith, all, whole, some, no, idle)
 
 -- ---- a process without a message
 
-pub free_applied : (p : Performs) (q : Computes) (c : Course) → Came all_replicated p q c → (x : Runner) (y : Message) → c.runners y.process.0 ≡ Some x →
+pub free_applied : (single : Test) (p : Performs) (q : Computes) (c : Course) → Came single p q c → (x : Runner) (y : Message) → c.runners y.process.0 ≡ Some x →
     x.message ≡ None → In y c.list → In y (take (c.applied x.member) c.list)
-free_applied p q c came x y here free listed =
-    let sound = came_sound all_replicated p q c came in
+free_applied single p q c came x y here free listed =
+    let sound = came_sound single p q c came in
     let k = sound.kept in
     let s = k.stands y.process.0 x here in
-    let rest = stage_free c.entered x.message x.answer (waiting y.process.0 (after_all all_replicated p opening_copies c.list).queue + waits y.process.0 c.owned) s.awaited free s.stage in
+    let rest = stage_free c.entered x.message x.answer (waiting y.process.0 (after_all single p opening_copies c.list).queue + waits y.process.0 c.owned) s.awaited free s.stage in
     let idle = rest.0 in
     ⊎_elim (λ h. h)
-    (λ h. absurd (none_entered p c.list (c.applied x.member) y (omega (arith, idle)) (s.unseen ∙ rest.1) h))
+    (λ h. absurd (none_entered single p c.list (c.applied x.member) y (omega (arith, idle)) (s.unseen ∙ rest.1) h))
     (in_append y (take (c.applied x.member) c.list) (drop (c.applied x.member) c.list)
     (subst (λ (l : List Message). In y l) (sym (take-append-drop (c.applied x.member) c.list)) listed))
 
 -- it was asked, it entered, and it stands in the list
-pub free_listed : (p : Performs) (q : Computes) (c : Course) → Came all_replicated p q c → (x : Runner) (y : Message) → c.runners y.process.0 ≡ Some x →
-    x.message ≡ None → In y c.asked → In y c.list × (y.call.0 < length x.replies)
-free_listed p q c came x y here free asked =
-    let sound = came_sound all_replicated p q c came in
+pub free_listed : (single : Test) (p : Performs) (q : Computes) (c : Course) → Came single p q c → (x : Runner) (y : Message) → c.runners y.process.0 ≡ Some x →
+    x.message ≡ None → In y c.asked → ((o : ObjectId) → Calls y.action o → single o ≡ false) → In y c.list × (y.call.0 < length x.replies)
+free_listed single p q c came x y here free asked shared =
+    let sound = came_sound single p q c came in
     let k = sound.kept in
     let s = k.stands y.process.0 x here in
     let entered : In y c.entered = ⊎_elim (λ h. h)
     (λ r. let same : r.0 ≡ x = some_same (c.runners y.process.0) r.0 x r.1 here in
     absurd (not_both x.message y free (ap (λ (z : Runner). z.message) (sym same) ∙ r.2))) (sound.accounted y asked) in (
-      ⊎_elim (λ h. h) (λ u. let e : false ≡ true = u.2 in absurd (cc e)) (sound.from y entered),
+      ⊎_elim (λ h. h)
+          (λ u. let e : false ≡ true = sym (shared u.0.object (subst (λ (m : Message). Calls m.action u.0.object) (sym u.1) refl)) ∙ u.2 in absurd (cc e))
+          (sound.from y entered),
       ⊎_elim (λ lt. lt) (λ e. absurd (not_both x.message y free e)) (s.earlier y entered refl),
     )
-
--- ---- no answer is ever on the way
-
-abbrev NoAnswers : (ℕ → Option Runner) → Type 0
-NoAnswers runners = (j : ℕ) (x : Runner) → runners j ≡ Some x → x.answer ≡ None
-
-set_none : (f : ℕ → Option Runner) (k : ℕ) (v : Runner) → v.answer ≡ None → NoAnswers f → NoAnswers (with_at f k (Some v))
-set_none f k v own all j x here = ⊎_elim
-    (λ (e : j ≡ k).
-    let g : Some v ≡ Some x = sym (at_own f k (Some v)) ∙ ap (with_at f k (Some v)) (sym e) ∙ here in
-    let h : v ≡ x = cc in
-    ap (λ (z : Runner). z.answer) (sym h) ∙ own)
-    (λ apart. all j x (sym (at_other f k (Some v) j apart) ∙ here))
-    (cases_eq j k)
-
-took_none : (place : ℕ) (lines : List Line) (x : Runner) → x.answer ≡ None → (took place lines x).answer ≡ None
-took_none place [] x e = e
-took_none place (l ∷ lines) x e = refl
-
-handed_none : (n place : ℕ) (lines : List Line) (j : ℕ) (x : Runner) → x.answer ≡ None → (handed n place lines j x).answer ≡ None
-handed_none n place lines j x e = go (x.member == n)
-  where
-    go : (b : Bool) → (if b then took place (lines_by j lines) x else x).answer ≡ None
-    go true = took_none place (lines_by j lines) x e
-    go false = e
-
-pub no_answers : (p : Performs) (q : Computes) (c : Course) → Came all_replicated p q c → NoAnswers c.runners
-no_answers p q c (Opens member shared) = set_none (λ j. None) 0 (newborn member q.main datum.none 0) refl (λ j x here. absurd (cc here))
-no_answers p q c (Then w v came next) = go next (no_answers p q w came)
-  where
-    go : Next all_replicated p q w c → NoAnswers w.runners → NoAnswers c.runners
-    go (Submits j x m here free asks e) all = subst (λ (u : Course). NoAnswers u.runners) (sym e) (set_none w.runners j (asking m x) (all j x here) all)
-    go (Orders x r here was new may plain e) all = subst (λ (u : Course). NoAnswers u.runners) (sym e) all
-    go (Forks x born member was new forks e) all = subst (λ (u : Course). NoAnswers u.runners) (sym e)
-        (set_none w.runners (after_all all_replicated p opening_copies w.list).processes (newborn member born.text born.args (suc (length w.list))) refl all)
-    go (Applies m y is e) all = subst (λ (u : Course). NoAnswers u.runners) (sym e)
-        (λ j x here.
-        let lines : List Line = lines_after all_replicated p (copies_at all_replicated p w.list (w.applied m)) y in
-        let u = mapped (handed m (suc (w.applied m)) lines j) (w.runners j) x here in
-        ap (λ (z : Runner). z.answer) u.2 ∙ handed_none m (suc (w.applied m)) lines j u.0 (all j u.0 u.1))
-    go (Reads_at j x n line here h e) all = subst (λ (u : Course). NoAnswers u.runners) (sym e) (set_none w.runners j (told n line x) refl all)
-    go (Takes_call i x r call t e) all =
-        let sound = came_sound all_replicated p q w came in
-        let k = sound.kept in
-        let o = k.owns i x t.copy in
-        let no : false ≡ true = o.is in
-        absurd (cc no)
-    go (Hears_answer j x r here has le e) all = subst (λ (u : Course). NoAnswers u.runners) (sym e) (set_none w.runners j (told r.place r.line x) refl all)

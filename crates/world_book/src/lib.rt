@@ -1,27 +1,28 @@
-//! The book of every run of a program without single objects is legal (docs/RUNTIME.md, The world of a run).
+//! The book of every run is legal (docs/RUNTIME.md, The world of a run).
 //!
 //! It joins the two sides of the law of the world: what the group gives in each event (`world_law`), and that each step is a chain of
 //! events of the book's law (`world_course`). Beside both it carries that each process submits at its home, and that who waits with a
 //! read is blocked; and it shows that a process at an action may submit it. It has no code: its function is a law, whose body calls
-//! theirs. Of single objects nothing is said here, nor that a run ends.
+//! theirs. Nothing is said here of whether a run ends.
 #![tactic(auto)]
 
 ghost use Rattle.world_book.specs.Promise.{ReplaysAreOne, RunsAreKept, RunsEndStuck};
 ghost use Rattle.world_book.specs.Submitting.{ProcessesMaySubmit};
 
-use book_law::stuck_law;
+use book_law::{every_call_fits, stuck_law};
 use group_law::agreement_law;
 use value_core::{Message, Processor};
 use world_course::worlds_are_courses;
 use world_law::{group_steps, replay_law};
 
-/// The law of every run, for every setting that a run may have and that chooses no object to be single, and every list of steps. A call of
-/// this function does nothing.
+/// The law of every run, for every setting that a run may have and every list of steps. A call of this function does nothing.
 ///
-/// - `kept`: the kept book is a history of the program; each process's replies are the book's up to what its member applied, and the
-///   whole book has one more at most; and each member's copies are the objects that the book up to there leaves.
+/// - `kept`: the kept book is a history of the program; each process's replies are the book's up to what its member applied, but for one
+///   of a call on a single object that is on its way, and the whole book has one more at most; and each member's copies of replicated
+///   objects are what the book up to there leaves of them, and of each single object that it owns it keeps what the whole book leaves.
 /// - `stuck`: where a member applied the whole list, a process whose call is suspended on its copies is stuck in the book, and so is
-///   one here that waits with a read. So where the run is over, each process of a living member is stuck that hasn't ended or faulted.
+///   one here that waits with a read; whose call is suspended on a single object is stuck at any moment. So where the run is over, each
+///   process of a living member is stuck that hasn't ended or faulted.
 /// - `may`: a process at an action that wasn't carried out may submit it, so that `group_steps` of `world_law` speaks of each of these
 ///   runs.
 /// - `once`: a list of steps leads to one world at most.
@@ -34,6 +35,7 @@ pub fn legal_book<P: Processor>(machine: &P)
     agreement_law::<Message>();
     group_steps();
     worlds_are_courses(machine);
+    every_call_fits(machine);
     replay_law(machine);
     stuck_law(machine);
 }

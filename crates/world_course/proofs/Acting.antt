@@ -1,5 +1,5 @@
 -- A process's action is carried out: its message is submitted, or its read is tried.
-use Rattle.std.proofs.Common.{◌≡◌, ◌≤◌, ◌<◌, ℕ, ◌⊎◌, inl, inr, Bool, true, false, List, ◌∷◌, Option, Some, None, refl, sym, ap, ◌∙◌, subst, arith, length, take, if◌then◌else◌}
+use Rattle.std.proofs.Common.{◌≡◌, ◌≤◌, ◌<◌, ℕ, ◌⊎◌, inl, inr, Bool, true, false, List, ◌∷◌, Some, refl, sym, ap, ◌∙◌, subst, arith, length, take}
 use Rattle.std.proofs.lemmas.Bool.{cases_eq}
 use Rattle.orca_base.specs.declared.ids.CallNo.{CallNo}
 use Rattle.orca_base.specs.declared.ids.KindNo.{KindNo}
@@ -9,15 +9,10 @@ use Rattle.orca_base.specs.declared.ids.ProcessNo.{ProcessNo}
 use Rattle.value_core.specs.Datum.{Data}
 use Rattle.value_core.specs.declared.action.Action.{Action}
 use Rattle.value_core.specs.declared.action.Action.TheVariants as action
-use Rattle.value_core.specs.declared.action.Class.{Class}
-use Rattle.value_core.specs.declared.action.Class.TheVariants.{Reads as IsReads, Writes}
 use Rattle.value_core.specs.declared.message.Message.{Message}
 use Rattle.value_core.specs.declared.meaning.Doing.TheVariants as doing
 use Rattle.value_core.specs.History.{most_turns}
-use Rattle.guard_queue.specs.declared.queue.Suspended.{Suspended}
 use Rattle.group_rules.specs.Sets.{In as IsIn, with_at}
-use Rattle.group_rules.specs.Steps.{submit}
-use Rattle.object_manager.specs.State.{message_of}
 use Rattle.book_law.specs.Passes.{Test}
 use Rattle.book_law.specs.Course.{Came, Course, Next, submitted}
 use Rattle.book_law.specs.Course.Next.{Submits as CourseSubmits}
@@ -28,26 +23,23 @@ use Rattle.book_law.proofs.Courses.{at_other, at_own, one_of}
 use Rattle.book_law.proofs.Fits.{ReplyFits, TextFits}
 use Rattle.book_law.proofs.Lists.{in_at}
 use Rattle.book_law.proofs.Makers.{copies_made}
-use Rattle.world_rules.specs.Frame.{Frame, group}
+use Rattle.world_rules.specs.Frame.{Frame}
 use Rattle.world_rules.specs.Nodes.{Node, NodeWork, does, known, plays}
 use Rattle.world_rules.specs.Nodes.Deed.{Submits}
-use Rattle.world_rules.specs.Parts.{acts_at, acts_by, acts_of, asks, calls_as, reads, submits}
 use Rattle.world_rules.specs.Played.{Played, Stage, moves_to, next_call}
-use Rattle.world_rules.specs.Played.Stage.{Computing, Acting, Submitted, Reading, Asking, Over}
+use Rattle.world_rules.specs.Played.Stage.{Acting, Submitted, Reading}
 use Rattle.world_rules.specs.Processes.{Begun, processes_in, singles_of}
 use Rattle.world_rules.specs.Worlds.{World}
 use Rattle.world_course.specs.Chain.Leads.{Stays, By}
 use Rattle.world_course.specs.Corresponds.{Corresponds, IsAsked, IsMember, Lifts, Stands}
-use Rattle.world_course.specs.Group.{KeepsEntries}
 use Rattle.world_course.specs.Processes.{IsFreeAt, IsRunner, StageStands}
 use Rattle.world_course.specs.Works.{at_work}
 use Rattle.world_course.proofs.Begun.{known_agrees, maker_known}
-use Rattle.world_course.proofs.Catching.{joins_on}
 use Rattle.world_course.proofs.Changing.{Changed, NodeWith, OneProcess, one_process, one_reached}
 use Rattle.world_course.proofs.Lifting.{Starts, starts}
 use Rattle.world_course.proofs.Listing.{get_take}
 use Rattle.world_course.proofs.Program.{Program, callable, fitting}
-use Rattle.world_course.proofs.Tries.{node_at, read_lifts, stays}
+use Rattle.world_course.proofs.Tries.{node_at}
 
 -- ---- a process at work
 
@@ -103,7 +95,7 @@ pub record IsMessage (single : Test) (i : ℕ) (r : Played) (act : Action) (x : 
   pub action : x.action ≡ act
   pub shared : (o : ObjectId) → Calls act o → single o ≡ false
 
-submitting_lifts : (f : Frame) (single : Test) (w : World) (c : Course) (m i : ℕ) (r : Played) (act : Action) (x : Message) (v : NodeWork) → IsActing f single w c m i r act v → IsMessage single i r act x
+pub submitting_lifts : (f : Frame) (single : Test) (w : World) (c : Course) (m i : ℕ) (r : Played) (act : Action) (x : Message) (v : NodeWork) → IsActing f single w c m i r act v → IsMessage single i r act x
     → Lifts f single c (at_work f m w (submitting i r act x v))
 submitting_lifts f single w c m i r act x v a is = (
   d,
@@ -184,15 +176,9 @@ submitting_lifts f single w c m i r act x v a is = (
             first (inr among) = old z (subst (λ (n : ℕ). IsIn z (now.past.submitted n)) (sym e) among)
         by (inr apart) = old z (subst (λ (l : List Message). IsIn z l) (at_other now.past.submitted x.process.0 (x ∷ now.past.submitted x.process.0) z.process.0 apart) there)
 
-pub submits_lift : (f : Frame) (single : Test) (w : World) (c : Course) (m i : ℕ) (r : Played) (act : Action) (x : Message) (v : NodeWork) → IsActing f single w c m i r act v → IsMessage single i r act x
-    → KeepsEntries v.node (submits f m i r act x v).node → Lifts f single c (at_work f m w (submits f m i r act x v))
-submits_lift f single w c m i r act x v a is entries =
-    let l = submitting_lifts f single w c m i r act x v a is in
-    (l.0, l.1, joins_on f single m w l.0 (submit (group f) m x v.node.member) (submitting i r act x v) entries l.2)
-
 -- ---- its read is tried
 
-reading_lifts : (f : Frame) (single : Test) (w : World) (c : Course) (m i : ℕ) (r : Played) (act : Action) (v : NodeWork) → IsActing f single w c m i r act v → Corresponds f single (at_work f m w (moving i (Reading act) r v)) c
+pub reading_lifts : (f : Frame) (single : Test) (w : World) (c : Course) (m i : ℕ) (r : Played) (act : Action) (v : NodeWork) → IsActing f single w c m i r act v → Corresponds f single (at_work f m w (moving i (Reading act) r v)) c
 reading_lifts f single w c m i r act v a = record {
   stands = one_process f single now next c c h h.came i m (record { list = refl; applied = λ k. refl; others = λ k apart. refl; copies = λ k. refl }) changed h.beside h.asked;
   reached = one_reached now next c c f i m changed refl corresponds.reached;
@@ -226,14 +212,9 @@ reading_lifts f single w c m i r act v a = record {
           },
         ))
 
-pub reads_try : (f : Frame) (single : Test) (fits_state : StateFits) (fits_args : ArgsFit) (fits_text : TextFits) (fits_reply : ReplyFits) (w : World) (c : Course) (m i : ℕ) (r : Played) (act : Action) (v : NodeWork)
-    → Program f fits_state fits_args fits_text fits_reply → IsActing f single w c m i r act v → Lifts f single c (at_work f m w (reads f i r act v))
-reads_try f single fits_state fits_args fits_text fits_reply w c m i r act v program a =
-    read_lifts f single fits_state fits_args fits_text fits_reply w c m i (moving i (Reading act) r v) program (reading_lifts f single w c m i r act v a)
-
 -- ---- what a member finds replicated is so
 
-shared_if_known : (f : Frame) (single : Test) (fits_state : StateFits) (fits_args : ArgsFit) (fits_text : TextFits) (fits_reply : ReplyFits) (w : World) (c : Course) (m i : ℕ) (r : Played) (kind : KindNo) (op : OpNo) (object : ObjectId) (args : Data) (v : NodeWork)
+pub shared_if_known : (f : Frame) (single : Test) (fits_state : StateFits) (fits_args : ArgsFit) (fits_text : TextFits) (fits_reply : ReplyFits) (w : World) (c : Course) (m i : ℕ) (r : Played) (kind : KindNo) (op : OpNo) (object : ObjectId) (args : Data) (v : NodeWork)
     → Program f fits_state fits_args fits_text fits_reply → IsActing f single w c m i r (action.Call kind op object args) v → singles_of f (known f v.node) object ≡ false → single object ≡ false
 shared_if_known f single fits_state fits_args fits_text fits_reply w c m i r kind op object args v program a none = go (single object) refl
   where
@@ -275,54 +256,3 @@ shared_if_known f single fits_state fits_args fits_text fits_reply w c m i r kin
         let same = ap (λ (ps : List Begun). singles_of f ps object) known_is ∙ known_agrees f single c.list v.node.copies.applied h.test object lt in
         let e : true ≡ false = sym is ∙ sym same ∙ none in
         absurd (cc e)
-
--- ---- an action is carried out
-
--- where the action calls an object that the member knows to be single
-abbrev pub AsksLift : Frame → Test → ℕ → World → Course → ℕ → Played → NodeWork → Type 0
-AsksLift f single m w c i r v =
-    (call : Suspended) → call.process ≡ record { 0 = i } → call.call ≡ next_call r → r.stage ≡ Acting (message_of call).action → singles_of f (known f v.node) call.object ≡ true → Lifts f single c (at_work f m w (asks f m i r call v))
-
-by_lifts : (f : Frame) (single : Test) (fits_state : StateFits) (fits_args : ArgsFit) (fits_text : TextFits) (fits_reply : ReplyFits) (w : World) (c : Course) (m i : ℕ) (r : Played) (act : Action) (v : NodeWork)
-    → Program f fits_state fits_args fits_text fits_reply → IsActing f single w c m i r act v → KeepsEntries v.node (acts_by f m i r act v).node → AsksLift f single m w c i r v → Lifts f single c (at_work f m w (acts_by f m i r act v))
-by_lifts f single fits_state fits_args fits_text fits_reply w c m i r (action.Make kind object) v program a keep singles =
-    let x : Message = record { process = record { 0 = i }; call = next_call r; action = action.Make kind object; performable = refl } in
-    submits_lift f single w c m i r (action.Make kind object) x v a (record { process = refl; call = refl; action = refl; shared = λ o calls. absurd calls }) keep
-by_lifts f single fits_state fits_args fits_text fits_reply w c m i r (action.Fork text args place_on) v program a keep singles =
-    let x : Message = record { process = record { 0 = i }; call = next_call r; action = action.Fork text args place_on; performable = refl } in
-    submits_lift f single w c m i r (action.Fork text args place_on) x v a (record { process = refl; call = refl; action = refl; shared = λ o calls. absurd calls }) keep
-by_lifts f single fits_state fits_args fits_text fits_reply w c m i r action.Ended v program a keep singles = stays f single c (at_work f m w v) a.corresponds
-by_lifts f single fits_state fits_args fits_text fits_reply w c m i r (action.Faulted fault) v program a keep singles = stays f single c (at_work f m w v) a.corresponds
-by_lifts f single fits_state fits_args fits_text fits_reply w c m i r (action.Call kind op object args) v program a keep singles = go (singles_of f (known f v.node) object) refl keep
-  where
-    call : Suspended
-    call = record { process = record { 0 = i }; call = next_call r; kind = kind; op = op; object = object; args = args }
-
-    by_class : singles_of f (known f v.node) object ≡ false → (z : Class) → KeepsEntries v.node (calls_as f m i r call z v).node → Lifts f single c (at_work f m w (calls_as f m i r call z v))
-    by_class none IsReads entries = reads_try f single fits_state fits_args fits_text fits_reply w c m i r (action.Call kind op object args) v program a
-    by_class none Writes entries =
-        let shared = shared_if_known f single fits_state fits_args fits_text fits_reply w c m i r kind op object args v program a none in
-        submits_lift f single w c m i r (action.Call kind op object args) (message_of call) v a (record { process = refl; call = refl; action = refl; shared = λ o is. ap single is ∙ shared }) entries
-
-    go : (b : Bool) → singles_of f (known f v.node) object ≡ b → KeepsEntries v.node (if b then asks f m i r call v else calls_as f m i r call (f.performs.class_of kind op) v).node
-        → Lifts f single c (at_work f m w (if b then asks f m i r call v else calls_as f m i r call (f.performs.class_of kind op) v))
-    go true is entries = singles call refl refl a.acts is
-    go false is entries = by_class is (f.performs.class_of kind op) entries
-
-at_lifts : (f : Frame) (single : Test) (fits_state : StateFits) (fits_args : ArgsFit) (fits_text : TextFits) (fits_reply : ReplyFits) (w : World) (c : Course) (m i : ℕ) (r : Played) (stage : Stage) (v : NodeWork)
-    → Program f fits_state fits_args fits_text fits_reply → Corresponds f single (at_work f m w v) c → v.node.played i ≡ Some r → r.stage ≡ stage → KeepsEntries v.node (acts_at f m i r stage v).node → AsksLift f single m w c i r v
-    → Lifts f single c (at_work f m w (acts_at f m i r stage v))
-at_lifts f single fits_state fits_args fits_text fits_reply w c m i r (Acting act) v program h here is keep singles =
-    by_lifts f single fits_state fits_args fits_text fits_reply w c m i r act v program (record { corresponds = h; here = here; acts = is }) keep singles
-at_lifts f single fits_state fits_args fits_text fits_reply w c m i r Computing v program h here is keep singles = stays f single c (at_work f m w v) h
-at_lifts f single fits_state fits_args fits_text fits_reply w c m i r (Submitted act) v program h here is keep singles = stays f single c (at_work f m w v) h
-at_lifts f single fits_state fits_args fits_text fits_reply w c m i r (Reading act) v program h here is keep singles = stays f single c (at_work f m w v) h
-at_lifts f single fits_state fits_args fits_text fits_reply w c m i r (Asking act) v program h here is keep singles = stays f single c (at_work f m w v) h
-at_lifts f single fits_state fits_args fits_text fits_reply w c m i r (Over act) v program h here is keep singles = stays f single c (at_work f m w v) h
-
-pub acts_lift : (f : Frame) (single : Test) (fits_state : StateFits) (fits_args : ArgsFit) (fits_text : TextFits) (fits_reply : ReplyFits) (w : World) (c : Course) (m i : ℕ) (o : Option Played) (v : NodeWork)
-    → Program f fits_state fits_args fits_text fits_reply → Corresponds f single (at_work f m w v) c → v.node.played i ≡ o → KeepsEntries v.node (acts_of f m i o v).node → ((r : Played) → o ≡ Some r → AsksLift f single m w c i r v)
-    → Lifts f single c (at_work f m w (acts_of f m i o v))
-acts_lift f single fits_state fits_args fits_text fits_reply w c m i None v program h here keep singles = stays f single c (at_work f m w v) h
-acts_lift f single fits_state fits_args fits_text fits_reply w c m i (Some r) v program h here keep singles =
-    at_lifts f single fits_state fits_args fits_text fits_reply w c m i r r.stage v program h here refl keep (singles r refl)

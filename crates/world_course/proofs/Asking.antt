@@ -126,17 +126,14 @@ asks_out f single w c m i r call v a is = record {
           },
         ))
 
--- where the owner is its own member, which takes the call at once
-pub own_call_lifts : (f : Frame) (single : Test) (fits_state : StateFits) (fits_args : ArgsFit) (fits_text : TextFits) (fits_reply : ReplyFits) (w : World) (c : Course) (m i : ℕ) (r : Played) (call : Suspended) (v : NodeWork)
-    → Program f fits_state fits_args fits_text fits_reply → IsActing f single w c m i r (message_of call).action v → IsCall i r call → single call.object ≡ true → IsOf f c m call.object.process
-    → Lifts f single c (at_work f m w (performs_call f m (message_of call) (moving i (Asking (message_of call).action) r v)))
-own_call_lifts f single fits_state fits_args fits_text fits_reply w c m i r call v program a is alone owner =
-    let u : NodeWork = moving i (Asking (message_of call).action) r v in
-    let o = asks_out f single w c m i r call v a is in
+-- where the owner is its own member, which may take the call at once
+pub own_may : (f : Frame) (single : Test) (w : World) (c : Course) (m i : ℕ) (r : Played) (call : Suspended) (v : NodeWork) → IsActing f single w c m i r (message_of call).action v → single call.object ≡ true → IsOf f c m call.object.process
+    → (o : HasAsked f single w c m i r call v) → MayTake f single o.course m call (moving i (Asking (message_of call).action) r v)
+own_may f single w c m i r call v a alone owner o =
     let corresponds = a.corresponds in
     let s = starts f single (at_work f m w v) c i m r corresponds.stands (ap (λ (k : Node). k.played i) (node_at f m w v) ∙ a.here) in
     let low : r.place ≤ v.node.copies.applied = subst (λ (k : Node). r.place ≤ k.copies.applied) (node_at f m w v) s.reaches in
-    let may : MayTake f single o.course m call u = record {
+    record {
       runner = o.runner;
       runs = o.runs;
       out = o.out;
@@ -144,6 +141,14 @@ own_call_lifts f single fits_state fits_args fits_text fits_reply w c m i r call
       alone = alone;
       owner = record { begun = owner.begun; there = ap (λ (l : List Message). slice_get (processes_in f l) call.object.process) o.list ∙ owner.there; home = owner.home };
       reached = let e = o.place in omega (arith, e, low);
-    } in
+    }
+
+-- and it takes it
+pub own_call_lifts : (f : Frame) (single : Test) (fits_state : StateFits) (fits_args : ArgsFit) (fits_text : TextFits) (fits_reply : ReplyFits) (w : World) (c : Course) (m i : ℕ) (r : Played) (call : Suspended) (v : NodeWork)
+    → Program f fits_state fits_args fits_text fits_reply → IsActing f single w c m i r (message_of call).action v → IsCall i r call → single call.object ≡ true → IsOf f c m call.object.process
+    → Lifts f single c (at_work f m w (performs_call f m (message_of call) (moving i (Asking (message_of call).action) r v)))
+own_call_lifts f single fits_state fits_args fits_text fits_reply w c m i r call v program a is alone owner =
+    let u : NodeWork = moving i (Asking (message_of call).action) r v in
+    let o = asks_out f single w c m i r call v a is in
     lifts_on f single c o.course (at_work f m w (performs_call f m (message_of call) u)) o.leads
-    (call_lifts f single fits_state fits_args fits_text fits_reply w o.course m call u program o.corresponds may)
+    (call_lifts f single fits_state fits_args fits_text fits_reply w o.course m call u program o.corresponds (own_may f single w c m i r call v a alone owner o))

@@ -1,5 +1,5 @@
 -- A burst is a chain of reads.
-use Rattle.std.proofs.Common.{◌≡◌, ◌≤◌, ◌+◌, ◌-◌, ℕ, ◌⊎◌, inl, inr, Bool, true, false, not, List, [], ◌∷◌, ◌++◌, Option, Some, None, refl, sym, ap, ◌∙◌, subst, arith, length, append_assoc, append-nil}
+use Rattle.std.proofs.Common.{◌≡◌, ◌≤◌, ◌+◌, ◌-◌, ℕ, ◌⊎◌, inl, inr, ⊎_elim, Bool, true, false, not, List, [], ◌∷◌, ◌++◌, Option, Some, None, refl, sym, ap, ◌∙◌, subst, arith, length, append_assoc, append-nil}
 use Rattle.std.specs.Prelude.{IsTrue}
 use Rattle.orca_base.specs.declared.ids.ObjectId.{ObjectId}
 use Rattle.orca_base.specs.declared.ids.OpNo.{OpNo}
@@ -29,7 +29,7 @@ use Rattle.book_law.specs.Book.{copies_at}
 use Rattle.book_law.specs.Course.{Came, Course, Next, reading}
 use Rattle.book_law.specs.Course.Next.{Reads_at}
 use Rattle.book_law.specs.Course.Came.{Then}
-use Rattle.book_law.specs.Events.{Reads, Runner, told}
+use Rattle.book_law.specs.Events.{Calls, In, IsRead, Reads, Runner, told}
 use Rattle.book_law.specs.Fitness.{ArgsFit, Callable, CallsFit, IsAtCall, IsLineOf, StateFits}
 use Rattle.book_law.specs.Performed.{placed}
 use Rattle.book_law.proofs.Apart.{singles_apart}
@@ -72,13 +72,13 @@ is_at f stays i r x last used act le text args replies halts =
 -- ---- one read
 
 -- a read that is answered is of a class and of an object that is there
-record Answered (p : Performs) (objects : Objects) (kind : KindNo) (op : OpNo) (object : ObjectId) (args : Data) : Type 0 where
+pub record Answered (p : Performs) (objects : Objects) (kind : KindNo) (op : OpNo) (object : ObjectId) (args : Data) : Type 0 where
   pub class_is : p.class_of kind op ≡ IsReads
   pub kept : Instance
   pub there : object_at objects object ≡ Some kept
   pub line : IsTrue (not (is_blocked (p.tries kind op kept.state args)))
 
-answered : (p : Performs) (objects : Objects) (kind : KindNo) (op : OpNo) (object : ObjectId) (args : Data) → IsTrue (not (is_blocked (read_on p objects (action.Call kind op object args)))) →
+pub answered : (p : Performs) (objects : Objects) (kind : KindNo) (op : OpNo) (object : ObjectId) (args : Data) → IsTrue (not (is_blocked (read_on p objects (action.Call kind op object args)))) →
     Answered p objects kind op object args
 answered p objects kind op object args = by_class (p.class_of kind op) refl
   where
@@ -97,7 +97,7 @@ answers (tried.Did guard state reply) h = (refl, refl)
 answers (tried.Broke guard fault) h = (refl, refl)
 
 -- a single object isn't among the objects of the list
-shared_if_there : (single : Test) (p : Performs) (q : Computes) (c : Course) (n : ℕ) (o : ObjectId) (kept : Instance) → Came single p q c → object_at (copies_at single p c.list n).objects o ≡ Some kept → single o ≡ false
+pub shared_if_there : (single : Test) (p : Performs) (q : Computes) (c : Course) (n : ℕ) (o : ObjectId) (kept : Instance) → Came single p q c → object_at (copies_at single p c.list n).objects o ≡ Some kept → single o ≡ false
 shared_if_there single p q c n o kept came there = go (single o) refl
   where
     go : (b : Bool) → single o ≡ b → single o ≡ false
@@ -161,6 +161,12 @@ halts_so f stays i r x last used (halt.At act) le free text args replies place h
 }
 halts_so f stays i r x last used halt.Paused le free text args replies place halts = record { text = text; args = args; replies = replies; place = place; stage = free }
 
+-- a read calls no single object
+read_shared : (single : Test) (p : Performs) (objects : Objects) (line : Line) → IsRead single p objects line → (o : ObjectId) → Calls line.action o → single o ≡ false
+read_shared single p objects line h o calls =
+    let e : o ≡ h.object = subst (λ (a : Action). Calls a o) h.is calls in
+    ap single e ∙ h.shared
+
 -- the course after reads of process i, which then stands so
 pub record RanTo (f : Frame) (single : Test) (c : Course) (came : Came single f.performs f.computes c) (i n member : ℕ) (lines : List Line) (end : Played) : Type 0 where
   pub course : Course
@@ -169,6 +175,7 @@ pub record RanTo (f : Frame) (single : Test) (c : Course) (came : Came single f.
   pub one : OneProcess f single c course came later i
   pub aside : course.aside ≡ c.aside ++ placed n lines
   pub asked : course.asked ≡ c.asked
+  pub shared : (l : Line) (o : ObjectId) → In l lines → Calls l.action o → single o ≡ false
   pub runner : Runner
   pub runs : course.runners i ≡ Some runner
   pub home : runner.member ≡ member
@@ -191,6 +198,7 @@ ran_to f single fits_state fits_args stays fits c came i r x n last [] end le he
   one = record { list = refl; applied = λ m. refl; others = λ k apart. refl; copies = λ m. refl };
   aside = sym (append-nil c.aside);
   asked = refl;
+  shared = λ l o among calls. absurd among;
   runner = x;
   runs = here;
   home = refl;
@@ -217,6 +225,7 @@ ran_to f single fits_state fits_args stays fits c came i r x n last (line ∷ li
       };
       aside = u.aside ∙ append_assoc c.aside (record { place = n; line = line } ∷ []) (placed n lines);
       asked = u.asked;
+      shared = λ l o among calls. ⊎_elim (λ (e : l ≡ line). read_shared single f.performs (copies_at single f.performs c.list n).objects line asks.is_read o (subst (λ (z : Line). Calls z.action o) e calls)) (λ more. u.shared l o more calls) among;
       runner = u.runner;
       runs = u.runs;
       home = u.home;

@@ -65,10 +65,10 @@ heard_none n true (Some x) = refl
 heard_none n false (Some x) = refl
 
 -- the other lines are no line of this process
-rest_none : (l : Line) (ls : List Line) → OneEach (l ∷ ls) → lines_by l.process.0 ls ≡ []
+pub rest_none : (l : Line) (ls : List Line) → OneEach (l ∷ ls) → lines_by l.process.0 ls ≡ []
 rest_none l ls one = one l.process.0 l (lines_by l.process.0 ls) (ap (λ b. if b then l ∷ lines_by l.process.0 ls else lines_by l.process.0 ls) (eq-eqb l.process.0 l.process.0 refl))
 
-rest_each : (l : Line) (ls : List Line) → OneEach (l ∷ ls) → OneEach ls
+pub rest_each : (l : Line) (ls : List Line) → OneEach (l ∷ ls) → OneEach ls
 rest_each l ls one j k ks is = go (cases_eq l.process.0 j)
   where
     go : (l.process.0 ≡ j) ⊎ (l.process.0 ≡ j → ⊥) → ks ≡ []
@@ -182,13 +182,13 @@ record OneHanded (f : Frame) (m n : ℕ) (here : Bool) (l : Line) (v u : NodeWor
   past : (p : Past Message) → past_after (group f) m u.deeds p ≡ past_after (group f) m v.deeds p
 
 -- the work with a reply sent away, and kept
-abbrev away : ℕ → ℕ → ℕ → Line → NodeWork → NodeWork
+abbrev pub away : ℕ → ℕ → ℕ → Line → NodeWork → NodeWork
 away m home n l t =
     (let given : Given = record { place = n; call = l.call; reply = l.reply } in
     sends_given m home l.process given (becomes (record t.node { given = with_at t.node.given l.process.0 (Some given) }) t))
 
 -- the work with a line performed
-abbrev performing : ℕ → Line → NodeWork → NodeWork
+abbrev pub performing : ℕ → Line → NodeWork → NodeWork
 performing n l v = does (Performs (record { place = n; line = l })) v
 
 handed_if : (f : Frame) (m n : ℕ) (l : Line) (v : NodeWork) (o : Option Played) → v.node.played l.process.0 ≡ o → OneHanded f m n true l v (if_played (receives n l.reply) l.process.0 o (performing n l v))

@@ -19,7 +19,15 @@ pub mod Owning
 pub mod Taking
 pub mod Asking
 pub mod Silent
-pub mod Plainly
+pub mod Carrying
+pub mod Answering
+pub mod Calling
+pub mod Asked
+pub mod Reaching
+pub mod Doing
+pub mod Parts
+pub mod Ran
+pub mod Travelling
 pub mod Steps
 pub mod Lifting
 pub mod All

@@ -1,6 +1,7 @@
 -- A burst of a world lifts to its course.
-use Rattle.std.proofs.Common.{◌≡◌, ◌≤◌, ◌<◌, ℕ, ◌⊎◌, inl, inr, ⊎_elim, List, [], ◌∷◌, ◌++◌, Option, Some, None, refl, sym, ap, ◌∙◌, subst, arith, append_assoc, append-nil}
+use Rattle.std.proofs.Common.{◌≡◌, ◌≤◌, ◌<◌, ℕ, ◌⊎◌, inl, inr, ⊎_elim, false, List, [], ◌∷◌, ◌++◌, Option, Some, None, refl, sym, ap, ◌∙◌, subst, arith, append_assoc, append-nil}
 use Rattle.std.proofs.lemmas.Bool.{cases_lt}
+use Rattle.orca_base.specs.declared.ids.ObjectId.{ObjectId}
 use Rattle.orca_base.specs.declared.ids.ProcessNo.{ProcessNo}
 use Rattle.orca_base.specs.declared.limits.TheConstants.{TURNS}
 use Rattle.value_core.specs.declared.action.Line.{Line}
@@ -14,7 +15,7 @@ use Rattle.book_law.specs.Passes.{Test}
 use Rattle.book_law.specs.Book.{copies_at}
 use Rattle.book_law.specs.declared.placing.Placed.{Placed}
 use Rattle.book_law.specs.Course.{Course}
-use Rattle.book_law.specs.Events.{Runner}
+use Rattle.book_law.specs.Events.{Calls, In, Runner}
 use Rattle.book_law.specs.Fitness.{ArgsFit, StateFits}
 use Rattle.book_law.specs.Performed.{placed}
 use Rattle.book_law.proofs.Courses.{at_other, at_own}
@@ -36,11 +37,11 @@ use Rattle.world_course.proofs.Changing.{Changed, NodeWith, asked_on, one_proces
 
 -- ---- the work of a burst
 
-performs_node : (n : ℕ) (lines : List Line) (v : NodeWork) → (performs_all n lines v).node ≡ v.node
+pub performs_node : (n : ℕ) (lines : List Line) (v : NodeWork) → (performs_all n lines v).node ≡ v.node
 performs_node n [] v = refl
 performs_node n (line ∷ lines) v = performs_node n lines (does (Performs (record { place = n; line = line })) v)
 
-performs_aside : (n : ℕ) (lines : List Line) (v : NodeWork) → aside_of (performs_all n lines v).deeds ≡ aside_of v.deeds ++ placed n lines
+pub performs_aside : (n : ℕ) (lines : List Line) (v : NodeWork) → aside_of (performs_all n lines v).deeds ≡ aside_of v.deeds ++ placed n lines
 performs_aside n [] v = sym (append-nil (aside_of v.deeds))
 performs_aside n (line ∷ lines) v =
     performs_aside n lines (does (Performs (record { place = n; line = line })) v) ∙ append_assoc (aside_of v.deeds) (record { place = n; line = line } ∷ []) (placed n lines)
@@ -72,11 +73,19 @@ starts f single w c i m r h here =
     subst (λ (o : Option Played). StandsHere f.computes i of.begun process.runner (w.nodes m).copies.applied o) here process.stands in
     record { of = of; process = process; begun = stands.0; reaches = stands.1; is = stands.2 }
 
+-- a burst lifts, and reads no single object
+pub record BurstLifts (f : Frame) (single : Test) (c : Course) (v : World) (lines : List Line) : Type 0 where
+  pub lifts : Lifts f single c v
+  pub shared : (l : Line) (o : ObjectId) → In l lines → Calls l.action o → single o ≡ false
+
 pub burst_lifts : (f : Frame) (single : Test) (fits_state : StateFits) (fits_args : ArgsFit) (fits_text : TextFits) (fits_reply : ReplyFits) (w : World) (c : Course) (i : ProcessNo) (place turns : ℕ) (burst : Burst)
     → Program f fits_state fits_args fits_text fits_reply → Corresponds f single w c → (w.nodes (home_of f w i.0)).member.applied ≤ (w.nodes (home_of f w i.0)).copies.applied → IsBurst f w i place turns burst
-    → Lifts f single c (bursts f w i place burst).world
+    → BurstLifts f single c (bursts f w i place burst).world burst.reads
 burst_lifts f single fits_state fits_args fits_text fits_reply w c i place turns burst program corresponds noted b =
-    (done.course, done.leads, record { stands = one_process f single w v c done.course h done.later i.0 m done.one changed aside asked; reached = one_reached w v c done.course f i.0 m changed done.one.list corresponds.reached })
+    record {
+      lifts = (done.course, done.leads, record { stands = one_process f single w v c done.course h done.later i.0 m done.one changed aside asked; reached = one_reached w v c done.course f i.0 m changed done.one.list corresponds.reached });
+      shared = done.shared;
+    }
   where
     h : Stands f single w c
     h = corresponds.stands

@@ -1,5 +1,6 @@
 -- The opening world and the opening course.
-use Rattle.std.proofs.Common.{◌≡◌, ℕ, zero, suc, false, List, [], ◌∷◌, Option, Some, None, refl, sym, ◌∙◌, subst, arith}
+use Rattle.std.proofs.Common.{◌≡◌, ℕ, zero, suc, ◌⊎◌, inl, inr, false, List, [], ◌∷◌, Option, Some, None, refl, sym, ap, ◌∙◌, subst, arith}
+use Rattle.std.proofs.lemmas.Bool.{cases_eq}
 use Rattle.std.specs.Prelude.{slice_get}
 use Rattle.orca_base.specs.declared.what.Choice.{Choice}
 use Rattle.value_core.specs.History.{output_object}
@@ -10,11 +11,14 @@ use Rattle.world_rules.specs.Frame.{Frame, choice_in, is_single}
 use Rattle.world_rules.specs.Nodes.{opening_node}
 use Rattle.world_rules.specs.Played.{Played, newborn}
 use Rattle.world_rules.specs.Processes.{Begun, first_process}
+use Rattle.world_rules.specs.Worlds.{opening_world}
 use Rattle.group_rules.specs.Member.{nobody}
 use Rattle.book_law.proofs.Courses.{at_other}
-use Rattle.world_course.specs.Corresponds.{Agrees, IsMember, IsOf}
-use Rattle.world_course.specs.Law.{OpeningCorresponds}
+use Rattle.world_course.specs.Corresponds.{Agrees, Corresponds, IsMember, IsOf}
+use Rattle.world_course.specs.Errands.{AllStand}
+use Rattle.world_course.specs.Law.{OpeningFollows}
 use Rattle.world_course.specs.Processes.{IsProcess, as_runner}
+use Rattle.world_course.proofs.Silent.{Waits, asks_waits, shares_waits}
 
 -- the output object, whose number is 0, isn't chosen
 not_chosen : (choices : Option (List Choice)) → is_single (choice_in choices 0) ≡ false
@@ -50,7 +54,7 @@ plays f zero zero r is = record { begun = first_process f; there = refl; home = 
 plays f zero (suc j) r is = absurd (none_plays r ((opening_node f zero).played (suc j)) (at_other nobody 0 (Some (newborn (first_process f))) (suc j) (λ e. absurd (omega (arith, e)))) is)
 plays f (suc m) j r is = absurd (none_plays r ((opening_node f (suc m)).played j) refl is)
 
-pub opening_corresponds : (f : Frame) → OpeningCorresponds f
+opening_corresponds : (f : Frame) (single : Test) → Agrees f single [] → Corresponds f single (opening_world f) (opening_course f.computes 0)
 opening_corresponds f single agrees = record {
   stands = record {
     came = opens f single agrees;
@@ -64,3 +68,30 @@ opening_corresponds f single agrees = record {
   };
   reached = (0, omega arith);
 }
+
+-- nobody waits
+computes_first : (f : Frame) (m j : ℕ) (r : Played) → (opening_node f m).played j ≡ Some r → Waits r.stage → ⊥
+computes_first f zero j r is waits = go (cases_eq j 0)
+  where
+    go : (j ≡ 0) ⊎ (j ≡ 0 → ⊥) → ⊥
+    go (inl e) =
+        let g : Some (newborn (first_process f)) ≡ Some r = sym (ap (opening_node f zero).played e) ∙ is in
+        let h : newborn (first_process f) ≡ r = cc in
+        subst (λ (z : Played). Waits z.stage) (sym h) waits
+    go (inr apart) = none_plays r ((opening_node f zero).played j) (at_other nobody 0 (Some (newborn (first_process f))) j apart) is
+computes_first f (suc m) j r is waits = none_plays r ((opening_node f (suc m)).played j) refl is
+
+opening_stands : (f : Frame) (single : Test) → AllStand f single (opening_world f) (opening_course f.computes 0)
+opening_stands f single = record {
+  nodes = λ m. record {
+    held = λ errand is. absurd is;
+    given = λ i one is. absurd (cc is);
+    asks = λ j r o is at. absurd (computes_first f m j r is (asks_waits r.stage o at));
+    shares = λ j r o is at. absurd (computes_first f m j r is (shares_waits r.stage o at));
+  };
+  travels = λ flight is. absurd is;
+  performed = λ r o is calls alone. absurd is;
+}
+
+pub opening_follows : (f : Frame) → OpeningFollows f
+opening_follows f single agrees = record { corresponds = opening_corresponds f single agrees; errands = opening_stands f single }

@@ -229,7 +229,7 @@ same_one l a (inl e) = e
 same_one l a (inr none) = absurd none
 
 -- a line among these is its process's only one
-only_line : (lines : List Line) (l a : Line) (rest : List Line) → OneEach lines → In l lines → lines_by l.process.0 lines ≡ a ∷ rest → lines_by l.process.0 lines ≡ l ∷ []
+pub only_line : (lines : List Line) (l a : Line) (rest : List Line) → OneEach lines → In l lines → lines_by l.process.0 lines ≡ a ∷ rest → lines_by l.process.0 lines ≡ l ∷ []
 only_line lines l a rest one among is =
     let e : lines_by l.process.0 lines ≡ a ∷ [] = is ∙ ap (λ (k : List Line). a ∷ k) (one l.process.0 a rest is) in
     let only : In l (a ∷ []) = subst (λ (k : List Line). In l k) e (in_by l.process.0 l lines among refl) in

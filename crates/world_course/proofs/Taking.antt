@@ -29,6 +29,7 @@ use Rattle.world_rules.specs.Owners.{performs_call}
 use Rattle.world_rules.specs.Played.{Played}
 use Rattle.world_rules.specs.Processes.{Begun, home_in, processes_in}
 use Rattle.world_rules.specs.Worlds.{World}
+use Rattle.world_course.specs.Chain.{Leads}
 use Rattle.world_course.specs.Chain.Leads.{By}
 use Rattle.world_course.specs.Corresponds.{Agrees, Corresponds, IsMember, IsOf, Lifts, Stands}
 use Rattle.world_course.specs.Processes.{IsProcess, StandsHere}
@@ -201,17 +202,31 @@ call_reached f single w c came m call v q (k, le) = (k, subst (λ (l : List Mess
         ∙ sym (ap (λ (i : ℕ). ((at_work f m w u).nodes i).copies.applied) e ∙ ap (λ (i : Node). i.copies.applied) (node_at f m w u) ∙ ap (λ (i : Copied). i.applied) q.given.copies)
     same (inr apart) = ap (λ (i : Node). i.copies.applied) (at_other w.nodes m v.node k apart ∙ sym (at_other w.nodes m u.node k apart))
 
+-- a call that an owner took
+pub record Taken (f : Frame) (single : Test) (w : World) (c : Course) (m : ℕ) (call : Suspended) (v : NodeWork) : Type 0 where
+  pub came : Came single f.performs f.computes c
+  pub parts : Parts f single c came m call v
+  pub leads : Leads single f.performs f.computes c parts.done.course
+  pub corresponds : Corresponds f single (at_work f m w (performs_call f m (message_of call) v)) parts.done.course
+
 -- a call that an owner may take
-pub call_lifts : (f : Frame) (single : Test) (fits_state : StateFits) (fits_args : ArgsFit) (fits_text : TextFits) (fits_reply : ReplyFits) (w : World) (c : Course) (m : ℕ) (call : Suspended) (v : NodeWork)
-    → Program f fits_state fits_args fits_text fits_reply → Corresponds f single (at_work f m w v) c → MayTake f single c m call v → Lifts f single c (at_work f m w (performs_call f m (message_of call) v))
-call_lifts f single fits_state fits_args fits_text fits_reply w c m call v program corresponds z = go corresponds.stands corresponds.reached
+pub call_taken : (f : Frame) (single : Test) (fits_state : StateFits) (fits_args : ArgsFit) (fits_text : TextFits) (fits_reply : ReplyFits) (w : World) (c : Course) (m : ℕ) (call : Suspended) (v : NodeWork)
+    → Program f fits_state fits_args fits_text fits_reply → Corresponds f single (at_work f m w v) c → MayTake f single c m call v → Taken f single w c m call v
+call_taken f single fits_state fits_args fits_text fits_reply w c m call v program corresponds z = go corresponds.stands corresponds.reached
   where
-    go : (h : Stands f single (at_work f m w v) c) → ((k : ℕ) × (length c.list ≤ ((at_work f m w v).nodes k).copies.applied)) → Lifts f single c (at_work f m w (performs_call f m (message_of call) v))
+    go : (h : Stands f single (at_work f m w v) c) → ((k : ℕ) × (length c.list ≤ ((at_work f m w v).nodes k).copies.applied)) → Taken f single w c m call v
     go h reached =
         let mine : IsMember f single c h.came m v.node = subst (λ (k : Node). IsMember f single c h.came m k) (node_at f m w v) (h.members m) in
         let t = takes_here f single fits_state fits_args fits_text fits_reply w c m call v program h mine z in
-        let q = parts f single w c m call v h mine t in (
-          q.done.course,
-          By c (taking f.performs c q.here.at q.here.copy call) q.done.course (Takes_call q.here.at q.here.copy q.here.runner call q.here.takes refl) q.done.leads,
-          record { stands = call_stands f single w c m call v h mine q; reached = call_reached f single w c h.came m call v q reached },
-        )
+        let q = parts f single w c m call v h mine t in
+        record {
+          came = h.came;
+          parts = q;
+          leads = By c (taking f.performs c q.here.at q.here.copy call) q.done.course (Takes_call q.here.at q.here.copy q.here.runner call q.here.takes refl) q.done.leads;
+          corresponds = record { stands = call_stands f single w c m call v h mine q; reached = call_reached f single w c h.came m call v q reached };
+        }
+
+pub call_lifts : (f : Frame) (single : Test) (fits_state : StateFits) (fits_args : ArgsFit) (fits_text : TextFits) (fits_reply : ReplyFits) (w : World) (c : Course) (m : ℕ) (call : Suspended) (v : NodeWork)
+    → Program f fits_state fits_args fits_text fits_reply → Corresponds f single (at_work f m w v) c → MayTake f single c m call v → Lifts f single c (at_work f m w (performs_call f m (message_of call) v))
+call_lifts f single fits_state fits_args fits_text fits_reply w c m call v program corresponds z =
+    let t = call_taken f single fits_state fits_args fits_text fits_reply w c m call v program corresponds z in (t.parts.done.course, t.leads, t.corresponds)

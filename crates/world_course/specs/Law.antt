@@ -22,25 +22,20 @@ use Rattle.world_rules.specs.Steps.{Next}
 use Rattle.world_rules.specs.Worlds.{World, opening_world}
 use Rattle.world_course.specs.Chain.{Leads}
 use Rattle.world_course.specs.Corresponds.{Agrees, Corresponds, Lifts}
-use Rattle.world_course.specs.Errands.{ErrandStands, IsAnswer, IsCaller, MayTake}
+use Rattle.world_course.specs.Errands.{ErrandStands, Follows, FollowsOn, IsAnswer, IsCaller, MayTake}
 use Rattle.world_course.specs.Gives.{AgreesIn, GivesEvent}
-use Rattle.world_course.specs.Plain.{IsPlain, NoChoice}
 use Rattle.world_course.specs.Works.{at_work}
 
 -- before the first step: process 0 is on member 0
-abbrev pub OpeningCorresponds : Frame → Type 0
-OpeningCorresponds f = (single : Test) → Agrees f single [] → Corresponds f single (opening_world f) (opening_course f.computes 0)
+abbrev pub OpeningFollows : Frame → Type 0
+OpeningFollows f = (single : Test) → Agrees f single [] → Follows f single (opening_world f) (opening_course f.computes 0)
 
--- without single objects a step of a world is a chain of events of its course, for each test that agrees with the choices of the
--- processes that exist after it
+-- a step of a world is a chain of events of its course, for each test that agrees with the choices of the processes that exist after it;
+-- and Asks and Answers go on standing for the course
 abbrev pub StepsLift : Frame → Type 0
 StepsLift f =
-    NoChoice f → (single : Test) (w v : World) (c : Course) (step : Step) → Corresponds f single w c → IsPlain w → Next f w step v →
-    GivesEvent f w step.event → AgreesIn f single v → Lifts f single c v
-
--- and no Ask or Answer comes to be at work
-abbrev pub StaysPlain : Frame → Type 0
-StaysPlain f = NoChoice f → IsPlain (opening_world f) × ((w v : World) (step : Step) → IsPlain w → Next f w step v → IsPlain v)
+    (single : Test) (w v : World) (c : Course) (step : Step) → Follows f single w c → Next f w step v →
+    GivesEvent f w step.event → AgreesIn f single v → FollowsOn f single c v
 
 -- ---- single copies, piece by piece
 
@@ -71,11 +66,10 @@ ErrandsStay f =
     (single : Test) (c d : Course) (m : ℕ) (errand : Errand) → Came single f.performs f.computes c →
     Leads single f.performs f.computes c d → ErrandStands f single c m errand → ErrandStands f single d m errand
 
--- `opening`, `steps` and `plain` are of whole worlds; the others of single copies
+-- `opening` and `steps` are of whole worlds; the others of single copies
 pub record AreCourses (f : Frame) : Type 0 where
-  pub opening : OpeningCorresponds f
+  pub opening : OpeningFollows f
   pub steps : StepsLift f
-  pub plain : StaysPlain f
   pub calls : CallsLift f
   pub own_calls : OwnCallsLift f
   pub answers : AnswersLift f
@@ -88,6 +82,4 @@ RunsAreCourses p q = (f : Frame) → f.performs ≡ p → f.computes ≡ q → A
 -- ---- the premises can be met: the run of one cell, at its opening
 
 pub record IsOneCell : Type 0 where
-  pub none : NoChoice one_cell
-  pub opening : Corresponds one_cell all_replicated (opening_world one_cell) (opening_course (two_texts actions []) 0)
-  pub plain : IsPlain (opening_world one_cell)
+  pub opening : Follows one_cell all_replicated (opening_world one_cell) (opening_course (two_texts actions []) 0)

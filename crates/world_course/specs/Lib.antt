@@ -4,6 +4,5 @@ pub mod Corresponds
 pub mod Works
 pub mod Group
 pub mod Errands
-pub mod Plain
 pub mod Gives
 pub mod Law

@@ -18,6 +18,7 @@ use Rattle.world_rules.specs.Applying.{applies, round}
 use Rattle.world_rules.specs.Frame.{Frame, group}
 use Rattle.world_rules.specs.Mail.{Mail}
 use Rattle.world_rules.specs.Nodes.{Node, NodeWork, idle, known, plays}
+use Rattle.world_rules.specs.Owners.{arrives}
 use Rattle.world_rules.specs.Parts.{acts_at, acts_by, acts_of, asks, asks_again, calls, calls_as, reads, submits}
 use Rattle.world_rules.specs.Played.{Played, Stage, moves_to, next_call}
 use Rattle.world_rules.specs.Played.Stage.{Computing, Acting, Submitted, Reading, Asking, Over}
@@ -32,7 +33,7 @@ use Rattle.world_law.proofs.AtWork.{at_start, at_still, at_work, both_true, coor
 use Rattle.world_law.proofs.Events.{Going, going, going_below, good_of as good_acts, good_receives, on_home, start_good, with_flights}
 use Rattle.world_law.proofs.Grouping.{Good, good_applies, good_coordinate, good_still, good_timer, rounds_round}
 use Rattle.world_law.proofs.Moments.{MoreLaws, facts, kept_by, kept_delivers, kept_notes, moment_of}
-use Rattle.world_law.proofs.Still.{Still, still_again, still_asks, still_reading}
+use Rattle.world_law.proofs.Still.{Still, still_again, still_arrives, still_asks, still_reading}
 use Rattle.world_law.proofs.Travels.{fly_found, fly_ticked, fly_without}
 
 -- from the opening world, whatever events came before the step
@@ -147,7 +148,12 @@ gives_mail more f small w (Mail.Grouped letter) grouped come = λ on.
     gives more f small w letter.to (came f letter.to (Mail.Grouped letter) w) grouped on
     (kept_delivers more f small w (idle (w.nodes letter.to)) letter on come (start more f small w letter.to grouped))
     (from_start f grouped.events w letter.to (came f letter.to (Mail.Grouped letter) w) (good_receives more.laws f w (Mail.Grouped letter) small on grouped come))
-gives_mail more f small w (Mail.Sends incarnation from to errand) grouped come = tt
+gives_mail more f small w (Mail.Sends incarnation from to errand) grouped come = λ on.
+    let still : Still (group f) to (idle (w.nodes to)) (arrives errand (idle (w.nodes to))) = still_arrives (group f) to errand (idle (w.nodes to)) in
+    gives more f small w to (came f to (Mail.Sends incarnation from to errand) w) grouped on
+    (ap (λ (z : Member Message). take (w.nodes to).copies.applied z.log) still.member)
+    (from_start f grouped.events w to (came f to (Mail.Sends incarnation from to errand) w)
+    (good_receives more.laws f w (Mail.Sends incarnation from to errand) small on grouped come))
 
 gives_tick : (more : MoreLaws) (f : Frame) → 2 * (group f).resilience < (group f).nodes → (w : World) (m : ℕ) → Grouped f w →
     (nat_lt m (group f).nodes && w.lives m) ≡ true → GivesTick f m w

@@ -9,7 +9,7 @@ use Rattle.std.specs.Prelude.{◌≡◌, ℕ, zero, suc, true, Some, ◌<◌, �
 use Rattle.value_core.specs.declared.message.Message.{Message}
 use Rattle.world_rules.specs.Applying.{applies, round}
 use Rattle.world_rules.specs.Frame.{Frame, group}
-use Rattle.world_rules.specs.Mail.{Carried, Mail}
+use Rattle.world_rules.specs.Mail.{Carried, Mail, receiver_of}
 use Rattle.world_rules.specs.Nodes.{Node, NodeWork, idle, joins}
 use Rattle.world_rules.specs.Parts.{acts_of, asks_again, receives_mail}
 use Rattle.world_rules.specs.Steps.{AtWork, Known, Possible, lives_in, ticks_below, untouched}
@@ -61,10 +61,9 @@ coordinated f m w = joins (coordinate (group f) m (w.nodes m).member) (idle (w.n
 abbrev pub timed : Frame → ℕ → World → NodeWork
 timed f m w = joins (timer (group f) m (w.nodes m).member) (idle (w.nodes m))
 
--- a letter of the group comes to a member that lives
+-- a letter comes to a member that lives
 abbrev pub GivesMail : Frame → World → Mail → Type 0
-GivesMail f w (Mail.Grouped letter) = lives_in f w letter.to ≡ true → Gives f letter.to w (came f letter.to (Mail.Grouped letter) w)
-GivesMail f w (Mail.Sends incarnation from to errand) = Unit {0}
+GivesMail f w mail = lives_in f w (receiver_of mail) ≡ true → Gives f (receiver_of mail) w (came f (receiver_of mail) mail w)
 
 pub record GivesTick (f : Frame) (m : ℕ) (w : World) : Type 0 where
   pub entries : KeepsEntries (w.nodes m) (timed f m w).node

@@ -2,8 +2,8 @@
 //!
 //! What stands here is the group's side. Replays are one; each event is a list of the group's events, where what it submits may be
 //! submitted, so the law of the group speaks of the world at each moment of an event; Asks and Answers are true;
-//! processes go on. That the kept book is a history isn't here yet: it rests on `book_law`, by showing that each world is a run of it. It
-//! stands on `group_law`, and has no code: its functions are laws, whose bodies are empty or call the group's laws.
+//! processes go on. That the kept book is a history stands above (`world_course`, `world_book`). It stands on `group_law`, and has no
+//! code: its functions are laws, whose bodies are empty or call the group's laws.
 #![tactic(auto)]
 
 ghost use Rattle.world_law.specs.Acts.{AllActsMeet};

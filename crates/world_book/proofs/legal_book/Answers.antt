@@ -1,38 +1,43 @@
 use Rattle.std.proofs.Common.{◌≡◌, sym, subst}
 use Rattle.value_core.specs.Meaning.{Computes, Performs}
 use Rattle.book_law.specs.Fitness.{EndsStuck}
+use Rattle.book_law.specs.Machines.{RunsFit}
 use Rattle.world_rules.specs.Frame.{AreSettings, Frame}
-use Rattle.world_course.specs.Plain.{NoChoice}
 use Rattle.world_book.proofs.Kept.{Laws, is_kept, kept_may, replayed}
 use Rattle.world_book.proofs.Over.{living_stuck}
-use Rattle.world_book.proofs.Stuck.{stuck_at}
+use Rattle.world_book.proofs.Stuck.{single_stuck, stuck_at}
 use Rattle.world_book.proofs.legal_book.Goals as goal
 
 pub returns : goal.returns
 returns g c =
     let m = c.args.machine.now in
-    let laws : (f : Frame) → f.performs ≡ g.P.Performer.performs m → f.computes ≡ g.P.Processor.computes m → AreSettings f.settings → NoChoice f → Laws f =
-    λ f same_p same_q settings none. record {
+    let laws : (f : Frame) → f.performs ≡ g.P.Performer.performs m → f.computes ≡ g.P.Processor.computes m → AreSettings f.settings → Laws f =
+    λ f same_p same_q settings.
+    let fit : RunsFit f.performs f.computes (g.P.Performer.fits_args m) (g.P.Performer.fits_text m) (g.P.Performer.fits_reply m) =
+    subst (λ (p : Performs). RunsFit p f.computes (g.P.Performer.fits_args m) (g.P.Performer.fits_text m) (g.P.Performer.fits_reply m)) (sym same_p)
+    (subst (λ (q : Computes). RunsFit (g.P.Performer.performs m) q (g.P.Performer.fits_args m) (g.P.Performer.fits_text m) (g.P.Performer.fits_reply m)) (sym same_q)
+    c.every_call_fits.ensures.machines) in
+    record {
       small = settings.resilience;
-      none = none;
       messages = c.agreement_law.ensures.messages;
       grouped = c.group_steps.ensures.events;
       gives = c.group_steps.ensures.gives;
       lists = c.group_steps.ensures.lists;
       courses = c.worlds_are_courses.ensures.courses f same_p same_q settings;
+      owners = λ single course came i x there. let all = fit single course came in all.owners i x there;
     } in
     record {
-      kept = λ f same_p same_q settings none steps w replays.
-          let l = laws f same_p same_q settings none in is_kept f w l (replayed f steps w l replays);
-      stuck = λ f same_p same_q settings none steps w replays.
-          let l = laws f same_p same_q settings none in
+      kept = λ f same_p same_q settings steps w replays.
+          let l = laws f same_p same_q settings in is_kept f w l (replayed f steps w l replays);
+      stuck = λ f same_p same_q settings steps w replays.
+          let l = laws f same_p same_q settings in
           let ends : EndsStuck f.performs f.computes =
           subst (λ (p : Performs). EndsStuck p f.computes) (sym same_p)
           (subst (λ (q : Computes). EndsStuck (g.P.Performer.performs m) q) (sym same_q) c.stuck_law.ensures) in
           let k = replayed f steps w l replays in
-          record { waiters = λ n all. stuck_at f w l ends k n all; living = living_stuck f w settings.some l ends k };
-      may = λ f same_p same_q settings none steps w replays i.
-          let l = laws f same_p same_q settings none in kept_may f w l (replayed f steps w l replays) i;
+          record { waiters = λ n all. stuck_at f w l ends k n all; singles = single_stuck f w l ends k; living = living_stuck f w settings.some l ends k };
+      may = λ f same_p same_q settings steps w replays i.
+          let l = laws f same_p same_q settings in kept_may f w l (replayed f steps w l replays) i;
       once = λ f same steps w v one two.
           let runs = c.replay_law.ensures.once f same in
           runs.replays steps w v one two;
