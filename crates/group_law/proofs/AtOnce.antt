@@ -1,5 +1,5 @@
 -- Where no member may be lost, each knows its whole log to be accepted.
-use Rattle.std.proofs.Common.{◌≡◌, ℕ, suc, ◌-◌, ◌*◌, ◌%◌, ◌≤◌, ◌<◌, ◌==◌, ◌&&◌, not, max, min, nat_lt, nat_le, ◌⊎◌, inl, inr, ⊎_elim, Bool, true, false, Option, Some, None, List, [], ◌∷◌, ◌++◌, length, refl, sym, ap, ◌∙◌, arith, le_refl, le_trans, zero-le, subst}
+use Rattle.std.proofs.Common.{◌≡◌, ℕ, suc, ◌-◌, ◌*◌, ◌%◌, ◌≤◌, ◌<◌, ◌==◌, ◌&&◌, not, max, min, nat_lt, nat_le, ⊎_elim, Bool, true, false, Option, Some, None, List, [], ◌∷◌, ◌++◌, length, refl, sym, ap, ◌∙◌, arith, le_refl, zero-le, subst}
 use Rattle.std.proofs.lemmas.Bool.{cond_both, eqb-true, eqb-false}
 use Rattle.std.proofs.lemmas.List.{length_push}
 use Rattle.orca_base.specs.declared.limits.TheConstants.{ENTRIES_BEFORE_PURGE}
@@ -9,14 +9,14 @@ use Rattle.group_rules.specs.Member.Kind.{Request, Body, Order, Entry, Ack, Acce
 use Rattle.group_rules.specs.Work.{Act, Work, idle, does, becomes, when}
 use Rattle.group_rules.specs.Sequencer.{finish}
 use Rattle.group_rules.specs.Receiver.{may_nack, nack, accepts, take_accept, appended, send_ack, take_number, acknowledge, take_entry, take_order}
-use Rattle.group_rules.specs.Reset.{heeds, listens, begun, keeps, next_incarnation, coordinate, told}
-use Rattle.group_rules.specs.Steps.{pends, at_sequencer, at_other, ask_whole, of_later, receive, deliver_kind, ticked, noted}
+use Rattle.group_rules.specs.Reset.{heeds, listens, begun, coordinate}
+use Rattle.group_rules.specs.Steps.{at_sequencer, at_other, ask_whole, of_later, receive, deliver_kind, ticked}
 use Rattle.group_rules.specs.World.{Past, GroupWorld, Event, Sent, after, gnext, run, opening}
 use Rattle.group_law.proofs.Grows.{at_both}
 use Rattle.group_law.proofs.Ready.{Inv}
 use Rattle.group_law.proofs.Events.{happened}
-use Rattle.group_law.proofs.Walk.{Came, came_of, nothing, Any, IsTold, Way, Goes, Keeper, Beginning, Stays, w_finish, w_listens, w_at_other, coordinating, walk_receive, walk_invited, walk_joined, walk_coordinate, walk_announced, walk_submit, walk_note, walk_timer}
-use Rattle.group_law.proofs.Course.{Does, each_event, own_kept, next_here}
+use Rattle.group_law.proofs.Walk.{Came, came_of, nothing, Any, IsTold, Way, Goes, Keeper, Stays, w_finish, w_listens, w_at_other, walk_receive, walk_invited, walk_joined, walk_coordinate, walk_announced, walk_submit, walk_note, walk_timer}
+use Rattle.group_law.proofs.Course.{Does, each_event, next_here}
 
 abbrev Whole : {M : Type 0} → Member M → Type 0
 Whole s = length s.log ≤ s.accepted

@@ -1,13 +1,12 @@
 -- More of what members keep, in every run.
-use Rattle.std.proofs.Common.{◌≡◌, ℕ, ◌*◌, ◌<◌, List, length, arith}
-use Rattle.group_rules.specs.Messages.{Group}
-use Rattle.group_rules.specs.World.{Event, run, opening}
+use Rattle.std.proofs.Common.{arith}
+use Rattle.group_rules.specs.World.{run, opening}
 use Rattle.group_law.proofs.Law.{reached}
 use Rattle.group_law.proofs.Opening.{opened}
 use Rattle.group_law.proofs.Walk.{gathering_if}
 use Rattle.group_law.proofs.Gathering.{own_runs, own_opened}
 use Rattle.group_law.proofs.Waiting.{room_runs, room_opened}
-use Rattle.group_law.proofs.AtOnce.{Wholes, whole_runs, whole_opened}
+use Rattle.group_law.proofs.AtOnce.{whole_runs, whole_opened}
 use Rattle.group_law.specs.Members.{MembersLaw}
 
 pub members_law : (M : Type 0) → MembersLaw M

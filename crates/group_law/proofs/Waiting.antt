@@ -1,21 +1,21 @@
 -- What waits for room: a note accepts more only by it, and where there is room nothing waits.
 use Rattle.std.proofs.Common.{◌≡◌, ℕ, zero, suc, ◌-◌, ◌*◌, ◌%◌, ◌≤◌, ◌<◌, ◌==◌, ◌&&◌, ◌||◌, not, max, min, nat_lt, nat_le, ◌⊎◌, inl, inr, Bool, true, false, Option, Some, None, List, [], ◌∷◌, length, refl, sym, ap, ◌∙◌, arith, le_refl, subst, if◌then◌else◌}
-use Rattle.std.proofs.lemmas.Bool.{cond_both, eqb-true, eqb-false, ltb-true, leb-true, and_parts, not-false}
+use Rattle.std.proofs.lemmas.Bool.{cond_both, eqb-true, eqb-false, ltb-true, and_parts}
 use Rattle.orca_base.specs.declared.limits.TheConstants.{ENTRIES_BEFORE_PURGE}
 use Rattle.group_rules.specs.Sets.{count}
 use Rattle.group_rules.specs.Messages.{Group}
-use Rattle.group_rules.specs.Member.{Report, Kind, Packet, Member, Waiting, is_active, leads, is_gathering, is_acker, has_room, purged, stable_of, leaves}
+use Rattle.group_rules.specs.Member.{Report, Kind, Member, Waiting, is_active, leads, is_gathering, is_acker, has_room, purged, stable_of, leaves}
 use Rattle.group_rules.specs.Member.Kind.{Request, Body, Order, Entry, Ack, Accept, Nack, Status, Invite, Join, News}
 use Rattle.group_rules.specs.Work.{Act, Work, idle, does, becomes, tell, tell_below, tell_others, when}
 use Rattle.group_rules.specs.Sequencer.{news_of, ask, ask_own, order_waiting, order_while_room, finish}
 use Rattle.group_rules.specs.Receiver.{request, request_all, send_ack, send_status}
-use Rattle.group_rules.specs.Reset.{heeds, listens, promises, promises_above, answer, invited, gave, best, begun, begin, install, gather, keeps, joined, next_incarnation, gathers, invite, coordinate, told, take_news, announced}
-use Rattle.group_rules.specs.Steps.{pends, submit, at_sequencer, at_other, of_later, receive, deliver_kind, ticked, is_due, invite_again, send_again_all, timer, noted, should_report, note}
+use Rattle.group_rules.specs.Reset.{heeds, listens, promises, promises_above, answer, invited, gave, best, begun, begin, install, gather, keeps, joined, next_incarnation, invite, coordinate, told, take_news, announced}
+use Rattle.group_rules.specs.Steps.{pends, submit, at_sequencer, at_other, of_later, receive, deliver_kind, ticked, is_due, invite_again, send_again_all, timer, noted, should_report}
 use Rattle.group_rules.specs.World.{GroupWorld, Event, Sent, gnext, run, opening}
 use Rattle.group_law.proofs.Grows.{at_both}
 use Rattle.group_law.proofs.Ready.{Inv}
 use Rattle.group_law.proofs.Events.{happened}
-use Rattle.group_law.proofs.Walk.{Came, came_of, nothing, Any, Goes, Keeper, Stays, w_listens, w_at_other, w_request, w_request_all, w_send_ack, w_send_status, active_other, gathering_if}
+use Rattle.group_law.proofs.Walk.{Came, came_of, nothing, Any, Keeper, Stays, w_listens, w_at_other, w_request, w_request_all, w_send_ack, w_send_status, active_other, gathering_if}
 use Rattle.group_law.proofs.Course.{Does, each_event, next_above}
 use Rattle.group_law.specs.Members.{WaitedLaw}
 

@@ -1,6 +1,5 @@
 -- The kind and the incarnation of a packet of the rules, as it travels.
-use Rattle.std.proofs.Common.{ℕ, refl}
-use Rattle.group_rules.specs.Member.{Kind}
+use Rattle.std.proofs.Common.{refl}
 use Rattle.group_rules.specs.Member.Kind.{Request, Body, Order, Entry, Ack, Accept, Nack, Status, Invite, Join, News}
 use Rattle.group_rows.specs.Kinds.{KindsLaw, IncarnationsLaw}
 

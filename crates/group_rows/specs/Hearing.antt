@@ -1,5 +1,5 @@
 -- Single steps, written out: what ends a member's silence, and what a sequencer knows of what the others applied: docs/RUNTIME.md, Runs.
-use Rattle.std.specs.Prelude.{ℕ, true, not, Option, Some, None, List, [], ◌∷◌, ◌==◌, ◌≡◌, if◌then◌else◌}
+use Rattle.std.specs.Prelude.{ℕ, true, not, Option, Some, None, [], ◌∷◌, ◌==◌, ◌≡◌, if◌then◌else◌}
 use Rattle.group_rules.specs.Member.{Member, opening_member}
 use Rattle.group_rules.specs.Member.Kind.{Body, Entry, Ack, Status}
 use Rattle.group_rules.specs.Work.{idle}
@@ -36,7 +36,13 @@ pub record GathersAnew : Type 0 where
 -- ---- what a member applied that didn't answer counts once the sequencer heard it: member 0 didn't for incarnation 5, whose sequencer is 2
 
 abbrev pub heard_late : Option ℕ → Member ℕ
-heard_late h = record purged_sequencer { log = up_to 200; base = 0; accepted = 200; applied = 200; heard = λ x. if x == 0 then h else Some 190 }
+heard_late h = record purged_sequencer {
+  log = up_to 200;
+  base = 0;
+  accepted = 200;
+  applied = 200;
+  heard = λ x. if x == 0 then h else Some 190;
+}
 
 pub record LateMemberIsSpared : Type 0 where
   pub unheard : (finish (group 3 1) 2 (idle (heard_late None))).state.base ≡ 190

@@ -1,5 +1,5 @@
 -- Single steps, written out: what a sequencer orders, and what waits: docs/RUNTIME.md, Runs.
-use Rattle.std.specs.Prelude.{ℕ, false, List, [], ◌∷◌, ◌++◌, ◌≡◌}
+use Rattle.std.specs.Prelude.{ℕ, false, [], ◌∷◌, ◌++◌, ◌≡◌}
 use Rattle.group_packets.specs.declared.packet.Packet.TheVariants as V
 use Rattle.group_rules.specs.Member.{Member, opening_member}
 use Rattle.group_rules.specs.Member.Kind.{Body, Status}

@@ -1,5 +1,5 @@
 -- Single steps, written out: what the other members of an incarnation do: docs/RUNTIME.md, Runs.
-use Rattle.std.specs.Prelude.{ℕ, true, Some, List, [], ◌∷◌, ◌≡◌}
+use Rattle.std.specs.Prelude.{ℕ, true, Some, [], ◌∷◌, ◌≡◌}
 use Rattle.group_packets.specs.declared.packet.Packet.TheVariants as V
 use Rattle.group_rules.specs.Member.{Member, opening_member}
 use Rattle.group_rules.specs.Member.Kind.{Order, Entry, Accept}

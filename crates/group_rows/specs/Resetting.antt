@@ -1,5 +1,5 @@
 -- Single steps of resets, written out: docs/RUNTIME.md, Runs.
-use Rattle.std.specs.Prelude.{ℕ, false, not, Some, List, [], ◌∷◌, ◌==◌, ◌≡◌}
+use Rattle.std.specs.Prelude.{ℕ, false, not, Some, [], ◌∷◌, ◌==◌, ◌≡◌}
 use Rattle.group_packets.specs.declared.packet.Packet.TheVariants as V
 use Rattle.group_rules.specs.Member.{Report, Member, opening_member}
 use Rattle.group_rules.specs.Member.Kind.{Status}
