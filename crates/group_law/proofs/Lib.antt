@@ -28,6 +28,10 @@ pub mod Single
 pub mod Stepping
 pub mod Tally
 pub mod Small
+pub mod Gathering
+pub mod Waiting
+pub mod AtOnce
+pub mod Keeping
 pub mod Sending
 pub mod Routing
 pub mod Travelling

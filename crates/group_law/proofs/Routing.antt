@@ -58,7 +58,7 @@ keeps_routes g m c low leads = record {
   turns = λ u t how h. h;
   orders = λ u x here h. h;
   leaving = λ u l h. h;
-  promising = λ u k le is h. h;
+  promising = λ u k le is other h. h;
 }
 
 coordinates : {M : Type 0} (g : Group M) (m : ℕ) (s : Member M) → m < g.nodes → Routes g (coordinate g m s).acts
@@ -80,7 +80,7 @@ keeps_delivered {M} g m c p low leads = record {
   turns = λ u t how h. h;
   orders = λ u x here h. h;
   leaving = λ u l h. h;
-  promising = λ u k le is h. h;
+  promising = λ u k le is other h. h;
 }
 
 came_leads : {M : Type 0} (g : Group M) (letters : List (Letter M)) (q : Packet M) → Delivered g letters → Sent letters q → Leads g (came_of q.from q.inc q.kind)
@@ -117,7 +117,7 @@ by_route {M} {g} {w} h d = record {
   receive = λ m from k kind s low known other way. walk_receive from k kind s (keeps_routes g m (came_of from k kind) low (leads_if g from m k kind way)) tt tt tt tt tt (known, other) tt;
   invited = λ m from k s low. walk_invited (keeps_routes g m (came_of {M = M} from k Invite) low (none_leads g (came_of {M = M} from k Invite) refl)) tt from k s refl tt;
   joined = λ m from k report s low. walk_joined (alone m low) tt tt from k report s (λ o is. (tt, λ u b e d best many base. d, λ b e l. tt)) tt;
-  announced = λ m from k a b named log low sent. walk_announced (keeps_routes g m (came_of from k (News a b named log)) low (none_leads g (came_of from k (News a b named log)) refl)) tt tt from k a b named log (w.members m) refl (λ above le base. (other m from k a b named log sent above, tt)) (λ x y. tt) (λ x y z. tt) tt;
+  announced = λ m from k a b named log low sent. walk_announced (keeps_routes g m (came_of from k (News a b named log)) low (none_leads g (came_of from k (News a b named log)) refl)) tt tt from k a b named log (w.members m) refl (λ above. other m from k a b named log sent above) (λ above le base. tt) (λ x y. tt) (λ x y z. tt) tt;
   coordinate = λ m s low. coordinates g m s low;
   timer = λ m s low. walk_timer (alone m low) tt tt tt tt s (λ d. coordinates g m (ticked g m s) low) tt;
   note = λ m n s low. walk_note (alone m low) tt tt n s tt;

@@ -29,7 +29,7 @@ keeps_applied g m n c low = record {
   turns = λ u t how h. how.applied ∙ h;
   orders = λ u x here h. h;
   leaving = λ u l h. h;
-  promising = λ u k le is h. h;
+  promising = λ u k le is other h. h;
 }
 
 -- unless the event is its note
@@ -46,7 +46,7 @@ keeps_unnoted g w event m p c low = record {
   turns = λ u t how h none. how.applied ∙ h none;
   orders = λ u x here h none. h none;
   leaving = λ u l h none. h none;
-  promising = λ u k le is h none. h none;
+  promising = λ u k le is other h none. h none;
 }
 
 unnoted_course : {M : Type 0} {g : Group M} {w : GroupWorld M} (event : Event M) → Course g w event (Goes event w)
@@ -87,12 +87,16 @@ pub step_keeps : {M : Type 0} {g : Group M} {w : GroupWorld M} (event : Event M)
 step_keeps {M} {g} {w} event small h = record {
   applied = λ m none. unnoted_at event small h m none;
   noted = λ m n is acts may. subst (λ (e : Event M). ((gnext g w e).members m).applied ≡ n) (sym is) (noted_at g w m n acts may);
+  refused = λ m n is may. subst (λ (e : Event M). gnext g w e ≡ w) (sym is) (cond_both (acts_on g w m && may_apply (w.members m) n) (put w m w.past (note g m n (w.members m))) w (λ (v : GroupWorld M). v ≡ w) (λ e. absurd (both e may)) (λ e. refl));
   entries = λ m.
       let v = lasting small (grows_at event small h).grows h (happened event small h) in
       let a = (h.holds m).applied in
       let b = (forward_at event small h m).accepted in
       same_less _ _ _ _ (omega arith) (v.members m m);
 }
+  where
+    both : {a : Bool} → a ≡ true → a ≡ false → ⊥
+    both {a} e f = let q : true ≡ false = sym e ∙ f in cc
 
 pub steps_law : (M : Type 0) → StepsLaw M
 steps_law M g small events event = step_keeps event small (reached g small events)

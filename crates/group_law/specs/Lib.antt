@@ -1,6 +1,7 @@
 pub mod Promise
 pub mod Agreed
 pub mod Messages
+pub mod Members
 pub mod Told
 pub mod Numbers
 pub mod Sends

@@ -1,5 +1,5 @@
 -- What a tested member keeps, and what is tested before an answer or a Result is handed to it.
-use Rattle.std.specs.Prelude.{ℕ, Some, ◌≡◌, ◌≤◌, ◌<◌, ◌+◌, ◌%◌, ◌⊎◌, All, length, slice_get}
+use Rattle.std.specs.Prelude.{ℕ, Some, nat_lt, if◌then◌else◌, ◌≡◌, ◌≤◌, ◌<◌, ◌+◌, ◌%◌, ◌⊎◌, All, length, slice_get}
 use Rattle.orca_base.specs.declared.ids.MessageId.{MessageId}
 use Rattle.orca_base.specs.declared.limits.TheConstants.{WINDOW}
 use Rattle.group_packets.specs.declared.packet.Join.{Join}
@@ -10,9 +10,9 @@ use Rattle.group_member.specs.declared.member.Member.{Member}
 use Rattle.group_reset.specs.Calls.{IsSome}
 use Rattle.group_tests.specs.declared.plain.Plain.{Plain}
 
--- a message's process and call, and its length in bytes
+-- a message's process and call, and its length in bytes: calls below 1,000 are process 0's, the others process 1's
 abbrev pub plain_id : Plain → MessageId
-plain_id m = record { process = record { 0 = 0 }; call = record { 0 = m.call } }
+plain_id m = record { process = record { 0 = if nat_lt m.call 1000 then 0 else 1 }; call = record { 0 = m.call } }
 
 abbrev pub plain_length : Plain → ℕ
 plain_length m = m.bytes

@@ -406,6 +406,8 @@ pub struct Ran {
     pub told: Vec<Told>,
     /// How the member stands.
     pub stands: Stands,
+    /// Whether it is the active sequencer, and a message waits for room.
+    pub waits: bool,
     /// What came of the last answer.
     pub outcome: Option<Joined>,
 }
@@ -430,6 +432,13 @@ fn standing(member: &Member<Plain>) -> Stands
         purged: purged(member),
         outside: member.is_outside(),
     }
+}
+
+// Whether a message waits.
+fn waits(member: &Member<Plain>) -> bool
+    requires { IsTested member.now }
+{
+    member.has_waiting()
 }
 
 // The deeds are done; what they sent, and what came of the last answer.
@@ -470,6 +479,7 @@ pub fn run(
     Ok(Ran {
         told,
         stands: standing(&member),
+        waits: waits(&member),
         outcome,
     })
 }

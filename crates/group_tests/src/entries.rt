@@ -299,27 +299,29 @@ fn a_member_alone_orders(rt: HostRuntime) -> Result<(), Fail> {
     Ok(())
 }
 
-/// Another member than the sequencer asks that for a short message, and tells a long one to both others. At a tick it asks again
-/// for both, in order, and reports.
+/// Another member than the sequencer asks that for a short message of process 1, and tells a long one of process 0 to both others.
+/// At a tick it asks again for both, in order of process, and reports.
 #[test]
 fn a_member_asks_for_its_messages(rt: HostRuntime) -> Result<(), Fail> {
     let short = Deed::Submit {
-        call: 1,
+        call: 1000,
         bytes: 256,
     };
     let long = Deed::Submit {
-        call: 2,
+        call: 1,
         bytes: 257,
     };
     let ran = run(rt.alloc(), THREE, 1, &[], &[short, long, Deed::Tick])?;
-    let first = [
-        telling(0, PacketKind::Request, 0, 1),
-        telling(0, PacketKind::Body, 0, 2),
-        telling(2, PacketKind::Body, 0, 2),
+    let sent = [
+        telling(0, PacketKind::Request, 0, 1000),
+        telling(0, PacketKind::Body, 0, 1),
+        telling(2, PacketKind::Body, 0, 1),
+        telling(0, PacketKind::Body, 0, 1),
+        telling(2, PacketKind::Body, 0, 1),
+        telling(0, PacketKind::Request, 0, 1000),
+        telling(0, PacketKind::Status, 0, 0),
     ];
-    assert!(rt; ran.told.get(..3) == Some(first.as_slice()));
-    assert_eq!(rt; ran.told.len(), 7);
-    assert_eq!(rt; ran.told[6], telling(0, PacketKind::Status, 0, 0));
+    assert!(rt; ran.told.as_slice() == sent.as_slice());
     Ok(())
 }
 

@@ -31,6 +31,7 @@ fn answers_are_kept(rt: HostRuntime) -> Result<(), NoMemory> {
     let copied = member.copy(alloc)?;
     let answers = copied.answers();
     assert_eq!(rt; answers.len(), 2);
+    assert!(rt; copied.has_answer(2) && !copied.has_answer(0));
     assert_eq!(rt; (answers[0].0, answers[0].1.incarnation), (1, 4));
     assert_eq!(rt; (answers[1].0, answers[1].1.accepted), (2, 1));
     assert_eq!(rt; copied.own_join(alloc)?.incarnation, 4);

@@ -1,9 +1,11 @@
 //! A message for tests.
 
+ghost use Rattle.std.specs.Prelude.{if◌then◌else◌, nat_lt};
+
 use orca_base::{Body, CallNo, MessageId, NoMemory, ProcessNo};
 use std::alloc::Global;
 
-/// A message of so many bytes, of process 0, whose replies have 9 bytes.
+/// A message of so many bytes, whose replies have 9 bytes. Those of calls below 1,000 are process 0's, the others process 1's.
 #[derive(Drop)]
 pub struct Plain {
     pub call: u64,
@@ -13,7 +15,7 @@ pub struct Plain {
 impl Body for Plain {
     type Reply = u64;
 
-    ghost id_of = { λ m. record { process = record { 0 = 0 }; call = record { 0 = m.call } } };
+    ghost id_of = { λ m. record { process = record { 0 = if nat_lt m.call 1000 then 0 else 1 }; call = record { 0 = m.call } } };
 
     ghost length_of = { λ m. m.bytes };
 
@@ -21,7 +23,7 @@ impl Body for Plain {
 
     fn id(&self) -> MessageId {
         MessageId {
-            process: ProcessNo(0),
+            process: ProcessNo(if self.call < 1000 { 0 } else { 1 }),
             call: CallNo(self.call),
         }
     }

@@ -117,6 +117,24 @@ fn a_member_behind_the_window_is_told_the_log(rt: HostRuntime) -> Result<(), Fai
     Ok(())
 }
 
+/// The sequencer's window is full: the message of call 257 waits, and nothing is sent.
+#[test]
+fn a_full_window_takes_no_message(rt: HostRuntime) -> Result<(), Fail> {
+    let before = [Deed::SubmitAll {
+        first: 1,
+        last: 256,
+    }];
+    let submitted = Deed::Submit {
+        call: 257,
+        bytes: 40,
+    };
+    let ran = run(rt.alloc(), SURE, 0, &before, &[submitted])?;
+    assert!(rt; ran.told.is_empty());
+    assert!(rt; ran.waits);
+    assert_eq!(rt; ran.stands, standing(256, 256, 0, 0));
+    Ok(())
+}
+
 /// The sequencer's window is full, and the message of call 257 waits, once. Once all have applied 256 entries, these are purged,
 /// and it is ordered.
 #[test]
@@ -144,6 +162,7 @@ fn a_message_waits_for_room(rt: HostRuntime) -> Result<(), Fail> {
         telling_in(0, 2, PacketKind::Entry, (257, 257, 257, 256)),
     ];
     assert!(rt; ran.told.as_slice() == sent.as_slice());
+    assert!(rt; !ran.waits);
     assert_eq!(rt; ran.stands, standing(257, 257, 256, 256));
     Ok(())
 }

@@ -1,6 +1,6 @@
 //! Ticks, in a group of three.
 
-use crate::deeds::{Deed, run};
+use crate::deeds::{Deed, entry, run};
 use crate::told::telling_in;
 use group_member::Config;
 use group_packets::PacketKind;
@@ -12,19 +12,26 @@ const THREE: Config = Config {
 };
 
 /// Member 1 is due at its seventh silent tick, and coordinates incarnation 4. A packet of its log's incarnation from the
-/// sequencer, member 0, ends its silence; one from another member, or of another incarnation, doesn't.
+/// sequencer, member 0, ends its silence, heard alone or received as an Entry; one from another member, or of another
+/// incarnation, doesn't.
 #[test]
 fn a_silent_sequencer_is_replaced(rt: HostRuntime) -> Result<(), Fail> {
     let before = [
         Deed::Tick,
         Deed::Tick,
-        Deed::Tick,
-        Deed::Tick,
-        Deed::Tick,
-        Deed::Tick,
         Deed::Listen {
             from: 0,
             incarnation: 0,
+        },
+        Deed::Tick,
+        Deed::Tick,
+        Deed::Tick,
+        Deed::Tick,
+        Deed::Tick,
+        Deed::Tick,
+        Deed::Receive {
+            from: 0,
+            packet: entry(1, 0, 0),
         },
         Deed::Tick,
         Deed::Tick,
@@ -42,7 +49,7 @@ fn a_silent_sequencer_is_replaced(rt: HostRuntime) -> Result<(), Fail> {
     ];
     let ran = run(rt.alloc(), THREE, 1, &before, &[Deed::Tick, Deed::Tick])?;
     let sent = [
-        telling_in(0, 0, PacketKind::Status, (0, 0, 0, 0)),
+        telling_in(0, 0, PacketKind::Status, (1, 0, 0, 0)),
         telling_in(4, 0, PacketKind::Invite, (0, 0, 0, 0)),
         telling_in(4, 2, PacketKind::Invite, (0, 0, 0, 0)),
     ];

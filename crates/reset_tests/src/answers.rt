@@ -131,8 +131,18 @@ fn other_answers_are_stale(rt: HostRuntime) -> Result<(), Fail> {
     Ok(())
 }
 
-/// Of five members, one of which may be lost, four have to answer for incarnation 6: with two answers of member 2 two have. At a
-/// tick the other three are invited again.
+/// Of five members, one of which may be lost, four have to answer for incarnation 6: with the first answer two have.
+#[test]
+fn a_first_answer_of_five_waits(rt: HostRuntime) -> Result<(), Fail> {
+    let first = answers(rt.alloc(), 2, 6, 0, 0, 0)?;
+    let ran = run(rt.alloc(), FIVE, 1, &[Deed::Coordinate], &[first])?;
+    assert!(rt; ran.told.is_empty());
+    assert_eq!(rt; ran.outcome, Some(Joined::Waiting { have: 2, need: 4 }));
+    assert_eq!(rt; ran.stands, standing((0, 6), 0, 0));
+    Ok(())
+}
+
+/// With a second answer of the same member two still have. At a tick the other three are invited again.
 #[test]
 fn a_coordinator_of_five_waits(rt: HostRuntime) -> Result<(), Fail> {
     let first = answers(rt.alloc(), 2, 6, 0, 0, 0)?;

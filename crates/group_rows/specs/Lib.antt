@@ -1,0 +1,5 @@
+pub mod Hearing
+pub mod Ordering
+pub mod Receiving
+pub mod Resetting
+pub mod Kinds
