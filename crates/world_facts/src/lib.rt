@@ -53,7 +53,7 @@ pub fn worlds_count()
 /// - `begins`: whatever entries there are, process 0 is the first that they begin, a longer list begins with the same processes, and there are
 ///   as many as copies count after these entries.
 /// - `stands`: copies count no more processes than there may be, and a member knows no process beyond those; a process takes no more turns than it may; and one that
-///   isn't computing is at what it does next, and is over exactly where that is its end or a fault.
+///   isn't computing is at what it does next, and is over exactly where that is its end or a fault; and a read that waits is blocked.
 pub fn processes_stand()
     ensures homes { HomesAreMembers }
     ensures begins { AllBegin }
