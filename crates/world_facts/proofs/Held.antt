@@ -1,6 +1,6 @@
 -- Whatever holds of each process as it begins, and stays as it receives a reply, as its action is carried out and as it computes, holds of
 -- each process in every run; no member knows a process that its copies don't count; and a read that waits is blocked on its member's copies.
-use Rattle.std.proofs.Common.{◌⊎◌, ⊎_elim, ◌≡◌, ◌==◌, ◌||◌, ◌≤◌, ◌<◌, ◌+◌, if◌then◌else◌, ℕ, zero, suc, Bool, true, false, List, [], ◌∷◌, length, Option, Some, None, refl, sym, ap, ◌∙◌, arith, subst, nat_lt, nat_le, is_some, leb}
+use Rattle.std.proofs.Common.{⊎_elim, ◌≡◌, ◌==◌, ◌||◌, ◌≤◌, ◌<◌, ◌+◌, if◌then◌else◌, ℕ, zero, suc, Bool, true, false, List, [], ◌∷◌, length, Option, Some, None, refl, sym, ap, ◌∙◌, arith, subst, nat_lt, nat_le, is_some, leb}
 use Rattle.std.proofs.lemmas.Bool.{cases_eq, cond_both, eqb-false, eqb-true, leb-false}
 use Rattle.orca_base.specs.declared.ids.CallNo.{CallNo}
 use Rattle.orca_base.specs.declared.ids.ProcessNo.{ProcessNo}
@@ -199,8 +199,7 @@ module _ (f : Frame) (P : ℕ → Played → Type 0) (c : Closed f P) (due : ℕ
         (λ (z : Option Played). z ≡ Some s →
         (j < v.node.copies.processes) × P j s × (due j → Rested f v.node.copies.objects s.stage))
         (λ e found.
-        let same : t ≡ s = cc in
-        (
+        let same : t ≡ s = cc in (
           omega (arith, low, e),
           subst (λ k. P k s) (sym e) (subst (P i) same p),
           λ d. subst (λ (z : Played). Rested f v.node.copies.objects z.stage) same (rest (subst due e d)),
@@ -213,8 +212,7 @@ module _ (f : Frame) (P : ℕ → Played → Type 0) (c : Closed f P) (due : ℕ
   keeps_near i v rest h = (
     h.0,
     λ j s is.
-        let k = h.1 j s is in
-        (
+        let k = h.1 j s is in (
           k.0,
           k.1,
           λ d. ⊎_elim
@@ -617,8 +615,7 @@ module _ (f : Frame) (P : ℕ → Played → Type 0) (c : Closed f P) where
     λ i r is. at_both nobody 0 (Some (newborn (first_process f))) i
         (λ (z : Option Played). z ≡ Some r → (i < 1) × P i r × (Each i → Rested f opening_copies.objects r.stage))
         (λ e found.
-        let same : newborn (first_process f) ≡ r = cc in
-        (
+        let same : newborn (first_process f) ≡ r = cc in (
           omega (arith, e),
           subst (P i) same (c.born i (first_process f)),
           λ d. subst (λ (z : Played). Rested f opening_copies.objects z.stage) same (idle_rests f opening_copies.objects),

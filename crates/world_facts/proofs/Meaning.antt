@@ -1,5 +1,5 @@
 -- Where a process stands at the end is what it does next after its replies, however many turns it may take.
-use Rattle.std.proofs.Common.{◌≡◌, ◌≤◌, ◌<◌, ◌+◌, ◌-◌, ℕ, Bool, true, false, List, Some, refl, sym, ap, ◌∙◌, arith, subst}
+use Rattle.std.proofs.Common.{◌≡◌, ◌≤◌, ◌+◌, ◌-◌, ℕ, Bool, true, false, List, refl, sym, ap, ◌∙◌, arith, subst}
 use Rattle.orca_base.specs.declared.ids.ProcessNo.{ProcessNo}
 use Rattle.orca_base.specs.declared.ids.TextNo.{TextNo}
 use Rattle.value_core.specs.Datum.{Data}
@@ -14,8 +14,8 @@ use Rattle.value_core.specs.declared.meaning.Doing.TheVariants as doing
 use Rattle.world_rules.specs.Frame.{Frame}
 use Rattle.world_rules.specs.Played.{Played, Stage}
 use Rattle.world_rules.specs.Played.Stage.{Computing, Acting, Submitted, Reading, Asking, Over}
-use Rattle.world_rules.specs.Worlds.{World, home_of}
-use Rattle.world_facts.specs.Ends.{EndsMean, Stand, StandsBy, end_at, end_over, process_end}
+use Rattle.world_rules.specs.Worlds.{home_of}
+use Rattle.world_facts.specs.Ends.{EndsMean, StandsBy, end_at, end_over, process_end}
 use Rattle.world_facts.specs.Processes.{DoesNext, StandsAt, is_last}
 use Rattle.world_facts.proofs.Ends.{stand_is}
 use Rattle.world_facts.proofs.Processes.{all_stand}
