@@ -45,8 +45,8 @@ pub record IsPlayed (f : Frame) (i : ProcessNo) (r : Played) : Type 0 where
   pub turns : r.turns ≤ f.settings.turns
   pub stands : StandsAt f i r r.stage
 
--- `few`, copies count no more processes than there may be; `fresh`, a member knows no process beyond those that its copies count; `blocked`,
--- a read that waits is blocked on its member's copies, also where objects are single
+-- `few`, copies count no more processes than there may be; `fresh`, a member knows no process beyond those that its copies count;
+-- `blocked`, a read that waits is blocked on its member's copies, also where objects are single
 pub record ProcessesStand (f : Frame) (w : World) : Type 0 where
   pub few : (m : ℕ) → (w.nodes m).copies.processes ≤ PROCESSES
   pub fresh : (m i : ℕ) (r : Played) → (w.nodes m).played i ≡ Some r → i < (w.nodes m).copies.processes

@@ -52,10 +52,11 @@ pub fn worlds_count()
 /// Processes at their members, in every run, whatever the group did.
 ///
 /// - `homes`: each process is on a member, in whatever world.
-/// - `begins`: whatever entries there are, process 0 is the first that they begin, a longer list begins with the same processes, and there are
-///   as many as copies count after these entries.
-/// - `stands`: copies count no more processes than there may be, and a member knows no process beyond those; a process takes no more turns than it may; and one that
-///   isn't computing is at what it does next, and is over exactly where that is its end or a fault; and a read that waits is blocked.
+/// - `begins`: whatever entries there are, process 0 is the first that they begin, a longer list begins with the same processes, and there
+///   are as many as copies count after these entries.
+/// - `stands`: copies count no more processes than there may be, and a member knows no process beyond those; a process takes no more turns
+///   than it may; one that isn't computing is at what it does next, and is over exactly where that is its end or a fault; and a read that
+///   waits is blocked.
 pub fn processes_stand()
     ensures homes { HomesAreMembers }
     ensures begins { AllBegin }
@@ -75,8 +76,8 @@ pub fn ends_stand()
     ensures worked { WorkedEnds }
 {}
 
-/// In every run of a lawful program, where a process stands at the end is what it does next after the replies that it received: it ended, or
-/// faulted so, or waits for the reply to that action. It rests on the laws of the trait alone. A call of this function does nothing.
+/// In every run of a lawful program, where a process stands at the end is what it does next after the replies that it received: it ended,
+/// or faulted so, or waits for the reply to that action. It rests on the laws of the trait alone. A call of this function does nothing.
 pub fn ends_mean<P: Processor>(machine: &P)
     ensures { EndsMean (P.computes machine.now) }
 {}
