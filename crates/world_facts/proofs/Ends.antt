@@ -135,7 +135,7 @@ ended_at f i r (Over act) stands over sound = ended_over act stands.1 sound
 -- ---- rows
 
 -- a process that its member began
-stand_is : (f : Frame) (w : World) (i : ℕ) (r : Played) (lives : Bool) → w.lives (home_of f w i) ≡ lives → played_in f w i ≡ Some r →
+pub stand_is : (f : Frame) (w : World) (i : ℕ) (r : Played) (lives : Bool) → w.lives (home_of f w i) ≡ lives → played_in f w i ≡ Some r →
     (process_end f w i).stand ≡ end_at lives r.stage
 stand_is f w i r lives on here =
     ap (λ b. end_of b (played_in f w i)) on ∙ ap (end_of lives) here

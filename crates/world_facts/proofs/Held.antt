@@ -1,7 +1,7 @@
 -- Whatever holds of each process as it begins, and stays as it receives a reply, as its action is carried out and as it computes, holds of
--- each process in every run; and no member knows a process that its copies don't count.
-use Rattle.std.proofs.Common.{◌≡◌, ◌==◌, ◌||◌, ◌≤◌, ◌<◌, ◌+◌, if◌then◌else◌, ℕ, zero, suc, Bool, true, false, List, [], ◌∷◌, length, Option, Some, None, refl, sym, ap, ◌∙◌, arith, subst, nat_lt, nat_le, is_some, leb}
-use Rattle.std.proofs.lemmas.Bool.{cond_both, eqb-true, leb-false}
+-- each process in every run; no member knows a process that its copies don't count; and a read that waits is blocked on its member's copies.
+use Rattle.std.proofs.Common.{⊎_elim, ◌≡◌, ◌==◌, ◌||◌, ◌≤◌, ◌<◌, ◌+◌, if◌then◌else◌, ℕ, zero, suc, Bool, true, false, List, [], ◌∷◌, length, Option, Some, None, refl, sym, ap, ◌∙◌, arith, subst, nat_lt, nat_le, is_some, leb}
+use Rattle.std.proofs.lemmas.Bool.{cases_eq, cond_both, eqb-false, eqb-true, leb-false}
 use Rattle.orca_base.specs.declared.ids.CallNo.{CallNo}
 use Rattle.orca_base.specs.declared.ids.ProcessNo.{ProcessNo}
 use Rattle.orca_base.specs.declared.limits.TheConstants.{PROCESSES}
@@ -18,9 +18,11 @@ use Rattle.value_core.specs.declared.action.Line.{Line}
 use Rattle.value_core.specs.declared.action.Reply.{Reply}
 use Rattle.value_core.specs.declared.meaning.Tried.{Tried}
 use Rattle.value_core.specs.declared.message.Message.{Message}
+use Rattle.value_core.specs.declared.processor.Halt.{Halt}
+use Rattle.value_core.specs.declared.processor.Halt.TheVariants as halt
 use Rattle.guard_queue.specs.Settles.{is_blocked}
 use Rattle.guard_queue.specs.declared.queue.Suspended.{Suspended}
-use Rattle.object_manager.specs.After.{Copied}
+use Rattle.object_manager.specs.After.{Copied, opening_copies}
 use Rattle.object_manager.specs.Singles.{after_single, lines_single}
 use Rattle.object_manager.specs.State.{message_of}
 use Rattle.book_law.specs.Members.{after_entry}
@@ -36,7 +38,7 @@ use Rattle.world_rules.specs.declared.event.Event.{Event}
 use Rattle.world_rules.specs.declared.event.Event.TheVariants as event
 use Rattle.world_rules.specs.declared.event.Step.{Step}
 use Rattle.world_rules.specs.Applying.{answers, applies, applies_all, applies_each, applies_one, begins, copies_take, due_entries, notes, passes_limit, performs_read, round, rounds, tries_as, tries_of, tries_read, tries_reads}
-use Rattle.world_rules.specs.Bursts.{Ran, last_turn, read_line}
+use Rattle.world_rules.specs.Bursts.{Ran, last_turn, read_line, read_on, reads_on}
 use Rattle.world_rules.specs.Frame.{Frame, group}
 use Rattle.world_rules.specs.Mail.{Carried, Errand, Mail, is_whole, place_of, receiver_of}
 use Rattle.world_rules.specs.Mail.Errand.{Ask, Answer}
@@ -45,7 +47,7 @@ use Rattle.world_rules.specs.Nodes.Deed.{Performs as Performing}
 use Rattle.world_rules.specs.Owners.{arrives, hands, hands_all, hands_to, hears_as, hears_of, holds, is_held, performs_call, takes, takes_asked, takes_call, takes_each, takes_reached, waits_here}
 use Rattle.world_rules.specs.Parts.{acts, acts_at, acts_by, acts_of, asks, asks_again, asks_again_at, asks_again_by, asks_again_of, asks_below, asks_owner, calls, calls_as, catches_up, computes, performs_all, receives_mail, submits, suspects, ticks}
 use Rattle.world_rules.specs.Parts.{receives as receives_at}
-use Rattle.world_rules.specs.Played.{Played, Stage, moves_to, newborn, next_call, receives}
+use Rattle.world_rules.specs.Played.{Played, Stage, at_action, moves_to, newborn, next_call, receives, stage_at}
 use Rattle.world_rules.specs.Played.Stage.{Computing, Acting, Submitted, Reading, Asking, Over}
 use Rattle.world_rules.specs.Processes.{Begun, begun_by, first_process, home_in, owner_in, singles_of}
 use Rattle.world_rules.specs.Steps.{AtWork, Burst, IsBurst, Known, Leads, Next, Possible, after_part, closes, comes, comes_whole, happens, lives_in, posts, posts_all, ticks_below, untouched}
@@ -54,8 +56,9 @@ use Rattle.world_facts.proofs.Homes.{born_many}
 
 -- ---- maps
 
-pub at_both : {A : Type 0} (g : ℕ → A) (k : ℕ) (v : A) (x : ℕ) (P : A → Type 0) → (x ≡ k → P v) → P (g x) → P (with_at g k v x)
-at_both g k v x P here other = cond_both (x == k) v (g x) P (λ e. here (eqb-true x k e)) (λ e. other)
+pub at_both : {A : Type 0} (g : ℕ → A) (k : ℕ) (v : A) (x : ℕ) (P : A → Type 0) → (x ≡ k → P v) → ((x ≡ k → ⊥) → P (g x)) →
+    P (with_at g k v x)
+at_both g k v x P here other = cond_both (x == k) v (g x) P (λ e. here (eqb-true x k e)) (λ e. other (eqb-false x k e))
 
 -- ---- what is said of a process
 
@@ -70,13 +73,43 @@ pub record Closed (f : Frame) (P : ℕ → Played → Type 0) : Type 0 where
       (objects : Objects) (place : ℕ) (i : ProcessNo) (r : Played) (lines : List Line) (end : Played) → P i.0 r → r.stage ≡ Computing →
       Ran f objects place i (last_turn f r) r lines end → P i.0 end
 
--- so it is of each process that a member knows; the member's copies count it, and they count no more processes than there may be
-abbrev pub Holds : (ℕ → Played → Type 0) → Node → Type 0
-Holds P node =
-    (node.copies.processes ≤ PROCESSES) × ((i : ℕ) (r : Played) → node.played i ≡ Some r → (i < node.copies.processes) × P i r)
+-- where it waits with a read, that one is blocked on these objects
+abbrev pub Rested : Frame → Objects → Stage → Type 0
+Rested f objects stage = (act : Action) → stage ≡ Reading act → is_blocked (read_on f.performs objects act) ≡ true
 
-abbrev pub AllHold : (ℕ → Played → Type 0) → World → Type 0
-AllHold P w = (m : ℕ) → Holds P (w.nodes m)
+idle_rests : (f : Frame) (objects : Objects) → Rested f objects Computing
+idle_rests f objects act e = absurd (cc e)
+
+-- so it is of each process that a member knows; the member's copies count it, and they count no more processes than there may be; and those
+-- that are due rest
+abbrev pub Loose : Frame → (ℕ → Played → Type 0) → (ℕ → Type 0) → Node → Type 0
+Loose f P due node =
+    (node.copies.processes ≤ PROCESSES)
+    × ((i : ℕ) (r : Played) → node.played i ≡ Some r →
+    (i < node.copies.processes) × P i r × (due i → Rested f node.copies.objects r.stage))
+
+abbrev pub Each : ℕ → Type 0
+Each i = Unit {0}
+
+abbrev pub Nobody : ℕ → Type 0
+Nobody i = ⊥
+
+abbrev pub Below : ℕ → ℕ → Type 0
+Below n i = i < n
+
+abbrev pub But : (ℕ → Type 0) → ℕ → ℕ → Type 0
+But due i j = due j × (j ≡ i → ⊥)
+
+-- all of them rest
+abbrev pub Holds : Frame → (ℕ → Played → Type 0) → Node → Type 0
+Holds f P node = Loose f P Each node
+
+abbrev pub AllHold : Frame → (ℕ → Played → Type 0) → World → Type 0
+AllHold f P w = (m : ℕ) → Holds f P (w.nodes m)
+
+fewer : (f : Frame) (P : ℕ → Played → Type 0) (due less : ℕ → Type 0) (node : Node) → ((i : ℕ) → less i → due i) → Loose f P due node →
+    Loose f P less node
+fewer f P due less node sub h = (h.0, λ i r is. let k = h.1 i r is in (k.0, k.1, λ l. k.2 (sub i l)))
 
 -- ---- the copies' numbers of processes
 
@@ -123,81 +156,192 @@ count_answers place [] v = refl
 count_answers place (l ∷ ls) v = count_answers place ls (changes (receives place l.reply) l.process.0 v)
     ∙ count_if (receives place l.reply) l.process.0 (v.node.played l.process.0) v
 
-module _ (f : Frame) (P : ℕ → Played → Type 0) (c : Closed f P) where
+count_read : (i : ℕ) (r : Played) (act : Action) (t : Tried) (v : NodeWork) →
+    (performs_read i r act t v).node.copies.processes ≡ v.node.copies.processes
+count_read i r act t v = cond_both (is_blocked t) _ _ (λ (u : NodeWork). u.node.copies.processes ≡ v.node.copies.processes)
+    (λ e. refl) (λ e. refl)
+
+count_as : (f : Frame) (i : ℕ) (r : Played) (stage : Stage) (v : NodeWork) →
+    (tries_as f i r stage v).node.copies.processes ≡ v.node.copies.processes
+count_as f i r (Reading act) v = count_read i r act _ v
+count_as f i r Computing v = refl
+count_as f i r (Acting act) v = refl
+count_as f i r (Submitted act) v = refl
+count_as f i r (Asking act) v = refl
+count_as f i r (Over act) v = refl
+
+count_of : (f : Frame) (i : ℕ) (o : Option Played) (v : NodeWork) → (tries_of f i o v).node.copies.processes ≡ v.node.copies.processes
+count_of f i None v = refl
+count_of f i (Some r) v = count_as f i r r.stage v
+
+count_tried : (f : Frame) (n : ℕ) (v : NodeWork) → (tries_reads f n v).node.copies.processes ≡ v.node.copies.processes
+count_tried f zero v = refl
+count_tried f (suc i) v = count_of f i ((tries_reads f i v).node.played i) (tries_reads f i v) ∙ count_tried f i v
+
+-- the same process
+same_stage : (r s : Played) (o : Option Played) → o ≡ Some r → o ≡ Some s → r.stage ≡ s.stage
+same_stage r s o one two =
+    let found : Some r ≡ Some s = sym one ∙ two in
+    let same : r ≡ s = cc in
+    ap (λ (z : Played). z.stage) same
+
+module _ (f : Frame) (P : ℕ → Played → Type 0) (c : Closed f P) (due : ℕ → Type 0) where
   -- ---- one process
 
-  abbrev On : NodeWork → Type 0
-  On v = Holds P v.node
+  abbrev Near : NodeWork → Type 0
+  Near v = Loose f P due v.node
 
-  plays_new : (i : ℕ) (t : Played) (v : NodeWork) → i < v.node.copies.processes → P i t → On v → On (plays i t v)
-  plays_new i t v low p h = (
+  plays_near : (i : ℕ) (t : Played) (v : NodeWork) → i < v.node.copies.processes → P i t →
+      (due i → Rested f v.node.copies.objects t.stage) → Loose f P (But due i) v.node → Near (plays i t v)
+  plays_near i t v low p rest h = (
     h.0,
     λ j s is. at_both v.node.played i (Some t) j
-        (λ (z : Option Played). z ≡ Some s → (j < v.node.copies.processes) × P j s)
+        (λ (z : Option Played). z ≡ Some s →
+        (j < v.node.copies.processes) × P j s × (due j → Rested f v.node.copies.objects s.stage))
         (λ e found.
-        let same : t ≡ s = cc in
-        (omega (arith, low, e), subst (λ k. P k s) (sym e) (subst (P i) same p)))
-        (λ found. h.1 j s found) is,
+        let same : t ≡ s = cc in (
+          omega (arith, low, e),
+          subst (λ k. P k s) (sym e) (subst (P i) same p),
+          λ d. subst (λ (z : Played). Rested f v.node.copies.objects z.stage) same (rest (subst due e d)),
+        ))
+        (λ other found. let k = h.1 j s found in (k.0, k.1, λ d. k.2 (d, other))) is,
   )
 
-  plays_on : (i : ℕ) (r t : Played) (v : NodeWork) → v.node.played i ≡ Some r → P i t → On v → On (plays i t v)
-  plays_on i r t v here p h = plays_new i t v (h.1 i r here).0 p h
+  keeps_near : (i : ℕ) (v : NodeWork) → ((r : Played) → v.node.played i ≡ Some r → due i → Rested f v.node.copies.objects r.stage) →
+      Loose f P (But due i) v.node → Near v
+  keeps_near i v rest h = (
+    h.0,
+    λ j s is.
+        let k = h.1 j s is in (
+          k.0,
+          k.1,
+          λ d. ⊎_elim
+              (λ (e : j ≡ i). rest s (ap v.node.played (sym e) ∙ is) (subst due e d))
+              (λ other. k.2 (d, other))
+              (cases_eq j i),
+        ),
+  )
 
-  replies_if : (place : ℕ) (reply : Reply) (i : ℕ) (o : Option Played) (v : NodeWork) → v.node.played i ≡ o → On v →
-      On (if_played (receives place reply) i o v)
+  plays_new : (i : ℕ) (t : Played) (v : NodeWork) → i < v.node.copies.processes → P i t →
+      (due i → Rested f v.node.copies.objects t.stage) → Near v → Near (plays i t v)
+  plays_new i t v low p rest h = plays_near i t v low p rest (fewer f P due (But due i) v.node (λ j d. d.0) h)
+
+  plays_on : (i : ℕ) (r t : Played) (v : NodeWork) → v.node.played i ≡ Some r → P i t →
+      (due i → Rested f v.node.copies.objects t.stage) → Near v → Near (plays i t v)
+  plays_on i r t v here p rest h = plays_new i t v (h.1 i r here).0 p rest h
+
+  replies_if : (place : ℕ) (reply : Reply) (i : ℕ) (o : Option Played) (v : NodeWork) → v.node.played i ≡ o → Near v →
+      Near (if_played (receives place reply) i o v)
   replies_if place reply i None v is h = h
-  replies_if place reply i (Some r) v is h = plays_on i r (receives place reply r) v is (c.replied i place reply r (h.1 i r is).1) h
+  replies_if place reply i (Some r) v is h =
+      plays_on i r (receives place reply r) v is (c.replied i place reply r (h.1 i r is).1) (λ d. idle_rests f v.node.copies.objects) h
 
-  replies_on : (place : ℕ) (reply : Reply) (i : ℕ) (v : NodeWork) → On v → On (changes (receives place reply) i v)
+  replies_on : (place : ℕ) (reply : Reply) (i : ℕ) (v : NodeWork) → Near v → Near (changes (receives place reply) i v)
   replies_on place reply i v h = replies_if place reply i (v.node.played i) v refl h
 
-  -- ---- reads
+  -- ---- a read is tried, and then rests, where the others did
 
-  read_performed : (i : ℕ) (r : Played) (act : Action) (t : Tried) (v : NodeWork) → v.node.played i ≡ Some r → On v →
-      On (performs_read i r act t v)
-  read_performed i r act t v here h = cond_both (is_blocked t) _ _ On (λ e. h)
+  read_tried : (i : ℕ) (r : Played) (act : Action) (v : NodeWork) → v.node.played i ≡ Some r → r.stage ≡ Reading act →
+      Loose f P (But due i) v.node → Near (performs_read i r act (read_on f.performs v.node.copies.objects act) v)
+  read_tried i r act v here at_read h =
+      let t : Tried = read_on f.performs v.node.copies.objects act in
+      cond_both (is_blocked t) _ _ Near
+      (λ e. keeps_near i v
+      (λ s is d b reads.
+      let same : Reading act ≡ Reading b = sym at_read ∙ same_stage r s (v.node.played i) here is ∙ reads in
+      let acts_same : act ≡ b = cc in
+      subst (λ (z : Action). is_blocked (read_on f.performs v.node.copies.objects z) ≡ true) acts_same e) h)
       (λ e.
       let line : Line = read_line (record { 0 = i }) r act t in
       let u : NodeWork = does (Performing (record { place = v.node.copies.applied; line = line })) v in
-      plays_on i r (receives v.node.copies.applied line.reply r) u here (c.replied i v.node.copies.applied line.reply r (h.1 i r here).1) h)
+      plays_near i (receives v.node.copies.applied line.reply r) u (h.1 i r here).0
+      (c.replied i v.node.copies.applied line.reply r (h.1 i r here).1) (λ d. idle_rests f v.node.copies.objects) h)
 
-  tried_as : (i : ℕ) (r : Played) (stage : Stage) (v : NodeWork) → v.node.played i ≡ Some r → On v → On (tries_as f i r stage v)
-  tried_as i r (Reading act) v here h = read_performed i r act _ v here h
-  tried_as i r Computing v here h = h
-  tried_as i r (Acting act) v here h = h
-  tried_as i r (Submitted act) v here h = h
-  tried_as i r (Asking act) v here h = h
-  tried_as i r (Over act) v here h = h
+  tried_as : (i : ℕ) (r : Played) (stage : Stage) (v : NodeWork) → v.node.played i ≡ Some r → r.stage ≡ stage →
+      Loose f P (But due i) v.node → Near (tries_as f i r stage v)
+  tried_as i r (Reading act) v here is h = read_tried i r act v here is h
+  tried_as i r Computing v here is h = keeps_near i v
+      (λ s found d b reads.
+      let e : Computing ≡ Reading b = sym is ∙ same_stage r s (v.node.played i) here found ∙ reads in absurd (cc e)) h
+  tried_as i r (Acting act) v here is h = keeps_near i v
+      (λ s found d b reads.
+      let e : Acting act ≡ Reading b = sym is ∙ same_stage r s (v.node.played i) here found ∙ reads in absurd (cc e)) h
+  tried_as i r (Submitted act) v here is h = keeps_near i v
+      (λ s found d b reads.
+      let e : Submitted act ≡ Reading b = sym is ∙ same_stage r s (v.node.played i) here found ∙ reads in absurd (cc e)) h
+  tried_as i r (Asking act) v here is h = keeps_near i v
+      (λ s found d b reads.
+      let e : Asking act ≡ Reading b = sym is ∙ same_stage r s (v.node.played i) here found ∙ reads in absurd (cc e)) h
+  tried_as i r (Over act) v here is h = keeps_near i v
+      (λ s found d b reads.
+      let e : Over act ≡ Reading b = sym is ∙ same_stage r s (v.node.played i) here found ∙ reads in absurd (cc e)) h
 
-  tried_of : (i : ℕ) (o : Option Played) (v : NodeWork) → v.node.played i ≡ o → On v → On (tries_of f i o v)
-  tried_of i None v is h = h
-  tried_of i (Some r) v is h = tried_as i r r.stage v is h
+  tried_of : (i : ℕ) (o : Option Played) (v : NodeWork) → v.node.played i ≡ o → Loose f P (But due i) v.node → Near (tries_of f i o v)
+  tried_of i None v is h = keeps_near i v (λ s found. let e : None ≡ Some s = sym is ∙ found in absurd (cc e)) h
+  tried_of i (Some r) v is h = tried_as i r r.stage v is refl h
 
-  tried : (i : ℕ) (v : NodeWork) → On v → On (tries_read f i v)
+  tried : (i : ℕ) (v : NodeWork) → Loose f P (But due i) v.node → Near (tries_read f i v)
   tried i v h = tried_of i (v.node.played i) v refl h
-
-  tried_all : (n : ℕ) (v : NodeWork) → On v → On (tries_reads f n v)
-  tried_all zero v h = h
-  tried_all (suc i) v h = tried i (tries_reads f i v) (tried_all i v h)
 
   -- ---- entries
 
-  answered : (place : ℕ) (lines : List Line) (v : NodeWork) → On v → On (answers place lines v)
+  answered : (place : ℕ) (lines : List Line) (v : NodeWork) → Near v → Near (answers place lines v)
   answered place [] v h = h
-  answered place (l ∷ ls) v h = answered place ls (changes (receives place l.reply) l.process.0 v) (replies_on place l.reply l.process.0 v h)
+  answered place (l ∷ ls) v h =
+      answered place ls (changes (receives place l.reply) l.process.0 v) (replies_on place l.reply l.process.0 v h)
 
-  begun : (m count : ℕ) (born : List Begun) (v : NodeWork) → count + length born ≤ v.node.copies.processes → On v →
-      On (begins m count born v)
+  begun : (m count : ℕ) (born : List Begun) (v : NodeWork) → count + length born ≤ v.node.copies.processes → Near v →
+      Near (begins m count born v)
   begun m count [] v room h = h
-  begun m count (process ∷ processes) v room h = cond_both (process.home == m) _ _ On
-      (λ e. plays_new count (newborn process) v (omega (arith, room)) (c.born count process) h) (λ e. h)
+  begun m count (process ∷ processes) v room h = cond_both (process.home == m) _ _ Near
+      (λ e. plays_new count (newborn process) v (omega (arith, room)) (c.born count process) (λ d. idle_rests f v.node.copies.objects) h)
+      (λ e. h)
+
+-- the reads of the processes below a number, one by one
+tried_all : (f : Frame) (P : ℕ → Played → Type 0) → Closed f P → (n : ℕ) (v : NodeWork) → Loose f P Nobody v.node →
+    Loose f P (Below n) (tries_reads f n v).node
+tried_all f P c zero v h = fewer f P Nobody (Below zero) v.node (λ i lt. omega (arith, lt)) h
+tried_all f P c (suc i) v h =
+    tried f P c (Below (suc i)) i (tries_reads f i v)
+    (fewer f P (Below i) (But (Below (suc i)) i) (tries_reads f i v).node
+    (λ j d. let lt = d.0 in let other = d.1 in omega (arith, lt, other)) (tried_all f P c i v h))
+
+-- a burst doesn't end at a read that waits
+not_reading_at : (act other : Action) → at_action act ≡ Reading other → ⊥
+not_reading_at (action.Make kind object) other e = cc e
+not_reading_at (action.Call kind op object args) other e = cc e
+not_reading_at (action.Fork text args place_on) other e = cc e
+not_reading_at action.Ended other e = cc e
+not_reading_at (action.Faulted fault) other e = cc e
+
+not_reading : (at_halt : Halt) (other : Action) → stage_at at_halt ≡ Reading other → ⊥
+not_reading (halt.At act) other e = not_reading_at act other e
+not_reading halt.Paused other e = cc e
+
+ran_rests : (f : Frame) (objects seen : Objects) (place : ℕ) (i : ProcessNo) (last : ℕ) (r : Played) (lines : List Line) (end : Played) →
+    Ran f seen place i last r lines end → Rested f objects end.stage
+ran_rests f objects seen place i last r [] end ran act is =
+    absurd (not_reading ran.0 act (ap (λ (z : Played). z.stage) (sym ran.4) ∙ is))
+ran_rests f objects seen place i last r (line ∷ lines) end ran act is =
+    ran_rests f objects seen place i last (reads_on place ran.1 line r) lines end ran.5 act is
+
+module _ (f : Frame) (P : ℕ → Played → Type 0) (c : Closed f P) where
+  -- ---- entries
+
+  abbrev On : NodeWork → Type 0
+  On v = Holds f P v.node
+
+  -- it stands elsewhere now, and not at a read that waits
+  moves_on : (i : ℕ) (r t : Played) (v : NodeWork) → v.node.played i ≡ Some r → P i t → Rested f v.node.copies.objects t.stage → On v →
+      On (plays i t v)
+  moves_on i r t v here p rest h = plays_on f P c Each i r t v here p (λ d. rest) h
 
   taken : (m : ℕ) (processes : List Begun) (x : Message) (v : NodeWork) → too_many f.performs v.node.copies x.action ≡ None → On v →
-      On (copies_take f m processes x v)
+      Loose f P Nobody (copies_take f m processes x v).node
   taken m processes x v none h =
       let new = counts (singles_of f processes) f.performs v.node.copies x (home_in processes x.process.0 == m) in
       let few = few_after f.performs v.node.copies x.action h.0 none in
-      (omega (arith, new, few), λ i r is. let k = h.1 i r is in let low = k.0 in (omega (arith, low, new), k.1))
+      (omega (arith, new, few), λ i r is. let k = h.1 i r is in let low = k.0 in (omega (arith, low, new), k.1, λ nobody_due. absurd nobody_due))
 
   applied_one : (m : ℕ) (x : Message) (v : NodeWork) → too_many f.performs v.node.copies x.action ≡ None → On v → On (applies_one f m x v)
   applied_one m x v none h =
@@ -212,8 +356,12 @@ module _ (f : Frame) (P : ℕ → Played → Type 0) (c : Closed f P) where
       let many = born_many f.settings.nodes (home_in ps x.process.0) place x.action in
       let new = counts (singles_of f ps) f.performs v.node.copies x (home_in ps x.process.0 == m) in
       let now = count_answers place lines t in
-      tried_all u.node.copies.processes u
-      (begun m count born told (omega (arith, many, new, now)) (answered place lines t (taken m ps x v none h)))
+      let n : ℕ = u.node.copies.processes in
+      let all : Loose f P (Below n) (tries_reads f n u).node =
+      tried_all f P c n u
+      (begun f P c Nobody m count born told (omega (arith, many, new, now)) (answered f P c Nobody place lines t (taken m ps x v none h))) in
+      let same = count_tried f n u in
+      (all.0, λ i r is. let k = all.1 i r is in let low = k.0 in (k.0, k.1, λ d. k.2 (omega (arith, low, same))))
 
   applied_each : (m : ℕ) (xs : List Message) (v : NodeWork) → On v → On (applies_each f m xs v)
   applied_each m [] v h = h
@@ -233,7 +381,7 @@ module _ (f : Frame) (P : ℕ → Played → Type 0) (c : Closed f P) where
   -- ---- single copies
 
   handed_to : (m home place : ℕ) (l : Line) (v : NodeWork) → On v → On (hands_to m home place l v)
-  handed_to m home place l v h = cond_both (home == m) _ _ On (λ e. replies_on place l.reply l.process.0 v h) (λ e. h)
+  handed_to m home place l v h = cond_both (home == m) _ _ On (λ e. replies_on f P c Each place l.reply l.process.0 v h) (λ e. h)
 
   handed : (m : ℕ) (l : Line) (v : NodeWork) → On v → On (hands f m l v)
   handed m l v h = handed_to m (home_in (known f v.node) l.process.0) v.node.copies.applied l
@@ -258,7 +406,8 @@ module _ (f : Frame) (P : ℕ → Played → Type 0) (c : Closed f P) where
   heard_as : (place i : ℕ) (call : CallNo) (reply : Reply) (r : Played) (stage : Stage) (v : NodeWork) → v.node.played i ≡ Some r → On v →
       On (hears_as place i call reply r stage v)
   heard_as place i call reply r (Asking act) v here h = cond_both (call.0 == length r.replies) _ _ On
-      (λ e. plays_on i r (receives place reply r) v here (c.replied i place reply r (h.1 i r here).1) h) (λ e. h)
+      (λ e. moves_on i r (receives place reply r) v here (c.replied i place reply r (h.1 i r here).1) (idle_rests f v.node.copies.objects) h)
+      (λ e. h)
   heard_as place i call reply r Computing v here h = h
   heard_as place i call reply r (Acting act) v here h = h
   heard_as place i call reply r (Submitted act) v here h = h
@@ -325,21 +474,25 @@ module _ (f : Frame) (P : ℕ → Played → Type 0) (c : Closed f P) where
 
   submitted : (m i : ℕ) (r : Played) (act : Action) (x : Message) (v : NodeWork) → v.node.played i ≡ Some r → r.stage ≡ Acting act → On v →
       On (submits f m i r act x v)
-  submitted m i r act x v here is h = plays_on i r (moves_to (Submitted act) r) v here (c.moved i r act (h.1 i r here).1 is).0 h
+  submitted m i r act x v here is h =
+      moves_on i r (moves_to (Submitted act) r) v here (c.moved i r act (h.1 i r here).1 is).0 (λ b e. absurd (cc e)) h
 
   asked : (m i : ℕ) (r : Played) (call : Suspended) (v : NodeWork) → v.node.played i ≡ Some r → r.stage ≡ Acting (message_of call).action →
       On v → On (asks f m i r call v)
   asked m i r call v here is h =
       let u : NodeWork = plays i (moves_to (Asking (message_of call).action) r) v in
-      let k : On u = plays_on i r (moves_to (Asking (message_of call).action) r) v here
-      (c.moved i r (message_of call).action (h.1 i r here).1 is).2 h in
+      let k : On u = moves_on i r (moves_to (Asking (message_of call).action) r) v here
+      (c.moved i r (message_of call).action (h.1 i r here).1 is).2 (λ b e. absurd (cc e)) h in
       cond_both (owner_in (known f v.node) call.object == m) _ _ On (λ e. call_performed m (message_of call) u k) (λ e. k)
 
   called_as : (m i : ℕ) (r : Played) (call : Suspended) (class : Class) (v : NodeWork) → v.node.played i ≡ Some r →
       r.stage ≡ Acting (message_of call).action → On v → On (calls_as f m i r call class v)
   called_as m i r call Reads v here is h =
       let act : Action = (message_of call).action in
-      tried i (plays i (moves_to (Reading act) r) v) (plays_on i r (moves_to (Reading act) r) v here (c.moved i r act (h.1 i r here).1 is).1 h)
+      let p = (c.moved i r act (h.1 i r here).1 is).1 in
+      tried f P c Each i (plays i (moves_to (Reading act) r) v)
+      (plays_on f P c (But Each i) i r (moves_to (Reading act) r) v here p (λ d. absurd (d.1 refl))
+      (fewer f P Each (But Each i) v.node (λ j d. tt) h))
   called_as m i r call Writes v here is h = submitted m i r (message_of call).action (message_of call) v here is h
 
   called : (m i : ℕ) (r : Played) (call : Suspended) (v : NodeWork) → v.node.played i ≡ Some r → r.stage ≡ Acting (message_of call).action →
@@ -384,44 +537,45 @@ module _ (f : Frame) (P : ℕ → Played → Type 0) (c : Closed f P) where
   played_same place (l ∷ ls) v i = played_same place ls (does (Performing (record { place = place; line = l })) v) i
 
   burst_held : (w : World) (i : ProcessNo) (place turns : ℕ) (burst : Burst) → IsBurst f w i place turns burst →
-      Holds P (w.nodes (home_of f w i.0)) →
-      Holds P (computes i.0 place burst.reads burst.end (w.nodes (home_of f w i.0))).node
+      Holds f P (w.nodes (home_of f w i.0)) →
+      Holds f P (computes i.0 place burst.reads burst.end (w.nodes (home_of f w i.0))).node
   burst_held w i place turns burst b h =
       let node : Node = w.nodes (home_of f w i.0) in
       let v : NodeWork = performs_all place burst.reads (idle node) in
       let same : v.node ≡ node = played_same place burst.reads (idle node) i.0 in
-      plays_on i.0 b.start burst.end v (ap (λ (n : Node). n.played i.0) same ∙ b.here)
+      moves_on i.0 b.start burst.end v (ap (λ (n : Node). n.played i.0) same ∙ b.here)
       (c.ran _ place i b.start burst.reads burst.end (h.1 i.0 b.start b.here).1 b.computing b.ran)
-      (subst (Holds P) (sym same) h)
+      (ran_rests f v.node.copies.objects _ place i (last_turn f b.start) b.start burst.reads burst.end b.ran)
+      (subst (Holds f P) (sym same) h)
 
   -- ---- a world
 
-  part : (m : ℕ) (v : NodeWork) (u : AtWork) → AllHold P u.world → On v → AllHold P (after_part f m v u).world
-  part m v u h a k = at_both u.world.nodes m v.node k (Holds P) (λ e. a) (h k)
+  part : (m : ℕ) (v : NodeWork) (u : AtWork) → AllHold f P u.world → On v → AllHold f P (after_part f m v u).world
+  part m v u h a k = at_both u.world.nodes m v.node k (Holds f P) (λ e. a) (λ other. h k)
 
-  comes_held : (v : World) (mail : Mail) → AllHold P v → AllHold P (comes f v mail).world
-  comes_held v mail h = cond_both (lives_in f v (receiver_of mail)) _ _ (λ (u : AtWork). AllHold P u.world)
+  comes_held : (v : World) (mail : Mail) → AllHold f P v → AllHold f P (comes f v mail).world
+  comes_held v mail h = cond_both (lives_in f v (receiver_of mail)) _ _ (λ (u : AtWork). AllHold f P u.world)
       (λ e. part (receiver_of mail) (receives_at f (receiver_of mail) mail (v.nodes (receiver_of mail))) (untouched v) h
       (caught_up (receiver_of mail) (receives_mail f (receiver_of mail) mail (idle (v.nodes (receiver_of mail))))
       (came (receiver_of mail) mail (idle (v.nodes (receiver_of mail))) (h (receiver_of mail)))))
       (λ e. h)
 
-  whole_held : (v : World) (o : Option (Flight Carried)) → AllHold P v → AllHold P (comes_whole f v o).world
+  whole_held : (v : World) (o : Option (Flight Carried)) → AllHold f P v → AllHold f P (comes_whole f v o).world
   whole_held v None h = h
-  whole_held v (Some flight) h = cond_both (is_whole f.settings.nodes flight.packet) _ _ (λ (u : AtWork). AllHold P u.world)
+  whole_held v (Some flight) h = cond_both (is_whole f.settings.nodes flight.packet) _ _ (λ (u : AtWork). AllHold f P u.world)
       (λ e. comes_held v flight.packet.mail h) (λ e. h)
 
-  below_held : (n : ℕ) (u : AtWork) → AllHold P u.world → AllHold P (ticks_below f n u).world
+  below_held : (n : ℕ) (u : AtWork) → AllHold f P u.world → AllHold f P (ticks_below f n u).world
   below_held zero u h = h
   below_held (suc m) u h =
       let v : AtWork = ticks_below f m u in
-      let k : AllHold P v.world = below_held m u h in
+      let k : AllHold f P v.world = below_held m u h in
       let timed : NodeWork = joins (timer (group f) m (v.world.nodes m).member) (idle (v.world.nodes m)) in
-      cond_both (v.world.lives m) _ _ (λ (x : AtWork). AllHold P x.world)
+      cond_both (v.world.lives m) _ _ (λ (x : AtWork). AllHold f P x.world)
       (λ e. part m (ticks f m (v.world.nodes m)) v k (caught_up m (asks_again f m timed) (again m timed (k m))))
       (λ e. k)
 
-  event_held : (w : World) (done : Event) (given : Known done) → Possible f w done given → AllHold P w → AllHold P (happens f w done given).world
+  event_held : (w : World) (done : Event) (given : Known done) → Possible f w done given → AllHold f P w → AllHold f P (happens f w done given).world
   event_held w (event.Burst process place turns) burst may h =
       let m : ℕ = home_of f w process.0 in
       part m (computes process.0 place burst.reads burst.end (w.nodes m)) (untouched w) h (burst_held w process place turns burst may (h m))
@@ -444,28 +598,31 @@ module _ (f : Frame) (P : ℕ → Played → Type 0) (c : Closed f P) where
   posted_nodes (mail ∷ mails) [] w = refl
   posted_nodes (mail ∷ mails) (one ∷ fates) w = posted_nodes mails fates (posts f w mail one)
 
-  step_held : (w v : World) (step : Step) → Next f w step v → AllHold P w → AllHold P v
+  step_held : (w v : World) (step : Step) → Next f w step v → AllHold f P w → AllHold f P v
   step_held w v step next h =
       let u : AtWork = happens f w step.event next.given in
       let nodes : (closes f w step u).nodes ≡ u.world.nodes = posted_nodes u.mails step.fates u.world in
-      subst (AllHold P) (sym next.after)
-      (λ m. subst (λ (n : ℕ → Node). Holds P (n m)) (sym nodes) (event_held w step.event next.given next.possible h m))
+      subst (AllHold f P) (sym next.after)
+      (λ m. subst (λ (n : ℕ → Node). Holds f P (n m)) (sym nodes) (event_held w step.event next.given next.possible h m))
 
-  leads_held : (w : World) (steps : List Step) (v : World) → Leads f w steps v → AllHold P w → AllHold P v
-  leads_held w [] v leads h = subst (AllHold P) (sym leads) h
+  leads_held : (w : World) (steps : List Step) (v : World) → Leads f w steps v → AllHold f P w → AllHold f P v
+  leads_held w [] v leads h = subst (AllHold f P) (sym leads) h
   leads_held w (step ∷ steps) v leads h = leads_held leads.0 steps v leads.2 (step_held w leads.0 step leads.1 h)
 
-  opening_held : (m : ℕ) → Holds P (opening_node f m)
+  opening_held : (m : ℕ) → Holds f P (opening_node f m)
   opening_held zero = (
     omega arith,
     λ i r is. at_both nobody 0 (Some (newborn (first_process f))) i
-        (λ (z : Option Played). z ≡ Some r → (i < 1) × P i r)
+        (λ (z : Option Played). z ≡ Some r → (i < 1) × P i r × (Each i → Rested f opening_copies.objects r.stage))
         (λ e found.
-        let same : newborn (first_process f) ≡ r = cc in
-        (omega (arith, e), subst (P i) same (c.born i (first_process f))))
-        (λ found. absurd (cc found)) is,
+        let same : newborn (first_process f) ≡ r = cc in (
+          omega (arith, e),
+          subst (P i) same (c.born i (first_process f)),
+          λ d. subst (λ (z : Played). Rested f opening_copies.objects z.stage) same (idle_rests f opening_copies.objects),
+        ))
+        (λ other found. absurd (cc found)) is,
   )
   opening_held (suc m) = (omega arith, λ i r is. absurd (cc is))
 
-  pub held : (steps : List Step) (w : World) → Leads f (opening_world f) steps w → AllHold P w
+  pub held : (steps : List Step) (w : World) → Leads f (opening_world f) steps w → AllHold f P w
   held steps w leads = leads_held (opening_world f) steps w leads opening_held

@@ -11,7 +11,7 @@ use Rattle.book_law.specs.Passes.{Test, after, after_all}
 use Rattle.world_rules.specs.Frame.{Frame}
 use Rattle.world_rules.specs.Processes.{Begun, begun_by, first_process, home_in, member_named, processes_from, processes_in, with_entry}
 use Rattle.world_rules.specs.Worlds.{agreed}
-use Rattle.world_facts.specs.Processes.{AllBegin, EntriesBegin, HomesAreMembers}
+use Rattle.world_facts.specs.Processes.{AllBegin, HomesAreMembers}
 
 abbrev AllLow : ℕ → List Begun → Type 0
 AllLow nodes [] = Unit {0}

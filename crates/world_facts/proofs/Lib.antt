@@ -8,3 +8,4 @@ pub mod Processes
 pub mod Ends
 pub mod WorkedEnds
 pub mod TooManyCrashes
+pub mod Meaning

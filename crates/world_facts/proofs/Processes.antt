@@ -87,4 +87,5 @@ all_stand f steps w replays =
       few = λ m. (h m).0;
       fresh = λ m i r is. ((h m).1 i r is).0;
       each = λ m i r is. ((h m).1 i.0 r is).1;
+      blocked = λ m i r act is reads. ((h m).1 i r is).2 tt act reads;
     }

@@ -1,10 +1,15 @@
 -- Where members and processes stand at the end of a run: what is kept of them.
-use Rattle.std.specs.Prelude.{◌≡◌, ◌<◌, ◌++◌, ℕ, zero, suc, not, if◌then◌else◌, Bool, true, false, List, [], ◌∷◌, length, Option, None, Some, slice_get}
+use Rattle.std.specs.Prelude.{◌≡◌, ◌<◌, ◌≤◌, ◌++◌, ℕ, zero, suc, not, if◌then◌else◌, Bool, true, false, List, [], ◌∷◌, length, Option, None, Some, slice_get}
 use Rattle.orca_base.specs.declared.fault.FaultKind.{FaultKind}
-use Rattle.value_core.specs.History.{Objects}
+use Rattle.orca_base.specs.declared.ids.ProcessNo.{ProcessNo}
+use Rattle.value_core.specs.History.{Objects, most_turns}
+use Rattle.value_core.specs.Lawful.{next_of}
+use Rattle.value_core.specs.Meaning.{Computes}
 use Rattle.value_core.specs.declared.action.Action.{Action}
 use Rattle.value_core.specs.declared.action.Action.TheVariants as action
 use Rattle.value_core.specs.declared.action.Reply.{Reply}
+use Rattle.value_core.specs.declared.meaning.Doing.{Doing}
+use Rattle.value_core.specs.declared.meaning.Doing.TheVariants as doing
 use Rattle.world_rules.specs.declared.event.Step.{Step}
 use Rattle.world_rules.specs.declared.standing.Standing.TheVariants as row
 use Rattle.world_rules.specs.Frame.{Frame}
@@ -13,6 +18,7 @@ use Rattle.world_rules.specs.Played.Stage.{Computing, Acting, Submitted, Reading
 use Rattle.world_rules.specs.Standings.{process_count, standing}
 use Rattle.world_rules.specs.Steps.{Replays}
 use Rattle.world_rules.specs.Worlds.{World, home_of, played_in}
+use Rattle.world_facts.specs.Processes.{is_last}
 
 -- ---- processes
 
@@ -144,3 +150,20 @@ AllEndsStand = (f : Frame) (w : World) → EndsStand f w
 
 abbrev pub FinishedRunsEnd : Type 0
 FinishedRunsEnd = (f : Frame) (steps : List Step) (w : World) → Replays f steps w → FinishedEnds f w
+
+-- ---- and what they say of what a process does next, after its replies
+
+-- it ended, or faulted so, or waits for the reply to this action; of one that computes, or whose member crashed, nothing is said
+abbrev pub StandsBy : Doing → Stand → Type 0
+StandsBy next Stand.Ended = next ≡ doing.At action.Ended
+StandsBy next (Stand.Faulted fault) = next ≡ doing.At (action.Faulted fault)
+StandsBy next (Stand.Waits act) = (next ≡ doing.At act) × (is_last act ≡ false)
+StandsBy next Stand.Busy = Unit {0}
+StandsBy next Stand.Crashed = Unit {0}
+
+-- so it is of each process that its member began, in every run of processes with these meanings
+abbrev pub EndsMean : Computes → Type 0
+EndsMean q =
+    (f : Frame) → f.computes ≡ q → f.settings.turns ≤ most_turns → (steps : List Step) (w : World) → Replays f steps w →
+    (i : ProcessNo) (r : Played) → played_in f w i.0 ≡ Some r →
+    StandsBy (next_of q r.text i r.args r.replies) (process_end f w i.0).stand

@@ -1,5 +1,5 @@
 -- What is so of the processes at their members in every run, whatever the group did: a process has a member, who knows it has counted it,
--- it takes no more turns than it may, and where it isn't computing it stands at what it does next.
+-- it takes no more turns than it may, where it isn't computing it stands at what it does next, and a read that waits is blocked.
 use Rattle.std.specs.Prelude.{◌≡◌, ◌≤◌, ◌<◌, ◌+◌, ◌++◌, ℕ, Bool, true, false, List, Some, length, slice_get}
 use Rattle.orca_base.specs.declared.ids.ProcessNo.{ProcessNo}
 use Rattle.orca_base.specs.declared.limits.TheConstants.{PROCESSES}
@@ -10,6 +10,8 @@ use Rattle.value_core.specs.declared.message.Message.{Message}
 use Rattle.object_manager.specs.After.{opening_copies}
 use Rattle.book_law.specs.Passes.{Test, after_all}
 use Rattle.world_rules.specs.declared.event.Step.{Step}
+use Rattle.guard_queue.specs.Settles.{is_blocked}
+use Rattle.world_rules.specs.Bursts.{read_on}
 use Rattle.world_rules.specs.Frame.{Frame}
 use Rattle.world_rules.specs.Played.{Played, Stage}
 use Rattle.world_rules.specs.Played.Stage.{Computing, Acting, Submitted, Reading, Asking, Over}
@@ -43,11 +45,15 @@ pub record IsPlayed (f : Frame) (i : ProcessNo) (r : Played) : Type 0 where
   pub turns : r.turns ≤ f.settings.turns
   pub stands : StandsAt f i r r.stage
 
--- `few`, copies count no more processes than there may be; `fresh`, a member knows no process beyond those that its copies count
+-- `few`, copies count no more processes than there may be; `fresh`, a member knows no process beyond those that its copies count;
+-- `blocked`, a read that waits is blocked on its member's copies, also where objects are single
 pub record ProcessesStand (f : Frame) (w : World) : Type 0 where
   pub few : (m : ℕ) → (w.nodes m).copies.processes ≤ PROCESSES
   pub fresh : (m i : ℕ) (r : Played) → (w.nodes m).played i ≡ Some r → i < (w.nodes m).copies.processes
   pub each : (m : ℕ) (i : ProcessNo) (r : Played) → (w.nodes m).played i.0 ≡ Some r → IsPlayed f i r
+  pub blocked :
+      (m i : ℕ) (r : Played) (act : Action) → (w.nodes m).played i ≡ Some r → r.stage ≡ Reading act →
+      is_blocked (read_on f.performs (w.nodes m).copies.objects act) ≡ true
 
 abbrev pub AllStand : Type 0
 AllStand = (f : Frame) (steps : List Step) (w : World) → Replays f steps w → ProcessesStand f w

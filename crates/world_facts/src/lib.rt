@@ -7,13 +7,15 @@
 #![tactic(auto)]
 
 ghost use Rattle.world_facts.specs.Counted.{AllCounted, StepsLeave};
-ghost use Rattle.world_facts.specs.Ends.{AllEndsStand, FinishedRunsEnd};
+ghost use Rattle.world_facts.specs.Ends.{AllEndsStand, EndsMean, FinishedRunsEnd};
 ghost use Rattle.world_facts.specs.Places.{AllPlaced, FrontsOfBooks, WorkedPlaces};
 ghost use Rattle.world_facts.specs.Possible.{StepsMay};
 ghost use Rattle.world_facts.specs.Processes.{AllBegin, AllStand, HomesAreMembers};
 ghost use Rattle.world_facts.specs.Rows.{AllRead};
 ghost use Rattle.world_facts.specs.TooManyCrashes.{TooManyCrashes};
 ghost use Rattle.world_facts.specs.WorkedEnds.{PremisesMet, WorkedEnds};
+
+use value_core::Processor;
 
 /// The book by places, of every world.
 ///
@@ -50,10 +52,11 @@ pub fn worlds_count()
 /// Processes at their members, in every run, whatever the group did.
 ///
 /// - `homes`: each process is on a member, in whatever world.
-/// - `begins`: whatever entries there are, process 0 is the first that they begin, a longer list begins with the same processes, and there are
-///   as many as copies count after these entries.
-/// - `stands`: copies count no more processes than there may be, and a member knows no process beyond those; a process takes no more turns than it may; and one that
-///   isn't computing is at what it does next, and is over exactly where that is its end or a fault.
+/// - `begins`: whatever entries there are, process 0 is the first that they begin, a longer list begins with the same processes, and there
+///   are as many as copies count after these entries.
+/// - `stands`: copies count no more processes than there may be, and a member knows no process beyond those; a process takes no more turns
+///   than it may; one that isn't computing is at what it does next, and is over exactly where that is its end or a fault; and a read that
+///   waits is blocked.
 pub fn processes_stand()
     ensures homes { HomesAreMembers }
     ensures begins { AllBegin }
@@ -71,6 +74,12 @@ pub fn ends_stand()
     ensures all { AllEndsStand }
     ensures finished { FinishedRunsEnd }
     ensures worked { WorkedEnds }
+{}
+
+/// In every run of a lawful program, where a process stands at the end is what it does next after the replies that it received: it ended,
+/// or faulted so, or waits for the reply to that action. It rests on the laws of the trait alone. A call of this function does nothing.
+pub fn ends_mean<P: Processor>(machine: &P)
+    ensures { EndsMean (P.computes machine.now) }
 {}
 
 /// What the law of runs asks of a run can be met together: it is, by the run of one cell.
