@@ -369,7 +369,7 @@ step_home more f small w v step next submit grouped h =
 
 -- ---- one home
 
-home_is : (laws : Laws) (law : AgreedLaw Message) (f : Frame) → 2 * (group f).resilience < (group f).nodes → (w : World) (m i : ℕ) (r : Played) → Grouped f w →
+pub home_is : (laws : Laws) (law : AgreedLaw Message) (f : Frame) → 2 * (group f).resilience < (group f).nodes → (w : World) (m i : ℕ) (r : Played) → Grouped f w →
     AreHome f w → (w.nodes m).played i ≡ Some r → home_of f w i ≡ m
 home_is laws law f small w m i r grouped h found =
     let node : Node = w.nodes m in

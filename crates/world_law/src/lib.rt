@@ -20,7 +20,7 @@ ghost use Rattle.world_law.specs.Lists.{AllGrow};
 ghost use Rattle.world_law.specs.Moments.{AllMoments};
 ghost use Rattle.world_law.specs.Once.{RunsOnce};
 ghost use Rattle.world_law.specs.Packets.{AllNumber};
-ghost use Rattle.world_law.specs.Places.{PlacesNeverFall};
+ghost use Rattle.world_law.specs.Places.{AllReach, PlacesNeverFall};
 ghost use Rattle.world_law.specs.SoundPackets.{AllLettersSound};
 
 use group_law::{agreement_law, packets_are_sound};
@@ -137,6 +137,15 @@ pub fn runs_hold()
 /// In every run whose submissions are allowed, each process is at its home: who plays it is the member that its fork named, and no other.
 pub fn processes_are_home()
     ensures { AllHome }
+{
+    agreement_law::<Message>();
+    wire_law::<Message, Reply>();
+}
+
+/// In every run whose submissions are allowed each Answer on its way to a process is an old one, or of the call that the process asks, and
+/// then from no lower a place; so no process's place falls (`places_never_fall`).
+pub fn answers_reach()
+    ensures { AllReach }
 {
     agreement_law::<Message>();
     wire_law::<Message, Reply>();
