@@ -247,13 +247,12 @@ record Stood (nodes : ℕ → Node) (flying : List (Flight Carried)) : Type 0 wh
   given : (m i : ℕ) (one : Given) → (nodes m).given i ≡ Some one → CallStands (λ k. (nodes k).played) one.place i one.call
   waits : (m : ℕ) → Each (λ (call : Suspended). CallStands (λ k. (nodes k).played) (nodes m).copies.applied call.process.0 call.call) (nodes m).copies.waits
 
-step_stands : (f : Frame) (steps : List Step) (w v : World) (step : Step) → Leads f (opening_world f) steps w → Next f w step v → PlacesWithin w →
+pub stands_after : (f : Frame) (w v : World) (step : Step) → Next f w step v → ((m : ℕ) → Fresh (w.nodes m)) → AsksTrue w → PlacesWithin w →
     CallsStand w → CallsStand v
-step_stands f steps w v step leads next places h =
+stands_after f w v step next fresh asks places h =
     let u : AtWork = happens f w step.event next.given in
     let c : World = closes f w step u in
-    let fresh : (m : ℕ) → Fresh (w.nodes m) = (leads_later f (opening_world f) steps w leads (opening_fresh f)).fresh in
-    let k : Calling u = calling_happens f w step.event next.given next.possible fresh places (calls_begin w (all_asks f steps w leads) h) in
+    let k : Calling u = calling_happens f w step.event next.given next.possible fresh places (calls_begin w asks h) in
     let all : Plays = plays_of u.world in
     let flies : Each (λ (flight : Flight Carried). MailFits all flight.packet.mail) c.flights =
     each_posted f (MailFits all) u.mails step.fates u.world k.mails k.flights in
@@ -267,6 +266,11 @@ step_stands f steps w v step leads next places h =
     } in
     let now : Stood c.nodes c.flights = subst (λ n. Stood n c.flights) (sym nodes) stood in
     subst CallsStand (sym next.after) (record { flights = now.flights; held = now.held; given = now.given; waits = now.waits })
+
+step_stands : (f : Frame) (steps : List Step) (w v : World) (step : Step) → Leads f (opening_world f) steps w → Next f w step v → PlacesWithin w →
+    CallsStand w → CallsStand v
+step_stands f steps w v step leads next places h =
+    stands_after f w v step next (leads_later f (opening_world f) steps w leads (opening_fresh f)).fresh (all_asks f steps w leads) places h
 
 -- ---- so each Answer reaches its process
 

@@ -562,13 +562,16 @@ happens_rises f w (event.Suspect node) given may ready flies =
     rises_part f w node (suspects f node (w.nodes node)) (untouched w) (rises_none w) refl (suspects_rises f node (w.nodes node) (ready node))
 happens_rises f w event.Swap given may ready flies = rises_none w
 
-pub places_rise : (f : Frame) (steps : List Step) (w v : World) (step : Step) → Leads f (opening_world f) steps w → Next f w step v → PlacesWithin w →
-    AnswersReach w → PlacesRise w v
-places_rise f steps w v step leads next places reach =
+pub rises_after : (f : Frame) (w v : World) (step : Step) → Next f w step v → ((m : ℕ) → Fresh (w.nodes m)) → PlacesWithin w → AnswersReach w → PlacesRise w v
+rises_after f w v step next fresh places reach =
     let u : AtWork = happens f w step.event next.given in
-    let fresh : (m : ℕ) → Fresh (w.nodes m) = (leads_later f (opening_world f) steps w leads (opening_fresh f)).fresh in
     let ready : (m : ℕ) → Ready (w.nodes m) = λ m. record { fresh = fresh m; low = places.processes m; reach = reach.held m } in
     let rises : PlacesRise w u.world = happens_rises f w step.event next.given next.possible ready reach.flights in
     let nodes : (closes f w step u).nodes ≡ u.world.nodes = posted_nodes f u.mails step.fates u.world in
     subst (PlacesRise w) (sym next.after)
     (λ m i r found. let a = rises m i r found in (a.0, ap (λ n. (n m).played i) nodes ∙ a.1, a.2))
+
+pub places_rise : (f : Frame) (steps : List Step) (w v : World) (step : Step) → Leads f (opening_world f) steps w → Next f w step v → PlacesWithin w →
+    AnswersReach w → PlacesRise w v
+places_rise f steps w v step leads next places reach =
+    rises_after f w v step next (leads_later f (opening_world f) steps w leads (opening_fresh f)).fresh places reach

@@ -126,7 +126,8 @@ pub fn acts_meet_runs()
     ensures { AllActsMeet }
 {}
 
-/// All that the group's side says of each world of a run, carried from step to step, where what is submitted may be.
+/// All that the group's side says of each world of a run, carried from step to step, where what is submitted may be; and processes go on,
+/// at places that don't fall.
 pub fn runs_hold()
     ensures { AllHold }
 {
@@ -142,7 +143,7 @@ pub fn processes_are_home()
     wire_law::<Message, Reply>();
 }
 
-/// In every run whose submissions are allowed each Answer on its way to a process is an old one, or of the call that the process asks, and
+/// In every run whose submissions are allowed, each Answer on its way to a process is an old one, or of the call that the process asks, and
 /// then from no lower a place; so no process's place falls (`places_never_fall`).
 pub fn answers_reach()
     ensures { AllReach }
