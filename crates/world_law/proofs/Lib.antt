@@ -30,3 +30,6 @@ pub mod Smallness
 pub mod Climbing
 pub mod Holding
 pub mod Homing
+pub mod Suspending
+pub mod Reaching
+pub mod Arriving

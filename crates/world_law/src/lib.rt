@@ -1,9 +1,11 @@
 //! The law of the world: what is true of every run, over the definitions of `world_rules` alone.
 //!
 //! What stands here is the group's side. Replays are one; each event is a list of the group's events, where what it submits may be
-//! submitted, so the law of the group speaks of the world at each moment of an event; Asks and Answers are true;
-//! processes go on. That the kept book is a history stands above (`world_course`, `world_book`). It stands on `group_law`, and has no
-//! code: its functions are laws, whose bodies are empty or call the group's laws.
+//! submitted, so the law of the group speaks of the world at each moment of an event; numbers stay small, packets are numbered and what
+//! travels is sound; members catch up; Asks and Answers are true and come to where they belong; processes are at their homes and go on, at
+//! places that don't fall. `runs_hold` has all that as one, from step to step. That the kept book is a history isn't here: it rests on
+//! `book_law`, by showing that each world is a run of it (`world_book`). It stands on `group_law`, and has no code: its functions are laws,
+//! whose bodies are empty or call the group's laws.
 #![tactic(auto)]
 
 ghost use Rattle.world_law.specs.Acts.{AllActsMeet};
@@ -20,7 +22,7 @@ ghost use Rattle.world_law.specs.Lists.{AllGrow};
 ghost use Rattle.world_law.specs.Moments.{AllMoments};
 ghost use Rattle.world_law.specs.Once.{RunsOnce};
 ghost use Rattle.world_law.specs.Packets.{AllNumber};
-ghost use Rattle.world_law.specs.Places.{PlacesNeverFall};
+ghost use Rattle.world_law.specs.Places.{AllReach, PlacesNeverFall};
 ghost use Rattle.world_law.specs.SoundPackets.{AllLettersSound};
 
 use group_law::{agreement_law, packets_are_sound};
@@ -75,9 +77,9 @@ pub fn asks_are_true()
 
 /// How great the numbers of a run are.
 ///
-/// - `steps`: in every run, whose submissions are allowed, there are at most as many submissions as steps, and as many ticks and coordinations as
-///   steps of each member; so in a group of at most 16 members, and after at most 4,000,000 steps, all numbers of entries and of incarnations,
-///   of members and of what travels, are below 2^62.
+/// - `steps`: in every run whose submissions are allowed there are at most as many submissions as steps, and as many ticks and
+///   coordinations of each member; so in a group of at most 16 members, and after at most 4,000,000 steps, all numbers of entries and of
+///   incarnations, of members and of what travels, are below 2^62.
 /// - `moments`: so it is at each moment of an event, with what the event did so far.
 pub fn numbers_stay_small()
     ensures steps { AllCount }
@@ -97,8 +99,8 @@ pub fn packets_are_numbered()
     wire_law::<Message, Reply>();
 }
 
-/// In every run whose submissions are allowed, what travels is what bytes spell, where the messages that were submitted or are next, and the
-/// replies of what was performed beside the list, are sound.
+/// In every run whose submissions are allowed, what travels is what bytes spell, where the messages that were submitted or are next, and
+/// the replies of what was performed beside the list, are sound.
 pub fn letters_are_sound()
     ensures { AllLettersSound }
 {
@@ -120,13 +122,14 @@ pub fn members_catch_up()
     wire_law::<Message, Reply>();
 }
 
-/// In every run the wire in use is the one behind as many exchanges as the run has, and an act of a wire is passed over just where its event
-/// isn't possible.
+/// In every run the wire in use is the one behind as many exchanges as the run has, each event meets the world of the steps before it, and
+/// an act of a wire is passed over just where its event isn't possible.
 pub fn acts_meet_runs()
     ensures { AllActsMeet }
 {}
 
-/// All that the group's side says of each world of a run, carried from step to step, where what is submitted may be.
+/// All that the group's side says of each world of a run, carried from step to step, where what is submitted may be; and processes go on,
+/// at places that don't fall.
 pub fn runs_hold()
     ensures { AllHold }
 {
@@ -137,6 +140,15 @@ pub fn runs_hold()
 /// In every run whose submissions are allowed, each process is at its home: who plays it is the member that its fork named, and no other.
 pub fn processes_are_home()
     ensures { AllHome }
+{
+    agreement_law::<Message>();
+    wire_law::<Message, Reply>();
+}
+
+/// In every run whose submissions are allowed, each Answer on its way to a process is an old one, or of the call that the process asks, and
+/// then from no lower a place; so no process's place falls (`places_never_fall`).
+pub fn answers_reach()
+    ensures { AllReach }
 {
     agreement_law::<Message>();
     wire_law::<Message, Reply>();

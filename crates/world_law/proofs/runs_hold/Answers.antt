@@ -1,5 +1,6 @@
 use Rattle.world_law.proofs.Grouping.{Laws}
 use Rattle.world_law.proofs.Holding.{steps_hold}
+use Rattle.world_law.proofs.Moments.{MoreLaws}
 use Rattle.world_law.proofs.runs_hold.Goals as goal
 
 pub returns : goal.returns
@@ -14,4 +15,5 @@ returns c =
       numbered = c.wire_law.ensures.numbered;
       packets = c.wire_law.ensures.packets;
     } in
-    λ f small. steps_hold laws c.agreement_law.ensures.few_events c.agreement_law.ensures.routes f small
+    let more : MoreLaws = record { laws = laws; messages = c.agreement_law.ensures.messages; lasting = c.agreement_law.ensures.lasting } in
+    λ f small. steps_hold more c.agreement_law.ensures.few_events c.agreement_law.ensures.routes c.agreement_law.ensures.agreed f small
