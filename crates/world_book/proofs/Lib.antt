@@ -9,6 +9,5 @@ pub mod Reading
 pub mod Staying
 pub mod Rests
 pub mod Kept
-pub mod Coming
 pub mod Stuck
 pub mod Over

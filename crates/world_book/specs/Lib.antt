@@ -1,3 +1,2 @@
 pub mod Promise
 pub mod Submitting
-pub mod Coming

@@ -6,7 +6,6 @@
 //! theirs. Nothing is said here of whether a run ends.
 #![tactic(auto)]
 
-ghost use Rattle.world_book.specs.Coming.{RunsReach};
 ghost use Rattle.world_book.specs.Promise.{ReplaysAreOne, RunsAreKept, RunsEndStuck};
 ghost use Rattle.world_book.specs.Submitting.{ProcessesMaySubmit};
 
@@ -26,14 +25,11 @@ use world_law::{group_steps, replay_law};
 ///   process of a living member is stuck that hasn't ended or faulted.
 /// - `may`: a process at an action that wasn't carried out may submit it, so that `group_steps` of `world_law` speaks of each of these
 ///   runs.
-/// - `answers`: each Answer that waits at its receiver, or flies to it, is an old one, or of the call that its process asks, and from no
-///   lower a place than the process's.
 /// - `once`: a list of steps leads to one world at most.
 pub fn legal_book<P: Processor>(machine: &P)
     ensures kept { RunsAreKept (P.performs machine.now) (P.computes machine.now) }
     ensures stuck { RunsEndStuck (P.performs machine.now) (P.computes machine.now) }
     ensures may { ProcessesMaySubmit (P.performs machine.now) (P.computes machine.now) }
-    ensures answers { RunsReach (P.performs machine.now) (P.computes machine.now) }
     ensures once { ReplaysAreOne (P.computes machine.now) }
 {
     agreement_law::<Message>();

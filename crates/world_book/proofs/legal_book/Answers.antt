@@ -3,7 +3,6 @@ use Rattle.value_core.specs.Meaning.{Computes, Performs}
 use Rattle.book_law.specs.Fitness.{EndsStuck}
 use Rattle.book_law.specs.Machines.{RunsFit}
 use Rattle.world_rules.specs.Frame.{AreSettings, Frame}
-use Rattle.world_book.proofs.Coming.{answers_reach}
 use Rattle.world_book.proofs.Kept.{Laws, is_kept, kept_may, replayed}
 use Rattle.world_book.proofs.Over.{living_stuck}
 use Rattle.world_book.proofs.Stuck.{single_stuck, stuck_at}
@@ -39,9 +38,6 @@ returns g c =
           record { waiters = λ n all. stuck_at f w l ends k n all; singles = single_stuck f w l ends k; living = living_stuck f w settings.some l ends k };
       may = λ f same_p same_q settings steps w replays i.
           let l = laws f same_p same_q settings in kept_may f w l (replayed f steps w l replays) i;
-      answers = λ f same_p same_q settings steps w replays.
-          let l = laws f same_p same_q settings in
-          answers_reach f w (replayed f steps w l replays);
       once = λ f same steps w v one two.
           let runs = c.replay_law.ensures.once f same in
           runs.replays steps w v one two;
