@@ -1,9 +1,9 @@
 //! The course of a world: each step of a run is a chain of events of the book's law (docs/proofs/world.md).
 //!
 //! A world corresponds to a course (`Corresponds`) where each member's copies and each process are the course's, the list is what any
-//! member applied, and what was performed beside it is the same; and it follows it (`Follows`) where its Asks and Answers stand, too. Of the group it takes small facts at each moment of an event
-//! (specs/Group.antt, specs/Gives.antt), of agreement and of what was submitted; of the program its laws. Nothing is said of how
-//! packets travel, nor that anything happens in the end.
+//! member applied, and what was performed beside it is the same; and it follows it (`Follows`) where its Asks and Answers stand, too. Of
+//! the group it takes small facts at each moment of an event (specs/Group.antt, specs/Gives.antt), of agreement and of what was
+//! submitted; of the program its laws. Nothing is said of how packets travel, nor that anything happens in the end.
 #![tactic(auto)]
 
 ghost use Rattle.world_course.specs.Law.{IsOneCell, RunsAreCourses};
