@@ -4,7 +4,7 @@ use Rattle.group_rules.specs.Sets.{In}
 use Rattle.group_rules.specs.Messages.{Group}
 use Rattle.group_rules.specs.Member.{Kind, Packet, Letter, Member}
 use Rattle.group_rules.specs.Member.Kind.{Request, Body, Order, Entry, Ack, Accept, Nack, Status, Invite, Join, News}
-use Rattle.group_rules.specs.Work.{Work}
+use Rattle.group_rules.specs.Work.{Work, idle}
 use Rattle.group_rules.specs.Reset.{coordinate}
 use Rattle.group_rules.specs.Steps.{ticked}
 use Rattle.group_rules.specs.World.{Past, GroupWorld, Event, Sent, after, gnext, run, opening}
@@ -12,7 +12,7 @@ use Rattle.group_law.proofs.Ready.{Inv}
 use Rattle.group_law.proofs.Events.{happened}
 use Rattle.group_law.proofs.Opening.{opened}
 use Rattle.group_law.proofs.Law.{reached}
-use Rattle.group_law.proofs.Walk.{Came, Any, came_of, nothing, Way, Keeper, walk_receive, walk_invited, walk_joined, walk_coordinate, walk_announced, walk_submit, walk_note, walk_timer}
+use Rattle.group_law.proofs.Walk.{Came, Any, came_of, nothing, Way, Keeper, walk_receive, walk_invited, walk_joined, walk_take_over, walk_coordinate, walk_announced, walk_submit, walk_note, walk_timer}
 use Rattle.group_law.proofs.Course.{Course, walk_event, next_here}
 use Rattle.group_law.specs.Sends.{Routed, Travels, Routes, ByRoute, RoutesLaw}
 
@@ -117,6 +117,7 @@ by_route {M} {g} {w} h d = record {
   receive = λ m from k kind s low known other way. walk_receive from k kind s (keeps_routes g m (came_of from k kind) low (leads_if g from m k kind way)) tt tt tt tt tt (known, other) tt;
   invited = λ m from k s low. walk_invited (keeps_routes g m (came_of {M = M} from k Invite) low (none_leads g (came_of {M = M} from k Invite) refl)) tt from k s refl tt;
   joined = λ m from k report s low. walk_joined (alone m low) tt tt from k report s (λ o is. (tt, λ u b e d best many base. d, λ b e l. tt)) tt;
+  take_over = λ m k a b named log heard answers s low here. walk_take_over (alone m low) tt tt k a b named log heard answers (idle s) here tt;
   announced = λ m from k a b named log low sent. walk_announced (keeps_routes g m (came_of from k (News a b named log)) low (none_leads g (came_of from k (News a b named log)) refl)) tt tt from k a b named log (w.members m) refl (λ above. other m from k a b named log sent above) (λ above le base. tt) (λ x y. tt) (λ x y z. tt) tt;
   coordinate = λ m s low. coordinates g m s low;
   timer = λ m s low. walk_timer (alone m low) tt tt tt tt s (λ d. coordinates g m (ticked g m s) low) tt;
