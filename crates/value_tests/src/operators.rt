@@ -9,8 +9,8 @@ use std::alloc::Global;
 use std::test::Fail;
 use value_core::{BoxedParts, Parts, TextValue, Value};
 use value_ops::{
-    add, contains, count, delete, divide, insert, is_in, join_texts, multiply, negate, ordinal, place_in,
-    remainder, size_of, size_of_all, subtract, take_least, text_of,
+    add, contains, count, delete, divide, insert, is_in, join_texts, multiply, negate, ordinal,
+    place_in, remainder, size_of, size_of_all, subtract, take_least, text_of,
 };
 
 // Two integers, and what an operator gives of them, or none where it faults.
