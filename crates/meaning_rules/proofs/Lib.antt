@@ -1,5 +1,7 @@
+pub mod Closed
+pub mod Everywhere
+pub mod Fronts
 pub mod Steady
-pub mod SteadyPhrases
 pub mod Settling
 pub mod Keeping
 pub mod KeepingPhrases

@@ -15,6 +15,7 @@ pub mod Classes
 pub mod Meanings
 pub mod Settled
 pub mod ReadsKeep
+pub mod Replies
 pub mod Fitting
 pub mod StaysFit
 pub mod PartsFit
