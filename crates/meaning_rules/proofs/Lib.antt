@@ -9,3 +9,4 @@ pub mod ReadsKeeping
 pub mod StaysFit
 pub mod PartsFit
 pub mod ElementsFit
+pub mod Preserving

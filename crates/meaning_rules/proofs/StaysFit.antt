@@ -100,7 +100,7 @@ module _ (us : List Source) (kinds more : Kinds) (extends : ExtendsKinds kinds m
     of_more (datum.text s) t h = h
     of_more (datum.array w) t h = array_more (outside_of t) _ _ _ (all_more w (inside_of t)) h
     of_more (datum.fields w) t h =
-        record_more (outside_of t) _ _ _ _ (λ i. are_more w (field_types us i)) (λ g. (g.0, nodes_more w (inside_of t) g.1)) h
+        record_more (outside_of t) _ _ _ _ (λ i. are_more w (field_types us i)) (λ g. (g.0, g.1, nodes_more w (inside_of t) g.2)) h
     of_more (datum.set w) t h = set_more (outside_of t) _ _ (λ x. (x.0, all_more w (inside_of t) x.1)) h
     of_more (datum.bag w) t h = bag_more (outside_of t) _ _ (λ x. (x.0, all_more w (inside_of t) x.1)) h
     of_more (datum.object process number) t h = object_more (outside_of t) process number h

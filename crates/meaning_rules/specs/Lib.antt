@@ -20,6 +20,7 @@ pub mod Fitting
 pub mod StaysFit
 pub mod PartsFit
 pub mod ElementsFit
+pub mod PhrasesFit
 pub mod Phrases
 pub mod Runs
 pub mod ProcessExamples

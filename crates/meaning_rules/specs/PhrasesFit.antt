@@ -1,0 +1,61 @@
+-- Preservation: a phrase without a breach, evaluated in variables that fit its scope, gives what is of its type and leaves such variables,
+-- as long as replies are such as its actions can get; and an action to which it comes is of objects and arguments that fit.
+use Rattle.std.specs.Prelude.{◌≡◌, List, ◌∷◌, ◌++◌, Option, Some, None}
+use Rattle.std.specs.List.{Contains}
+use Rattle.orca_base.specs.declared.ids.KindNo.{KindNo}
+use Rattle.orca_base.specs.declared.ids.ObjectId.{ObjectId}
+use Rattle.link_rules.specs.Units.{Source}
+use Rattle.type_rules.specs.declared.types.DataType.{DataType}
+use Rattle.type_rules.specs.Scopes.{Local}
+use Rattle.value_core.specs.Datum.{Datum}
+use Rattle.value_core.specs.Fits.{Kinds}
+use Rattle.value_core.specs.History.{output_kind, output_object}
+use Rattle.value_core.specs.Lawful.{FitsAction}
+use Rattle.value_core.specs.declared.action.Action.{Action}
+use Rattle.value_core.specs.declared.action.Action.TheVariants as action
+use Rattle.value_core.specs.declared.action.Reply.{Reply}
+use Rattle.value_core.specs.declared.meaning.Doing.TheVariants as doing
+use Rattle.meaning_rules.specs.States.{State, Out, Goes, Stops, Needs, Faults, Busy}
+use Rattle.meaning_rules.specs.Loops.{Flow, On, Back}
+use Rattle.meaning_rules.specs.Replies.{with_replies}
+use Rattle.meaning_rules.specs.Fitting.{Fits, AreFitting, FitsArgs, FitsText, FitsReply}
+
+-- each reply is one that the action can get to which an evaluation comes with the replies in front of it
+abbrev pub AreAnswers : {A : Type 0} → List Source → (State → Out A) → State → Type 0
+AreAnswers us f s =
+    (before rest : List Reply) (answer : Reply) (act : Action) → s.replies ≡ before ++ answer ∷ rest →
+    f (with_replies before s) ≡ Stops (Needs act) → FitsAction (FitsReply us) (doing.At act) answer
+
+-- the output object, or one that exists, by its type
+abbrev pub IsThere : Kinds → ObjectId → KindNo → Type 0
+IsThere kinds object kind = Contains ((output_object, output_kind) ∷ kinds) (object, kind)
+
+module _ (us : List Source) (kinds : Kinds) where
+  -- an action calls an object that is there, and hands on arguments that fit
+  abbrev pub FitsNeed : Action → Type 0
+  FitsNeed (action.Call kind op object args) = IsThere kinds object kind × FitsArgs us kinds kind op args
+  FitsNeed (action.Fork process args place_on) = FitsText us kinds process args
+  FitsNeed (action.Make kind object) = Unit {0}
+  FitsNeed action.Ended = Unit {0}
+  FitsNeed (action.Faulted fault) = Unit {0}
+
+  -- an evaluation leaves variables that fit, and what it goes on with is such
+  abbrev pub Leaves : {A : Type 0} → List Local → (A → Type 0) → Out A → Type 0
+  Leaves ls P (Goes x s) = AreFitting us kinds s.frame ls × P x
+  Leaves ls P (Stops (Needs act)) = FitsNeed act
+  Leaves ls P (Stops (Faults fault)) = Unit {0}
+  Leaves ls P (Stops Busy) = Unit {0}
+
+  pub record Preserves (ls : List Local) (A : Type 0) (P : A → Type 0) (f : State → Out A) : Type 0 where
+    pub preserves : (s : State) → AreFitting us kinds s.frame ls → AreAnswers us f s → Leaves ls P (f s)
+
+  -- what a body returns: a value of the result's type, where there is a result, and else none
+  abbrev pub IsResult : Option (Option DataType) → Option Datum → Type 0
+  IsResult None None = Unit {0}
+  IsResult None (Some x) = ⊥
+  IsResult (Some t) None = ⊥
+  IsResult (Some t) (Some x) = Fits us kinds x t
+
+  abbrev pub Returns : Option (Option DataType) → Flow → Type 0
+  Returns result On = Unit {0}
+  Returns result (Back x) = IsResult result x
