@@ -9,4 +9,6 @@ pub mod ReadsKeeping
 pub mod StaysFit
 pub mod PartsFit
 pub mod ElementsFit
+pub mod PartSizes
+pub mod PathsFit
 pub mod Preserving

@@ -20,6 +20,8 @@ pub mod Fitting
 pub mod StaysFit
 pub mod PartsFit
 pub mod ElementsFit
+pub mod GraphsFit
+pub mod PathsFit
 pub mod PhrasesFit
 pub mod Phrases
 pub mod Runs
