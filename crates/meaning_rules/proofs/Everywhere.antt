@@ -72,7 +72,7 @@ module _ (G : (A : Type 0) → (State → Out A) → Type 0) (c : Closed G) wher
       G (Unit {0}) (λ s. after (gives (r s.frame) s) (λ whole s1. Goes tt (stored place whole s1)))
   written_holds place r = c.then Datum (Unit {0}) _ _ (c.gives Datum r) (λ whole. stored_holds place whole)
 
-  change_holds : (to : Target) (by : Datum → Result Datum FaultKind) → G (Unit {0}) (change to by)
+  pub change_holds : (to : Target) (by : Datum → Result Datum FaultKind) → G (Unit {0}) (change to by)
   change_holds to by = written_holds to.slot (λ frame. and_then (ok_or (slice_get frame to.slot) IndexOutside) (changed_at to.path by))
 
   enlarge_holds : (to : Target) (by : Datum → Result Datum FaultKind) → G (Unit {0}) (enlarge to by)
@@ -88,7 +88,7 @@ module _ (G : (A : Type 0) → (State → Out A) → Type 0) (c : Closed G) wher
   pub drop_holds : (to : Target) (x : Datum) → G (Unit {0}) (drop_element to x)
   drop_holds to x = change_holds to (λ all. Ok (deleted x all))
 
-  held_holds : (to : Target) → G Datum (held to)
+  pub held_holds : (to : Target) → G Datum (held to)
   held_holds to = c.gives Datum (λ frame. and_then (ok_or (slice_get frame to.slot) IndexOutside) (part_at to.path))
 
   pub take_holds : (to : Target) → G Datum (take to)

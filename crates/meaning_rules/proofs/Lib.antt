@@ -12,3 +12,4 @@ pub mod ElementsFit
 pub mod PartSizes
 pub mod PathsFit
 pub mod Preserving
+pub mod Changing

@@ -1,6 +1,6 @@
 -- Preservation: a phrase without a breach, evaluated in variables that fit its scope, gives what is of its type and leaves such variables,
 -- as long as replies are such as its actions can get; and an action to which it comes is of objects and arguments that fit.
-use Rattle.std.specs.Prelude.{◌≡◌, List, ◌∷◌, ◌++◌, Option, Some, None}
+use Rattle.std.specs.Prelude.{◌≡◌, List, ◌∷◌, ◌++◌, slice_get, Option, Some, None}
 use Rattle.std.specs.List.{Contains}
 use Rattle.orca_base.specs.declared.ids.KindNo.{KindNo}
 use Rattle.orca_base.specs.declared.ids.ObjectId.{ObjectId}
@@ -18,6 +18,8 @@ use Rattle.value_core.specs.declared.meaning.Doing.TheVariants as doing
 use Rattle.meaning_rules.specs.States.{State, Out, Goes, Stops, Needs, Faults, Busy}
 use Rattle.meaning_rules.specs.Loops.{Flow, On, Back}
 use Rattle.meaning_rules.specs.Replies.{with_replies}
+use Rattle.meaning_rules.specs.Variables.{Target}
+use Rattle.meaning_rules.specs.PathsFit.{Leads}
 use Rattle.meaning_rules.specs.Fitting.{Fits, AreFitting, FitsArgs, FitsText, FitsReply}
 
 -- each reply is one that the action can get to which an evaluation comes with the replies in front of it
@@ -48,6 +50,11 @@ module _ (us : List Source) (kinds : Kinds) where
 
   pub record Preserves (ls : List Local) (A : Type 0) (P : A → Type 0) (f : State → Out A) : Type 0 where
     pub preserves : (s : State) → AreFitting us kinds s.frame ls → AreAnswers us f s → Leaves ls P (f s)
+
+  -- a variable, and a path in it to what is of this type
+  abbrev pub IsTarget : List Local → Target → DataType → Type 0
+  IsTarget ls to t =
+      (l : Local) × (whole : DataType) × (slice_get ls to.slot ≡ Some l) × (l.type ≡ Some whole) × Leads us to.path whole t
 
   -- what a body returns: a value of the result's type, where there is a result, and else none
   abbrev pub IsResult : Option (Option DataType) → Option Datum → Type 0
