@@ -13,3 +13,5 @@ pub mod PartSizes
 pub mod PathsFit
 pub mod Preserving
 pub mod Changing
+pub mod Judged
+pub mod OperatorsFit

@@ -23,6 +23,7 @@ pub mod ElementsFit
 pub mod GraphsFit
 pub mod PathsFit
 pub mod PhrasesFit
+pub mod Accepted
 pub mod Phrases
 pub mod Runs
 pub mod ProcessExamples

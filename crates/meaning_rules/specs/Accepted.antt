@@ -1,0 +1,114 @@
+-- What preservation takes of a program that links, breaks no rule and is a text's: that types are known, that what opens fits, that
+-- constants, enumerations and names are within the language's limits, and that calls, operations and processes are what their signatures
+-- say.
+use Rattle.std.specs.Prelude.{◌≡◌, ◌<◌, ◌≤◌, ◌^◌, ℕ, ℤ, Bool, false, List, [], ◌∷◌, length, map, drop, slice_get, Option, Some, None}
+use Rattle.std.specs.List.{All, AllByRecursion}
+use Rattle.orca_base.specs.declared.limits.TheConstants.{VALUE_SIZE}
+use Rattle.orca_syntax.specs.Syntax.{Kind, Parameter, Block}
+use Rattle.orca_syntax.specs.Sound.{AreSoundStmts}
+use Rattle.link_rules.specs.Units.{Source}
+use Rattle.type_rules.specs.declared.types.DataType.{DataType}
+use Rattle.type_rules.specs.declared.types.Base.TheVariants as base
+use Rattle.type_rules.specs.Types as types
+use Rattle.type_rules.specs.Types.{Outside, is_object}
+use Rattle.type_rules.specs.TopLevel as top
+use Rattle.type_rules.specs.TopLevel.{TopName, top_names, number_of, stands_for}
+use Rattle.type_rules.specs.declared.names.Chain.TheVariants.{EndsAt}
+use Rattle.type_rules.specs.Constants.{chain_from}
+use Rattle.type_rules.specs.declared.signature.Formal.{Formal}
+use Rattle.type_rules.specs.declared.signature.Formal.TheVariants.{ByValue, Shared, Out, SomeGraph, NodeOf}
+use Rattle.type_rules.specs.declared.signature.Signature.{Signature}
+use Rattle.type_rules.specs.Scopes.{Local, Scope, signature, operation_of}
+use Rattle.type_rules.specs.Statements.{stmts_breaches}
+use Rattle.value_core.specs.Datum.{Datum, Data, data_of}
+use Rattle.value_core.specs.Fits.{Kinds}
+use Rattle.value_core.specs.Integers.{IsWord}
+use Rattle.value_core.specs.Size.{size_of_all}
+use Rattle.value_core.specs.Sound.{IsCode}
+use Rattle.value_core.specs.declared.action.Reply.{Reply}
+use Rattle.value_paths.specs.declared.step.Step.{Step as ValueStep}
+use Rattle.meaning_rules.specs.Openings.{field_types, opening}
+use Rattle.meaning_rules.specs.Programs.{kind_of, op_of, text_of, function_scope}
+use Rattle.meaning_rules.specs.Statements.{names_at}
+use Rattle.meaning_rules.specs.Fitting.{Fits, FitsArgs, FitsText, FitsReply, FitsResult}
+use Rattle.meaning_rules.specs.PathsFit.{Leads}
+
+-- ---- types
+
+abbrev pub IsKnown : Option DataType → Type 0
+IsKnown o = (t : DataType) × (o ≡ Some t)
+
+-- a variable of the type opens with a value that fits, and so does whatever steps lead to
+abbrev pub Opens : List Source → DataType → Type 0
+Opens us t = (path : List ValueStep) (u : DataType) → Leads us path t u → (kinds : Kinds) → Fits us kinds (opening us (Some u)) (Some u)
+
+-- a name has a type, and one that isn't of an object type opens
+pub record IsOpening (us : List Source) (l : Local) : Type 0 where
+  pub known : IsKnown l.type
+  pub opens : (t : DataType) → l.type ≡ Some t → is_object t ≡ false → Opens us t
+
+abbrev pub IsKnownResult : Option (Option DataType) → Type 0
+IsKnownResult None = Unit {0}
+IsKnownResult (Some t) = IsKnown t
+
+abbrev pub IsKnownFormal : Formal → Type 0
+IsKnownFormal (ByValue t) = IsKnown t
+IsKnownFormal (Shared t) = IsKnown t
+IsKnownFormal (Out t) = IsKnown t
+IsKnownFormal SomeGraph = Unit {0}
+IsKnownFormal NodeOf = Unit {0}
+
+-- ---- bodies
+
+-- where a phrase stands, each name has a type, and so has the result
+pub record IsPlain (v : Scope) : Type 0 where
+  pub names : AllByRecursion (IsOpening v.program) v.locals
+  pub result : IsKnownResult v.result
+
+-- a function: its body is in order, and its parameters and result have types
+pub record IsFunction (us : List Source) (t : TopName) (ps : List Parameter) (r : Option Kind) (b : Block) : Type 0 where
+  pub formals : AllByRecursion IsKnownFormal (signature us t.defined.by ps r b).formals
+  pub scope : IsPlain (function_scope us t.defined.by ps r b)
+  pub plain : AllByRecursion (λ l. (t : DataType) → l.type ≡ Some t → is_object t ≡ false)
+      (drop (length ps) (function_scope us t.defined.by ps r b).locals)
+  pub sound : AreSoundStmts b.statements
+  pub unbroken : stmts_breaches (function_scope us t.defined.by ps r b) b.statements ≡ []
+
+-- ---- what calls and forks hand on
+
+-- values for the parameters
+abbrev pub AreTaken : List Source → Kinds → List Datum → List Formal → Type 0
+AreTaken us kinds [] [] = Unit {0}
+AreTaken us kinds (x ∷ xs) (ByValue t ∷ fs) = Fits us kinds x t × AreTaken us kinds xs fs
+AreTaken us kinds (x ∷ xs) (Shared t ∷ fs) = Fits us kinds x t × AreTaken us kinds xs fs
+AreTaken us kinds (x ∷ xs) (Out t ∷ fs) = Fits us kinds x t × AreTaken us kinds xs fs
+AreTaken us kinds _ _ = ⊥
+
+-- an operation by its signature in the specification: values for its parameters are arguments that fit, and what fits as a reply is a
+-- value of its result
+pub record IsOperation (us : List Source) (i : ℕ) (name : List ℕ) (s : Signature) : Type 0 where
+  pub formals : AllByRecursion IsKnownFormal s.formals
+  pub args : (kinds : Kinds) (xs : List Datum) → AreTaken us kinds xs s.formals → size_of_all (data_of xs) ≤ VALUE_SIZE →
+      FitsArgs us kinds (kind_of us i) (op_of us i name) (data_of xs)
+  pub reply : (answer : Reply) → FitsReply us (kind_of us i) (op_of us i name) answer → FitsResult us s.result answer
+
+-- a process by its signature: values for its parameters are arguments that fit
+pub record IsProcess (us : List Source) (name : List ℕ) (s : Signature) : Type 0 where
+  pub formals : AllByRecursion IsKnownFormal s.formals
+  pub args : (kinds : Kinds) (xs : List Datum) → AreTaken us kinds xs s.formals → size_of_all (data_of xs) ≤ VALUE_SIZE →
+      FitsText us kinds (text_of us name) (data_of xs)
+
+-- ---- programs
+
+pub record IsAccepted (us : List Source) : Type 0 where
+  pub fields : (i place : ℕ) (t : Option DataType) → slice_get (field_types us i) place ≡ Some t → IsKnown t
+  pub constants : (i : ℕ) (z : ℤ) → chain_from us i ≡ EndsAt z → IsWord z
+  pub values : (i : ℕ) (t : TopName) (of : List ℕ) (number : ℕ) → slice_get (top_names us) i ≡ Some t → t.what ≡ top.Value of number →
+      (j : ℕ) × (number_of us of ≡ Some j) × (number < length (names_at us (types.Bare (base.Enumeration j))))
+  pub names : (o : Outside) → All (All IsCode) (names_at us o)
+  pub few : (o : Outside) → length (names_at us o) ≤ 2 ^ 16
+  pub functions : (i : ℕ) (t : TopName) (ps : List Parameter) (r : Option Kind) (b : Block) → slice_get (top_names us) i ≡ Some t →
+      t.what ≡ top.Function ps r b → IsFunction us t ps r b
+  pub operations : (i : ℕ) (name : List ℕ) (s : Signature) → operation_of us i name ≡ Some s → IsOperation us i name s
+  pub processes : (home name : List ℕ) (i : ℕ) (t : TopName) (ps : List Parameter) (b : Block) → stands_for us home name ≡ top.Top i t →
+      t.what ≡ top.Process ps b → IsProcess us name (signature us t.defined.by ps None b)
