@@ -15,3 +15,5 @@ pub mod Preserving
 pub mod Changing
 pub mod Judged
 pub mod OperatorsFit
+pub mod Premises
+pub mod Steps

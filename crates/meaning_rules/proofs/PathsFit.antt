@@ -38,7 +38,7 @@ module _ (us : List Source) (parts : PartsFit us) (kinds : Kinds) where
   stepped (Field place) v t u to h = (parts kinds t v h).fields to.0 place u to.1 to.2
   stepped (Node name) v t u to h = subst (λ x. LeadsTo us kinds (Node name) v t x) to.1 ((parts kinds t v h).nodes name to.0)
 
-  graph_is : (t : DataType) → outside_of t ≡ types.Within layer.Graph → (v : Datum) → IsOf us kinds v t → IsGraph v
+  pub graph_is : (t : DataType) → outside_of t ≡ types.Within layer.Graph → (v : Datum) → IsOf us kinds v t → IsGraph v
   graph_is t e (datum.fields w) h = (subst (λ o. OfBy us kinds o (inside_of t) (datum.fields w)) e h).0
   graph_is t e (datum.int z) h = absurd (subst (λ o. OfBy us kinds o (inside_of t) (datum.int z)) e h).0
   graph_is t e (datum.truth b) h = absurd (subst (λ o. OfBy us kinds o (inside_of t) (datum.truth b)) e h)

@@ -78,6 +78,16 @@ module _ (us : List Source) (kinds : Kinds) where
         (λ x s1 fits1 holds answers. (others x s1 holds fits1).preserves s1 fits1 answers);
   }
 
+  weaker_leaves : {A : Type 0} (ls : List Local) (P Q : A → Type 0) → ((x : A) → P x → Q x) → (o : Out A) → Leaves us kinds ls P o → Leaves us kinds ls Q o
+  weaker_leaves ls P Q f (Goes x s) h = (h.0, f x h.1)
+  weaker_leaves ls P Q f (Stops (Needs need)) h = h
+  weaker_leaves ls P Q f (Stops (Faults fault)) h = tt
+  weaker_leaves ls P Q f (Stops Busy) h = tt
+
+  pub weaker_preserves : {A : Type 0} (ls : List Local) (P Q : A → Type 0) (f : State → Out A) → ((x : A) → P x → Q x) → Preserves us kinds ls A P f →
+      Preserves us kinds ls A Q f
+  weaker_preserves ls P Q f weaker h = record { preserves = λ s fits all. weaker_leaves ls P Q weaker (f s) (h.preserves s fits all) }
+
   -- ---- results, faults and turns
 
   pub goes_preserves : {A : Type 0} (ls : List Local) (P : A → Type 0) (x : A) → P x → Preserves us kinds ls A P (λ s. Goes x s)
