@@ -17,3 +17,6 @@ pub mod Judged
 pub mod OperatorsFit
 pub mod Premises
 pub mod Steps
+pub mod Called
+pub mod Acting
+pub mod Valued

@@ -147,7 +147,7 @@ module _ (us : List Source) (kinds more : Kinds) (extends : ExtendsKinds kinds m
     values_more (datum.more (datum.bag u) w) t h = absurd h
     values_more (datum.more (datum.object p n) w) t h = absurd h
 
-  fits_more : (v : Datum) (t : Option DataType) → Fits us kinds v t → Fits us more v t
+  pub fits_more : (v : Datum) (t : Option DataType) → Fits us kinds v t → Fits us more v t
   fits_more v None h = absurd h
   fits_more v (Some t) h = (of_more v t h.0, h.1)
 
