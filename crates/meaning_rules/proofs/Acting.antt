@@ -49,7 +49,7 @@ use Rattle.meaning_rules.specs.Calls.{operate, fork, write, id_in, object_number
 use Rattle.meaning_rules.specs.Statements.{line_of}
 use Rattle.meaning_rules.specs.Fitting.{IsOf, Fits, AreFitting, FitsReply, FitsResult}
 use Rattle.meaning_rules.specs.PhrasesFit.{IsThere, Preserves, IsResult}
-use Rattle.meaning_rules.specs.Accepted.{IsKnown, IsKnownFormal, IsPlain, AreTaken, IsOperation, IsProcess, IsAccepted}
+use Rattle.meaning_rules.specs.Accepted.{IsKnown, TakesValue, IsPlain, AreTaken, IsOperation, IsProcess, IsAccepted}
 use Rattle.meaning_rules.specs.Replies.{Front}
 use Rattle.meaning_rules.proofs.Fronts.{fronts}
 use Rattle.meaning_rules.proofs.Judged.{left_none, right_none, asked, unless_none, unless_is, local_at, opening_at}
@@ -95,7 +95,7 @@ module _ (us : List Source) (kinds : Kinds) (ls : List Local) (xs : List Datum) 
 -- a call of an operation without a breach
 pub record IsInvoked (kinds : Kinds) (v : Scope) (way : Use) (o m : Name) (es : Exprs) : Type 0 where
   pub signed : Signature
-  pub known : AllByRecursion IsKnownFormal signed.formals
+  pub known : AllByRecursion TakesValue signed.formals
   pub inside : arguments v signed.formals es ≡ []
   pub many : length signed.formals ≡ count_of es
   pub used : is_used_well way signed.result ≡ true
@@ -227,7 +227,7 @@ module _ (kinds : Kinds) (v : Scope) (plain_scope : IsPlain v) (facts : IsAccept
 pub record IsForked (kinds : Kinds) (v : Scope) (p : Name) (es : Exprs) : Type 0 where
   pub signed : Signature
   pub is : forked_signature (forked v p) ≡ signed
-  pub known : AllByRecursion IsKnownFormal signed.formals
+  pub known : AllByRecursion TakesValue signed.formals
   pub many : length signed.formals ≡ count_of es
   pub forks : (xs : List Datum) (on : Option ℤ) → AreTaken v.program kinds xs signed.formals → Preserves v.program kinds v.locals (Option Datum) Any (fork v p xs on)
 

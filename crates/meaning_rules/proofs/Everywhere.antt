@@ -62,7 +62,7 @@ module _ (G : (A : Type 0) → (State → Out A) → Type 0) (c : Closed G) wher
   value_holds A v n make None = given_holds A _
   value_holds A v n make (Some l) = c.gives A (λ frame. make (ok_or (slice_get frame (slot v n)) IndexOutside))
 
-  load_holds : (v : Scope) (n : Name) (path : List ValueStep) → G Datum (load v n path)
+  pub load_holds : (v : Scope) (n : Name) (path : List ValueStep) → G Datum (load v n path)
   load_holds v n path = value_holds Datum v n (λ r. and_then r (part_at path)) (local v n.text)
 
   stored_holds : (place : ℕ) (whole : Datum) → G (Unit {0}) (λ s. Goes tt (stored place whole s))
@@ -137,12 +137,12 @@ module _ (G : (A : Type 0) → (State → Out A) → Type 0) (c : Closed G) wher
 
   -- ---- expressions
 
-  joined_holds : (decides : Bool) (operator : Operator) (left : Datum) (right : State → Out Datum) → G Datum right →
+  pub joined_holds : (decides : Bool) (operator : Operator) (left : Datum) (right : State → Out Datum) → G Datum right →
       G Datum (joined_with decides operator left right)
   joined_holds true operator left right h = c.goes _ left
   joined_holds false operator left right h = c.then _ _ _ _ h (λ x. given_holds _ (applied operator left x))
 
-  passed_holds : (m : Mode) (value : State → Out Datum) (place : State → Out Target) → G Datum value → G Target place →
+  pub passed_holds : (m : Mode) (value : State → Out Datum) (place : State → Out Target) → G Datum value → G Target place →
       G Passed (as_passed m value place)
   passed_holds mode.Value value place h i = c.then _ _ _ _ h (λ x. c.goes _ (Given x))
   passed_holds mode.Shared value place h i = c.then _ _ _ _ h (λ x. c.goes _ (Given x))
@@ -154,14 +154,14 @@ module _ (G : (A : Type 0) → (State → Out A) → Type 0) (c : Closed G) wher
   go_on_holds On next h = h
   go_on_holds (Back x) next h = c.goes _ (Back x)
 
-  always_holds : (body : State → Out Flow) → G Flow body → G (Option Flow) (always body)
+  pub always_holds : (body : State → Out Flow) → G Flow body → G (Option Flow) (always body)
   always_holds body h = c.then _ _ _ _ h (λ flow. c.goes _ (Some flow))
 
-  taken_holds : (b : Bool) (body : State → Out Flow) → G Flow body → G (Option Flow) (taken_if b body)
+  pub taken_holds : (b : Bool) (body : State → Out Flow) → G Flow body → G (Option Flow) (taken_if b body)
   taken_holds true body h = always_holds body h
   taken_holds false body h = c.goes _ None
 
-  otherwise_holds : (taken : Option Flow) (others : State → Out Flow) → G Flow others → G Flow (λ s. otherwise taken s others)
+  pub otherwise_holds : (taken : Option Flow) (others : State → Out Flow) → G Flow others → G Flow (λ s. otherwise taken s others)
   otherwise_holds None others h = h
   otherwise_holds (Some flow) others h = c.goes _ flow
 
@@ -169,11 +169,11 @@ module _ (G : (A : Type 0) → (State → Out A) → Type 0) (c : Closed G) wher
   ended_holds On = c.goes _ Again
   ended_holds (Back x) = c.goes _ (Leave x)
 
-  round_if_holds : (b : Bool) (body : State → Out Flow) → G Flow body → G Round (round_if b body)
+  pub round_if_holds : (b : Bool) (body : State → Out Flow) → G Flow body → G Round (round_if b body)
   round_if_holds true body h = c.then _ _ _ _ c.turns (λ _. c.then _ _ _ _ h ended_holds)
   round_if_holds false body h = c.goes _ Over
 
-  until_holds : (test : State → Out Datum) → G Datum test → (flow : Flow) → G Round (until test flow)
+  pub until_holds : (test : State → Out Datum) → G Datum test → (flow : Flow) → G Round (until test flow)
   until_holds test h On = c.then _ _ _ _ h (λ x. c.goes _ _)
   until_holds test h (Back x) = c.goes _ (Leave x)
 
@@ -219,26 +219,26 @@ module _ (G : (A : Type 0) → (State → Out A) → Type 0) (c : Closed G) wher
       links_holds v (syn.link operator e ls) left =
           c.then _ _ _ _ (joined_holds (decides operator left) operator left (eval call v e) (eval_holds v e)) (λ x. links_holds v ls x)
 
-      path_holds : (v : Scope) (t : Option DataType) (p : Path) → G (List ValueStep) (eval_path call v t p)
+      pub path_holds : (v : Scope) (t : Option DataType) (p : Path) → G (List ValueStep) (eval_path call v t p)
       path_holds v t syn.here = c.goes _ _
       path_holds v t (syn.to x p) =
           c.then _ _ _ _ (step_holds v t x) (λ step. c.then _ _ _ _ (path_holds v (stepped_type v t x) p) (λ path. c.goes _ _))
 
-      step_holds : (v : Scope) (t : Option DataType) (x : Step) → G ValueStep (eval_step call v t x)
+      pub step_holds : (v : Scope) (t : Option DataType) (x : Step) → G ValueStep (eval_step call v t x)
       step_holds v t (syn.Field at f) = c.goes _ _
       step_holds v t (syn.Index at e) = c.then _ _ _ _ (eval_holds v e) (λ index. c.goes _ _)
 
-      all_holds : (v : Scope) (es : Exprs) → G (List Datum) (eval_all call v es)
+      pub all_holds : (v : Scope) (es : Exprs) → G (List Datum) (eval_all call v es)
       all_holds v syn.no_expr = c.goes _ _
       all_holds v (syn.expr e es) = c.then _ _ _ _ (eval_holds v e) (λ x. c.then _ _ _ _ (all_holds v es) (λ xs. c.goes _ _))
 
-      arguments_holds : (v : Scope) (modes : List Mode) (es : Exprs) → G (List Passed) (eval_passed call v modes es)
+      pub arguments_holds : (v : Scope) (modes : List Mode) (es : Exprs) → G (List Passed) (eval_passed call v modes es)
       arguments_holds v modes syn.no_expr = c.goes _ _
       arguments_holds v modes (syn.expr e es) =
           c.then _ _ _ _ (passed_holds (first_mode modes) (eval call v e) (eval_target call v e) (eval_holds v e) (target_holds v e)) (λ x.
           c.then _ _ _ _ (arguments_holds v (drop 1 modes) es) (λ xs. c.goes _ _))
 
-      target_holds : (v : Scope) (e : Expr) → G Target (eval_target call v e)
+      pub target_holds : (v : Scope) (e : Expr) → G Target (eval_target call v e)
       target_holds v (syn.Get n p) = c.then _ _ _ _ (path_holds v (root_type v n) p) (λ path. c.goes _ _)
       target_holds v (syn.Chain first ls) = c.goes _ _
       target_holds v (syn.Number at value) = c.goes _ _
@@ -254,11 +254,11 @@ module _ (G : (A : Type 0) → (State → Out A) → Type 0) (c : Closed G) wher
       target_holds v (Expr.Call n es) = c.goes _ _
       target_holds v (Expr.Invoke o m es) = c.goes _ _
 
-    give_back_holds : (v : Scope) (e : Option Expr) → G Flow (give_back call v e)
+    pub give_back_holds : (v : Scope) (e : Option Expr) → G Flow (give_back call v e)
     give_back_holds v None = c.goes _ _
     give_back_holds v (Some e) = c.then _ _ _ _ (eval_holds v e) (λ x. c.then _ _ _ _ (given_holds _ (fitting x)) (λ y. c.goes _ _))
 
-    member_holds : (v : Scope) (e : Option Expr) → G (Option ℤ) (member call v e)
+    pub member_holds : (v : Scope) (e : Option Expr) → G (Option ℤ) (member call v e)
     member_holds v None = c.goes _ _
     member_holds v (Some e) = c.then _ _ _ _ (eval_holds v e) (λ x. c.goes _ _)
 
@@ -268,7 +268,7 @@ module _ (G : (A : Type 0) → (State → Out A) → Type 0) (c : Closed G) wher
         c.then _ _ _ _ (eval_holds v e) (λ x. c.then _ _ _ _ (path_holds v (root_type v n) p) (λ path. c.then _ _ _ _ (h _ x) (λ _. c.goes _ On)))
 
     mutual
-      run_holds : (v : Scope) (x : Stmt) → G Flow (run call v x)
+      pub run_holds : (v : Scope) (x : Stmt) → G Flow (run call v x)
       run_holds v (syn.Return at e) = give_back_holds v e
       run_holds v (syn.If at as_) = arms_holds v as_
       run_holds v (syn.While at test ss) =
@@ -298,11 +298,11 @@ module _ (G : (A : Type 0) → (State → Out A) → Type 0) (c : Closed G) wher
       run_all_holds v syn.no_stmt = c.goes _ On
       run_all_holds v (syn.stmt x xs) = c.then _ _ _ _ (run_holds v x) (λ flow. go_on_holds flow (run_all call v xs) (run_all_holds v xs))
 
-      arms_holds : (v : Scope) (as_ : Arms) → G Flow (run_arms call v as_)
+      pub arms_holds : (v : Scope) (as_ : Arms) → G Flow (run_arms call v as_)
       arms_holds v syn.no_arm = c.goes _ On
       arms_holds v (syn.arm a as_) = c.then _ _ _ _ (arm_holds v a) (λ taken. otherwise_holds taken (run_arms call v as_) (arms_holds v as_))
 
-      arm_holds : (v : Scope) (a : Arm) → G (Option Flow) (run_arm call v a)
+      pub arm_holds : (v : Scope) (a : Arm) → G (Option Flow) (run_arm call v a)
       arm_holds v (syn.When test ss) = c.then _ _ _ _ (eval_holds v test) (λ x. taken_holds (truth_in x) (run_all call v ss) (run_all_holds v ss))
       arm_holds v (syn.Otherwise ss) = always_holds (run_all call v ss) (run_all_holds v ss)
 

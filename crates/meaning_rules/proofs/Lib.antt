@@ -20,3 +20,5 @@ pub mod Steps
 pub mod Called
 pub mod Acting
 pub mod Valued
+pub mod FittingPhrases
+pub mod FittingStatements

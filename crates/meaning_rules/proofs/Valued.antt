@@ -49,7 +49,7 @@ use Rattle.meaning_rules.specs.Fitting.{IsNamed, IsOf, Fits}
 use Rattle.meaning_rules.specs.ElementsFit.{Gathers}
 use Rattle.meaning_rules.specs.PathsFit.{Leads}
 use Rattle.meaning_rules.specs.PhrasesFit.{IsResult}
-use Rattle.meaning_rules.specs.Accepted.{IsKnown, IsKnownFormal, IsKnownResult, IsOpening, Opens, IsPlain, AreTaken, IsAccepted}
+use Rattle.meaning_rules.specs.Accepted.{IsKnown, TakesValue, IsKnownResult, IsOpening, Opens, IsPlain, AreTaken, IsAccepted}
 use Rattle.meaning_rules.proofs.Called.{CallsFit, top_at}
 use Rattle.meaning_rules.specs.Calls.{Calls}
 use Rattle.meaning_rules.proofs.Judged.{SameTypes, left_none, right_none, asked, unless_none, unless_is, fits_agreed}
@@ -236,19 +236,12 @@ module _ (kinds : Kinds) (v : Scope) (facts : IsAccepted v.program) (laws : Laws
   texts_codes (syn.expr e es) (x ∷ xs) h =
       (text_codes v.program kinds facts laws (names_of v e) x (typed v e).is (names_codes v.program kinds facts (typed v e).is) h.0, texts_codes es xs h.1)
 
-  agreed : (t : Option DataType) (x : Datum) (o : Option DataType) → IsKnown t → Fits v.program kinds x o → agree t o ≡ true → Fits v.program kinds x t
+  pub agreed : (t : Option DataType) (x : Datum) (o : Option DataType) → IsKnown t → Fits v.program kinds x o → agree t o ≡ true → Fits v.program kinds x t
   agreed t x o known h is =
       subst (λ y. Fits v.program kinds x y) (sym known.1) (fits_agreed v.program kinds laws.same x known.0 o h (ap (λ y. agree y o) (sym known.1) ∙ is))
 
-  -- a parameter that takes a value, by an argument without a breach
-  abbrev Takes : Formal → Type 0
-  Takes (ByValue t) = IsKnown t
-  Takes (Shared t) = IsKnown t
-  Takes (Out t) = IsKnown t
-  Takes SomeGraph = ⊥
-  Takes NodeOf = ⊥
-
-  pub are_taken : (fs : List Formal) (es : Exprs) (xs : List Datum) → AllByRecursion Takes fs → arguments v fs es ≡ [] → length fs ≡ count_of es →
+  -- values for parameters, by arguments without a breach
+  pub are_taken : (fs : List Formal) (es : Exprs) (xs : List Datum) → AllByRecursion TakesValue fs → arguments v fs es ≡ [] → length fs ≡ count_of es →
       AreTyped kinds v xs es → AreTaken v.program kinds xs fs
   are_taken [] syn.no_expr [] known none many h = tt
   are_taken [] syn.no_expr (x ∷ xs) known none many h = absurd h
@@ -260,7 +253,7 @@ module _ (kinds : Kinds) (v : Scope) (facts : IsAccepted v.program) (laws : Laws
       one f known.0 (left_none (suits v f e (typed v e).is) (arguments v fs es) rest)
       (are_taken fs es xs known.1 (right_none (suits v f e (typed v e).is) (arguments v fs es) rest) (omega (arith, many)) h.1)
     where
-      one : (f : Formal) → Takes f → suits v f e (typed v e).is ≡ [] → AreTaken v.program kinds xs fs → AreTaken v.program kinds (x ∷ xs) (f ∷ fs)
+      one : (f : Formal) → TakesValue f → suits v f e (typed v e).is ≡ [] → AreTaken v.program kinds xs fs → AreTaken v.program kinds (x ∷ xs) (f ∷ fs)
       one (ByValue t) k suit others = (agreed t x (typed v e).is k h.0 (asked 30 _ (agree t (typed v e).is) suit), others)
       one (Shared t) k suit others = (agreed t x (typed v e).is k h.0 (asked 30 _ (agree t (typed v e).is) (left_none (asks 30 _ (agree t (typed v e).is)) _ suit)), others)
       one (Out t) k suit others = (agreed t x (typed v e).is k h.0 (asked 30 _ (agree t (typed v e).is) (left_none (asks 30 _ (agree t (typed v e).is)) _ suit)), others)

@@ -58,6 +58,14 @@ IsKnownFormal (Out t) = IsKnown t
 IsKnownFormal SomeGraph = Unit {0}
 IsKnownFormal NodeOf = Unit {0}
 
+-- a parameter that takes a value
+abbrev pub TakesValue : Formal → Type 0
+TakesValue (ByValue t) = IsKnown t
+TakesValue (Shared t) = IsKnown t
+TakesValue (Out t) = IsKnown t
+TakesValue SomeGraph = ⊥
+TakesValue NodeOf = ⊥
+
 -- ---- bodies
 
 -- where a phrase stands, each name has a type, and so has the result
@@ -87,14 +95,14 @@ AreTaken us kinds _ _ = ⊥
 -- an operation by its signature in the specification: values for its parameters are arguments that fit, and what fits as a reply is a
 -- value of its result
 pub record IsOperation (us : List Source) (i : ℕ) (name : List ℕ) (s : Signature) : Type 0 where
-  pub formals : AllByRecursion IsKnownFormal s.formals
+  pub formals : AllByRecursion TakesValue s.formals
   pub args : (kinds : Kinds) (xs : List Datum) → AreTaken us kinds xs s.formals → size_of_all (data_of xs) ≤ VALUE_SIZE →
       FitsArgs us kinds (kind_of us i) (op_of us i name) (data_of xs)
   pub reply : (answer : Reply) → FitsReply us (kind_of us i) (op_of us i name) answer → FitsResult us s.result answer
 
 -- a process by its signature: values for its parameters are arguments that fit
 pub record IsProcess (us : List Source) (name : List ℕ) (s : Signature) : Type 0 where
-  pub formals : AllByRecursion IsKnownFormal s.formals
+  pub formals : AllByRecursion TakesValue s.formals
   pub args : (kinds : Kinds) (xs : List Datum) → AreTaken us kinds xs s.formals → size_of_all (data_of xs) ≤ VALUE_SIZE →
       FitsText us kinds (text_of us name) (data_of xs)
 
