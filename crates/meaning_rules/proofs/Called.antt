@@ -52,7 +52,7 @@ use Rattle.meaning_rules.specs.Calls.{Calls, Passed, Given, Lent, Callee, AFunct
 use Rattle.meaning_rules.specs.Fitting.{IsOf, Fits, AreFitting, FitsReply, FitsResult}
 use Rattle.meaning_rules.specs.PathsFit.{Leads}
 use Rattle.meaning_rules.specs.PhrasesFit.{IsTarget, IsThere, Preserves, IsResult}
-use Rattle.meaning_rules.specs.Accepted.{IsKnown, IsOpening, Opens, IsKnownFormal, IsPlain, IsFunction, AreTaken, IsOperation, IsAccepted}
+use Rattle.meaning_rules.specs.Accepted.{IsKnown, IsOpening, IsKnownFormal, IsPlain, IsFunction, AreTaken, IsOperation, IsAccepted}
 use Rattle.meaning_rules.proofs.Fronts.{fronts}
 use Rattle.meaning_rules.proofs.Judged.{left_none, right_none, asked, unless_none, unless_is, all_at, local_at, opening_at}
 use Rattle.meaning_rules.proofs.Changing.{add_preserves, delete_preserves}
@@ -268,7 +268,7 @@ module _ (kinds : Kinds) (call : Calls) (v : Scope) (plain_scope : IsPlain v) (f
       Fits v.program kinds (opening v.program (Some (inside_of u))) (Some (inside_of u))
   fresh_fits to u target graph =
       let l = all_at (IsOpening v.program) v.locals to.slot target.0 plain_scope.names target.2 in
-      l.opens target.1 target.3 (graph_not_object v.program to.path target.1 u target.4 graph) (to.path ++ Node (ℤ.pos 0) ∷ []) (inside_of u)
+      (l.data_type target.1 target.3 (graph_not_object v.program to.path target.1 u target.4 graph)).opens (to.path ++ Node (ℤ.pos 0) ∷ []) (inside_of u)
       (leads_on v.program to.path (Node (ℤ.pos 0)) target.1 u (inside_of u) target.4 (graph, refl)) kinds
 
   adding : (ps : List Passed) (as_ : Exprs) → ArePassed kinds v ps (SomeGraph ∷ []) as_ →

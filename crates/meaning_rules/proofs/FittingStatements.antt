@@ -97,7 +97,7 @@ module _ (kinds : Kinds) (call : Calls) (call_front : (i : ℕ) (ps : List Passe
   returns_none us None at none = tt
   returns_none us (Some t) at none = absurd cc
 
-  returns_some : (us : _) (same : SameTypes) (r : Option (Option DataType)) (at : Place) (f : Found DataType) → IsKnownResult r → returns r at (Some f) ≡ [] →
+  returns_some : (us : _) (same : SameTypes) (r : Option (Option DataType)) (at : Place) (f : Found DataType) → IsKnownResult us r → returns r at (Some f) ≡ [] →
       (f.breaches ≡ []) × ((y : Datum) → Fits us kinds y f.is → IsResult us kinds r (Some y))
   returns_some us same None at f known none = absurd cc
   returns_some us same (Some t) at f known none = (

@@ -49,7 +49,7 @@ use Rattle.meaning_rules.specs.Fitting.{IsNamed, IsOf, Fits}
 use Rattle.meaning_rules.specs.ElementsFit.{Gathers}
 use Rattle.meaning_rules.specs.PathsFit.{Leads}
 use Rattle.meaning_rules.specs.PhrasesFit.{IsResult}
-use Rattle.meaning_rules.specs.Accepted.{IsKnown, TakesValue, IsKnownResult, IsOpening, Opens, IsPlain, AreTaken, IsAccepted}
+use Rattle.meaning_rules.specs.Accepted.{IsKnown, TakesValue, IsOpening, TypeStep, Inside, ToField, Holds, IsData, IsPlain, AreTaken, IsAccepted}
 use Rattle.meaning_rules.proofs.Called.{CallsFit, top_at}
 use Rattle.meaning_rules.specs.Calls.{Calls}
 use Rattle.meaning_rules.proofs.Judged.{SameTypes, left_none, right_none, asked, unless_none, unless_is, fits_agreed}
@@ -65,12 +65,22 @@ pub record Stands (kinds : Kinds) (call : Calls) (v : Scope) : Type 0 where
   pub laws : Laws v.program
   pub calls : CallsFit v.program kinds call
 
-integer_opens : (us : List Source) → Opens us (plain base.Integer)
+-- steps lead nowhere from an integer
+integer_opens : (us : List Source) (path : List ValueStep) (u : DataType) → Leads us path (plain base.Integer) u → (kinds : Kinds) →
+    Fits us kinds (opening us (Some u)) (Some u)
 integer_opens us [] u leads kinds =
     subst (λ t. Fits us kinds (opening us (Some t)) (Some t)) leads (integer_fits us kinds (pos 0) (record { sfits = omega arith }))
 integer_opens us (step.Index low index ∷ path) u leads kinds = absurd (let e = leads.1.1 in cc)
 integer_opens us (step.Field place ∷ path) u leads kinds = absurd (let e = leads.1.1 in cc)
 integer_opens us (step.Node name ∷ path) u leads kinds = absurd (let e = leads.1.0 in cc)
+
+integer_objectless : (us : List Source) (path : List TypeStep) (u : DataType) → Holds us path (plain base.Integer) u → is_object u ≡ false
+integer_objectless us [] u holds = ap is_object (sym holds)
+integer_objectless us (Inside ∷ path) u holds = integer_objectless us path u holds
+integer_objectless us (ToField place ∷ path) u holds = absurd (let e = holds.2 in cc)
+
+integer_data : (us : List Source) → IsData us (plain base.Integer)
+integer_data us = record { objectless = integer_objectless us; opens = integer_opens us }
 
 -- the variable of a loop
 abbrev pub loop_local : Name → Local
@@ -80,7 +90,7 @@ pub stands_in_loop : (kinds : Kinds) (call : Calls) (v : Scope) (n : Name) → S
 stands_in_loop kinds call v n stands = record {
   scope = record {
     names = (
-      record { known = (plain base.Integer, refl); opens = λ t is data_type. subst (Opens v.program) (ap (given (plain base.Integer)) is) (integer_opens v.program) },
+      record { known = (plain base.Integer, refl); data_type = λ t is no_object. subst (IsData v.program) (ap (given (plain base.Integer)) is) (integer_data v.program) },
       stands.scope.names,
     );
     result = stands.scope.result;

@@ -1,16 +1,18 @@
 -- What preservation takes of a program that links, breaks no rule and is a text's: that types are known, that what opens fits, that
 -- constants, enumerations and names are within the language's limits, and that calls, operations and processes are what their signatures
 -- say.
-use Rattle.std.specs.Prelude.{◌≡◌, ◌<◌, ◌≤◌, ◌^◌, ℕ, ℤ, Bool, false, List, [], ◌∷◌, length, map, drop, slice_get, Option, Some, None}
+use Rattle.std.specs.Prelude.{◌≡◌, ◌<◌, ◌≤◌, ◌^◌, ℕ, ℤ, false, List, [], ◌∷◌, length, slice_get, Option, Some, None, IfSome}
 use Rattle.std.specs.List.{All, AllByRecursion}
 use Rattle.orca_base.specs.declared.limits.TheConstants.{VALUE_SIZE}
-use Rattle.orca_syntax.specs.Syntax.{Kind, Parameter, Block}
+use Rattle.orca_base.specs.declared.ids.KindNo.{KindNo}
+use Rattle.orca_syntax.specs.Syntax as syn
+use Rattle.orca_syntax.specs.Syntax.{Kind, Stmts, Parameter, Operation, Body, Block}
 use Rattle.orca_syntax.specs.Sound.{AreSoundStmts}
 use Rattle.link_rules.specs.Units.{Source}
 use Rattle.type_rules.specs.declared.types.DataType.{DataType}
 use Rattle.type_rules.specs.declared.types.Base.TheVariants as base
 use Rattle.type_rules.specs.Types as types
-use Rattle.type_rules.specs.Types.{Outside, is_object}
+use Rattle.type_rules.specs.Types.{Outside, outside_of, inside_of, is_object}
 use Rattle.type_rules.specs.TopLevel as top
 use Rattle.type_rules.specs.TopLevel.{TopName, top_names, number_of, stands_for}
 use Rattle.type_rules.specs.declared.names.Chain.TheVariants.{EndsAt}
@@ -18,6 +20,9 @@ use Rattle.type_rules.specs.Constants.{chain_from}
 use Rattle.type_rules.specs.declared.signature.Formal.{Formal}
 use Rattle.type_rules.specs.declared.signature.Formal.TheVariants.{ByValue, Shared, Out, SomeGraph, NodeOf}
 use Rattle.type_rules.specs.declared.signature.Signature.{Signature}
+use Rattle.type_rules.specs.declared.names.LocalRole.{LocalRole}
+use Rattle.type_rules.specs.declared.names.LocalRole.TheVariants.{SharedParameter}
+use Rattle.type_rules.specs.Declarations.{field_locals}
 use Rattle.type_rules.specs.Scopes.{Local, Scope, signature, operation_of}
 use Rattle.type_rules.specs.Statements.{stmts_breaches}
 use Rattle.value_core.specs.Datum.{Datum, Data, data_of}
@@ -28,7 +33,7 @@ use Rattle.value_core.specs.Sound.{IsCode}
 use Rattle.value_core.specs.declared.action.Reply.{Reply}
 use Rattle.value_paths.specs.declared.step.Step.{Step as ValueStep}
 use Rattle.meaning_rules.specs.Openings.{field_types, opening}
-use Rattle.meaning_rules.specs.Programs.{kind_of, op_of, text_of, function_scope}
+use Rattle.meaning_rules.specs.Programs.{ObjectType, object_type, kind_of, op_of, text_of, process_texts, function_scope, process_scope, operation_scope, operation_variables, begin_scope}
 use Rattle.meaning_rules.specs.Statements.{names_at}
 use Rattle.meaning_rules.specs.Fitting.{Fits, FitsArgs, FitsText, FitsReply, FitsResult}
 use Rattle.meaning_rules.specs.PathsFit.{Leads}
@@ -38,18 +43,39 @@ use Rattle.meaning_rules.specs.PathsFit.{Leads}
 abbrev pub IsKnown : Option DataType → Type 0
 IsKnown o = (t : DataType) × (o ≡ Some t)
 
--- a variable of the type opens with a value that fits, and so does whatever steps lead to
-abbrev pub Opens : List Source → DataType → Type 0
-Opens us t = (path : List ValueStep) (u : DataType) → Leads us path t u → (kinds : Kinds) → Fits us kinds (opening us (Some u)) (Some u)
+-- steps through types: to what a layer is of, and to a record's field
+pub data TypeStep : Type 0 where
+  Inside : TypeStep
+  ToField : ℕ → TypeStep
 
--- a name has a type, and one that isn't of an object type opens
+abbrev pub Holds : List Source → List TypeStep → DataType → DataType → Type 0
+Holds us [] t u = t ≡ u
+Holds us (Inside ∷ path) t u = Holds us path (inside_of t) u
+Holds us (ToField place ∷ path) t u =
+    (i : ℕ) × (w : DataType) × (outside_of t ≡ types.Bare (base.Record i)) × (slice_get (field_types us i) place ≡ Some (Some w)) × Holds us path w u
+
+-- the type of data: nothing within is of an object type, and a variable of the type, or of what steps through its values lead to, opens with
+-- a value that fits
+pub record IsData (us : List Source) (t : DataType) : Type 0 where
+  pub objectless : (path : List TypeStep) (u : DataType) → Holds us path t u → is_object u ≡ false
+  pub opens : (path : List ValueStep) (u : DataType) → Leads us path t u → (kinds : Kinds) → Fits us kinds (opening us (Some u)) (Some u)
+
+abbrev pub IsOfData : List Source → Option DataType → Type 0
+IsOfData us o = (t : DataType) × (o ≡ Some t) × IsData us t
+
+-- a name has a type; data, where that is no object type
 pub record IsOpening (us : List Source) (l : Local) : Type 0 where
   pub known : IsKnown l.type
-  pub opens : (t : DataType) → l.type ≡ Some t → is_object t ≡ false → Opens us t
+  pub data_type : (t : DataType) → l.type ≡ Some t → is_object t ≡ false → IsData us t
 
-abbrev pub IsKnownResult : Option (Option DataType) → Type 0
-IsKnownResult None = Unit {0}
-IsKnownResult (Some t) = IsKnown t
+-- all names but `shared` parameters are of data
+abbrev pub HoldsData : LocalRole → List Source → Option DataType → Type 0
+HoldsData SharedParameter us t = Unit {0}
+HoldsData _ us t = IsOfData us t
+
+abbrev pub IsKnownResult : List Source → Option (Option DataType) → Type 0
+IsKnownResult us None = Unit {0}
+IsKnownResult us (Some t) = IsOfData us t
 
 abbrev pub IsKnownFormal : Formal → Type 0
 IsKnownFormal (ByValue t) = IsKnown t
@@ -71,16 +97,39 @@ TakesValue NodeOf = ⊥
 -- where a phrase stands, each name has a type, and so has the result
 pub record IsPlain (v : Scope) : Type 0 where
   pub names : AllByRecursion (IsOpening v.program) v.locals
-  pub result : IsKnownResult v.result
+  pub result : IsKnownResult v.program v.result
 
 -- a function: its body is in order, and its parameters and result have types
 pub record IsFunction (us : List Source) (t : TopName) (ps : List Parameter) (r : Option Kind) (b : Block) : Type 0 where
   pub formals : AllByRecursion IsKnownFormal (signature us t.defined.by ps r b).formals
   pub scope : IsPlain (function_scope us t.defined.by ps r b)
-  pub plain : AllByRecursion (λ l. (t : DataType) → l.type ≡ Some t → is_object t ≡ false)
-      (drop (length ps) (function_scope us t.defined.by ps r b).locals)
+  pub holds : AllByRecursion (λ l. HoldsData l.role us l.type) (function_scope us t.defined.by ps r b).locals
   pub sound : AreSoundStmts b.statements
   pub unbroken : stmts_breaches (function_scope us t.defined.by ps r b) b.statements ≡ []
+
+-- an object type: its fields are of data, and its `begin` part and the bodies of its operations are in order
+abbrev pub AreInOrder : Scope → Stmts → Type 0
+AreInOrder v ss = AreSoundStmts ss × (stmts_breaches v ss ≡ [])
+
+abbrev pub BodyInOrder : Scope → Body → Type 0
+BodyInOrder v (syn.Guarded first others) = AllByRecursion (λ g. AreInOrder v g.body) (first ∷ others)
+BodyInOrder v (syn.Plain ss) = AreInOrder v ss
+
+pub record IsOperationBody (us : List Source) (t : ObjectType) (o : Operation) : Type 0 where
+  pub scope : IsPlain (operation_scope us t o false)
+  pub holds : AllByRecursion (λ l. IsOfData us l.type) (operation_variables us t o)
+  pub body : BodyInOrder (operation_scope us t o false) o.body
+
+pub record IsObjectType (us : List Source) (t : ObjectType) : Type 0 where
+  pub scope : IsPlain (begin_scope us t)
+  pub holds : AllByRecursion (λ l. IsOfData us l.type) (field_locals us t.home t.fields)
+  pub begins : IfSome t.begins (AreInOrder (begin_scope us t))
+  pub operations : (i : ℕ) (o : Operation) → slice_get t.operations i ≡ Some o → IsOperationBody us t o
+
+-- a process
+pub record IsText (us : List Source) (t : TopName) (ps : List Parameter) (b : Block) : Type 0 where
+  pub scope : IsPlain (process_scope us t.defined.by ps b)
+  pub body : AreInOrder (process_scope us t.defined.by ps b) b.statements
 
 -- ---- what calls and forks hand on
 
@@ -117,6 +166,9 @@ pub record IsAccepted (us : List Source) : Type 0 where
   pub few : (o : Outside) → length (names_at us o) ≤ 2 ^ 16
   pub functions : (i : ℕ) (t : TopName) (ps : List Parameter) (r : Option Kind) (b : Block) → slice_get (top_names us) i ≡ Some t →
       t.what ≡ top.Function ps r b → IsFunction us t ps r b
+  pub object_types : (kind : KindNo) (t : ObjectType) → object_type us kind ≡ Some t → IsObjectType us t
+  pub texts : (i : ℕ) (t : TopName) (ps : List Parameter) (b : Block) → slice_get (process_texts us) i ≡ Some t → t.what ≡ top.Process ps b →
+      IsText us t ps b
   pub operations : (i : ℕ) (name : List ℕ) (s : Signature) → operation_of us i name ≡ Some s → IsOperation us i name s
   pub processes : (home name : List ℕ) (i : ℕ) (t : TopName) (ps : List Parameter) (b : Block) → stands_for us home name ≡ top.Top i t →
       t.what ≡ top.Process ps b → IsProcess us name (signature us t.defined.by ps None b)

@@ -18,7 +18,9 @@ ghost use Rattle.meaning_rules.specs.ReadsKeep.{ReadsKeep};
 ghost use Rattle.meaning_rules.specs.Replies.{StaysOver, UsesFront};
 ghost use Rattle.meaning_rules.specs.Fitting.{FitsArgs, FitsReply, FitsState, FitsText};
 ghost use Rattle.meaning_rules.specs.ElementsFit.{ElementsFit};
+ghost use Rattle.meaning_rules.specs.GraphsFit.{GraphsFit};
 ghost use Rattle.meaning_rules.specs.PartsFit.{PartsFit};
+ghost use Rattle.meaning_rules.specs.PathsFit.{PathsFit};
 ghost use Rattle.meaning_rules.specs.StaysFit.{ArgumentsStay, StatesStay, TextsStay};
 ghost use Rattle.meaning_rules.specs.Settled.{IsSettled};
 ghost use Rattle.meaning_rules.specs.Runs.{class, did, does, ended, faulted, first_made, four_lines, gave, three_lines, twelve_lines, integers, kind, makes, runs, stand, tries};
@@ -179,10 +181,13 @@ pub fn fitting_examples()
 {}
 
 /// What fits. The parts of a value of a type, which steps lead to, are of the parts' types, and a value in place of one leaves the whole of
-/// its type; so are elements, under `insert`, `delete` and `from`; and what fits goes on fitting as more objects come to be.
+/// its type; so are those at the ends of paths, which can be walked; so are elements, under `insert`, `delete` and `from`, and nodes, under
+/// `addnode` and `deletenode`; and what fits goes on fitting as more objects come to be.
 pub fn fitting_law()
     ensures parts { (us : List Source) → PartsFit us }
+    ensures paths { (us : List Source) → PathsFit us }
     ensures elements { (us : List Source) → ElementsFit us }
+    ensures graphs { (us : List Source) → GraphsFit us }
     ensures states { (us : List Source) → StatesStay us }
     ensures arguments { (us : List Source) → ArgumentsStay us }
     ensures texts { (us : List Source) → TextsStay us }
