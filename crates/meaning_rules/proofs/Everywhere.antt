@@ -308,7 +308,7 @@ module _ (G : (A : Type 0) → (State → Out A) → Type 0) (c : Closed G) wher
 
     -- ---- functions
 
-    hand_holds : (ps : List Passed) (ys : List Datum) → G (Unit {0}) (hand_back ps ys)
+    pub hand_holds : (ps : List Passed) (ys : List Datum) → G (Unit {0}) (hand_back ps ys)
     hand_holds [] ys = c.goes _ tt
     hand_holds (Given x ∷ ps) [] = c.goes _ tt
     hand_holds (Lent to ∷ ps) [] = c.goes _ tt

@@ -22,3 +22,5 @@ pub mod Acting
 pub mod Valued
 pub mod FittingPhrases
 pub mod FittingStatements
+pub mod Objectless
+pub mod FittingBodies

@@ -40,10 +40,10 @@ module _ (us : List Source) (kinds : Kinds) where
   -- ---- one evaluation and then another
 
   -- what answers both answers the first, and what the first left answers the second
-  first_answers : {A B : Type 0} (f : State → Out A) (next : A → State → Out B) (s : State) → AreAnswers us (λ t. after (f t) next) s → AreAnswers us f s
+  pub first_answers : {A B : Type 0} (f : State → Out A) (next : A → State → Out B) (s : State) → AreAnswers us (λ t. after (f t) next) s → AreAnswers us f s
   first_answers f next s all before rest answer need are comes = all before rest answer need are (ap (λ o. after o next) comes)
 
-  then_answers : {A B : Type 0} (f : State → Out A) (next : A → State → Out B) (s s1 : State) (x : A) (used : List Reply) → s.replies ≡ used ++ s1.replies →
+  pub then_answers : {A B : Type 0} (f : State → Out A) (next : A → State → Out B) (s s1 : State) (x : A) (used : List Reply) → s.replies ≡ used ++ s1.replies →
       ((rest : List Reply) → f (with_replies (used ++ rest) s) ≡ Goes x (with_replies rest s1)) →
       AreAnswers us (λ t. after (f t) next) s → AreAnswers us (next x) s1
   then_answers f next s s1 x used are goes all before rest answer need is comes =

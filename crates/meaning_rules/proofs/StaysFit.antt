@@ -20,7 +20,7 @@ use Rattle.meaning_rules.specs.Openings.{field_types}
 use Rattle.meaning_rules.specs.Programs.{ObjectType, object_type, process_texts}
 use Rattle.meaning_rules.specs.Fitting.{IsArray, IsSet, IsBag, IsRecord, IsObject, IsOf, AllOf, AreOf, NodesOf, ValuesOf, Fits, AreFitting, AreArguments, FitsType, FitsState, FitsParameters, FitsOperation, FitsArgsOf, FitsArgs, FitsWhat, FitsTop, FitsText}
 
-array_more : (o : Outside) (count : ℕ) (P Q : Type 0) → (P → Q) → IsArray o count P → IsArray o count Q
+pub array_more : (o : Outside) (count : ℕ) (P Q : Type 0) → (P → Q) → IsArray o count P → IsArray o count Q
 array_more (types.Bare base.Integer) count P Q f h = absurd h
 array_more (types.Bare base.Boolean) count P Q f h = absurd h
 array_more (types.Bare base.Character) count P Q f h = absurd h
@@ -34,7 +34,7 @@ array_more (types.Within layer.Set) count P Q f h = absurd h
 array_more (types.Within layer.Bag) count P Q f h = absurd h
 array_more (types.Within layer.Graph) count P Q f h = absurd h
 
-set_more : (o : Outside) (P Q : Type 0) → (P → Q) → IsSet o P → IsSet o Q
+pub set_more : (o : Outside) (P Q : Type 0) → (P → Q) → IsSet o P → IsSet o Q
 set_more (types.Bare base.Integer) P Q f h = absurd h
 set_more (types.Bare base.Boolean) P Q f h = absurd h
 set_more (types.Bare base.Character) P Q f h = absurd h
@@ -48,7 +48,7 @@ set_more (types.Within layer.Set) P Q f h = f h
 set_more (types.Within layer.Bag) P Q f h = absurd h
 set_more (types.Within layer.Graph) P Q f h = absurd h
 
-bag_more : (o : Outside) (P Q : Type 0) → (P → Q) → IsBag o P → IsBag o Q
+pub bag_more : (o : Outside) (P Q : Type 0) → (P → Q) → IsBag o P → IsBag o Q
 bag_more (types.Bare base.Integer) P Q f h = absurd h
 bag_more (types.Bare base.Boolean) P Q f h = absurd h
 bag_more (types.Bare base.Character) P Q f h = absurd h
