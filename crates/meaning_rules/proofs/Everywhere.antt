@@ -191,6 +191,25 @@ module _ (G : (A : Type 0) → (State → Out A) → Type 0) (c : Closed G) wher
   count_holds (suc n) i body h =
       c.then _ _ _ _ (counted_holds i body h) (λ flow. go_on_holds flow (count n (i +ℤ pos 1) body) (count_holds n (i +ℤ pos 1) body h))
 
+  -- ---- the ends of functions
+
+  pub hand_holds : (ps : List Passed) (ys : List Datum) → G (Unit {0}) (hand_back ps ys)
+  hand_holds [] ys = c.goes _ tt
+  hand_holds (Given x ∷ ps) [] = c.goes _ tt
+  hand_holds (Lent to ∷ ps) [] = c.goes _ tt
+  hand_holds (Given x ∷ ps) (y ∷ ys) = hand_holds ps ys
+  hand_holds (Lent to ∷ ps) (y ∷ ys) = c.then _ _ _ _ (store_holds to y) (λ _. hand_holds ps ys)
+
+  leave_holds : (ps : List Passed) (x : Option Datum) (outer : List Datum) → G (Option Datum) (leave ps x outer)
+  leave_holds ps x outer =
+      c.framed (Option Datum) (λ frame s. after (hand_back ps frame s) (λ _ s1. Goes x s1)) (λ frame. outer) (λ frame.
+      c.then _ _ _ _ (hand_holds ps frame) (λ _. c.goes _ x))
+
+  returned_holds : (has_result : Bool) (ps : List Passed) (outer : List Datum) (flow : Flow) → G (Option Datum) (returned has_result ps outer flow)
+  returned_holds has_result ps outer (Back x) = leave_holds ps x outer
+  returned_holds true ps outer On = c.faults _ NoReturn
+  returned_holds false ps outer On = leave_holds ps None outer
+
   -- ---- phrases
 
   module _ (call : Calls) (call_holds : (i : ℕ) (ps : List Passed) → G (Option Datum) (call i ps)) where
@@ -305,25 +324,6 @@ module _ (G : (A : Type 0) → (State → Out A) → Type 0) (c : Closed G) wher
       pub arm_holds : (v : Scope) (a : Arm) → G (Option Flow) (run_arm call v a)
       arm_holds v (syn.When test ss) = c.then _ _ _ _ (eval_holds v test) (λ x. taken_holds (truth_in x) (run_all call v ss) (run_all_holds v ss))
       arm_holds v (syn.Otherwise ss) = always_holds (run_all call v ss) (run_all_holds v ss)
-
-    -- ---- functions
-
-    pub hand_holds : (ps : List Passed) (ys : List Datum) → G (Unit {0}) (hand_back ps ys)
-    hand_holds [] ys = c.goes _ tt
-    hand_holds (Given x ∷ ps) [] = c.goes _ tt
-    hand_holds (Lent to ∷ ps) [] = c.goes _ tt
-    hand_holds (Given x ∷ ps) (y ∷ ys) = hand_holds ps ys
-    hand_holds (Lent to ∷ ps) (y ∷ ys) = c.then _ _ _ _ (store_holds to y) (λ _. hand_holds ps ys)
-
-    leave_holds : (ps : List Passed) (x : Option Datum) (outer : List Datum) → G (Option Datum) (leave ps x outer)
-    leave_holds ps x outer =
-        c.framed (Option Datum) (λ frame s. after (hand_back ps frame s) (λ _ s1. Goes x s1)) (λ frame. outer) (λ frame.
-        c.then _ _ _ _ (hand_holds ps frame) (λ _. c.goes _ x))
-
-    returned_holds : (has_result : Bool) (ps : List Passed) (outer : List Datum) (flow : Flow) → G (Option Datum) (returned has_result ps outer flow)
-    returned_holds has_result ps outer (Back x) = leave_holds ps x outer
-    returned_holds true ps outer On = c.faults _ NoReturn
-    returned_holds false ps outer On = leave_holds ps None outer
 
     module _ (us : List Source) where
       body_holds : (v : Scope) (b : Block) (has_result : Bool) (ps : List Passed) → G (Option Datum) (enter_body call us v b has_result ps)

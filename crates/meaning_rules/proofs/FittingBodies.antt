@@ -1,5 +1,5 @@
 -- Functions, operations and makings preserve what fits.
-use Rattle.std.proofs.Common.{refl, ap, sym, ◌∙◌, subst, arith}
+use Rattle.std.proofs.Common.{refl, ap, sym, ◌∙◌, subst, arith, eqb-true}
 use Rattle.std.specs.Prelude.{◌≡◌, ◌≤◌, ◌<◌, ◌+◌, ◌==◌, ℕ, zero, suc, Bool, true, false, if◌then◌else◌, List, [], ◌∷◌, ◌++◌, map, flat_map, drop, length, slice_get, is_some, Option, Some, None, option_map, IfSome}
 use Rattle.std.specs.List.{AllByRecursion, Contains}
 use Rattle.std.proofs.lemmas.List.{append_assoc, length-append, length-map, append-nil}
@@ -43,7 +43,7 @@ use Rattle.value_core.specs.declared.meaning.Tried.{Tried}
 use Rattle.value_core.specs.declared.meaning.Tried.TheVariants as tried
 use Rattle.meaning_rules.specs.Openings.{opening}
 use Rattle.meaning_rules.specs.Operators.{truth_in}
-use Rattle.meaning_rules.specs.Programs.{ObjectType, object_type, function_scope, operation_scope, operation_variables, begin_scope, result_in}
+use Rattle.meaning_rules.specs.Programs.{ObjectType, object_type, type_at, function_scope, operation_scope, operation_variables, begin_scope, result_in}
 use Rattle.meaning_rules.specs.States.{State, Stop, Out, Goes, Stops, Needs, Faults, Busy, after, turn}
 use Rattle.meaning_rules.specs.Variables.{Target, store}
 use Rattle.meaning_rules.specs.Calls.{Calls, Passed, Given, Lent, values_in}
@@ -65,6 +65,10 @@ use Rattle.meaning_rules.proofs.Objectless.{fits_without}
 use Rattle.meaning_rules.proofs.Premises.{Laws}
 use Rattle.meaning_rules.proofs.Preserving.{Any, after_preserves, first_answers, then_preserves, goes_preserves, faults_preserves, turn_preserves}
 use Rattle.meaning_rules.proofs.Valued.{Stands}
+
+not_zero : (k : ℕ) (b : Bool) → (suc k == 0) ≡ b → (suc k == 0) ≡ false
+not_zero k true is = let e : suc k ≡ 0 = eqb-true (suc k) 0 is in absurd (omega (arith, e))
+not_zero k false is = is
 
 -- ---- frames
 
@@ -234,10 +238,143 @@ module _ (us : List Source) (kinds : Kinds) (facts : IsAccepted us) (laws : Laws
   no_answers f frame [] rest answer need is comes = absurd cc
   no_answers f frame (x ∷ before) rest answer need is comes = absurd cc
 
-  stands : (v : Scope) → IsPlain v → v.program ≡ us → Stands kinds (all_calls v.program) v
-  stands v plain same = record {
-    scope = plain;
-    facts = subst IsAccepted (sym same) facts;
-    laws = subst Laws (sym same) laws;
-    calls = subst (λ xs. CallsFit xs kinds (all_calls xs)) (sym same) (calls_fit 64);
-  }
+  -- ---- operations
+
+  -- what a try leaves and replies
+  abbrev Does : ObjectType → Option (Option DataType) → Tried → Type 0
+  Does t r tr = KeepsState tr (λ state. FitsType us kinds state (Some t)) × RepliesWell tr (FitsResult us r)
+
+  broke_fits : (r : Option (Option DataType)) (fault : _) → FitsResult us r (reply.Broke fault)
+  broke_fits None fault = tt
+  broke_fits (Some t) fault = tt
+
+  reply_fits : (r : Option (Option DataType)) (x : Option Datum) → IsKnownResult us r → IsResult us kinds r x → FitsResult us r (reply_of x)
+  reply_fits None None known h = tt
+  reply_fits None (Some x) known h = absurd h
+  reply_fits (Some t) None known h = absurd h
+  reply_fits (Some t) (Some x) known h = subst (λ y. Fits us [] y t) (sym (datum_of-value_of x)) (fits_without us kinds [] x t known h)
+
+  module _ (t : ObjectType) (r : Option (Option DataType)) (known : IsKnownResult us r) (own : List Local) where
+    done_does : (guard : ℕ) (x : Option Datum) (s : State) → AreFitting us kinds s.frame (own ++ field_locals us t.home t.fields) → IsResult us kinds r x →
+        Does t r (done guard (length own) x s)
+    done_does guard x s fits h = (
+      subst (λ ys. AreFitting us kinds ys (field_locals us t.home t.fields)) (sym (list_of-data_of (drop (length own) s.frame)))
+          (dropped_fits us kinds s.frame own (field_locals us t.home t.fields) fits),
+      reply_fits r x known h,
+    )
+
+  module _ (t : ObjectType) (v : View) (k : Option Kind) (known : IsKnownResult us (option_map (λ x. type_of (data_found v x)) k)) (own : List Local) where
+    abbrev Result : Option (Option DataType)
+    Result = option_map (λ x. type_of (data_found v x)) k
+
+    ended_does : (guard : ℕ) (flow : Flow) (s : State) → AreFitting us kinds s.frame (own ++ field_locals us t.home t.fields) → Returns us kinds Result flow →
+        Does t Result (body_ended guard (length own) (is_some k) flow s)
+    ended_does guard (Back x) s fits h = done_does t Result known own guard x s fits h
+    ended_does guard On s fits h = by k known
+      where
+        by : (j : Option Kind) → IsKnownResult us (option_map (λ x. type_of (data_found v x)) j) →
+            Does t (option_map (λ x. type_of (data_found v x)) j) (body_ended guard (length own) (is_some j) On s)
+        by None known_j = done_does t None tt own guard None s fits tt
+        by (Some x) known_j = (tt, tt)
+
+    tried_does : (guard : ℕ) (out : Out Flow) → Leaves us kinds (own ++ field_locals us t.home t.fields) (Returns us kinds Result) out →
+        Does t Result (body_tried guard (length own) (is_some k) out)
+    tried_does guard (Goes flow s) h = ended_does guard flow s h.0 h.1
+    tried_does guard (Stops why) h = (tt, broke_fits Result (fault_of why))
+
+    chosen_does : (b : Bool) (body others : Tried) → Does t Result body → Does t Result others → Does t Result (chosen b body others)
+    chosen_does true body others h i = h
+    chosen_does false body others h i = i
+
+    guard_does : (guard : ℕ) (body others : Tried) (out : Out Datum) → Does t Result body → Does t Result others → Does t Result (guard_tried guard body others out)
+    guard_does guard body others (Goes x s) h i = chosen_does (truth_in x) body others h i
+    guard_does guard body others (Stops why) h i = (tt, broke_fits Result (fault_of why))
+
+    module _ (sc : Scope) (test : Expr → Out Datum) (body : ℕ → Stmts → Tried) (does : (guard : ℕ) (ss : Stmts) → AreInOrder sc ss → Does t Result (body guard ss)) where
+      guards_do : (guard : ℕ) (gs : List Guard) → AllByRecursion (λ g. AreInOrder sc g.body) gs → Does t Result (guards_tried test body guard gs)
+      guards_do guard [] all = (tt, tt)
+      guards_do guard (g ∷ gs) all =
+          guard_does guard (body guard g.body) (guards_tried test body (guard + 1) gs) (test g.test) (does guard g.body all.0) (guards_do (guard + 1) gs all.1)
+
+      alternatives_do : (b : Body) → BodyInOrder sc b → Does t Result (alternatives_tried test body b)
+      alternatives_do (syn.Guarded first others) all = guards_do 1 (first ∷ others) all
+      alternatives_do (syn.Plain ss) all = does 0 ss all
+
+  operation_does : (t : ObjectType) (o : Operation) (state args : Data) → IsOperationBody us t o → FitsType us kinds state (Some t) → FitsParameters us kinds t args (Some o) →
+      Does t (result_in us t o) (operation_tried us t state args (Some o))
+  operation_does t o state args body state_fits args_fit =
+      let params : List Local = map (value_local (operation_view us t.home t.fields o)) o.head.parameters in
+      let own : List Local = params ++ operation_variables us t o in
+      let long : own_count us t o args ≡ length own =
+      ap (λ n. n + length (operation_variables us t o)) (fitting_length us kinds (list_of args) params args_fit.0) ∙ sym (length-append params (operation_variables us t o)) in
+      let fits : AreFitting us kinds (operation_start us t o state args).frame (operation_scope us t o false).locals =
+      fitting_more_locals us kinds (list_of args) _ params _ args_fit.0
+      (fitting_more_locals us kinds (opened us (operation_variables us t o)) (list_of state) (operation_variables us t o) (field_locals us t.home t.fields)
+      (opened_fit us kinds (operation_variables us t o) body.holds) state_fits) in
+      let st : Stands kinds (all_calls us) (operation_scope us t o false) = record { scope = body.scope; facts = facts; laws = laws; calls = calls_fit 64 } in
+      subst (λ n. Does t (result_in us t o) (alternatives us (operation_scope us t o true) (operation_scope us t o false) n (is_some o.head.result) (operation_start us t o state args) o.body)) (sym long)
+      (alternatives_do t (operation_view us t.home t.fields o) o.head.result body.scope.result own (operation_scope us t o false)
+      (λ e. eval (all_calls us) (operation_scope us t o true) e (operation_start us t o state args))
+      (λ guard ss. body_tried guard (length own) (is_some o.head.result) (run_all (all_calls us) (operation_scope us t o false) ss (operation_start us t o state args)))
+      (λ guard ss order.
+      tried_does t (operation_view us t.home t.fields o) o.head.result body.scope.result own guard _
+      (subst (λ ls. Leaves us kinds ls (Returns us kinds (result_in us t o)) (run_all (all_calls us) (operation_scope us t o false) ss (operation_start us t o state args)))
+      (sym (append_assoc params (operation_variables us t o) (field_locals us t.home t.fields)))
+      ((run_all_preserves kinds (all_calls us) (everywhere.calls_holds Front fronts us 64) (operation_scope us t o false) st ss order.0 order.1).preserves
+      (operation_start us t o state args) fits (no_answers (run_all (all_calls us) (operation_scope us t o false) ss) (operation_start us t o state args).frame))))
+      o.body body.body)
+
+  -- of whatever type
+  abbrev DoesOf : OpNo → Option ObjectType → Tried → Type 0
+  DoesOf op ot tr = KeepsState tr (λ state. FitsType us kinds state ot) × RepliesWell tr (λ answer. FitsReplyOf us op answer ot)
+
+  type_does : (kind : KindNo) (op : OpNo) (state args : Data) (ot : Option ObjectType) → object_type us kind ≡ ot → FitsType us kinds state ot → FitsOperation us kinds op args ot →
+      DoesOf op ot (type_tried us op state args ot)
+  type_does kind op state args None is state_fits args_fit = absurd args_fit
+  type_does kind op state args (Some t) is state_fits args_fit = by (slice_get t.operations op.0) refl args_fit
+    where
+      by : (x : Option Operation) → slice_get t.operations op.0 ≡ x → FitsParameters us kinds t args x →
+          KeepsState (operation_tried us t state args x) (λ st. FitsType us kinds st (Some t)) × RepliesWell (operation_tried us t state args x) (λ answer. FitsResultOf us t answer x)
+      by None at fit = absurd fit
+      by (Some o) at fit = operation_does t o state args ((facts.object_types kind t is).operations op.0 o at) state_fits fit
+
+  pub tries_do : (kind : KindNo) (op : OpNo) (state args : Data) → FitsState us kinds kind state → FitsArgs us kinds kind op args →
+      KeepsState (tries_of us kind op state args) (FitsState us kinds kind) × RepliesWell (tries_of us kind op state args) (FitsReply us kind op)
+  tries_do kind op state args state_fits args_fit = by kind.0 refl args_fit
+    where
+      by : (n : ℕ) → kind.0 ≡ n → FitsArgsOf us kinds n kind op args →
+          KeepsState (tries_of us kind op state args) (FitsState us kinds kind) × RepliesWell (tries_of us kind op state args) (FitsReply us kind op)
+      by zero is fit =
+          let test : (kind.0 == 0) ≡ true = ap (λ m. m == 0) is in
+          let none : object_type us kind ≡ None = ap (type_at us) is in
+          subst (λ b. DoesOf op (object_type us kind) (if b then tried.Did 0 state reply.Done else type_tried us op state args (object_type us kind))) (sym test)
+          (state_fits, subst (λ ot. FitsReplyOf us op reply.Done ot) (sym none) tt)
+      by (suc k) is fit =
+          let test : (kind.0 == 0) ≡ false = ap (λ m. m == 0) is ∙ not_zero k (suc k == 0) refl in
+          subst (λ b. DoesOf op (object_type us kind) (if b then tried.Did 0 state reply.Done else type_tried us op state args (object_type us kind))) (sym test)
+          (type_does kind op state args (object_type us kind) refl state_fits fit)
+
+  -- ---- makings
+
+  begun_fits : (t : ObjectType) (P : Flow → Type 0) (out : Out Flow) → Leaves us kinds (field_locals us t.home t.fields) P out → IfMade (begun_with out) (λ state. FitsType us kinds state (Some t))
+  begun_fits t P (Goes flow s) h = subst (λ ys. AreFitting us kinds ys (field_locals us t.home t.fields)) (sym (list_of-data_of s.frame)) h.0
+  begun_fits t P (Stops why) h = tt
+
+  made_fits : (t : ObjectType) → IsObjectType us t → (b : Option Stmts) → IfSome b (AreInOrder (begin_scope us t)) →
+      IfMade (made us t (opened us (begin_scope us t).locals) b) (λ state. FitsType us kinds state (Some t))
+  made_fits t type None order =
+      subst (λ ys. AreFitting us kinds ys (field_locals us t.home t.fields)) (sym (list_of-data_of (opened us (field_locals us t.home t.fields))))
+      (opened_fit us kinds (field_locals us t.home t.fields) type.holds)
+  made_fits t type (Some ss) order =
+      begun_fits t (Returns us kinds None) (run_all (all_calls us) (begin_scope us t) ss (start (opened us (field_locals us t.home t.fields))))
+      ((run_all_preserves kinds (all_calls us) (everywhere.calls_holds Front fronts us 64) (begin_scope us t)
+      (record { scope = type.scope; facts = facts; laws = laws; calls = calls_fit 64 }) ss order.0 order.1).preserves
+      (start (opened us (field_locals us t.home t.fields))) (opened_fit us kinds (field_locals us t.home t.fields) type.holds)
+      (no_answers (run_all (all_calls us) (begin_scope us t) ss) (opened us (field_locals us t.home t.fields))))
+
+  pub makings_fit : (kind : KindNo) → IfMade (making_of us kind) (FitsState us kinds kind)
+  makings_fit kind = by (object_type us kind) refl
+    where
+      by : (ot : Option ObjectType) → object_type us kind ≡ ot → IfMade (type_made us ot) (λ state. FitsType us kinds state ot)
+      by None is = refl
+      by (Some t) is = made_fits t (facts.object_types kind t is) t.begins (facts.object_types kind t is).begins
