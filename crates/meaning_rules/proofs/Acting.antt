@@ -103,7 +103,7 @@ pub record IsInvoked (kinds : Kinds) (v : Scope) (way : Use) (o m : Name) (es : 
   pub operates : (xs : List Datum) → AreTaken v.program kinds xs signed.formals →
       Preserves v.program kinds v.locals (Option Datum) (IsResult v.program kinds signed.result) (operate v o m xs)
 
-object_outside : (o : Outside) (i : ℕ) → object_in o ≡ Some i → o ≡ types.Bare (base.Object i)
+pub object_outside : (o : Outside) (i : ℕ) → object_in o ≡ Some i → o ≡ types.Bare (base.Object i)
 object_outside (types.Bare (base.Object j)) i is = ap (λ x. types.Bare (base.Object (number j x))) is
   where
     number : ℕ → Option ℕ → ℕ

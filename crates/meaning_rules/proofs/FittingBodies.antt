@@ -91,7 +91,7 @@ module _ (us : List Source) (kinds : Kinds) where
   dropped_fits (x ∷ xs) (l ∷ ls) ms h = dropped_fits xs ls ms h.1
 
   -- what variables of data open with
-  opening_fits : (o : Option DataType) → IsOfData us o → Fits us kinds (opening us o) o
+  pub opening_fits : (o : Option DataType) → IsOfData us o → Fits us kinds (opening us o) o
   opening_fits o h = subst (λ t. Fits us kinds (opening us t) t) (sym h.1) (h.2.opens [] h.0 refl kinds)
 
   pub opened_fit : (ls : List Local) → AllByRecursion (λ l. IsOfData us l.type) ls → AreFitting us kinds (opened us ls) ls

@@ -24,3 +24,4 @@ pub mod FittingPhrases
 pub mod FittingStatements
 pub mod Objectless
 pub mod FittingBodies
+pub mod FittingProcesses

@@ -151,7 +151,7 @@ module _ (us : List Source) (kinds more : Kinds) (extends : ExtendsKinds kinds m
   fits_more v None h = absurd h
   fits_more v (Some t) h = (of_more v t h.0, h.1)
 
-  fitting_more : (vs : List Datum) (ls : List Local) → AreFitting us kinds vs ls → AreFitting us more vs ls
+  pub fitting_more : (vs : List Datum) (ls : List Local) → AreFitting us kinds vs ls → AreFitting us more vs ls
   fitting_more [] [] h = tt
   fitting_more [] (l ∷ ls) h = absurd h
   fitting_more (v ∷ vs) [] h = absurd h

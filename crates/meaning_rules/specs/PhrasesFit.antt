@@ -33,13 +33,11 @@ abbrev pub IsThere : Kinds → ObjectId → KindNo → Type 0
 IsThere kinds object kind = Contains ((output_object, output_kind) ∷ kinds) (object, kind)
 
 module _ (us : List Source) (kinds : Kinds) where
-  -- an action calls an object that is there, and hands on arguments that fit
+  -- an action is a call of an object that is there, or a fork, and hands on arguments that fit
   abbrev pub FitsNeed : Action → Type 0
   FitsNeed (action.Call kind op object args) = IsThere kinds object kind × FitsArgs us kinds kind op args
   FitsNeed (action.Fork process args place_on) = FitsText us kinds process args
-  FitsNeed (action.Make kind object) = Unit {0}
-  FitsNeed action.Ended = Unit {0}
-  FitsNeed (action.Faulted fault) = Unit {0}
+  FitsNeed _ = ⊥
 
   -- an evaluation leaves variables that fit, and what it goes on with is such
   abbrev pub Leaves : {A : Type 0} → List Local → (A → Type 0) → Out A → Type 0

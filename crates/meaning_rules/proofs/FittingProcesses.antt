@@ -1,0 +1,323 @@
+-- Processes: what one does next names only objects that it knows, by their types, and hands on only what fits.
+use Rattle.std.proofs.Common.{refl, ap, sym, ◌∙◌, subst, arith, inl, inr, eq-or-lt_of_le}
+use Rattle.std.specs.Prelude.{◌≡◌, ◌⊎◌, ◌≤◌, ◌<◌, ◌+◌, ℕ, zero, suc, Bool, true, false, List, [], ◌∷◌, ◌++◌, map, flat_map, take, drop, length, slice_get, is_some, Option, Some, None, option_and_then}
+use Rattle.std.specs.List.{AllByRecursion, Contains}
+use Rattle.std.proofs.lemmas.List.{append_assoc, append-nil, length-append, length-map, take-append-drop, length-take-le}
+use Rattle.std.proofs.lemmas.List.Elements.{Contains-append_left, Contains-append_right, Contains-append_cases, Contains-push, Contains-push_cases}
+use Rattle.orca_base.specs.declared.fault.FaultKind.{FaultKind}
+use Rattle.orca_base.specs.declared.ids.KindNo.{KindNo}
+use Rattle.orca_base.specs.declared.ids.OpNo.{OpNo}
+use Rattle.orca_base.specs.declared.ids.TextNo.{TextNo}
+use Rattle.orca_base.specs.declared.ids.ProcessNo.{ProcessNo}
+use Rattle.orca_base.specs.declared.ids.ObjectId.{ObjectId}
+use Rattle.orca_syntax.specs.Syntax.{Parameter, Block}
+use Rattle.link_rules.specs.Units.{Source}
+use Rattle.type_rules.specs.declared.types.DataType.{DataType}
+use Rattle.type_rules.specs.declared.types.Base.TheVariants as base
+use Rattle.type_rules.specs.declared.types.Layer.TheVariants as layer
+use Rattle.type_rules.specs.Types as types
+use Rattle.type_rules.specs.Types.{Outside, outside_of, inside_of, object_in, is_object}
+use Rattle.type_rules.specs.TopLevel as top
+use Rattle.type_rules.specs.TopLevel.{What, TopName}
+use Rattle.type_rules.specs.Scopes.{Local, Scope}
+use Rattle.value_core.specs.Datum.{Datum, Data, list_of, data_of}
+use Rattle.value_core.specs.Datum as datum
+use Rattle.value_core.specs.Fits.{Kinds, ExtendsKinds}
+use Rattle.value_core.specs.History.{most_turns, output_kind, output_object}
+use Rattle.value_core.specs.Lawful.{next_of, FitsAction, RepliesFitFrom, RepliesFit, made_by, own_from, own_objects, IsArgumentOf, IsKnownObject, output, own, argument, KnowsIn, IsLawfulDoing, IsLawful}
+use Rattle.value_core.specs.Meaning.{Computes}
+use Rattle.value_core.specs.declared.action.Action.{Action}
+use Rattle.value_core.specs.declared.action.Action.TheVariants as action
+use Rattle.value_core.specs.declared.action.Reply.{Reply}
+use Rattle.value_core.specs.declared.action.Reply.TheVariants as reply
+use Rattle.value_core.specs.declared.meaning.Doing.{Doing}
+use Rattle.value_core.specs.declared.meaning.Doing.TheVariants as doing
+use Rattle.meaning_rules.specs.Openings.{opening}
+use Rattle.meaning_rules.specs.Programs.{kind_of, process_scope, process_texts}
+use Rattle.meaning_rules.specs.States.{State, Out, Goes, Stops, Needs, Faults, Busy, after}
+use Rattle.meaning_rules.specs.Loops.{Flow}
+use Rattle.meaning_rules.specs.Statements.{run_all}
+use Rattle.meaning_rules.specs.Functions.{all_calls}
+use Rattle.meaning_rules.specs.Processes.{own_object, object_type_of, variable_made, variables_made, block_run, what_run, text_run, doing_of, next_doing}
+use Rattle.meaning_rules.specs.Meanings.{computes_of}
+use Rattle.meaning_rules.specs.Fitting.{IsObject, IsOf, Fits, AreFitting, AreArguments, FitsArgs, FitsText, FitsTop, FitsWhat, FitsReply}
+use Rattle.meaning_rules.specs.PhrasesFit.{AreAnswers, IsThere, FitsNeed, Leaves, Returns}
+use Rattle.meaning_rules.specs.Accepted.{IsOpening, IsOfData, IsText, IsAccepted}
+use Rattle.meaning_rules.proofs.Everywhere as everywhere
+use Rattle.meaning_rules.proofs.FittingBodies.{calls_fit, fitting_length, fitting_more_locals, opening_fits}
+use Rattle.meaning_rules.proofs.FittingStatements.{run_all_preserves}
+use Rattle.meaning_rules.proofs.Fronts.{fronts}
+use Rattle.meaning_rules.proofs.Acting.{object_outside}
+use Rattle.meaning_rules.proofs.Objectless.{fits_without}
+use Rattle.meaning_rules.proofs.PartsFit.{OfBy}
+use Rattle.meaning_rules.proofs.Premises.{Laws}
+use Rattle.meaning_rules.proofs.StaysFit.{fits_more, fitting_more, args_more, text_more}
+use Rattle.meaning_rules.specs.Replies.{Front}
+
+-- ---- objects of variables
+
+-- as many makes that were done
+abbrev pub dones : ℕ → List Reply
+dones zero = []
+dones (suc k) = reply.Done ∷ dones k
+
+dones_more : (k : ℕ) → (dones k ++ reply.Done ∷ []) ≡ dones (suc k)
+dones_more zero = refl
+dones_more (suc k) = ap (λ rs. reply.Done ∷ rs) (dones_more k)
+
+module _ (us : List Source) (number : ProcessNo) where
+  -- the objects that variables make, with their types, and the values of the variables
+  abbrev object_made : ℕ → Option ℕ → (ℕ → Kinds) → Kinds
+  object_made count None others = others count
+  object_made count (Some i) others = (own_object number count, kind_of us i) ∷ others (count + 1)
+
+  abbrev pub objects_made : List Local → ℕ → Kinds
+  objects_made [] count = []
+  objects_made (l ∷ ls) count = object_made count (object_type_of l) (objects_made ls)
+
+  abbrev value_made : ℕ → Local → Option ℕ → (ℕ → List Datum) → List Datum
+  value_made count l None others = opening us l.type ∷ others count
+  value_made count l (Some i) others = datum.object number.0 count ∷ others (count + 1)
+
+  abbrev pub values_made : List Local → ℕ → List Datum
+  values_made [] count = []
+  values_made (l ∷ ls) count = value_made count l (object_type_of l) (values_made ls)
+
+  module _ (frame : List Datum) (left : ℕ) where
+    abbrev st : List Reply → State
+    st rs = record { frame = frame; replies = rs; left = left }
+
+    all_made : (ls : List Local) (count : ℕ) (rest : List Reply) →
+        variables_made us number ls count (st (dones (length (objects_made ls count)) ++ rest)) ≡ Goes (values_made ls count) (st rest)
+    all_made [] count rest = refl
+    all_made (l ∷ ls) count rest = by (object_type_of l) (λ n. all_made ls n rest)
+      where
+        by : (o : Option ℕ) → ((n : ℕ) → variables_made us number ls n (st (dones (length (objects_made ls n)) ++ rest)) ≡ Goes (values_made ls n) (st rest)) →
+            variable_made us number count l o (variables_made us number ls) (st (dones (length (object_made count o (objects_made ls))) ++ rest))
+            ≡ Goes (value_made count l o (values_made ls)) (st rest)
+        by None others = ap (λ out. after out (λ xs s1. Goes (opening us l.type ∷ xs) s1)) (others count)
+        by (Some i) others = ap (λ out. after out (λ xs s1. Goes (datum.object number.0 count ∷ xs) s1)) (others (count + 1))
+
+    -- behind so many makes comes this one, which may fault
+    record ComesNext (run : State → Out (List Datum)) (k count : ℕ) (entry : ObjectId × KindNo) : Type 0 where
+      needs : run (st (dones k)) ≡ Stops (Needs (action.Make entry.1 entry.0))
+      breaks : (fault : FaultKind) (rest : List Reply) → run (st (dones k ++ reply.Broke fault ∷ rest)) ≡ Stops (Faults fault)
+      numbered : entry.0 ≡ own_object number (count + k)
+
+    comes_next : (ls : List Local) (count k : ℕ) (entry : ObjectId × KindNo) → slice_get (objects_made ls count) k ≡ Some entry →
+        ComesNext (variables_made us number ls count) k count entry
+    comes_next [] count k entry at = absurd cc
+    comes_next (l ∷ ls) count k entry at = by (object_type_of l) k at (λ n j. comes_next ls n j entry)
+      where
+        behind_next : (x : Datum) (n j : ℕ) → ComesNext (variables_made us number ls n) j n entry →
+            ComesNext (λ s. after (variables_made us number ls n s) (λ xs s1. Goes (x ∷ xs) s1)) j n entry
+        behind_next x n j h = record {
+          needs = ap (λ out. after out (λ xs s1. Goes (x ∷ xs) s1)) h.needs;
+          breaks = λ fault rest. ap (λ out. after out (λ xs s1. Goes (x ∷ xs) s1)) (h.breaks fault rest);
+          numbered = h.numbered;
+        }
+
+        given : ObjectId × KindNo → Option (ObjectId × KindNo) → ObjectId × KindNo
+        given e None = e
+        given e (Some x) = x
+
+        by : (o : Option ℕ) (j : ℕ) → slice_get (object_made count o (objects_made ls)) j ≡ Some entry →
+            ((n i : ℕ) → slice_get (objects_made ls n) i ≡ Some entry → ComesNext (variables_made us number ls n) i n entry) →
+            ComesNext (λ s. variable_made us number count l o (variables_made us number ls) s) j count entry
+        by None j is others = behind_next (opening us l.type) count j (others count j is)
+        by (Some i) zero is others =
+            let same : (own_object number count, kind_of us i) ≡ entry = ap (given (own_object number count, kind_of us i)) is in
+            let shift : count ≡ count + 0 = omega arith in
+            record {
+              needs = ap (λ e. Stops (Needs (action.Make e.1 e.0))) same;
+              breaks = λ fault rest. refl;
+              numbered = sym (ap (λ e. e.0) same) ∙ ap (own_object number) shift;
+            }
+        by (Some i) (suc j) is others =
+            let h = behind_next (datum.object number.0 count) (count + 1) j (others (count + 1) j is) in
+            let shift : (count + 1) + j ≡ count + suc j = omega arith in
+            record { needs = h.needs; breaks = h.breaks; numbered = h.numbered ∙ ap (own_object number) shift }
+
+-- ---- values of objects
+
+is_object_outside : (t : DataType) → is_object t ≡ true → (i : ℕ) × (outside_of t ≡ types.Bare (base.Object i))
+is_object_outside t is = by (object_in (outside_of t)) refl is
+  where
+    by : (o : Option ℕ) → object_in (outside_of t) ≡ o → is_some o ≡ true → (i : ℕ) × (outside_of t ≡ types.Bare (base.Object i))
+    by None at e = absurd cc
+    by (Some i) at e = (i, object_outside (outside_of t) i at)
+
+module _ (us : List Source) where
+  -- the objects among arguments, by the types of their parameters
+  abbrev given_kinds : Outside → Datum → Kinds
+  given_kinds (types.Bare (base.Object i)) (datum.object p n) = (record { process = p; number = n }, kind_of us i) ∷ []
+  given_kinds _ _ = []
+
+  abbrev given_of : Option DataType → Datum → Kinds
+  given_of None v = []
+  given_of (Some t) v = given_kinds (outside_of t) v
+
+  abbrev pub objects_given : List Datum → List Local → Kinds
+  objects_given (v ∷ vs) (l ∷ ls) = given_of l.type v ++ objects_given vs ls
+  objects_given _ _ = []
+
+  abbrev Object_of : ObjectId → Datum
+  Object_of o = datum.object o.process o.number
+
+  none_there : (entry : ObjectId × KindNo) → Contains {X = ObjectId × KindNo} [] entry → ⊥
+  none_there entry has = let less = has.1 in omega (arith, less)
+
+  module _ (kinds : Kinds) where
+    -- a value of an object type
+    object_of_type : (t : DataType) (i : ℕ) → outside_of t ≡ types.Bare (base.Object i) → (v : Datum) → IsOf us kinds v t →
+        (o : ObjectId) × (v ≡ Object_of o) × Contains kinds (o, kind_of us i) × (given_of (Some t) v ≡ (o, kind_of us i) ∷ [])
+    object_of_type t i e (datum.object p n) h =
+        (record { process = p; number = n }, refl, subst (λ x. OfBy us kinds x (inside_of t) (datum.object p n)) e h, ap (λ x. given_kinds x (datum.object p n)) e)
+    object_of_type t i e (datum.int z) h = absurd (subst (λ o. OfBy us kinds o (inside_of t) (datum.int z)) e h).0
+    object_of_type t i e (datum.truth b) h = absurd (subst (λ o. OfBy us kinds o (inside_of t) (datum.truth b)) e h)
+    object_of_type t i e (datum.char c) h = absurd (subst (λ o. OfBy us kinds o (inside_of t) (datum.char c)) e h).0
+    object_of_type t i e (datum.enumerated n) h = absurd (subst (λ o. OfBy us kinds o (inside_of t) (datum.enumerated n)) e h)
+    object_of_type t i e (datum.text s) h = absurd (subst (λ o. OfBy us kinds o (inside_of t) (datum.text s)) e h).0
+    object_of_type t i e (datum.array w) h = absurd (subst (λ o. OfBy us kinds o (inside_of t) (datum.array w)) e h)
+    object_of_type t i e (datum.fields w) h = absurd (subst (λ o. OfBy us kinds o (inside_of t) (datum.fields w)) e h)
+    object_of_type t i e (datum.set w) h = absurd (subst (λ o. OfBy us kinds o (inside_of t) (datum.set w)) e h)
+    object_of_type t i e (datum.bag w) h = absurd (subst (λ o. OfBy us kinds o (inside_of t) (datum.bag w)) e h)
+
+    -- of any other type it gives no object
+    object_typed : (o : Outside) (p n : ℕ) → IsObject us kinds o p n → (i : ℕ) × (o ≡ types.Bare (base.Object i)) × Contains kinds (record { process = p; number = n }, kind_of us i)
+    object_typed (types.Bare (base.Object i)) p n h = (i, refl, h)
+    object_typed (types.Bare base.Integer) p n h = absurd h
+    object_typed (types.Bare base.Boolean) p n h = absurd h
+    object_typed (types.Bare base.Character) p n h = absurd h
+    object_typed (types.Bare base.String) p n h = absurd h
+    object_typed (types.Bare base.NodeName) p n h = absurd h
+    object_typed (types.Bare (base.Enumeration j)) p n h = absurd h
+    object_typed (types.Bare (base.Record j)) p n h = absurd h
+    object_typed (types.Within (layer.Array low high)) p n h = absurd h
+    object_typed (types.Within layer.Set) p n h = absurd h
+    object_typed (types.Within layer.Bag) p n h = absurd h
+    object_typed (types.Within layer.Graph) p n h = absurd h
+
+    given_none : (v : Datum) (t : DataType) → is_object t ≡ false → given_of (Some t) v ≡ []
+    given_none v t no_object = by (outside_of t) refl
+      where
+        by : (o : Outside) → outside_of t ≡ o → given_kinds o v ≡ []
+        by (types.Bare (base.Object i)) e = absurd (let is = ap (λ x. is_some (object_in x)) e in let both : false ≡ true = sym no_object ∙ is in cc)
+        by (types.Bare base.Integer) e = refl
+        by (types.Bare base.Boolean) e = refl
+        by (types.Bare base.Character) e = refl
+        by (types.Bare base.String) e = refl
+        by (types.Bare base.NodeName) e = refl
+        by (types.Bare (base.Enumeration j)) e = refl
+        by (types.Bare (base.Record j)) e = refl
+        by (types.Within (layer.Array low high)) e = refl
+        by (types.Within layer.Set) e = refl
+        by (types.Within layer.Bag) e = refl
+        by (types.Within layer.Graph) e = refl
+
+    -- each of them is an argument, and exists with its type
+    module _ (v : Datum) (t : DataType) (h : IsOf us kinds v t) where
+      one_known : (entry : ObjectId × KindNo) → Contains (given_of (Some t) v) entry → (v ≡ Object_of entry.0) × Contains kinds entry
+      one_known entry has = by (is_object t) refl
+        where
+          by : (b : Bool) → is_object t ≡ b → (v ≡ Object_of entry.0) × Contains kinds entry
+          by true is =
+              let object = is_object_outside t is in
+              let it = object_of_type t object.0 object.1 v h in
+              single (Contains-push_cases [] (it.0, kind_of us object.0) entry (subst (λ xs. Contains xs entry) it.3 has)) it.1 it.2
+            where
+              single : {o : ObjectId} {k : KindNo} → Contains {X = ObjectId × KindNo} [] entry ⊎ ((o, k) ≡ entry) → v ≡ Object_of o → Contains kinds (o, k) → (v ≡ Object_of entry.0) × Contains kinds entry
+              single (inl nothing) is_o has_o = absurd (none_there entry nothing)
+              single (inr same) is_o has_o = (is_o ∙ ap (λ e. Object_of e.0) same, subst (Contains kinds) same has_o)
+          by false is = absurd (none_there entry (subst (λ xs. Contains xs entry) (given_none v t is) has))
+
+    given_known : (vs : List Datum) (ls : List Local) → AreFitting us kinds vs ls → (entry : ObjectId × KindNo) → Contains (objects_given vs ls) entry →
+        Contains vs (Object_of entry.0) × Contains kinds entry
+    given_known [] [] fits entry has = absurd (none_there entry has)
+    given_known [] (l ∷ ls) fits entry has = absurd fits
+    given_known (v ∷ vs) [] fits entry has = absurd fits
+    given_known (v ∷ vs) (l ∷ ls) fits entry has =
+        by (Contains-append_cases (given_of l.type v) (objects_given vs ls) entry has) (λ k. given_known vs ls fits.1 entry k)
+      where
+        first : (o : Option DataType) → Fits us kinds v o → Contains (given_of o v) entry → (v ≡ Object_of entry.0) × Contains kinds entry
+        first None h k = absurd h
+        first (Some t) h k = one_known v t h.0 entry k
+
+        by : Contains (given_of l.type v) entry ⊎ Contains (objects_given vs ls) entry → (Contains (objects_given vs ls) entry → Contains vs (Object_of entry.0) × Contains kinds entry) →
+            Contains (v ∷ vs) (Object_of entry.0) × Contains kinds entry
+        by (inl k) rest =
+            let it = first l.type fits.0 k in
+            (Contains-append_left (v ∷ []) vs (Object_of entry.0) (subst (λ x. Contains (x ∷ []) (Object_of entry.0)) (sym it.0) (Contains-push [] (Object_of entry.0))), it.1)
+        by (inr k) rest = let it = rest k in (Contains-append_right (v ∷ []) vs (Object_of entry.0) it.0, it.1)
+
+    -- and with these alone the arguments fit
+    one_fits : (v : Datum) (l : Local) (more : Kinds) → IsOpening us l → Fits us kinds v l.type → ((entry : ObjectId × KindNo) → Contains (given_of l.type v) entry → Contains more entry) →
+        Fits us more v l.type
+    one_fits v l more opening_l h has =
+        let t = opening_l.known in
+        subst (λ o. Fits us more v o) (sym t.1) (by (is_object t.0) refl (subst (λ o. Fits us kinds v o) t.1 h))
+      where
+        by : (b : Bool) → is_object opening_l.known.0 ≡ b → Fits us kinds v (Some opening_l.known.0) → Fits us more v (Some opening_l.known.0)
+        by true is k =
+            let object = is_object_outside opening_l.known.0 is in
+            let it = object_of_type opening_l.known.0 object.0 object.1 v k.0 in
+            let there : Contains more (it.0, kind_of us object.0) =
+            has (it.0, kind_of us object.0)
+            (subst (λ o. Contains (given_of o v) (it.0, kind_of us object.0)) (sym opening_l.known.1)
+            (subst (λ xs. Contains xs (it.0, kind_of us object.0)) (sym it.3) (Contains-push [] (it.0, kind_of us object.0)))) in
+            (subst (λ x. IsOf us more x opening_l.known.0) (sym it.1)
+            (subst (λ o. OfBy us more o (inside_of opening_l.known.0) (Object_of it.0)) (sym object.1) there), k.1)
+        by false is k = fits_without us kinds more v (Some opening_l.known.0) (opening_l.known.0, refl, opening_l.data_type opening_l.known.0 opening_l.known.1 is) k
+
+    given_fit : (vs : List Datum) (ls : List Local) → AllByRecursion (IsOpening us) ls → AreFitting us kinds vs ls → AreFitting us (objects_given vs ls) vs ls
+    given_fit [] [] all fits = tt
+    given_fit [] (l ∷ ls) all fits = absurd fits
+    given_fit (v ∷ vs) [] all fits = absurd fits
+    given_fit (v ∷ vs) (l ∷ ls) all fits = (
+      one_fits v l (objects_given (v ∷ vs) (l ∷ ls)) all.0 fits.0 (λ entry has. Contains-append_left (given_of l.type v) (objects_given vs ls) entry has),
+      fitting_more us (objects_given vs ls) (objects_given (v ∷ vs) (l ∷ ls)) (λ entry has. Contains-append_right (given_of l.type v) (objects_given vs ls) entry has) vs ls
+          (given_fit vs ls all.1 fits.1),
+    )
+
+    -- an object among values that fit exists
+    object_among : (vs : List Datum) (ls : List Local) → AreFitting us kinds vs ls → (o : ObjectId) → Contains vs (Object_of o) → (kind : KindNo) × Contains kinds (o, kind)
+    object_among [] [] fits o has = absurd (let less = has.1 in omega (arith, less))
+    object_among [] (l ∷ ls) fits o has = absurd fits
+    object_among (v ∷ vs) [] fits o has = absurd fits
+    object_among (v ∷ vs) (l ∷ ls) fits o has = by (Contains-append_cases (v ∷ []) vs (Object_of o) has) (λ k. object_among vs ls fits.1 o k)
+      where
+        typed_so : (t : Option DataType) → Fits us kinds (Object_of o) t → (kind : KindNo) × Contains kinds (o, kind)
+        typed_so None h = absurd h
+        typed_so (Some t) h = let it = object_typed (outside_of t) o.process o.number h.0 in (kind_of us it.0, it.2)
+
+        single : Contains {X = Datum} [] (Object_of o) ⊎ (v ≡ Object_of o) → (kind : KindNo) × Contains kinds (o, kind)
+        single (inl nothing) = absurd (let less = nothing.1 in omega (arith, less))
+        single (inr same) = typed_so l.type (subst (λ x. Fits us kinds x l.type) same fits.0)
+
+        by : Contains (v ∷ []) (Object_of o) ⊎ Contains vs (Object_of o) → (Contains vs (Object_of o) → (kind : KindNo) × Contains kinds (o, kind)) → (kind : KindNo) × Contains kinds (o, kind)
+        by (inl k) rest = single (Contains-push_cases [] v (Object_of o) k)
+        by (inr k) rest = rest k
+
+  -- what variables hold once their objects are made
+  made_fit : (number : ProcessNo) (ls : List Local) (count : ℕ) → AllByRecursion (IsOpening us) ls → AreFitting us (objects_made us number ls count) (values_made us number ls count) ls
+  made_fit number [] count all = tt
+  made_fit number (l ∷ ls) count all = by (object_type_of l) refl (λ n. made_fit number ls n all.1)
+    where
+      object_type_is : (i : ℕ) → object_type_of l ≡ Some i → outside_of all.0.known.0 ≡ types.Bare (base.Object i)
+      object_type_is i is =
+          object_outside (outside_of all.0.known.0) i (ap (λ o. option_and_then (λ t. object_in (outside_of t)) o) (sym all.0.known.1) ∙ is)
+
+      no_object : object_type_of l ≡ None → is_object all.0.known.0 ≡ false
+      no_object is = ap is_some (ap (λ o. option_and_then (λ t. object_in (outside_of t)) o) (sym all.0.known.1) ∙ is)
+
+      by : (o : Option ℕ) → object_type_of l ≡ o → ((n : ℕ) → AreFitting us (objects_made us number ls n) (values_made us number ls n) ls) →
+          AreFitting us (object_made us number count o (objects_made us number ls)) (value_made us number count l o (values_made us number ls)) (l ∷ ls)
+      by None is rest =
+          (opening_fits us (objects_made us number ls count) l.type (all.0.known.0, all.0.known.1, all.0.data_type all.0.known.0 all.0.known.1 (no_object is)), rest count)
+      by (Some i) is rest = (
+        subst (λ o. Fits us ((own_object number count, kind_of us i) ∷ objects_made us number ls (count + 1)) (datum.object number.0 count) o) (sym all.0.known.1)
+            (subst (λ x. OfBy us ((own_object number count, kind_of us i) ∷ objects_made us number ls (count + 1)) x (inside_of all.0.known.0) (datum.object number.0 count)) (sym (object_type_is i is))
+            (Contains-append_left ((own_object number count, kind_of us i) ∷ []) (objects_made us number ls (count + 1)) (own_object number count, kind_of us i) (Contains-push [] (own_object number count, kind_of us i))), omega arith),
+        fitting_more us (objects_made us number ls (count + 1)) ((own_object number count, kind_of us i) ∷ objects_made us number ls (count + 1))
+            (λ entry has. Contains-append_right ((own_object number count, kind_of us i) ∷ []) (objects_made us number ls (count + 1)) entry has) (values_made us number ls (count + 1)) ls (rest (count + 1)),
+      )
