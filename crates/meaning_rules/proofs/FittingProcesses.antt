@@ -164,7 +164,7 @@ module _ (us : List Source) where
   abbrev Object_of : ObjectId → Datum
   Object_of o = datum.object o.process o.number
 
-  none_there : (entry : ObjectId × KindNo) → Contains {X = ObjectId × KindNo} [] entry → ⊥
+  pub none_there : (entry : ObjectId × KindNo) → Contains {X = ObjectId × KindNo} [] entry → ⊥
   none_there entry has = let less = has.1 in omega (arith, less)
 
   module _ (kinds : Kinds) where
@@ -321,3 +321,311 @@ module _ (us : List Source) where
         fitting_more us (objects_made us number ls (count + 1)) ((own_object number count, kind_of us i) ∷ objects_made us number ls (count + 1))
             (λ entry has. Contains-append_right ((own_object number count, kind_of us i) ∷ []) (objects_made us number ls (count + 1)) entry has) (values_made us number ls (count + 1)) ls (rest (count + 1)),
       )
+
+abbrev output_entry : ObjectId × KindNo
+output_entry = (output_object, output_kind)
+
+abbrev entry_of : ObjectId → KindNo → ObjectId × KindNo
+entry_of object kind = (object, kind)
+
+-- ---- lists
+
+taken_length : {X Y : Type 0} (f : X → Y) (xs : List X) (ys : List Y) → length (take (length xs) (map f xs ++ ys)) ≡ length xs
+taken_length f [] ys = refl
+taken_length f (x ∷ xs) ys = ap suc (taken_length f xs ys)
+
+all_take : {X : Type 0} (P : X → Type 0) (n : ℕ) (xs : List X) → AllByRecursion P xs → AllByRecursion P (take n xs)
+all_take P zero xs all = tt
+all_take P (suc n) [] all = tt
+all_take P (suc n) (x ∷ xs) all = (all.0, all_take P n xs all.1)
+
+all_drop : {X : Type 0} (P : X → Type 0) (n : ℕ) (xs : List X) → AllByRecursion P xs → AllByRecursion P (drop n xs)
+all_drop P zero xs all = all
+all_drop P (suc n) [] all = tt
+all_drop P (suc n) (x ∷ xs) all = all_drop P n xs all.1
+
+take_drop : {X : Type 0} (n : ℕ) (xs : List X) → take n xs ++ drop n xs ≡ xs
+take_drop zero xs = refl
+take_drop (suc n) [] = refl
+take_drop (suc n) (x ∷ xs) = ap (λ ys. x ∷ ys) (take_drop n xs)
+
+take_long : {X : Type 0} (n : ℕ) (xs : List X) → n ≤ length xs → length (take n xs) ≡ n
+take_long zero xs less = refl
+take_long (suc n) [] less = absurd (omega (arith, less))
+take_long (suc n) (x ∷ xs) less = ap suc (take_long n xs (omega (arith, less)))
+
+at_seam : {X : Type 0} (pre post : List X) (x : X) → slice_get (pre ++ x ∷ post) (length pre) ≡ Some x
+at_seam [] post x = refl
+at_seam (y ∷ pre) post x = at_seam pre post x
+
+at_some : {X : Type 0} (xs : List X) (k : ℕ) → k < length xs → (x : X) × (slice_get xs k ≡ Some x)
+at_some [] k less = absurd (omega (arith, less))
+at_some (x ∷ xs) zero less = (x, refl)
+at_some (x ∷ xs) (suc k) less = at_some xs k (omega (arith, less))
+
+-- ---- what a process does
+
+module _ (us : List Source) (facts : IsAccepted us) (laws : Laws us) (kinds : Kinds) (text : TextNo) (number : ProcessNo) (args : Data) (t : TopName) (ps : List Parameter) (b : Block)
+    (at : slice_get (process_texts us) text.0 ≡ Some t) (what : t.what ≡ top.Process ps b)
+    (given : AreArguments us kinds args (take (length ps) (process_scope us t.defined.by ps b).locals)) where
+  abbrev v : Scope
+  v = process_scope us t.defined.by ps b
+
+  abbrev params : List Local
+  params = take (length ps) v.locals
+
+  abbrev vars : List Local
+  vars = drop (length (list_of args)) v.locals
+
+  -- the objects that its variables make, those that it was given, and both
+  abbrev own_ones : Kinds
+  own_ones = objects_made us number vars 1
+
+  abbrev given_ones : Kinds
+  given_ones = objects_given us (list_of args) params
+
+  abbrev known_ones : Kinds
+  known_ones = given_ones ++ own_ones
+
+  is_text : IsText us t ps b
+  is_text = facts.texts text.0 t ps b at what
+
+  long : length (list_of args) ≡ length ps
+  long = fitting_length us kinds (list_of args) params given.0 ∙ taken_length _ ps _
+
+  whole_locals : params ++ vars ≡ v.locals
+  whole_locals = ap (λ n. params ++ drop n v.locals) long ∙ take_drop (length ps) v.locals
+
+  abbrev q : Computes
+  q = computes_of us
+
+  abbrev first_state : List Reply → State
+  first_state rs = record { frame = []; replies = rs; left = most_turns }
+
+  abbrev runs : List Reply → Out Flow
+  runs rs = block_run us number args v b (first_state rs)
+
+  next_is : (rs : List Reply) → next_of q text number args rs ≡ doing_of (runs rs)
+  next_is rs =
+      ap (λ o. doing_of (text_run us number args o (first_state rs))) at ∙ ap (λ w. doing_of (what_run us number args t w (first_state rs))) what
+
+  abbrev body_state : List Reply → State
+  body_state rs = record { frame = list_of args ++ values_made us number vars 1; replies = rs; left = most_turns }
+
+  abbrev body_runs : List Reply → Out Flow
+  body_runs rs = run_all (all_calls us) v b.statements (body_state rs)
+
+  -- behind all makes its statements run
+  run_next : (rest : List Reply) → next_of q text number args (dones (length own_ones) ++ rest) ≡ doing_of (body_runs rest)
+  run_next rest =
+      next_is (dones (length own_ones) ++ rest)
+      ∙ ap (λ out. doing_of (after out (λ xs s1. run_all (all_calls us) v b.statements (record s1 { frame = list_of args ++ xs })))) (all_made us number [] most_turns vars 1 rest)
+
+  make_next : (k : ℕ) (entry : ObjectId × KindNo) → slice_get own_ones k ≡ Some entry → next_of q text number args (dones k) ≡ doing.At (action.Make entry.1 entry.0)
+  make_next k entry here =
+      next_is (dones k)
+      ∙ ap (λ out. doing_of (after out (λ xs s1. run_all (all_calls us) v b.statements (record s1 { frame = list_of args ++ xs })))) (comes_next us number [] most_turns vars 1 k entry here).needs
+
+  break_next : (k : ℕ) (entry : ObjectId × KindNo) (fault : FaultKind) (rest : List Reply) → slice_get own_ones k ≡ Some entry →
+      next_of q text number args (dones k ++ reply.Broke fault ∷ rest) ≡ doing.At (action.Faulted fault)
+  break_next k entry fault rest here =
+      next_is (dones k ++ reply.Broke fault ∷ rest)
+      ∙ ap (λ out. doing_of (after out (λ xs s1. run_all (all_calls us) v b.statements (record s1 { frame = list_of args ++ xs }))))
+      ((comes_next us number [] most_turns vars 1 k entry here).breaks fault rest)
+
+  -- the objects that it made by some makes are the first of them
+  own_walk : (pre mid post : Kinds) → own_ones ≡ pre ++ (mid ++ post) → (rest : List Reply) →
+      own_from q text number args (dones (length pre)) (dones (length mid) ++ rest) ≡ mid ++ own_from q text number args (dones (length pre + length mid)) rest
+  own_walk pre [] post is rest =
+      let same : length pre ≡ length pre + 0 = omega arith in ap (λ n. own_from q text number args (dones n) rest) same
+  own_walk pre (e ∷ mid) post is rest =
+      let here : slice_get own_ones (length pre) ≡ Some e = ap (λ xs. slice_get xs (length pre)) is ∙ at_seam pre (mid ++ post) e in
+      let one : made_by (next_of q text number args (dones (length pre))) reply.Done ≡ e ∷ [] = ap (λ d. made_by d reply.Done) (make_next (length pre) e here) in
+      let longer : length (pre ++ e ∷ []) ≡ suc (length pre) = length-append pre (e ∷ []) ∙ (let one_more : length pre + 1 ≡ suc (length pre) = omega arith in one_more) in
+      let shift : length (pre ++ e ∷ []) + length mid ≡ length pre + suc (length mid) = (let l = longer in omega (arith, l)) in
+      ap (λ xs. xs ++ own_from q text number args (dones (length pre) ++ reply.Done ∷ []) (dones (length mid) ++ rest)) one
+      ∙ ap (λ xs. e ∷ xs)
+      (ap (λ rs. own_from q text number args rs (dones (length mid) ++ rest)) (dones_more (length pre) ∙ ap dones (sym longer))
+      ∙ (own_walk (pre ++ e ∷ []) mid post (is ∙ sym (append_assoc pre (e ∷ []) (mid ++ post))) rest
+      ∙ ap (λ n. mid ++ own_from q text number args (dones n) rest) shift))
+
+  own_all : (rest : List Reply) → own_objects q text number args (dones (length own_ones) ++ rest) ≡ own_ones ++ own_from q text number args (dones (length own_ones)) rest
+  own_all rest =
+      let none_more : 0 + length own_ones ≡ length own_ones = omega arith in
+      own_walk [] own_ones [] (sym (append-nil own_ones)) rest ∙ ap (λ n. own_ones ++ own_from q text number args (dones n) rest) none_more
+
+  own_some : (k : ℕ) → k ≤ length own_ones → length (own_objects q text number args (dones k ++ [])) ≡ k
+  own_some k less =
+      let count : length (take k own_ones) ≡ k = take_long k own_ones less in
+      ap (λ n. length (own_objects q text number args (dones n ++ []))) (sym count)
+      ∙ (ap length (own_walk [] (take k own_ones) (drop k own_ones) (sym (take_drop k own_ones)) [])
+      ∙ (ap length (append-nil (take k own_ones)) ∙ count))
+
+  -- ---- the statements
+
+  -- what replies to its actions fit answers its statements
+  replied_at : (before xs : List Reply) (answer : Reply) (ys : List Reply) → RepliesFitFrom q (FitsReply us) text number args before (xs ++ answer ∷ ys) →
+      FitsAction (FitsReply us) (next_of q text number args (before ++ xs)) answer
+  replied_at before [] answer ys fits = subst (λ rs. FitsAction (FitsReply us) (next_of q text number args rs) answer) (sym (append-nil before)) fits.0
+  replied_at before (x ∷ xs) answer ys fits =
+      subst (λ rs. FitsAction (FitsReply us) (next_of q text number args rs) answer) (append_assoc before (x ∷ []) xs) (replied_at (before ++ x ∷ []) xs answer ys fits.1)
+
+  answers_fit : (rest : List Reply) → RepliesFitFrom q (FitsReply us) text number args (dones (length own_ones)) rest → AreAnswers us (run_all (all_calls us) v b.statements) (body_state rest)
+  answers_fit rest fits before behind answer need are comes =
+      subst (λ d. FitsAction (FitsReply us) d answer) (run_next before ∙ ap doing_of comes)
+      (replied_at (dones (length own_ones)) before answer behind (subst (λ rs. RepliesFitFrom q (FitsReply us) text number args (dones (length own_ones)) rs) are fits))
+
+  frame_fits : AreFitting us known_ones (list_of args ++ values_made us number vars 1) v.locals
+  frame_fits =
+      subst (λ ls. AreFitting us known_ones (list_of args ++ values_made us number vars 1) ls) whole_locals
+      (fitting_more_locals us known_ones (list_of args) (values_made us number vars 1) params vars
+      (fitting_more us given_ones known_ones (λ entry has. Contains-append_left given_ones own_ones entry has) (list_of args) params
+      (given_fit us kinds (list_of args) params (all_take (IsOpening us) (length ps) v.locals is_text.scope.names) given.0))
+      (fitting_more us own_ones known_ones (λ entry has. Contains-append_right given_ones own_ones entry has) (values_made us number vars 1) vars
+      (made_fit us number vars 1 (all_drop (IsOpening us) (length (list_of args)) v.locals is_text.scope.names))))
+
+  leaves : (rest : List Reply) → RepliesFitFrom q (FitsReply us) text number args (dones (length own_ones)) rest → Leaves us known_ones v.locals (Returns us known_ones v.result) (body_runs rest)
+  leaves rest fits =
+      (run_all_preserves known_ones (all_calls us) (everywhere.calls_holds Front fronts us 64) v
+      (record { scope = is_text.scope; facts = facts; laws = laws; calls = calls_fit us known_ones facts laws 64 }) b.statements is_text.body.0 is_text.body.1).preserves
+      (body_state rest) frame_fits (answers_fit rest fits)
+
+  -- ---- the law
+
+  module _ (rest : List Reply) where
+    abbrev whole : List Reply
+    whole = dones (length own_ones) ++ rest
+
+    own_has : (entry : ObjectId × KindNo) → Contains own_ones entry → Contains (own_objects q text number args whole) entry
+    own_has entry has =
+        subst (λ xs. Contains xs entry) (sym (own_all rest)) (Contains-append_left own_ones (own_from q text number args (dones (length own_ones)) rest) entry has)
+
+    extends : (more : Kinds) → KnowsIn q kinds text number args whole more → ExtendsKinds known_ones more
+    extends more knows entry has = by (Contains-append_cases given_ones own_ones entry has)
+      where
+        by : Contains given_ones entry ⊎ Contains own_ones entry → Contains more entry
+        by (inl k) = knows.0 entry (given_known us kinds (list_of args) params given.0 entry k).1
+        by (inr k) = knows.1 entry (own_has entry k)
+
+    known_in : (object : ObjectId) (kind : KindNo) → Contains known_ones (object, kind) → IsKnownObject q kinds text number args whole object kind
+    known_in object kind has = by (Contains-append_cases given_ones own_ones (object, kind) has)
+      where
+        by : Contains given_ones (object, kind) ⊎ Contains own_ones (object, kind) → IsKnownObject q kinds text number args whole object kind
+        by (inl k) = let it = given_known us kinds (list_of args) params given.0 (object, kind) k in argument object kind it.0 it.1
+        by (inr k) = own object kind (own_has (object, kind) k)
+
+    known_there : (object : ObjectId) (kind : KindNo) → IsThere known_ones object kind → IsKnownObject q kinds text number args whole object kind
+    known_there object kind has = by (Contains-append_cases ((output_object, output_kind) ∷ []) known_ones (object, kind) has)
+      where
+        first : Contains {X = ObjectId × KindNo} [] (object, kind) ⊎ (output_entry ≡ entry_of object kind) → IsKnownObject q kinds text number args whole object kind
+        first (inl nothing) = absurd (none_there us (object, kind) nothing)
+        first (inr same) = subst (λ (e : ObjectId × KindNo). IsKnownObject q kinds text number args whole e.0 e.1) same output
+
+        by : Contains (output_entry ∷ []) (entry_of object kind) ⊎ Contains known_ones (entry_of object kind) → IsKnownObject q kinds text number args whole object kind
+        by (inl k) = first (Contains-push_cases [] (output_object, output_kind) (object, kind) k)
+        by (inr k) = known_in object kind k
+
+    -- objects among the arguments of a process
+    fork_objects : (process : TextNo) (forked : Data) → FitsText us known_ones process forked → (object : ObjectId) → IsArgumentOf forked object →
+        (kind : KindNo) × IsKnownObject q kinds text number args whole object kind
+    fork_objects process forked fits object has = by_top (slice_get (process_texts us) process.0) fits
+      where
+        by_what : (u : TopName) (w : What) → FitsWhat us known_ones forked u w → (kind : KindNo) × IsKnownObject q kinds text number args whole object kind
+        by_what u (top.Process qs c) h =
+            let it = object_among us known_ones (list_of forked) _ h.0 object has in (it.0, known_in object it.0 it.1)
+        by_what u (top.Constant c) h = absurd h
+        by_what u (top.TypeName of) h = absurd h
+        by_what u (top.Value of n) h = absurd h
+        by_what u (top.Specified heads) h = absurd h
+        by_what u (top.Implemented os) h = absurd h
+        by_what u (top.Function qs r c) h = absurd h
+
+        by_top : (o : Option TopName) → FitsTop us known_ones forked o → (kind : KindNo) × IsKnownObject q kinds text number args whole object kind
+        by_top None h = absurd h
+        by_top (Some u) h = by_what u u.what h
+
+    lawful_out : (out : Out Flow) → Leaves us known_ones v.locals (Returns us known_ones v.result) out →
+        IsLawfulDoing q (FitsArgs us) (FitsText us) kinds text number args whole (doing_of out)
+    lawful_out (Goes flow s) h = tt
+    lawful_out (Stops (Needs (action.Call kind op object sent))) h = (known_there object kind h.0, λ more knows. args_more us known_ones more (extends more knows) kind op sent h.1)
+    lawful_out (Stops (Needs (action.Fork process sent place_on))) h =
+        (fork_objects process sent h, λ more knows. text_more us known_ones more (extends more knows) process sent h)
+    lawful_out (Stops (Needs (action.Make kind object))) h = absurd h
+    lawful_out (Stops (Needs action.Ended)) h = absurd h
+    lawful_out (Stops (Needs (action.Faulted fault))) h = absurd h
+    lawful_out (Stops (Faults fault)) h = tt
+    lawful_out (Stops Busy) h = tt
+
+    lawful_running : RepliesFitFrom q (FitsReply us) text number args (dones (length own_ones)) rest →
+        IsLawfulDoing q (FitsArgs us) (FitsText us) kinds text number args whole (next_of q text number args whole)
+    lawful_running fits =
+        subst (λ d. IsLawfulDoing q (FitsArgs us) (FitsText us) kinds text number args whole d) (sym (run_next rest)) (lawful_out (body_runs rest) (leaves rest fits))
+
+  abbrev LawfulAt : List Reply → Type 0
+  LawfulAt rs = IsLawfulDoing q (FitsArgs us) (FitsText us) kinds text number args rs (next_of q text number args rs)
+
+  lawful_making : (k : ℕ) (entry : ObjectId × KindNo) → slice_get own_ones k ≡ Some entry → k ≤ length own_ones → LawfulAt (dones k ++ [])
+  lawful_making k entry here less =
+      let number_is = (comes_next us number [] most_turns vars 1 k entry here).numbered in
+      let made : next_of q text number args (dones k ++ []) ≡ doing.At (action.Make entry.1 entry.0) = ap (next_of q text number args) (append-nil (dones k)) ∙ make_next k entry here in
+      let count : length (own_objects q text number args (dones k ++ [])) ≡ k = own_some k less in
+      let own_count : (own_object number (1 + k)).number ≡ length (own_objects q text number args (dones k ++ [])) + 1 = omega (arith, count) in
+      subst (λ d. IsLawfulDoing q (FitsArgs us) (FitsText us) kinds text number args (dones k ++ []) d) (sym made)
+      (ap (λ (o : ObjectId). o.process) number_is, ap (λ (o : ObjectId). o.number) number_is ∙ own_count)
+
+  walk : (rs : List Reply) (k : ℕ) → k ≤ length own_ones → RepliesFitFrom q (FitsReply us) text number args (dones k) rs → LawfulAt (dones k ++ rs)
+  walk [] k less fits = by (eq-or-lt_of_le less)
+    where
+      by : (k ≡ length own_ones) ⊎ (k < length own_ones) → LawfulAt (dones k ++ [])
+      by (inl same) = subst (λ n. LawfulAt (dones n ++ [])) (sym same) (lawful_running [] tt)
+      by (inr fewer) = let e = at_some own_ones k fewer in lawful_making k e.0 e.1 less
+  walk (reply.Done ∷ rs) k less fits = by (eq-or-lt_of_le less) (λ fewer. walk rs (suc k) fewer (subst (λ xs. RepliesFitFrom q (FitsReply us) text number args xs rs) (dones_more k) fits.1))
+    where
+      by : (k ≡ length own_ones) ⊎ (k < length own_ones) → (k < length own_ones → LawfulAt (dones (suc k) ++ rs)) → LawfulAt (dones k ++ reply.Done ∷ rs)
+      by (inl same) rest =
+          subst (λ n. LawfulAt (dones n ++ reply.Done ∷ rs)) (sym same)
+          (lawful_running (reply.Done ∷ rs) (subst (λ n. RepliesFitFrom q (FitsReply us) text number args (dones n) (reply.Done ∷ rs)) same fits))
+      by (inr fewer) rest = subst LawfulAt (ap (λ xs. xs ++ rs) (sym (dones_more k)) ∙ append_assoc (dones k) (reply.Done ∷ []) rs) (rest fewer)
+  walk (reply.Gave x ∷ rs) k less fits = by (eq-or-lt_of_le less)
+    where
+      by : (k ≡ length own_ones) ⊎ (k < length own_ones) → LawfulAt (dones k ++ reply.Gave x ∷ rs)
+      by (inl same) =
+          subst (λ n. LawfulAt (dones n ++ reply.Gave x ∷ rs)) (sym same)
+          (lawful_running (reply.Gave x ∷ rs) (subst (λ n. RepliesFitFrom q (FitsReply us) text number args (dones n) (reply.Gave x ∷ rs)) same fits))
+      by (inr fewer) =
+          let e = at_some own_ones k fewer in
+          absurd (subst (λ d. FitsAction (FitsReply us) d (reply.Gave x)) (make_next k e.0 e.1) fits.0)
+  walk (reply.Broke fault ∷ rs) k less fits = by (eq-or-lt_of_le less)
+    where
+      after_fault : (e : ObjectId × KindNo) → slice_get own_ones k ≡ Some e → (xs : List Reply) →
+          RepliesFitFrom q (FitsReply us) text number args (dones k ++ reply.Broke fault ∷ []) xs → LawfulAt (dones k ++ reply.Broke fault ∷ xs)
+      after_fault e here [] h =
+          subst (λ d. IsLawfulDoing q (FitsArgs us) (FitsText us) kinds text number args (dones k ++ reply.Broke fault ∷ []) d) (sym (break_next k e fault [] here)) tt
+      after_fault e here (x ∷ xs) h = absurd (subst (λ d. FitsAction (FitsReply us) d x) (break_next k e fault [] here) h.0)
+
+      by : (k ≡ length own_ones) ⊎ (k < length own_ones) → LawfulAt (dones k ++ reply.Broke fault ∷ rs)
+      by (inl same) =
+          subst (λ n. LawfulAt (dones n ++ reply.Broke fault ∷ rs)) (sym same)
+          (lawful_running (reply.Broke fault ∷ rs) (subst (λ n. RepliesFitFrom q (FitsReply us) text number args (dones n) (reply.Broke fault ∷ rs)) same fits))
+      by (inr fewer) = let e = at_some own_ones k fewer in after_fault e.0 e.1 rs fits.1
+
+  pub lawful_text : (replies : List Reply) → RepliesFit q (FitsReply us) text number args replies → IsLawful q (FitsArgs us) (FitsText us) kinds text number args replies
+  lawful_text replies fits = walk replies 0 (omega arith) fits
+
+pub processes_lawful : (us : List Source) → IsAccepted us → Laws us → (kinds : Kinds) (text : TextNo) (number : ProcessNo) (args : Data) (replies : List Reply) →
+    FitsText us kinds text args → RepliesFit (computes_of us) (FitsReply us) text number args replies →
+    IsLawful (computes_of us) (FitsArgs us) (FitsText us) kinds text number args replies
+processes_lawful us facts laws kinds text number args replies fits fit = by (slice_get (process_texts us) text.0) refl fits
+  where
+    by_what : (t : TopName) → slice_get (process_texts us) text.0 ≡ Some t → (w : What) → t.what ≡ w → FitsWhat us kinds args t w → IsLawful (computes_of us) (FitsArgs us) (FitsText us) kinds text number args replies
+    by_what t at (top.Process ps b) what h = lawful_text us facts laws kinds text number args t ps b at what h replies fit
+    by_what t at (top.Constant b) what h = absurd h
+    by_what t at (top.TypeName of) what h = absurd h
+    by_what t at (top.Value of n) what h = absurd h
+    by_what t at (top.Specified heads) what h = absurd h
+    by_what t at (top.Implemented os) what h = absurd h
+    by_what t at (top.Function ps r b) what h = absurd h
+
+    by : (o : Option TopName) → slice_get (process_texts us) text.0 ≡ o → FitsTop us kinds args o → IsLawful (computes_of us) (FitsArgs us) (FitsText us) kinds text number args replies
+    by None at h = absurd h
+    by (Some t) at h = by_what t at t.what refl h
