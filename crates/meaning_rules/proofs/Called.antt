@@ -51,7 +51,7 @@ use Rattle.meaning_rules.specs.Variables.{Target, add_node, delete_node}
 use Rattle.meaning_rules.specs.Calls.{Calls, Passed, Given, Lent, Callee, AFunction, Adds, Deletes, NoFunction, callee, function_named, function_in, modes_of, fresh_node, invoked, operate, id_in, object_number, values_in}
 use Rattle.meaning_rules.specs.Fitting.{IsOf, Fits, AreFitting, FitsReply, FitsResult}
 use Rattle.meaning_rules.specs.PathsFit.{Leads}
-use Rattle.meaning_rules.specs.PhrasesFit.{IsTarget, IsThere, Preserves, IsResult}
+use Rattle.meaning_rules.specs.PhrasesFit.{AreGiven, CallsFit, IsTarget, IsThere, Preserves, IsResult}
 use Rattle.meaning_rules.specs.Accepted.{IsKnown, IsOpening, IsKnownFormal, IsPlain, IsFunction, AreTaken, IsOperation, IsAccepted}
 use Rattle.meaning_rules.proofs.Fronts.{fronts}
 use Rattle.meaning_rules.proofs.Judged.{left_none, right_none, asked, unless_none, unless_is, all_at, local_at, opening_at}
@@ -74,14 +74,6 @@ module _ (us : List Source) (kinds : Kinds) (ls : List Local) where
   IsPassed d (Lent to) SomeGraph = (u : DataType) × (d ≡ Some u) × IsTarget us kinds ls to u × (outside_of u ≡ types.Within layer.Graph)
   IsPassed d (Given x) NodeOf = Unit {0}
   IsPassed d _ _ = ⊥
-
-  -- for the parameters of a function
-  abbrev pub AreGiven : List Passed → List Formal → Type 0
-  AreGiven [] [] = Unit {0}
-  AreGiven (Given x ∷ ps) (ByValue t ∷ fs) = Fits us kinds x t × AreGiven ps fs
-  AreGiven (Given x ∷ ps) (Shared t ∷ fs) = Fits us kinds x t × AreGiven ps fs
-  AreGiven (Lent to ∷ ps) (ByOut t ∷ fs) = ((u : DataType) × (t ≡ Some u) × IsTarget us kinds ls to u) × AreGiven ps fs
-  AreGiven _ _ = ⊥
 
 -- arguments of a call, one by one
 abbrev pub ArePassed : Kinds → Scope → List Passed → List Formal → Exprs → Type 0
@@ -177,14 +169,6 @@ top_at us home name i t is = by (sees us home name) is
     by false e = absurd (everywhere_no_top (predeclared name) i t e)
 
 -- ---- functions
-
--- a call of a function at whatever level: with what is passed for its parameters, it leaves the caller's variables fitting
-abbrev pub CallsFit : List Source → Kinds → Calls → Type 0
-CallsFit us kinds call =
-    (ls : List Local) (i : ℕ) (t : TopName) (ps : List Parameter) (r : Option Kind) (b : Block) → slice_get (top_names us) i ≡ Some t →
-    t.what ≡ top.Function ps r b → (given : List Passed) → AreGiven us kinds ls given (signature us t.defined.by ps r b).formals →
-    size_of_all (data_of (values_in given)) ≤ VALUE_SIZE →
-    Preserves us kinds ls (Option Datum) (IsResult us kinds (signature us t.defined.by ps r b).result) (call i given)
 
 -- a call of a function without a breach
 pub record IsCall (kinds : Kinds) (call : Calls) (v : Scope) (way : Use) (n : Name) (es : Exprs) : Type 0 where

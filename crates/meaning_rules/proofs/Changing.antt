@@ -1,6 +1,6 @@
 -- What is read from variables that fit is of its type, and what is stored leaves them fitting.
 use Rattle.std.proofs.Common.{refl, ap, sym, ◌∙◌, subst, arith, leb-true}
-use Rattle.std.specs.Prelude.{◌≡◌, ◌≤◌, ◌+◌, ℕ, zero, suc, ℤ, Bool, true, false, if◌then◌else◌, nat_le, List, [], ◌∷◌, length, slice_get, ok_or, Option, Some, None, Result, Ok, Err, IfOk}
+use Rattle.std.specs.Prelude.{◌≡◌, ◌≤◌, ◌+◌, ℕ, zero, suc, ℤ, Bool, true, false, if◌then◌else◌, nat_le, List, [], ◌∷◌, length, is_some, slice_get, ok_or, Option, Some, None, Result, Ok, Err, IfOk}
 use Rattle.std.specs.Ordering.{is_eq}
 use Rattle.orca_base.specs.declared.fault.FaultKind.{FaultKind}
 use Rattle.orca_base.specs.declared.fault.FaultKind.TheVariants.{IndexOutside, TooLarge}
@@ -106,6 +106,18 @@ least_small (datum.object p n) e is = absurd cc
 pub record SizeLaws : Type 0 where
   pub sizes : (path : List ValueStep) (v p x : Datum) → CanWalk path v → part_at path v ≡ Ok p → size_of (with_part path v x) + size_of p ≡ size_of v + size_of x
   pub deleted_node : (name : ℤ) (g h : Datum) → graphs.IsGraph g → graphs.deleted name g ≡ Ok h → size_of h ≤ size_of g
+
+-- a graph without one of its nodes
+pub deleted_small_graph : ((name : ℤ) (g h v : Datum) → graphs.IsGraph g → graphs.node_in name g ≡ Some v → graphs.deleted name g ≡ Ok h → size_of h + size_of v + 2 ≡ size_of g) →
+    (name : ℤ) (g h : Datum) → graphs.IsGraph g → graphs.deleted name g ≡ Ok h → size_of h ≤ size_of g
+deleted_small_graph law name g h graph is = by (graphs.node_in name g) refl is
+  where
+    by : (o : Option Datum) → graphs.node_in name g ≡ o →
+        (if is_some o then Ok (graphs.graph_of (graphs.name_in g) (graphs.without_node name (graphs.nodes_in g))) else Err IndexOutside) ≡ Ok h → size_of h ≤ size_of g
+    by None at e = absurd cc
+    by (Some v) at e =
+        let size : size_of h + size_of v + 2 ≡ size_of g = law name g h v graph at is in
+        omega (arith, size)
 
 -- what is known of a result, where it is one
 pub if_ok : {A : Type 0} (P : A → Type 0) (r : Result A FaultKind) → ((x : A) → r ≡ Ok x → P x) → IfOk r P

@@ -53,10 +53,9 @@ use Rattle.meaning_rules.specs.Statements.{run_all}
 use Rattle.meaning_rules.specs.Functions.{opened, parameter_values, hand_back, leave, returned, own_frame, enter_body, enter_what, enter, calls, all_calls}
 use Rattle.meaning_rules.specs.Operations.{start, fault_of, reply_of, done, body_ended, body_tried, chosen, guard_tried, guards_tried, alternatives_tried, operation_start, own_count, alternatives, operation_tried, type_tried, tries_of, begun_with, made, type_made, making_of}
 use Rattle.meaning_rules.specs.Fitting.{IsOf, Fits, AreFitting, AreArguments, FitsState, FitsType, FitsArgs, FitsArgsOf, FitsOperation, FitsParameters, FitsReply, FitsReplyOf, FitsResultOf, FitsResult}
-use Rattle.meaning_rules.specs.PhrasesFit.{AreAnswers, IsTarget, Leaves, Preserves, IsResult, Returns}
+use Rattle.meaning_rules.specs.PhrasesFit.{AreAnswers, AreGiven, CallsFit, IsTarget, Leaves, Preserves, IsResult, Returns}
 use Rattle.meaning_rules.specs.Accepted.{IsKnown, IsOfData, IsData, IsOpening, HoldsData, IsPlain, IsKnownResult, IsFunction, AreInOrder, BodyInOrder, IsOperationBody, IsObjectType, IsAccepted}
 use Rattle.meaning_rules.specs.Replies.{with_replies, Front}
-use Rattle.meaning_rules.proofs.Called.{AreGiven, CallsFit}
 use Rattle.meaning_rules.proofs.Changing.{store_preserves}
 use Rattle.meaning_rules.proofs.Everywhere as everywhere
 use Rattle.meaning_rules.proofs.FittingStatements.{run_all_preserves}

@@ -25,3 +25,4 @@ pub mod FittingStatements
 pub mod Objectless
 pub mod FittingBodies
 pub mod FittingProcesses
+pub mod Preserved

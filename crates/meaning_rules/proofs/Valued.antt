@@ -48,9 +48,9 @@ use Rattle.meaning_rules.specs.Statements.{names_at, names_of, texts_of}
 use Rattle.meaning_rules.specs.Fitting.{IsNamed, IsOf, Fits}
 use Rattle.meaning_rules.specs.ElementsFit.{Gathers}
 use Rattle.meaning_rules.specs.PathsFit.{Leads}
-use Rattle.meaning_rules.specs.PhrasesFit.{IsResult}
+use Rattle.meaning_rules.specs.PhrasesFit.{CallsFit, IsResult}
 use Rattle.meaning_rules.specs.Accepted.{IsKnown, TakesValue, IsOpening, TypeStep, Inside, ToField, Holds, IsData, IsPlain, AreTaken, IsAccepted}
-use Rattle.meaning_rules.proofs.Called.{CallsFit, top_at}
+use Rattle.meaning_rules.proofs.Called.{top_at}
 use Rattle.meaning_rules.specs.Calls.{Calls}
 use Rattle.meaning_rules.proofs.Judged.{SameTypes, left_none, right_none, asked, unless_none, unless_is, fits_agreed}
 use Rattle.meaning_rules.proofs.OperatorsFit.{integer_fits}

@@ -33,7 +33,7 @@ use Rattle.value_core.specs.Sound.{IsCode}
 use Rattle.value_core.specs.declared.action.Reply.{Reply}
 use Rattle.value_paths.specs.declared.step.Step.{Step as ValueStep}
 use Rattle.meaning_rules.specs.Openings.{field_types, opening}
-use Rattle.meaning_rules.specs.Programs.{ObjectType, object_type, kind_of, op_of, text_of, process_texts, function_scope, process_scope, operation_scope, operation_variables, begin_scope}
+use Rattle.meaning_rules.specs.Programs.{ObjectType, object_type, kind_of, op_of, text_of, main_text, process_texts, function_scope, process_scope, operation_scope, operation_variables, begin_scope}
 use Rattle.meaning_rules.specs.Statements.{names_at}
 use Rattle.meaning_rules.specs.Fitting.{Fits, FitsArgs, FitsText, FitsReply, FitsResult}
 use Rattle.meaning_rules.specs.PathsFit.{Leads}
@@ -172,3 +172,4 @@ pub record IsAccepted (us : List Source) : Type 0 where
   pub operations : (i : ℕ) (name : List ℕ) (s : Signature) → operation_of us i name ≡ Some s → IsOperation us i name s
   pub processes : (home name : List ℕ) (i : ℕ) (t : TopName) (ps : List Parameter) (b : Block) → stands_for us home name ≡ top.Top i t →
       t.what ≡ top.Process ps b → IsProcess us name (signature us t.defined.by ps None b)
+  pub main : (t : TopName) × (b : Block) × (slice_get (process_texts us) (main_text us).0 ≡ Some t) × (t.what ≡ top.Process [] b)

@@ -24,6 +24,7 @@ pub mod GraphsFit
 pub mod PathsFit
 pub mod PhrasesFit
 pub mod Accepted
+pub mod Preservation
 pub mod Phrases
 pub mod Runs
 pub mod ProcessExamples

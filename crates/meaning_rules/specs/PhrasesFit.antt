@@ -1,13 +1,20 @@
 -- Preservation: a phrase without a breach, evaluated in variables that fit its scope, gives what is of its type and leaves such variables,
 -- as long as replies are such as its actions can get; and an action to which it comes is of objects and arguments that fit.
-use Rattle.std.specs.Prelude.{◌≡◌, List, ◌∷◌, ◌++◌, slice_get, Option, Some, None}
+use Rattle.std.specs.Prelude.{◌≡◌, ◌≤◌, ℕ, List, [], ◌∷◌, ◌++◌, slice_get, Option, Some, None}
 use Rattle.std.specs.List.{Contains}
 use Rattle.orca_base.specs.declared.ids.KindNo.{KindNo}
 use Rattle.orca_base.specs.declared.ids.ObjectId.{ObjectId}
+use Rattle.orca_base.specs.declared.limits.TheConstants.{VALUE_SIZE}
+use Rattle.orca_syntax.specs.Syntax.{Kind, Parameter, Block}
 use Rattle.link_rules.specs.Units.{Source}
+use Rattle.type_rules.specs.declared.signature.Formal.{Formal}
+use Rattle.type_rules.specs.declared.signature.Formal.TheVariants.{ByValue, Shared, Out as ByOut}
+use Rattle.type_rules.specs.TopLevel as top
+use Rattle.type_rules.specs.TopLevel.{TopName, top_names}
 use Rattle.type_rules.specs.declared.types.DataType.{DataType}
-use Rattle.type_rules.specs.Scopes.{Local}
-use Rattle.value_core.specs.Datum.{Datum}
+use Rattle.type_rules.specs.Scopes.{Local, signature}
+use Rattle.value_core.specs.Datum.{Datum, data_of}
+use Rattle.value_core.specs.Size.{size_of_all}
 use Rattle.value_core.specs.Fits.{Kinds}
 use Rattle.value_core.specs.History.{output_kind, output_object}
 use Rattle.value_core.specs.Lawful.{FitsAction}
@@ -19,6 +26,7 @@ use Rattle.meaning_rules.specs.States.{State, Out, Goes, Stops, Needs, Faults, B
 use Rattle.meaning_rules.specs.Loops.{Flow, On, Back}
 use Rattle.meaning_rules.specs.Replies.{with_replies}
 use Rattle.meaning_rules.specs.Variables.{Target}
+use Rattle.meaning_rules.specs.Calls.{Calls, Passed, Given, Lent, values_in}
 use Rattle.meaning_rules.specs.PathsFit.{Leads}
 use Rattle.meaning_rules.specs.Fitting.{Fits, AreFitting, FitsArgs, FitsText, FitsReply}
 
@@ -64,3 +72,21 @@ module _ (us : List Source) (kinds : Kinds) where
   abbrev pub Returns : Option (Option DataType) → Flow → Type 0
   Returns result On = Unit {0}
   Returns result (Back x) = IsResult result x
+
+  -- ---- functions
+
+  -- what is passed for the parameters of a function, by a caller with these variables
+  abbrev pub AreGiven : List Local → List Passed → List Formal → Type 0
+  AreGiven ls [] [] = Unit {0}
+  AreGiven ls (Given x ∷ ps) (ByValue t ∷ fs) = Fits us kinds x t × AreGiven ls ps fs
+  AreGiven ls (Given x ∷ ps) (Shared t ∷ fs) = Fits us kinds x t × AreGiven ls ps fs
+  AreGiven ls (Lent to ∷ ps) (ByOut t ∷ fs) = ((u : DataType) × (t ≡ Some u) × IsTarget ls to u) × AreGiven ls ps fs
+  AreGiven ls _ _ = ⊥
+
+  -- calls of functions, with what is passed for their parameters, leave the caller's variables fitting, and give their results
+  abbrev pub CallsFit : Calls → Type 0
+  CallsFit call =
+      (ls : List Local) (i : ℕ) (t : TopName) (ps : List Parameter) (r : Option Kind) (b : Block) → slice_get (top_names us) i ≡ Some t →
+      t.what ≡ top.Function ps r b → (given : List Passed) → AreGiven ls given (signature us t.defined.by ps r b).formals →
+      size_of_all (data_of (values_in given)) ≤ VALUE_SIZE →
+      Preserves ls (Option Datum) (IsResult (signature us t.defined.by ps r b).result) (call i given)

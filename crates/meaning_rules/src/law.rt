@@ -13,7 +13,10 @@ ghost use Rattle.value_core.specs.declared.meaning.Doing.TheVariants.{At, Busy};
 ghost use Rattle.value_core.specs.declared.meaning.Making.TheVariants as making;
 ghost use Rattle.value_core.specs.declared.meaning.Tried.TheVariants as tried;
 ghost use Rattle.type_rules.specs.Breaches.{breaches};
+ghost use Rattle.type_rules.specs.Scopes.{Scope};
 ghost use Rattle.link_rules.specs.Units.{Source};
+ghost use Rattle.meaning_rules.specs.Accepted.{IsAccepted, IsPlain};
+ghost use Rattle.meaning_rules.specs.Preservation.{PhrasesPreserve, Preservation};
 ghost use Rattle.meaning_rules.specs.ReadsKeep.{ReadsKeep};
 ghost use Rattle.meaning_rules.specs.Replies.{StaysOver, UsesFront};
 ghost use Rattle.meaning_rules.specs.Fitting.{FitsArgs, FitsReply, FitsState, FitsText};
@@ -41,7 +44,10 @@ ghost use Rattle.meaning_rules.specs.ObjectExamples.{programs as object_programs
 ghost use Rattle.meaning_rules.specs.ProcessExamples.{programs as process_programs, a_chain_of_nodes, bad_index, counting, down, element_first, empty_main, forked_badly, forking, handed_back, indices_first, least_divided, least_element, least_remainder, left_by_return, left_first, no_return, of_another_module, once_until, records, right_side_before_the_walk, short_and, texts, three_rounds, three_until};
 
 use graph_values::graphs_law;
+use type_rules::typing_law;
 use value_ops::elements_law;
+use value_ops::texts_law;
+use value_paths::paths_law;
 
 /// Programs of processes and functions: what each writes, and how it stands then.
 pub fn process_examples()
@@ -194,4 +200,18 @@ pub fn fitting_law()
 {
     elements_law();
     graphs_law();
+}
+
+/// Preservation, of a program that is accepted. A phrase without a breach, evaluated in variables that fit their scope, gives what is of its
+/// type and leaves variables that fit, as long as replies are such as its actions can get; an action to which it comes is of an object that
+/// is there, and of arguments that fit. So do functions; a made state fits, what a try leaves and replies fits, and processes are lawful.
+pub fn typed_law()
+    ensures phrases { (v : Scope) → IsAccepted v.program → IsPlain v → PhrasesPreserve v }
+    ensures programs { (us : List Source) → IsAccepted us → Preservation us }
+{
+    typing_law();
+    elements_law();
+    graphs_law();
+    texts_law();
+    paths_law();
 }
