@@ -140,7 +140,7 @@ module _ (us : List Source) (number : ProcessNo) where
 
 -- ---- values of objects
 
-is_object_outside : (t : DataType) → is_object t ≡ true → (i : ℕ) × (outside_of t ≡ types.Bare (base.Object i))
+pub is_object_outside : (t : DataType) → is_object t ≡ true → (i : ℕ) × (outside_of t ≡ types.Bare (base.Object i))
 is_object_outside t is = by (object_in (outside_of t)) refl is
   where
     by : (o : Option ℕ) → object_in (outside_of t) ≡ o → is_some o ≡ true → (i : ℕ) × (outside_of t ≡ types.Bare (base.Object i))
@@ -169,7 +169,7 @@ module _ (us : List Source) where
 
   module _ (kinds : Kinds) where
     -- a value of an object type
-    object_of_type : (t : DataType) (i : ℕ) → outside_of t ≡ types.Bare (base.Object i) → (v : Datum) → IsOf us kinds v t →
+    pub object_of_type : (t : DataType) (i : ℕ) → outside_of t ≡ types.Bare (base.Object i) → (v : Datum) → IsOf us kinds v t →
         (o : ObjectId) × (v ≡ Object_of o) × Contains kinds (o, kind_of us i) × (given_of (Some t) v ≡ (o, kind_of us i) ∷ [])
     object_of_type t i e (datum.object p n) h =
         (record { process = p; number = n }, refl, subst (λ x. OfBy us kinds x (inside_of t) (datum.object p n)) e h, ap (λ x. given_kinds x (datum.object p n)) e)
@@ -334,7 +334,7 @@ taken_length : {X Y : Type 0} (f : X → Y) (xs : List X) (ys : List Y) → leng
 taken_length f [] ys = refl
 taken_length f (x ∷ xs) ys = ap suc (taken_length f xs ys)
 
-all_take : {X : Type 0} (P : X → Type 0) (n : ℕ) (xs : List X) → AllByRecursion P xs → AllByRecursion P (take n xs)
+pub all_take : {X : Type 0} (P : X → Type 0) (n : ℕ) (xs : List X) → AllByRecursion P xs → AllByRecursion P (take n xs)
 all_take P zero xs all = tt
 all_take P (suc n) [] all = tt
 all_take P (suc n) (x ∷ xs) all = (all.0, all_take P n xs all.1)

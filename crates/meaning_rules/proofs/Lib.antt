@@ -26,3 +26,4 @@ pub mod Objectless
 pub mod FittingBodies
 pub mod FittingProcesses
 pub mod Preserved
+pub mod Soundly

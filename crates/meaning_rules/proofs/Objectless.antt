@@ -19,10 +19,10 @@ use Rattle.meaning_rules.proofs.StaysFit.{array_more, set_more, bag_more}
 abbrev pub Objectless : List Source → DataType → Type 0
 Objectless us t = (path : List TypeStep) (u : DataType) → Holds us path t u → is_object u ≡ false
 
-inside_objectless : (us : List Source) (t : DataType) → Objectless us t → Objectless us (inside_of t)
+pub inside_objectless : (us : List Source) (t : DataType) → Objectless us t → Objectless us (inside_of t)
 inside_objectless us t h path u holds = h (Inside ∷ path) u holds
 
-field_objectless : (us : List Source) (t u : DataType) (i place : ℕ) → outside_of t ≡ types.Bare (base.Record i) → slice_get (field_types us i) place ≡ Some (Some u) →
+pub field_objectless : (us : List Source) (t u : DataType) (i place : ℕ) → outside_of t ≡ types.Bare (base.Record i) → slice_get (field_types us i) place ≡ Some (Some u) →
     Objectless us t → Objectless us u
 field_objectless us t u i place e at h path w holds = h (ToField place ∷ path) w (i, u, e, at, holds)
 

@@ -4,7 +4,7 @@ use Rattle.std.specs.Prelude.{◌≡◌, ◌≤◌, ◌<◌, ◌+◌, ◌^◌, �
 use Rattle.std.specs.Option.{option_map_or}
 use Rattle.std.specs.List.{All, AllByRecursion}
 use Rattle.std.proofs.lemmas.List.Elements.{All-nil, All-cons, recursion_from_All}
-use Rattle.orca_base.specs.declared.limits.TheConstants.{VALUE_SIZE}
+use Rattle.orca_base.specs.declared.limits.TheConstants.{VALUE_NESTING, VALUE_SIZE}
 use Rattle.orca_base.specs.declared.place.Place.{Place}
 use Rattle.orca_tree.specs.declared.tree.Name.{Name}
 use Rattle.orca_syntax.specs.Syntax as syn
@@ -35,7 +35,7 @@ use Rattle.value_core.specs.Datum as datum
 use Rattle.value_core.specs.Fits.{Kinds}
 use Rattle.value_core.specs.Integers.{IsWord}
 use Rattle.value_core.specs.Size.{size_of, size_of_all}
-use Rattle.value_core.specs.Sound.{IsCode, IsSound}
+use Rattle.value_core.specs.Sound.{IsCode, IsSound, nesting}
 use Rattle.value_ops.specs.Sizes.{number_in, ordinal_of}
 use Rattle.value_ops.specs.Texts.{text_of}
 use Rattle.value_paths.specs.declared.step.Step.{Step as ValueStep}
@@ -79,8 +79,20 @@ integer_objectless us [] u holds = ap is_object (sym holds)
 integer_objectless us (Inside ∷ path) u holds = integer_objectless us path u holds
 integer_objectless us (ToField place ∷ path) u holds = absurd (let e = holds.2 in cc)
 
+integer_shallow : (us : List Source) (kinds : Kinds) (v : Datum) → IsOf us kinds v (plain base.Integer) → nesting v ≤ VALUE_NESTING
+integer_shallow us kinds (datum.int z) h = omega arith
+integer_shallow us kinds (datum.truth b) h = absurd h
+integer_shallow us kinds (datum.char c) h = absurd h.0
+integer_shallow us kinds (datum.enumerated n) h = absurd h
+integer_shallow us kinds (datum.text s) h = absurd h.0
+integer_shallow us kinds (datum.array w) h = absurd h
+integer_shallow us kinds (datum.fields w) h = absurd h
+integer_shallow us kinds (datum.set w) h = absurd h
+integer_shallow us kinds (datum.bag w) h = absurd h
+integer_shallow us kinds (datum.object p n) h = absurd h
+
 integer_data : (us : List Source) → IsData us (plain base.Integer)
-integer_data us = record { objectless = integer_objectless us; opens = integer_opens us }
+integer_data us = record { objectless = integer_objectless us; opens = integer_opens us; shallow = integer_shallow us }
 
 -- the variable of a loop
 abbrev pub loop_local : Name → Local
@@ -157,7 +169,7 @@ number_small (datum.object p n) = omega arith
 pub number_word : (x : Datum) → size_of x ≤ VALUE_SIZE → IsWord (pos (number_in x))
 number_word x less = let small = number_small x in record { sfits = omega (arith, small, less) }
 
-named_less : (us : List Source) (o : Outside) (n : ℕ) → IsNamed us o n → n < length (names_at us o)
+pub named_less : (us : List Source) (o : Outside) (n : ℕ) → IsNamed us o n → n < length (names_at us o)
 named_less us (types.Bare (base.Enumeration j)) n h = h
 named_less us (types.Bare base.Integer) n h = absurd h
 named_less us (types.Bare base.Boolean) n h = absurd h

@@ -1,9 +1,9 @@
 -- What preservation takes of a program that links, breaks no rule and is a text's: that types are known, that what opens fits, that
 -- constants, enumerations and names are within the language's limits, and that calls, operations and processes are what their signatures
 -- say.
-use Rattle.std.specs.Prelude.{◌≡◌, ◌<◌, ◌≤◌, ◌^◌, ℕ, ℤ, false, List, [], ◌∷◌, length, slice_get, Option, Some, None, IfSome}
+use Rattle.std.specs.Prelude.{◌≡◌, ◌<◌, ◌≤◌, ◌^◌, ℕ, ℤ, false, List, [], ◌∷◌, length, map, slice_get, Option, Some, None, IfSome}
 use Rattle.std.specs.List.{All, AllByRecursion}
-use Rattle.orca_base.specs.declared.limits.TheConstants.{VALUE_SIZE}
+use Rattle.orca_base.specs.declared.limits.TheConstants.{VALUE_NESTING, VALUE_SIZE}
 use Rattle.orca_base.specs.declared.ids.KindNo.{KindNo}
 use Rattle.orca_syntax.specs.Syntax as syn
 use Rattle.orca_syntax.specs.Syntax.{Kind, Stmts, Parameter, Operation, Body, Block}
@@ -22,20 +22,20 @@ use Rattle.type_rules.specs.declared.signature.Formal.TheVariants.{ByValue, Shar
 use Rattle.type_rules.specs.declared.signature.Signature.{Signature}
 use Rattle.type_rules.specs.declared.names.LocalRole.{LocalRole}
 use Rattle.type_rules.specs.declared.names.LocalRole.TheVariants.{SharedParameter}
-use Rattle.type_rules.specs.Declarations.{field_locals}
-use Rattle.type_rules.specs.Scopes.{Local, Scope, signature, operation_of}
+use Rattle.type_rules.specs.Declarations.{field_locals, operation_view}
+use Rattle.type_rules.specs.Scopes.{Local, Scope, value_local, signature, operation_of}
 use Rattle.type_rules.specs.Statements.{stmts_breaches}
 use Rattle.value_core.specs.Datum.{Datum, Data, data_of}
 use Rattle.value_core.specs.Fits.{Kinds}
 use Rattle.value_core.specs.Integers.{IsWord}
 use Rattle.value_core.specs.Size.{size_of_all}
-use Rattle.value_core.specs.Sound.{IsCode}
+use Rattle.value_core.specs.Sound.{IsCode, IsShort, nesting}
 use Rattle.value_core.specs.declared.action.Reply.{Reply}
 use Rattle.value_paths.specs.declared.step.Step.{Step as ValueStep}
 use Rattle.meaning_rules.specs.Openings.{field_types, opening}
 use Rattle.meaning_rules.specs.Programs.{ObjectType, object_type, kind_of, op_of, text_of, main_text, process_texts, function_scope, process_scope, operation_scope, operation_variables, begin_scope}
 use Rattle.meaning_rules.specs.Statements.{names_at}
-use Rattle.meaning_rules.specs.Fitting.{Fits, FitsArgs, FitsText, FitsReply, FitsResult}
+use Rattle.meaning_rules.specs.Fitting.{IsOf, Fits, FitsArgs, FitsText, FitsReply, FitsResult}
 use Rattle.meaning_rules.specs.PathsFit.{Leads}
 
 -- ---- types
@@ -54,11 +54,12 @@ Holds us (Inside ∷ path) t u = Holds us path (inside_of t) u
 Holds us (ToField place ∷ path) t u =
     (i : ℕ) × (w : DataType) × (outside_of t ≡ types.Bare (base.Record i)) × (slice_get (field_types us i) place ≡ Some (Some w)) × Holds us path w u
 
--- the type of data: nothing within is of an object type, and a variable of the type, or of what steps through its values lead to, opens with
--- a value that fits
+-- the type of data: nothing within is of an object type, its values nest no deeper than values may, and a variable of the type, or of what
+-- steps through its values lead to, opens with a value that fits
 pub record IsData (us : List Source) (t : DataType) : Type 0 where
   pub objectless : (path : List TypeStep) (u : DataType) → Holds us path t u → is_object u ≡ false
   pub opens : (path : List ValueStep) (u : DataType) → Leads us path t u → (kinds : Kinds) → Fits us kinds (opening us (Some u)) (Some u)
+  pub shallow : (kinds : Kinds) (v : Datum) → IsOf us kinds v t → nesting v ≤ VALUE_NESTING
 
 abbrev pub IsOfData : List Source → Option DataType → Type 0
 IsOfData us o = (t : DataType) × (o ≡ Some t) × IsData us t
@@ -117,12 +118,14 @@ BodyInOrder v (syn.Plain ss) = AreInOrder v ss
 
 pub record IsOperationBody (us : List Source) (t : ObjectType) (o : Operation) : Type 0 where
   pub scope : IsPlain (operation_scope us t o false)
+  pub parameters : AllByRecursion (λ l. IsOfData us l.type) (map (value_local (operation_view us t.home t.fields o)) o.head.parameters)
   pub holds : AllByRecursion (λ l. IsOfData us l.type) (operation_variables us t o)
   pub body : BodyInOrder (operation_scope us t o false) o.body
 
 pub record IsObjectType (us : List Source) (t : ObjectType) : Type 0 where
   pub scope : IsPlain (begin_scope us t)
   pub holds : AllByRecursion (λ l. IsOfData us l.type) (field_locals us t.home t.fields)
+  pub few : IsShort (field_locals us t.home t.fields)
   pub begins : IfSome t.begins (AreInOrder (begin_scope us t))
   pub operations : (i : ℕ) (o : Operation) → slice_get t.operations i ≡ Some o → IsOperationBody us t o
 

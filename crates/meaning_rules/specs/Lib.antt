@@ -25,6 +25,7 @@ pub mod PathsFit
 pub mod PhrasesFit
 pub mod Accepted
 pub mod Preservation
+pub mod FitsSound
 pub mod Phrases
 pub mod Runs
 pub mod ProcessExamples

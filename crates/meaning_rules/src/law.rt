@@ -17,6 +17,7 @@ ghost use Rattle.type_rules.specs.Scopes.{Scope};
 ghost use Rattle.link_rules.specs.Units.{Source};
 ghost use Rattle.meaning_rules.specs.Accepted.{IsAccepted, IsPlain};
 ghost use Rattle.meaning_rules.specs.Preservation.{PhrasesPreserve, Preservation};
+ghost use Rattle.meaning_rules.specs.FitsSound.{FitsSound};
 ghost use Rattle.meaning_rules.specs.ReadsKeep.{ReadsKeep};
 ghost use Rattle.meaning_rules.specs.Replies.{StaysOver, UsesFront};
 ghost use Rattle.meaning_rules.specs.Fitting.{FitsArgs, FitsReply, FitsState, FitsText};
@@ -205,9 +206,11 @@ pub fn fitting_law()
 /// Preservation, of a program that is accepted. A phrase without a breach, evaluated in variables that fit their scope, gives what is of its
 /// type and leaves variables that fit, as long as replies are such as its actions can get; an action to which it comes is of an object that
 /// is there, and of arguments that fit. So do functions; a made state fits, what a try leaves and replies fits, and processes are lawful.
+/// What fits is sound.
 pub fn typed_law()
     ensures phrases { (v : Scope) → IsAccepted v.program → IsPlain v → PhrasesPreserve v }
     ensures programs { (us : List Source) → IsAccepted us → Preservation us }
+    ensures sound { (us : List Source) → IsAccepted us → FitsSound us }
 {
     typing_law();
     elements_law();
