@@ -199,10 +199,10 @@ all_data us (v ∷ vs) of_kind all = both v.names all (λ rest. all_data us vs o
 module _ (us : List Source) (kinds : Kinds) (facts : IsAccepted us) (laws : Laws us) where
   -- a function's body, with what is passed
   body_preserves : (call : Calls) → ((i : ℕ) (ps : List Passed) → Front (Option Datum) (call i ps)) → CallsFit us kinds call → (ls : List Local) (t : TopName) (params : List Parameter) (r : Option Kind) (b : Block) →
-      IsFunction us t params r b → (given : List Passed) → AreGiven us kinds ls given (signature us t.defined.by params r b).formals →
+      IsFunction us t params r b → AreInOrder (function_scope us t.defined.by params r b) b.statements → (given : List Passed) → AreGiven us kinds ls given (signature us t.defined.by params r b).formals →
       Preserves us kinds ls (Option Datum) (IsResult us kinds (signature us t.defined.by params r b).result)
       (enter_body call us (function_scope us t.defined.by params r b) b (is_some r) given)
-  body_preserves call call_front fit ls t params r b function given h =
+  body_preserves call call_front fit ls t params r b function order given h =
       let v : Scope = function_scope us t.defined.by params r b in
       let w : View = view_of us t.defined.by (own_names params b) in
       let vars : List Local = flat_map (locals_of Variable (data_found w)) b.variables in
@@ -215,7 +215,7 @@ module _ (us : List Source) (kinds : Kinds) (facts : IsAccepted us) (laws : Laws
             (λ x s1 fits1 holds answers.
             after_preserves us kinds v.locals ls (Returns us kinds v.result) (IsResult us kinds (signature us t.defined.by params r b).result) f (returned (is_some r) given s1.frame) s1 (f s1)
             ((fronts.framed Flow (λ frame q. run_all call v b.statements q) (λ frame. own_frame us v given) (λ frame. everywhere.run_all_holds Front fronts call call_front v b.statements)).front s1)
-            ((run_all_preserves kinds call call_front v (record { scope = function.scope; facts = facts; laws = laws; calls = fit }) b.statements function.sound function.unbroken).preserves
+            ((run_all_preserves kinds call call_front v (record { scope = function.scope; facts = facts; laws = laws; calls = fit }) b.statements order.0 order.1).preserves
             (record s1 { frame = own_frame us v given })
             (own_fits us kinds ls w params vars given h function.holds (all_data us b.variables (data_found w) (variables_hold us (map (parameter_local w) params) vars function.holds)))
             (first_answers us kinds f (returned (is_some r) given s1.frame) s1 answers))
@@ -229,7 +229,7 @@ module _ (us : List Source) (kinds : Kinds) (facts : IsAccepted us) (laws : Laws
   calls_fit (suc levels) ls i t ps r b at what given h less =
       subst (λ o. Preserves us kinds ls (Option Datum) (IsResult us kinds (signature us t.defined.by ps r b).result) (enter (calls us levels) us o given)) (sym at)
       (subst (λ x. Preserves us kinds ls (Option Datum) (IsResult us kinds (signature us t.defined.by ps r b).result) (enter_what (calls us levels) us t x given)) (sym what)
-      (body_preserves (calls us levels) (everywhere.calls_holds Front fronts us levels) (calls_fit levels) ls t ps r b (facts.functions i t ps r b at what) given h))
+      (body_preserves (calls us levels) (everywhere.calls_holds Front fronts us levels) (calls_fit levels) ls t ps r b (facts.functions i t ps r b at what) (facts.orderly.functions i t ps r b at what) given h))
 
   -- ---- bodies of implementations, which have no replies
 
@@ -299,9 +299,9 @@ module _ (us : List Source) (kinds : Kinds) (facts : IsAccepted us) (laws : Laws
       alternatives_do (syn.Guarded first others) all = guards_do 1 (first ∷ others) all
       alternatives_do (syn.Plain ss) all = does 0 ss all
 
-  operation_does : (t : ObjectType) (o : Operation) (state args : Data) → IsOperationBody us t o → FitsType us kinds state (Some t) → FitsParameters us kinds t args (Some o) →
+  operation_does : (t : ObjectType) (o : Operation) (state args : Data) → IsOperationBody us t o → BodyInOrder (operation_scope us t o false) o.body → FitsType us kinds state (Some t) → FitsParameters us kinds t args (Some o) →
       Does t (result_in us t o) (operation_tried us t state args (Some o))
-  operation_does t o state args body state_fits args_fit =
+  operation_does t o state args body in_order state_fits args_fit =
       let params : List Local = map (value_local (operation_view us t.home t.fields o)) o.head.parameters in
       let own : List Local = params ++ operation_variables us t o in
       let long : own_count us t o args ≡ length own =
@@ -321,7 +321,7 @@ module _ (us : List Source) (kinds : Kinds) (facts : IsAccepted us) (laws : Laws
       (sym (append_assoc params (operation_variables us t o) (field_locals us t.home t.fields)))
       ((run_all_preserves kinds (all_calls us) (everywhere.calls_holds Front fronts us 64) (operation_scope us t o false) st ss order.0 order.1).preserves
       (operation_start us t o state args) fits (no_answers (run_all (all_calls us) (operation_scope us t o false) ss) (operation_start us t o state args).frame))))
-      o.body body.body)
+      o.body in_order)
 
   -- of whatever type
   abbrev DoesOf : OpNo → Option ObjectType → Tried → Type 0
@@ -335,7 +335,7 @@ module _ (us : List Source) (kinds : Kinds) (facts : IsAccepted us) (laws : Laws
       by : (x : Option Operation) → slice_get t.operations op.0 ≡ x → FitsParameters us kinds t args x →
           KeepsState (operation_tried us t state args x) (λ st. FitsType us kinds st (Some t)) × RepliesWell (operation_tried us t state args x) (λ answer. FitsResultOf us t answer x)
       by None at fit = absurd fit
-      by (Some o) at fit = operation_does t o state args ((facts.object_types kind t is).operations op.0 o at) state_fits fit
+      by (Some o) at fit = operation_does t o state args ((facts.object_types kind t is).operations op.0 o at) (facts.orderly.operations kind t is op.0 o at) state_fits fit
 
   pub tries_do : (kind : KindNo) (op : OpNo) (state args : Data) → FitsState us kinds kind state → FitsArgs us kinds kind op args →
       KeepsState (tries_of us kind op state args) (FitsState us kinds kind) × RepliesWell (tries_of us kind op state args) (FitsReply us kind op)
@@ -376,4 +376,4 @@ module _ (us : List Source) (kinds : Kinds) (facts : IsAccepted us) (laws : Laws
     where
       by : (ot : Option ObjectType) → object_type us kind ≡ ot → IfMade (type_made us ot) (λ state. FitsType us kinds state ot)
       by None is = refl
-      by (Some t) is = made_fits t (facts.object_types kind t is) t.begins (facts.object_types kind t is).begins
+      by (Some t) is = made_fits t (facts.object_types kind t is) t.begins (facts.orderly.begins kind t is)

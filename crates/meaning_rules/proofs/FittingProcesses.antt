@@ -42,7 +42,7 @@ use Rattle.meaning_rules.specs.Processes.{own_object, object_type_of, variable_m
 use Rattle.meaning_rules.specs.Meanings.{computes_of}
 use Rattle.meaning_rules.specs.Fitting.{IsObject, IsOf, Fits, AreFitting, AreArguments, FitsArgs, FitsText, FitsTop, FitsWhat, FitsReply}
 use Rattle.meaning_rules.specs.PhrasesFit.{AreAnswers, IsThere, FitsNeed, Leaves, Returns}
-use Rattle.meaning_rules.specs.Accepted.{IsOpening, IsOfData, IsText, IsAccepted}
+use Rattle.meaning_rules.specs.Accepted.{AreInOrder, IsOpening, IsOfData, IsPlain, IsAccepted}
 use Rattle.meaning_rules.proofs.Everywhere as everywhere
 use Rattle.meaning_rules.proofs.FittingBodies.{calls_fit, fitting_length, fitting_more_locals, opening_fits}
 use Rattle.meaning_rules.proofs.FittingStatements.{run_all_preserves}
@@ -387,8 +387,11 @@ module _ (us : List Source) (facts : IsAccepted us) (laws : Laws us) (kinds : Ki
   abbrev known_ones : Kinds
   known_ones = given_ones ++ own_ones
 
-  is_text : IsText us t ps b
-  is_text = facts.texts text.0 t ps b at what
+  plain_scope : IsPlain v
+  plain_scope = facts.texts text.0 t ps b at what
+
+  in_order : AreInOrder v b.statements
+  in_order = facts.orderly.processes text.0 t ps b at what
 
   long : length (list_of args) ≡ length ps
   long = fitting_length us kinds (list_of args) params given.0 ∙ taken_length _ ps _
@@ -480,14 +483,14 @@ module _ (us : List Source) (facts : IsAccepted us) (laws : Laws us) (kinds : Ki
       subst (λ ls. AreFitting us known_ones (list_of args ++ values_made us number vars 1) ls) whole_locals
       (fitting_more_locals us known_ones (list_of args) (values_made us number vars 1) params vars
       (fitting_more us given_ones known_ones (λ entry has. Contains-append_left given_ones own_ones entry has) (list_of args) params
-      (given_fit us kinds (list_of args) params (all_take (IsOpening us) (length ps) v.locals is_text.scope.names) given.0))
+      (given_fit us kinds (list_of args) params (all_take (IsOpening us) (length ps) v.locals plain_scope.names) given.0))
       (fitting_more us own_ones known_ones (λ entry has. Contains-append_right given_ones own_ones entry has) (values_made us number vars 1) vars
-      (made_fit us number vars 1 (all_drop (IsOpening us) (length (list_of args)) v.locals is_text.scope.names))))
+      (made_fit us number vars 1 (all_drop (IsOpening us) (length (list_of args)) v.locals plain_scope.names))))
 
   leaves : (rest : List Reply) → RepliesFitFrom q (FitsReply us) text number args (dones (length own_ones)) rest → Leaves us known_ones v.locals (Returns us known_ones v.result) (body_runs rest)
   leaves rest fits =
       (run_all_preserves known_ones (all_calls us) (everywhere.calls_holds Front fronts us 64) v
-      (record { scope = is_text.scope; facts = facts; laws = laws; calls = calls_fit us known_ones facts laws 64 }) b.statements is_text.body.0 is_text.body.1).preserves
+      (record { scope = plain_scope; facts = facts; laws = laws; calls = calls_fit us known_ones facts laws 64 }) b.statements in_order.0 in_order.1).preserves
       (body_state rest) frame_fits (answers_fit rest fits)
 
   -- ---- the law

@@ -303,7 +303,7 @@ module _ (us : List Source) (facts : IsAccepted us) (graphs : SoundGraphs) where
     where
       by_what : (t : TopName) → slice_get (process_texts us) text.0 ≡ Some t → (w : What) → t.what ≡ w → FitsWhat us kinds args t w → AreSoundArguments args
       by_what t at (top.Process ps b) what h =
-          let scope = (facts.texts text.0 t ps b at what).scope in
+          let scope = facts.texts text.0 t ps b at what in
           sound_arguments kinds args _
           (arguments_formed kinds numbered args _ (all_take (IsOpening us) (length ps) (process_scope us t.defined.by ps b).locals scope.names) h.0) h
       by_what t at (top.Constant b) what h = absurd h

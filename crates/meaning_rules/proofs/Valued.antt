@@ -228,7 +228,7 @@ module _ (us : List Source) (kinds : Kinds) (facts : IsAccepted us) where
 
   names_codes : (o : Option DataType) → All (All IsCode) (option_map_or (λ t. names_at us (outside_of t)) o [])
   names_codes None = All-nil (All IsCode)
-  names_codes (Some t) = facts.names (outside_of t)
+  names_codes (Some t) = facts.orderly.names (outside_of t)
 
 -- ---- rows of expressions
 
@@ -321,7 +321,7 @@ pub record IsOuter (kinds : Kinds) (v : Scope) (n : Name) (s : StandsFor) : Type
 
 module _ (kinds : Kinds) (v : Scope) (facts : IsAccepted v.program) (n : Name) where
   constant_word : (i : ℕ) (c : Chain) → chain_from v.program i ≡ c → Fits v.program kinds (constant c) (Some (plain base.Integer))
-  constant_word i (EndsAt z) is = integer_fits v.program kinds z (facts.constants i z is)
+  constant_word i (EndsAt z) is = integer_fits v.program kinds z (facts.orderly.constants i z is)
   constant_word i GoesRound is = integer_fits v.program kinds (pos 0) (record { sfits = omega arith })
   constant_word i Fails is = integer_fits v.program kinds (pos 0) (record { sfits = omega arith })
 

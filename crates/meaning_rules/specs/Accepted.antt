@@ -7,7 +7,7 @@ use Rattle.orca_base.specs.declared.limits.TheConstants.{VALUE_NESTING, VALUE_SI
 use Rattle.orca_base.specs.declared.ids.KindNo.{KindNo}
 use Rattle.orca_syntax.specs.Syntax as syn
 use Rattle.orca_syntax.specs.Syntax.{Kind, Stmts, Parameter, Operation, Body, Block}
-use Rattle.orca_syntax.specs.Sound.{AreSoundStmts}
+use Rattle.orca_syntax.specs.Sound.{AreSoundStmts, IsSoundSyntax}
 use Rattle.link_rules.specs.Units.{Source}
 use Rattle.type_rules.specs.declared.types.DataType.{DataType}
 use Rattle.type_rules.specs.declared.types.Base.TheVariants as base
@@ -25,6 +25,7 @@ use Rattle.type_rules.specs.declared.names.LocalRole.TheVariants.{SharedParamete
 use Rattle.type_rules.specs.Declarations.{field_locals, operation_view}
 use Rattle.type_rules.specs.Scopes.{Local, Scope, value_local, signature, operation_of}
 use Rattle.type_rules.specs.Statements.{stmts_breaches}
+use Rattle.type_rules.specs.Breaches.{IsWellTyped}
 use Rattle.value_core.specs.Datum.{Datum, Data, data_of}
 use Rattle.value_core.specs.Fits.{Kinds}
 use Rattle.value_core.specs.Integers.{IsWord}
@@ -100,15 +101,13 @@ pub record IsPlain (v : Scope) : Type 0 where
   pub names : AllByRecursion (IsOpening v.program) v.locals
   pub result : IsKnownResult v.program v.result
 
--- a function: its body is in order, and its parameters and result have types
+-- a function: its names, parameters and result have types
 pub record IsFunction (us : List Source) (t : TopName) (ps : List Parameter) (r : Option Kind) (b : Block) : Type 0 where
   pub formals : AllByRecursion IsKnownFormal (signature us t.defined.by ps r b).formals
   pub scope : IsPlain (function_scope us t.defined.by ps r b)
   pub holds : AllByRecursion (λ l. HoldsData l.role us l.type) (function_scope us t.defined.by ps r b).locals
-  pub sound : AreSoundStmts b.statements
-  pub unbroken : stmts_breaches (function_scope us t.defined.by ps r b) b.statements ≡ []
 
--- an object type: its fields are of data, and its `begin` part and the bodies of its operations are in order
+-- statements whose words are such as a text may have, and that break no rule
 abbrev pub AreInOrder : Scope → Stmts → Type 0
 AreInOrder v ss = AreSoundStmts ss × (stmts_breaches v ss ≡ [])
 
@@ -120,19 +119,33 @@ pub record IsOperationBody (us : List Source) (t : ObjectType) (o : Operation) :
   pub scope : IsPlain (operation_scope us t o false)
   pub parameters : AllByRecursion (λ l. IsOfData us l.type) (map (value_local (operation_view us t.home t.fields o)) o.head.parameters)
   pub holds : AllByRecursion (λ l. IsOfData us l.type) (operation_variables us t o)
-  pub body : BodyInOrder (operation_scope us t o false) o.body
 
+-- an object type: its fields are of data, and the names of its operations have types
 pub record IsObjectType (us : List Source) (t : ObjectType) : Type 0 where
   pub scope : IsPlain (begin_scope us t)
   pub holds : AllByRecursion (λ l. IsOfData us l.type) (field_locals us t.home t.fields)
   pub few : IsShort (field_locals us t.home t.fields)
-  pub begins : IfSome t.begins (AreInOrder (begin_scope us t))
   pub operations : (i : ℕ) (o : Operation) → slice_get t.operations i ≡ Some o → IsOperationBody us t o
 
--- a process
-pub record IsText (us : List Source) (t : TopName) (ps : List Parameter) (b : Block) : Type 0 where
-  pub scope : IsPlain (process_scope us t.defined.by ps b)
-  pub body : AreInOrder (process_scope us t.defined.by ps b) b.statements
+-- all bodies, and what else a text whose words are sound and that breaks no rule gives: constants are numbers of 64 bits, and the names of
+-- enumerations' values have the codes of chars
+pub record IsOrderly (us : List Source) : Type 0 where
+  pub functions : (i : ℕ) (t : TopName) (ps : List Parameter) (r : Option Kind) (b : Block) → slice_get (top_names us) i ≡ Some t →
+      t.what ≡ top.Function ps r b → AreInOrder (function_scope us t.defined.by ps r b) b.statements
+  pub processes : (i : ℕ) (t : TopName) (ps : List Parameter) (b : Block) → slice_get (process_texts us) i ≡ Some t → t.what ≡ top.Process ps b →
+      AreInOrder (process_scope us t.defined.by ps b) b.statements
+  pub begins : (kind : KindNo) (t : ObjectType) → object_type us kind ≡ Some t → IfSome t.begins (AreInOrder (begin_scope us t))
+  pub operations : (kind : KindNo) (t : ObjectType) → object_type us kind ≡ Some t → (i : ℕ) (o : Operation) → slice_get t.operations i ≡ Some o →
+      BodyInOrder (operation_scope us t o false) o.body
+  pub constants : (i : ℕ) (z : ℤ) → chain_from us i ≡ EndsAt z → IsWord z
+  pub names : (o : Outside) → All (All IsCode) (names_at us o)
+
+-- the words of a program's texts are such as a text may have
+abbrev pub AreTexts : List Source → Type 0
+AreTexts us = AllByRecursion (λ u. IsSoundSyntax u.syntax) us
+
+abbrev pub GivesOrder : List Source → Type 0
+GivesOrder us = IsWellTyped us → AreTexts us → IsOrderly us
 
 -- ---- what calls and forks hand on
 
@@ -162,16 +175,15 @@ pub record IsProcess (us : List Source) (name : List ℕ) (s : Signature) : Type
 
 pub record IsAccepted (us : List Source) : Type 0 where
   pub fields : (i place : ℕ) (t : Option DataType) → slice_get (field_types us i) place ≡ Some t → IsKnown t
-  pub constants : (i : ℕ) (z : ℤ) → chain_from us i ≡ EndsAt z → IsWord z
+  pub orderly : IsOrderly us
   pub values : (i : ℕ) (t : TopName) (of : List ℕ) (number : ℕ) → slice_get (top_names us) i ≡ Some t → t.what ≡ top.Value of number →
       (j : ℕ) × (number_of us of ≡ Some j) × (number < length (names_at us (types.Bare (base.Enumeration j))))
-  pub names : (o : Outside) → All (All IsCode) (names_at us o)
   pub few : (o : Outside) → length (names_at us o) ≤ 2 ^ 16
   pub functions : (i : ℕ) (t : TopName) (ps : List Parameter) (r : Option Kind) (b : Block) → slice_get (top_names us) i ≡ Some t →
       t.what ≡ top.Function ps r b → IsFunction us t ps r b
   pub object_types : (kind : KindNo) (t : ObjectType) → object_type us kind ≡ Some t → IsObjectType us t
   pub texts : (i : ℕ) (t : TopName) (ps : List Parameter) (b : Block) → slice_get (process_texts us) i ≡ Some t → t.what ≡ top.Process ps b →
-      IsText us t ps b
+      IsPlain (process_scope us t.defined.by ps b)
   pub operations : (i : ℕ) (name : List ℕ) (s : Signature) → operation_of us i name ≡ Some s → IsOperation us i name s
   pub processes : (home name : List ℕ) (i : ℕ) (t : TopName) (ps : List Parameter) (b : Block) → stands_for us home name ≡ top.Top i t →
       t.what ≡ top.Process ps b → IsProcess us name (signature us t.defined.by ps None b)
