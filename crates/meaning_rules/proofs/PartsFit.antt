@@ -59,7 +59,7 @@ module _ (us : List Source) (kinds : Kinds) where
   OfBy o t (datum.enumerated n) = IsNamed us o n
   OfBy o t (datum.text s) = IsText o × All IsCode s
   OfBy o t (datum.array w) = IsArray o (length (list_of w)) (AllOf us kinds w t)
-  OfBy o t (datum.fields w) = IsRecord o (λ i. AreOf us kinds w (field_types us i)) (IsGraph (datum.fields w) × NodesOf us kinds w t)
+  OfBy o t (datum.fields w) = IsRecord o (λ i. AreOf us kinds w (field_types us i)) (IsGraph (datum.fields w) × IsWord (name_in (datum.fields w)) × NodesOf us kinds w t)
   OfBy o t (datum.set w) = IsSet o (IsStrictlySortedBy datum_cmp (list_of w) × AllOf us kinds w t)
   OfBy o t (datum.bag w) = IsBag o (IsSorted datum_cmp (list_of w) × AllOf us kinds w t)
   OfBy o t (datum.object process number) = IsObject us kinds o process number
@@ -252,7 +252,7 @@ module _ (us : List Source) (kinds : Kinds) where
 
   module _ (t : DataType) (e : outside_of t ≡ types.Within layer.Graph) where
     node_fits : (v p : Datum) (name : ℤ) → IsOf us kinds v t → part_to (Node name) v ≡ Ok p → IsOf us kinds p (inside_of t)
-    node_fits (datum.fields w) p name h is = node_found w (inside_of t) name p (subst (λ o. OfBy o (inside_of t) (datum.fields w)) e h).1 is
+    node_fits (datum.fields w) p name h is = node_found w (inside_of t) name p (subst (λ o. OfBy o (inside_of t) (datum.fields w)) e h).2 is
     node_fits (datum.int z) p name h is = absurd (subst (λ o. OfBy o (inside_of t) (datum.int z)) e h).0
     node_fits (datum.truth b) p name h is = absurd (subst (λ o. OfBy o (inside_of t) (datum.truth b)) e h)
     node_fits (datum.char c) p name h is = absurd (subst (λ o. OfBy o (inside_of t) (datum.char c)) e h).0
@@ -268,7 +268,7 @@ module _ (us : List Source) (kinds : Kinds) where
     with_node_fits assigning (datum.fields w) p x name h is one =
         let g = subst (λ o. OfBy o (inside_of t) (datum.fields w)) e h in
         subst (λ o. OfBy o (inside_of t) (with_step (Node name) (datum.fields w) x)) (sym e)
-        ((assigning name x (datum.fields w) _ g.0 (is_assigned name x (datum.fields w) p is)).0, nodes_set w (inside_of t) name x g.1 one)
+        ((assigning name x (datum.fields w) _ g.0 (is_assigned name x (datum.fields w) p is)).0, g.1, nodes_set w (inside_of t) name x g.2 one)
     with_node_fits assigning (datum.int z) p x name h is one = absurd (subst (λ o. OfBy o (inside_of t) (datum.int z)) e h).0
     with_node_fits assigning (datum.truth b) p x name h is one = absurd (subst (λ o. OfBy o (inside_of t) (datum.truth b)) e h)
     with_node_fits assigning (datum.char c) p x name h is one = absurd (subst (λ o. OfBy o (inside_of t) (datum.char c)) e h).0

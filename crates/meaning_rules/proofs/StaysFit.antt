@@ -20,7 +20,7 @@ use Rattle.meaning_rules.specs.Openings.{field_types}
 use Rattle.meaning_rules.specs.Programs.{ObjectType, object_type, process_texts}
 use Rattle.meaning_rules.specs.Fitting.{IsArray, IsSet, IsBag, IsRecord, IsObject, IsOf, AllOf, AreOf, NodesOf, ValuesOf, Fits, AreFitting, AreArguments, FitsType, FitsState, FitsParameters, FitsOperation, FitsArgsOf, FitsArgs, FitsWhat, FitsTop, FitsText}
 
-array_more : (o : Outside) (count : ℕ) (P Q : Type 0) → (P → Q) → IsArray o count P → IsArray o count Q
+pub array_more : (o : Outside) (count : ℕ) (P Q : Type 0) → (P → Q) → IsArray o count P → IsArray o count Q
 array_more (types.Bare base.Integer) count P Q f h = absurd h
 array_more (types.Bare base.Boolean) count P Q f h = absurd h
 array_more (types.Bare base.Character) count P Q f h = absurd h
@@ -34,7 +34,7 @@ array_more (types.Within layer.Set) count P Q f h = absurd h
 array_more (types.Within layer.Bag) count P Q f h = absurd h
 array_more (types.Within layer.Graph) count P Q f h = absurd h
 
-set_more : (o : Outside) (P Q : Type 0) → (P → Q) → IsSet o P → IsSet o Q
+pub set_more : (o : Outside) (P Q : Type 0) → (P → Q) → IsSet o P → IsSet o Q
 set_more (types.Bare base.Integer) P Q f h = absurd h
 set_more (types.Bare base.Boolean) P Q f h = absurd h
 set_more (types.Bare base.Character) P Q f h = absurd h
@@ -48,7 +48,7 @@ set_more (types.Within layer.Set) P Q f h = f h
 set_more (types.Within layer.Bag) P Q f h = absurd h
 set_more (types.Within layer.Graph) P Q f h = absurd h
 
-bag_more : (o : Outside) (P Q : Type 0) → (P → Q) → IsBag o P → IsBag o Q
+pub bag_more : (o : Outside) (P Q : Type 0) → (P → Q) → IsBag o P → IsBag o Q
 bag_more (types.Bare base.Integer) P Q f h = absurd h
 bag_more (types.Bare base.Boolean) P Q f h = absurd h
 bag_more (types.Bare base.Character) P Q f h = absurd h
@@ -100,7 +100,7 @@ module _ (us : List Source) (kinds more : Kinds) (extends : ExtendsKinds kinds m
     of_more (datum.text s) t h = h
     of_more (datum.array w) t h = array_more (outside_of t) _ _ _ (all_more w (inside_of t)) h
     of_more (datum.fields w) t h =
-        record_more (outside_of t) _ _ _ _ (λ i. are_more w (field_types us i)) (λ g. (g.0, nodes_more w (inside_of t) g.1)) h
+        record_more (outside_of t) _ _ _ _ (λ i. are_more w (field_types us i)) (λ g. (g.0, g.1, nodes_more w (inside_of t) g.2)) h
     of_more (datum.set w) t h = set_more (outside_of t) _ _ (λ x. (x.0, all_more w (inside_of t) x.1)) h
     of_more (datum.bag w) t h = bag_more (outside_of t) _ _ (λ x. (x.0, all_more w (inside_of t) x.1)) h
     of_more (datum.object process number) t h = object_more (outside_of t) process number h
@@ -147,11 +147,11 @@ module _ (us : List Source) (kinds more : Kinds) (extends : ExtendsKinds kinds m
     values_more (datum.more (datum.bag u) w) t h = absurd h
     values_more (datum.more (datum.object p n) w) t h = absurd h
 
-  fits_more : (v : Datum) (t : Option DataType) → Fits us kinds v t → Fits us more v t
+  pub fits_more : (v : Datum) (t : Option DataType) → Fits us kinds v t → Fits us more v t
   fits_more v None h = absurd h
   fits_more v (Some t) h = (of_more v t h.0, h.1)
 
-  fitting_more : (vs : List Datum) (ls : List Local) → AreFitting us kinds vs ls → AreFitting us more vs ls
+  pub fitting_more : (vs : List Datum) (ls : List Local) → AreFitting us kinds vs ls → AreFitting us more vs ls
   fitting_more [] [] h = tt
   fitting_more [] (l ∷ ls) h = absurd h
   fitting_more (v ∷ vs) [] h = absurd h

@@ -7,6 +7,7 @@ use Rattle.value_core.specs.declared.action.Action.{Action}
 use Rattle.value_core.specs.declared.action.Reply.{Reply}
 use Rattle.value_core.specs.declared.action.Reply.TheVariants as reply
 use Rattle.meaning_rules.specs.States.{State, Out, Goes, Stops, Needs, Faults, Busy, after, gives, begun, turn, replied, act}
+use Rattle.meaning_rules.proofs.Closed.{Closed}
 use Rattle.meaning_rules.specs.Loops.{Flow, On, Back, Round, Over, Again, Leave, go_on, loop, repeated, next_round}
 
 -- so many turns more
@@ -106,3 +107,24 @@ module _ (round : State → Out Round) (h : Steady round) where
         let e : suc s.left + k ≡ suc (s.left + k) = omega arith in
         subst (λ n. Keeps k (loop (suc s.left) round s) (loop n round (more k s))) e (loop_keeps (suc s.left) k k s);
   }
+
+-- ---- other variables
+
+framed_steady : {A : Type 0} (g : List Datum → State → Out A) (h : List Datum → List Datum) → ((frame : List Datum) → Steady (g frame)) →
+    Steady (λ s. g s.frame (record s { frame = h s.frame }))
+framed_steady g h all = record { steady = λ k s. (all s.frame).steady k (record s { frame = h s.frame }) }
+
+pub busy_steady : {A : Type 0} → Steady {A = A} (λ s. Stops Busy)
+busy_steady = record { steady = λ k s. tt }
+
+pub all_steady : Closed (λ A f. Steady f)
+all_steady = record {
+  goes = λ A x. goes_steady x;
+  faults = λ A fault. stops_steady fault;
+  gives = λ A r. result_steady r;
+  then = λ A B f next first others. then_steady f next first others;
+  turns = turn_steady;
+  acts = λ a performable. act_steady a;
+  framed = λ A g h all. framed_steady g h all;
+  repeats = λ round h. repeated_steady round h;
+}

@@ -29,7 +29,7 @@ use Rattle.value_core.specs.Sound.{IsCode}
 use Rattle.value_core.specs.View.{datum_of}
 use Rattle.value_core.specs.declared.action.Reply.{Reply}
 use Rattle.value_core.specs.declared.action.Reply.TheVariants as reply
-use Rattle.graph_values.specs.Graphs.{IsGraph}
+use Rattle.graph_values.specs.Graphs.{IsGraph, name_in}
 use Rattle.meaning_rules.specs.Openings.{field_types}
 use Rattle.meaning_rules.specs.Programs.{ObjectType, kind_of, object_type, process_texts, process_scope, result_in}
 use Rattle.meaning_rules.specs.Statements.{names_at}
@@ -93,7 +93,7 @@ module _ (us : List Source) (kinds : Kinds) where
     IsOf (datum.text s) t = IsText (outside_of t) × All IsCode s
     IsOf (datum.array w) t = IsArray (outside_of t) (length (list_of w)) (AllOf w (inside_of t))
     IsOf (datum.fields w) t = IsRecord (outside_of t) (λ i. AreOf w (field_types us i)) (IsGraph (datum.fields w)
-        × NodesOf w (inside_of t))
+        × IsWord (name_in (datum.fields w)) × NodesOf w (inside_of t))
     IsOf (datum.set w) t = IsSet (outside_of t) (IsStrictlySortedBy datum_cmp (list_of w) × AllOf w (inside_of t))
     IsOf (datum.bag w) t = IsBag (outside_of t) (IsSorted datum_cmp (list_of w) × AllOf w (inside_of t))
     IsOf (datum.object process number) t = IsObject us kinds (outside_of t) process number

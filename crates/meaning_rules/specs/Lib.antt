@@ -15,10 +15,17 @@ pub mod Classes
 pub mod Meanings
 pub mod Settled
 pub mod ReadsKeep
+pub mod Replies
 pub mod Fitting
 pub mod StaysFit
 pub mod PartsFit
 pub mod ElementsFit
+pub mod GraphsFit
+pub mod PathsFit
+pub mod PhrasesFit
+pub mod Accepted
+pub mod Preservation
+pub mod FitsSound
 pub mod Phrases
 pub mod Runs
 pub mod ProcessExamples

@@ -13,11 +13,18 @@ ghost use Rattle.value_core.specs.declared.meaning.Doing.TheVariants.{At, Busy};
 ghost use Rattle.value_core.specs.declared.meaning.Making.TheVariants as making;
 ghost use Rattle.value_core.specs.declared.meaning.Tried.TheVariants as tried;
 ghost use Rattle.type_rules.specs.Breaches.{breaches};
+ghost use Rattle.type_rules.specs.Scopes.{Scope};
 ghost use Rattle.link_rules.specs.Units.{Source};
+ghost use Rattle.meaning_rules.specs.Accepted.{IsAccepted, IsPlain};
+ghost use Rattle.meaning_rules.specs.Preservation.{PhrasesPreserve, Preservation};
+ghost use Rattle.meaning_rules.specs.FitsSound.{FitsSound};
 ghost use Rattle.meaning_rules.specs.ReadsKeep.{ReadsKeep};
+ghost use Rattle.meaning_rules.specs.Replies.{StaysOver, UsesFront};
 ghost use Rattle.meaning_rules.specs.Fitting.{FitsArgs, FitsReply, FitsState, FitsText};
 ghost use Rattle.meaning_rules.specs.ElementsFit.{ElementsFit};
+ghost use Rattle.meaning_rules.specs.GraphsFit.{GraphsFit};
 ghost use Rattle.meaning_rules.specs.PartsFit.{PartsFit};
+ghost use Rattle.meaning_rules.specs.PathsFit.{PathsFit};
 ghost use Rattle.meaning_rules.specs.StaysFit.{ArgumentsStay, StatesStay, TextsStay};
 ghost use Rattle.meaning_rules.specs.Settled.{IsSettled};
 ghost use Rattle.meaning_rules.specs.Runs.{class, did, does, ended, faulted, first_made, four_lines, gave, three_lines, twelve_lines, integers, kind, makes, runs, stand, tries};
@@ -38,7 +45,10 @@ ghost use Rattle.meaning_rules.specs.ObjectExamples.{programs as object_programs
 ghost use Rattle.meaning_rules.specs.ProcessExamples.{programs as process_programs, a_chain_of_nodes, bad_index, counting, down, element_first, empty_main, forked_badly, forking, handed_back, indices_first, least_divided, least_element, least_remainder, left_by_return, left_first, no_return, of_another_module, once_until, records, right_side_before_the_walk, short_and, texts, three_rounds, three_until};
 
 use graph_values::graphs_law;
+use type_rules::typing_law;
 use value_ops::elements_law;
+use value_ops::texts_law;
+use value_paths::paths_law;
 
 /// Programs of processes and functions: what each writes, and how it stands then.
 pub fn process_examples()
@@ -156,10 +166,13 @@ pub fn examples_are_typed()
 
 /// The law of the meaning. What a process does next, once it isn't busy, is the same for every greater number of turns. And an operation
 /// that is a read leaves its object as it was, whatever the program: it asks for as many arguments as the operation has parameters, and as
-/// many values as the object has fields.
+/// many values as the object has fields. Replies are used from the front, one by each action, and others behind change nothing; a process
+/// that has ended, has faulted or is busy is so with more replies.
 pub fn meaning_law()
     ensures settled { (us : List Source) → IsSettled us }
     ensures reads { (us : List Source) → ReadsKeep us }
+    ensures fronts { (us : List Source) → UsesFront us }
+    ensures over { (us : List Source) → StaysOver us }
 {}
 
 /// What fits, on examples: the state that a making gives, and values that aren't of a type.
@@ -175,14 +188,33 @@ pub fn fitting_examples()
 {}
 
 /// What fits. The parts of a value of a type, which steps lead to, are of the parts' types, and a value in place of one leaves the whole of
-/// its type; so are elements, under `insert`, `delete` and `from`; and what fits goes on fitting as more objects come to be.
+/// its type; so are those at the ends of paths, which can be walked; so are elements, under `insert`, `delete` and `from`, and nodes, under
+/// `addnode` and `deletenode`; and what fits goes on fitting as more objects come to be.
 pub fn fitting_law()
     ensures parts { (us : List Source) → PartsFit us }
+    ensures paths { (us : List Source) → PathsFit us }
     ensures elements { (us : List Source) → ElementsFit us }
+    ensures graphs { (us : List Source) → GraphsFit us }
     ensures states { (us : List Source) → StatesStay us }
     ensures arguments { (us : List Source) → ArgumentsStay us }
     ensures texts { (us : List Source) → TextsStay us }
 {
     elements_law();
     graphs_law();
+}
+
+/// Preservation, of a program that is accepted. A phrase without a breach, evaluated in variables that fit their scope, gives what is of its
+/// type and leaves variables that fit, as long as replies are such as its actions can get; an action to which it comes is of an object that
+/// is there, and of arguments that fit. So do functions; a made state fits, what a try leaves and replies fits, and processes are lawful.
+/// What fits is sound.
+pub fn typed_law()
+    ensures phrases { (v : Scope) → IsAccepted v.program → IsPlain v → PhrasesPreserve v }
+    ensures programs { (us : List Source) → IsAccepted us → Preservation us }
+    ensures sound { (us : List Source) → IsAccepted us → FitsSound us }
+{
+    typing_law();
+    elements_law();
+    graphs_law();
+    texts_law();
+    paths_law();
 }

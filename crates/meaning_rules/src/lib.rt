@@ -15,7 +15,7 @@
 //! An accepted program links and breaks no rule of typing. For what doesn't occur in one (a name without a type, a call of what is no
 //! function, a value of another type, an action in an implementation) the definitions give some answer, of which nothing is claimed.
 //!
-//! specs/Fitting.antt says what fits. `meaning_law` says that more turns change nothing but whether a process is busy, and that a read
+//! specs/Fitting.antt says what fits, and `typed_law` that programs keep it (specs/Preservation.antt). `meaning_law` says that more turns change nothing but whether a process is busy, and that a read
 //! leaves its object as it was; `fitting_law` that parts of what fits fit, and that what fits goes on fitting. The other functions compute
 //! the definitions on programs, and wrong rules beside the right ones. No code stands here.
 #![tactic(auto)]
@@ -24,5 +24,5 @@ mod law;
 
 pub use law::{
     examples_are_typed, fitting_examples, fitting_law, meaning_law, object_examples,
-    process_examples, value_examples, wrong_rules,
+    process_examples, typed_law, value_examples, wrong_rules,
 };

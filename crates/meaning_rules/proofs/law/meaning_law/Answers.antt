@@ -1,4 +1,4 @@
-use Rattle.meaning_rules.proofs.Settling.{is_settled}
+use Rattle.meaning_rules.proofs.Settling.{is_settled, stays_over, uses_front}
 use Rattle.meaning_rules.proofs.ReadsKeeping.{reads_keep}
 use Rattle.meaning_rules.proofs.law.meaning_law.Goals as goal
 
@@ -7,3 +7,9 @@ returns-clause-settled c = is_settled
 
 pub returns-clause-reads : goal.returns-clause-reads
 returns-clause-reads c = reads_keep
+
+pub returns-clause-fronts : goal.returns-clause-fronts
+returns-clause-fronts c = uses_front
+
+pub returns-clause-over : goal.returns-clause-over
+returns-clause-over c = stays_over

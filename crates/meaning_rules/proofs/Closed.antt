@@ -1,0 +1,20 @@
+-- What evaluations are made of. What holds of a result, a fault, a turn, an action, of one evaluation and then another, of one in other
+-- variables, and of rounds where it holds of what they are made of, holds of every phrase, function and process (Everywhere.antt).
+use Rattle.std.specs.Prelude.{◌≡◌, true, List, Option, Result}
+use Rattle.orca_base.specs.declared.fault.FaultKind.{FaultKind}
+use Rattle.value_core.specs.Datum.{Datum}
+use Rattle.value_core.specs.Performable.{is_performable}
+use Rattle.value_core.specs.declared.action.Action.{Action}
+use Rattle.meaning_rules.specs.States.{State, Out, Goes, Stops, Faults, after, gives, turn, act}
+use Rattle.meaning_rules.specs.Loops.{Flow, Round, repeated}
+
+pub record Closed (G : (A : Type 0) → (State → Out A) → Type 0) : Type 1 where
+  pub goes : (A : Type 0) (x : A) → G A (λ s. Goes x s)
+  pub faults : (A : Type 0) (fault : FaultKind) → G A (λ s. Stops (Faults fault))
+  pub gives : (A : Type 0) (r : List Datum → Result A FaultKind) → G A (λ s. gives (r s.frame) s)
+  pub then : (A B : Type 0) (f : State → Out A) (next : A → State → Out B) → G A f → ((x : A) → G B (next x)) → G B (λ s. after (f s) next)
+  pub turns : G (Unit {0}) turn
+  pub acts : (a : List Datum → Action) → ((frame : List Datum) → is_performable (a frame) ≡ true) → G (Option Datum) (λ s. act (a s.frame) s)
+  pub framed : (A : Type 0) (g : List Datum → State → Out A) (h : List Datum → List Datum) → ((frame : List Datum) → G A (g frame)) →
+      G A (λ s. g s.frame (record s { frame = h s.frame }))
+  pub repeats : (round : State → Out Round) → G Round round → G Flow (repeated round)
