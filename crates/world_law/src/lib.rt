@@ -24,6 +24,7 @@ ghost use Rattle.world_law.specs.Once.{RunsOnce};
 ghost use Rattle.world_law.specs.Packets.{AllNumber};
 ghost use Rattle.world_law.specs.Places.{AllReach, PlacesNeverFall};
 ghost use Rattle.world_law.specs.SoundPackets.{AllLettersSound};
+ghost use Rattle.world_law.specs.Turns.{AllTurn};
 
 use group_law::{agreement_law, packets_are_sound};
 use group_rules::wire_law;
@@ -153,3 +154,9 @@ pub fn answers_reach()
     agreement_law::<Message>();
     wire_law::<Message, Reply>();
 }
+
+/// In every run no process takes more turns than there may be, one that doesn't compute took fewer, and it is over where it ended or faulted
+/// alone.
+pub fn turns_stay_within()
+    ensures { AllTurn }
+{}
