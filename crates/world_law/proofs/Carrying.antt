@@ -43,18 +43,18 @@ use Rattle.world_law.proofs.Climbing.{node_below}
 use Rattle.world_law.proofs.Maps.{at_both}
 use Rattle.world_law.proofs.Walking.{performed_node}
 
--- its action was submitted, or it waits with it
-abbrev pub IsWaiting : Stage → Type 0
-IsWaiting (Submitted act) = Unit {0}
-IsWaiting (Reading act) = Unit {0}
-IsWaiting (Asking act) = Unit {0}
-IsWaiting Computing = ⊥
-IsWaiting (Acting act) = ⊥
-IsWaiting (Over act) = ⊥
+-- this action was submitted, or the process waits with it
+abbrev pub IsWaiting : Action → Stage → Type 0
+IsWaiting act (Submitted other) = other ≡ act
+IsWaiting act (Reading other) = other ≡ act
+IsWaiting act (Asking other) = other ≡ act
+IsWaiting act Computing = ⊥
+IsWaiting act (Acting other) = ⊥
+IsWaiting act (Over other) = ⊥
 
 pub record Carries (f : Frame) (Q : ℕ → Played → Type 0) : Type 0 where
   pub replied : (i place : ℕ) (reply : Reply) (r : Played) → Q i r → Q i (receives place reply r)
-  pub moved : (i : ℕ) (r : Played) (act : Action) (stage : Stage) → r.stage ≡ Acting act → IsWaiting stage → Q i r → Q i (moves_to stage r)
+  pub moved : (i : ℕ) (r : Played) (act : Action) (stage : Stage) → r.stage ≡ Acting act → IsWaiting act stage → Q i r → Q i (moves_to stage r)
   pub born : (i : ℕ) (process : Begun) → Q i (newborn process)
   pub burst :
       (w : World) (i : ProcessNo) (place turns : ℕ) (burst : Burst) (is : IsBurst f w i place turns burst) → Q i.0 is.start → Q i.0 burst.end
@@ -181,36 +181,36 @@ module _ (Q : ℕ → Played → Type 0) (f : Frame) (carries : Carries f Q) whe
 
   -- ---- parts of events
 
-  so_asks : (m i : ℕ) (r : Played) (was : Action) (call : Suspended) (v : NodeWork) → v.node.played i ≡ Some r → r.stage ≡ Acting was → So v →
+  so_asks : (m i : ℕ) (r : Played) (call : Suspended) (v : NodeWork) → v.node.played i ≡ Some r → r.stage ≡ Acting (message_of call).action → So v →
       So (asks f m i r call v)
-  so_asks m i r was call v here is h =
+  so_asks m i r call v here is h =
       let u : NodeWork = plays i (moves_to (Asking (message_of call).action) r) v in
-      let k : So u = so_plays i (moves_to (Asking (message_of call).action) r) v (carries.moved i r was (Asking (message_of call).action) is tt (h i r here)) h in
+      let k : So u = so_plays i (moves_to (Asking (message_of call).action) r) v (carries.moved i r (message_of call).action (Asking (message_of call).action) is refl (h i r here)) h in
       cond_both (owner_in (known f v.node) call.object == m) _ _ So (λ e. so_call m (message_of call) u k) (λ e. k)
 
-  so_calls_as : (m i : ℕ) (r : Played) (was : Action) (call : Suspended) (class : Class) (v : NodeWork) → v.node.played i ≡ Some r →
-      r.stage ≡ Acting was → So v → So (calls_as f m i r call class v)
-  so_calls_as m i r was call Reads v here is h =
+  so_calls_as : (m i : ℕ) (r : Played) (call : Suspended) (class : Class) (v : NodeWork) → v.node.played i ≡ Some r →
+      r.stage ≡ Acting (message_of call).action → So v → So (calls_as f m i r call class v)
+  so_calls_as m i r call Reads v here is h =
       let t : Played = moves_to (Reading (message_of call).action) r in
       let u : NodeWork = plays i t v in
-      so_tries i (u.node.played i) u refl (so_plays i t v (carries.moved i r was (Reading (message_of call).action) is tt (h i r here)) h)
-  so_calls_as m i r was call Writes v here is h =
-      so_plays i (moves_to (Submitted (message_of call).action) r) v (carries.moved i r was (Submitted (message_of call).action) is tt (h i r here)) h
+      so_tries i (u.node.played i) u refl (so_plays i t v (carries.moved i r (message_of call).action (Reading (message_of call).action) is refl (h i r here)) h)
+  so_calls_as m i r call Writes v here is h =
+      so_plays i (moves_to (Submitted (message_of call).action) r) v (carries.moved i r (message_of call).action (Submitted (message_of call).action) is refl (h i r here)) h
 
-  so_by : (m i : ℕ) (r : Played) (was act : Action) (v : NodeWork) → v.node.played i ≡ Some r → r.stage ≡ Acting was → So v → So (acts_by f m i r act v)
-  so_by m i r was (action.Make kind object) v here is h =
-      so_plays i (moves_to (Submitted (action.Make kind object)) r) v (carries.moved i r was (Submitted (action.Make kind object)) is tt (h i r here)) h
-  so_by m i r was (action.Call kind op object args) v here is h =
+  so_by : (m i : ℕ) (r : Played) (act : Action) (v : NodeWork) → v.node.played i ≡ Some r → r.stage ≡ Acting act → So v → So (acts_by f m i r act v)
+  so_by m i r (action.Make kind object) v here is h =
+      so_plays i (moves_to (Submitted (action.Make kind object)) r) v (carries.moved i r (action.Make kind object) (Submitted (action.Make kind object)) is refl (h i r here)) h
+  so_by m i r (action.Call kind op object args) v here is h =
       let call : Suspended = record { process = record { 0 = i }; call = next_call r; kind = kind; op = op; object = object; args = args } in
-      cond_both (singles_of f (known f v.node) call.object) _ _ So (λ e. so_asks m i r was call v here is h)
-      (λ e. so_calls_as m i r was call (f.performs.class_of call.kind call.op) v here is h)
-  so_by m i r was (action.Fork text args place_on) v here is h =
-      so_plays i (moves_to (Submitted (action.Fork text args place_on)) r) v (carries.moved i r was (Submitted (action.Fork text args place_on)) is tt (h i r here)) h
-  so_by m i r was action.Ended v here is h = h
-  so_by m i r was (action.Faulted fault) v here is h = h
+      cond_both (singles_of f (known f v.node) call.object) _ _ So (λ e. so_asks m i r call v here is h)
+      (λ e. so_calls_as m i r call (f.performs.class_of call.kind call.op) v here is h)
+  so_by m i r (action.Fork text args place_on) v here is h =
+      so_plays i (moves_to (Submitted (action.Fork text args place_on)) r) v (carries.moved i r (action.Fork text args place_on) (Submitted (action.Fork text args place_on)) is refl (h i r here)) h
+  so_by m i r action.Ended v here is h = h
+  so_by m i r (action.Faulted fault) v here is h = h
 
   so_at : (m i : ℕ) (r : Played) (stage : Stage) (v : NodeWork) → v.node.played i ≡ Some r → r.stage ≡ stage → So v → So (acts_at f m i r stage v)
-  so_at m i r (Acting act) v here is h = so_by m i r act act v here is h
+  so_at m i r (Acting act) v here is h = so_by m i r act v here is h
   so_at m i r Computing v here is h = h
   so_at m i r (Submitted act) v here is h = h
   so_at m i r (Reading act) v here is h = h

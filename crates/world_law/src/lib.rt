@@ -155,8 +155,8 @@ pub fn answers_reach()
     wire_law::<Message, Reply>();
 }
 
-/// In every run no process takes more turns than there may be, one that doesn't compute took fewer, and it is over where it ended or faulted
-/// alone.
-pub fn turns_stay_within()
+/// In every run the action at which a process is, is what it does next by its meaning, after its replies; it took no more turns than there may
+/// be, and fewer where it doesn't compute; and it is over where it ended or faulted alone.
+pub fn processes_stand_by_meaning()
     ensures { AllTurn }
 {}
