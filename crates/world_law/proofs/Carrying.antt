@@ -1,5 +1,5 @@
 -- What holds of each process goes on to hold, where it does so as a process receives a reply, stands elsewhere, and begins.
-use Rattle.std.proofs.Common.{◌≡◌, ◌==◌, ◌||◌, if◌then◌else◌, ℕ, zero, suc, List, [], ◌∷◌, length, Option, None, Some, refl, sym, ap, ◌∙◌, subst, nat_lt, nat_le}
+use Rattle.std.proofs.Common.{◌≡◌, ◌==◌, ◌||◌, if◌then◌else◌, ℕ, zero, suc, List, [], ◌∷◌, length, Option, None, Some, refl, sym, subst, nat_lt, nat_le}
 use Rattle.std.proofs.lemmas.Bool.{cond_both}
 use Rattle.orca_base.specs.declared.ids.CallNo.{CallNo}
 use Rattle.orca_base.specs.declared.ids.ProcessNo.{ProcessNo}
@@ -24,19 +24,19 @@ use Rattle.net_rules.specs.declared.flight.Flight.{Flight}
 use Rattle.world_rules.specs.declared.event.Event as world
 use Rattle.world_rules.specs.declared.event.Event.TheVariants as event
 use Rattle.world_rules.specs.declared.event.Step.{Step}
-use Rattle.world_rules.specs.Applying.{answers, applies, applies_all, applies_each, applies_one, begins, copies_take, due_entries, notes, passes_limit, performs_read, round, rounds, tries_as, tries_of, tries_read, tries_reads}
+use Rattle.world_rules.specs.Applying.{answers, applies, applies_all, applies_each, applies_one, begins, copies_take, due_entries, passes_limit, performs_read, round, rounds, tries_as, tries_of, tries_reads}
 use Rattle.world_rules.specs.Frame.{Frame, group}
 use Rattle.world_rules.specs.Mail.{Carried, Errand, Mail, is_whole, place_of, receiver_of}
 use Rattle.world_rules.specs.Mail.Errand.{Ask, Answer}
 use Rattle.world_rules.specs.Nodes.{Given, Node, NodeWork, becomes, changes, does, idle, if_played, joins, known, plays}
 use Rattle.world_rules.specs.Nodes.Deed.{Performs}
-use Rattle.world_rules.specs.Owners.{arrives, hands, hands_all, hands_to, hears_as, hears_of, holds, is_held, performs_call, takes, takes_asked, takes_call, takes_each, takes_reached, waits_here}
-use Rattle.world_rules.specs.Parts.{acts, acts_at, acts_by, acts_of, asks, asks_again, asks_below, calls_as, catches_up, computes, performs_all, receives_mail, suspects, ticks}
+use Rattle.world_rules.specs.Owners.{hands, hands_all, hands_to, hears_as, hears_of, holds, is_held, performs_call, takes, takes_asked, takes_call, takes_each, waits_here}
+use Rattle.world_rules.specs.Parts.{acts, acts_at, acts_by, acts_of, asks, asks_again, calls_as, catches_up, computes, performs_all, receives_mail, suspects, ticks}
 use Rattle.world_rules.specs.Parts.{receives as receives_part}
 use Rattle.world_rules.specs.Played.{Played, Stage, moves_to, newborn, next_call, receives}
 use Rattle.world_rules.specs.Played.Stage.{Computing, Acting, Submitted, Reading, Asking, Over}
 use Rattle.world_rules.specs.Processes.{Begun, begun_by, home_in, owner_in, singles_of}
-use Rattle.world_rules.specs.Steps.{AtWork, Burst, IsBurst, Known, Next, Possible, after_part, closes, comes_whole, happens, lives_in, ticks_below, untouched}
+use Rattle.world_rules.specs.Steps.{AtWork, Burst, IsBurst, Known, Next, Possible, after_part, comes_whole, happens, lives_in, ticks_below, untouched}
 use Rattle.world_rules.specs.Worlds.{World, home_of}
 use Rattle.world_law.proofs.Ages.{posted_nodes}
 use Rattle.world_law.proofs.Climbing.{node_below}

@@ -1,8 +1,7 @@
 -- Turns, and the ends of processes, along a run.
-use Rattle.std.proofs.Common.{◌≡◌, ◌&&◌, ◌+◌, ◌-◌, ◌≤◌, ◌<◌, min, ℕ, zero, suc, Bool, true, false, List, [], ◌∷◌, Option, None, Some, refl, sym, ap, ◌∙◌, arith, subst, nat_le}
+use Rattle.std.proofs.Common.{◌≡◌, ◌+◌, ◌≤◌, ℕ, zero, suc, true, List, [], ◌∷◌, None, Some, refl, sym, ap, ◌∙◌, arith, subst, nat_le}
 use Rattle.std.proofs.lemmas.Bool.{and_parts, leb-true}
 use Rattle.orca_base.specs.declared.ids.ProcessNo.{ProcessNo}
-use Rattle.orca_base.specs.declared.limits.TheConstants.{BURST_TURNS}
 use Rattle.value_core.specs.History.{Objects}
 use Rattle.value_core.specs.declared.action.Action.{Action}
 use Rattle.value_core.specs.declared.action.Action.TheVariants as action
@@ -16,14 +15,13 @@ use Rattle.world_rules.specs.Frame.{Frame}
 use Rattle.world_rules.specs.Nodes.{opening_node}
 use Rattle.world_rules.specs.Played.{Played, Stage, at_action, halted, is_computing, newborn}
 use Rattle.world_rules.specs.Played.Stage.{Computing, Acting, Submitted, Reading, Asking, Over}
-use Rattle.world_rules.specs.Processes.{Begun, first_process}
-use Rattle.world_rules.specs.Standings.{has_no_turns}
-use Rattle.world_law.specs.Turns.{IsAt, IsEnd, StepsTurn, action_at}
+use Rattle.world_rules.specs.Processes.{first_process}
+use Rattle.world_law.specs.Turns.{StandsByMeaning, IsEnd, StepsByMeaning, action_at}
 use Rattle.world_law.proofs.Carrying.{Carries, IsWaiting, so_step}
 use Rattle.world_law.proofs.Maps.{at_both}
 
 -- a process that computes, after so many turns
-computes_on : (f : Frame) (i : ℕ) (r : Played) → r.turns ≤ f.settings.turns → r.stage ≡ Computing → IsAt f i r
+computes_on : (f : Frame) (i : ℕ) (r : Played) → r.turns ≤ f.settings.turns → r.stage ≡ Computing → StandsByMeaning f i r
 computes_on f i r le is = record {
   within = le;
   fewer = λ no. absurd (no is);
@@ -47,7 +45,7 @@ ends_so (action.Call kind op object args) done e = absurd (cc e)
 ends_so (action.Fork text args place_on) done e = absurd (cc e)
 
 halts_so : (f : Frame) (i : ProcessNo) (r : Played) (last used : ℕ) (at_halt : Halt) → r.turns ≤ last → last ≤ f.settings.turns →
-    Halts f i r last used at_halt → IsAt f i.0 (halted used at_halt r)
+    Halts f i r last used at_halt → StandsByMeaning f i.0 (halted used at_halt r)
 halts_so f i r last used (halt.At act) from to h =
     let low = h.2 in
     let is = h.4 in
@@ -64,8 +62,8 @@ halts_so f i r last used halt.Paused from to h =
     computes_on f i.0 (halted used halt.Paused r) (omega (arith, from, to, is)) refl
 
 ran_so : (f : Frame) (objects : Objects) (place : ℕ) (i : ProcessNo) (last : ℕ) (r : Played) (lines : List Line) (end : Played) → r.turns ≤ last →
-    last ≤ f.settings.turns → Ran f objects place i last r lines end → IsAt f i.0 end
-ran_so f objects place i last r [] end from to ran = subst (IsAt f i.0) (sym ran.4) (halts_so f i r last ran.1 ran.0 from to ran.2)
+    last ≤ f.settings.turns → Ran f objects place i last r lines end → StandsByMeaning f i.0 end
+ran_so f objects place i last r [] end from to ran = subst (StandsByMeaning f i.0) (sym ran.4) (halts_so f i r last ran.1 ran.0 from to ran.2)
 ran_so f objects place i last r (line ∷ lines) end from to ran =
     let low = ran.2.2 in
     let is = ran.2.4 in
@@ -91,7 +89,7 @@ waits_with (Over other) act h done e = absurd h
 acting_not : (r : Played) (act : Action) → r.stage ≡ Acting act → r.stage ≡ Computing → ⊥
 acting_not r act is e = let wrong : Acting act ≡ Computing = sym is ∙ e in cc wrong
 
-turns_carry : (f : Frame) → Carries f (IsAt f)
+turns_carry : (f : Frame) → Carries f (StandsByMeaning f)
 turns_carry f = record {
   replied = λ i place reply r h. computes_on f i _ h.within refl;
   moved = λ i r act stage is waits h. record {
@@ -106,9 +104,9 @@ turns_carry f = record {
       ran_so f _ place i (last_turn f is.start) is.start burst.reads burst.end (omega arith) (omega (arith, within)) is.ran;
 }
 
-opening_turns : (f : Frame) (m i : ℕ) (r : Played) → (opening_node f m).played i ≡ Some r → IsAt f i r
-opening_turns f zero i r = at_both nobody 0 (Some (newborn (first_process f))) i (λ z. z ≡ Some r → IsAt f i r)
-    (λ e found. let same : newborn (first_process f) ≡ r = cc found in subst (IsAt f i) same (computes_on f i (newborn (first_process f)) (omega arith) refl))
+opening_turns : (f : Frame) (m i : ℕ) (r : Played) → (opening_node f m).played i ≡ Some r → StandsByMeaning f i r
+opening_turns f zero i r = at_both nobody 0 (Some (newborn (first_process f))) i (λ z. z ≡ Some r → StandsByMeaning f i r)
+    (λ e found. let same : newborn (first_process f) ≡ r = cc found in subst (StandsByMeaning f i) same (computes_on f i (newborn (first_process f)) (omega arith) refl))
     (λ no found. absurd (cc found))
 opening_turns f (suc m) i r = λ found. absurd (cc found)
 
@@ -120,10 +118,10 @@ computing_is (Reading act) e = absurd (cc e)
 computing_is (Asking act) e = absurd (cc e)
 computing_is (Over act) e = absurd (cc e)
 
-pub steps_turn : (f : Frame) → StepsTurn f
+pub steps_turn : (f : Frame) → StepsByMeaning f
 steps_turn f = record {
   opening = opening_turns f;
-  step = λ w v step next h. so_step (IsAt f) f (turns_carry f) w v step next h;
+  step = λ w v step next h. so_step (StandsByMeaning f) f (turns_carry f) w v step next h;
   out = λ i r h e.
       let parts = and_parts (nat_le f.settings.turns r.turns) (is_computing r.stage) e in
       let most = h.within in

@@ -1,4 +1,5 @@
--- Where processes stand, by their meaning: the action at which one is, is what it does next after its replies; and how many turns it took.
+-- Where processes stand, by their meaning: the action at which one is, is what it does next after its replies; and how many turns it
+-- took.
 use Rattle.std.specs.Prelude.{◌≡◌, ◌≤◌, ◌<◌, ◌+◌, ℕ, true, Option, None, Some}
 use Rattle.value_core.specs.declared.action.Action.{Action}
 use Rattle.value_core.specs.declared.action.Action.TheVariants as action
@@ -28,9 +29,9 @@ action_at (Reading act) = Some act
 action_at (Asking act) = Some act
 action_at (Over act) = Some act
 
--- process i took as many turns as there may be at most, and fewer where it doesn't compute; the action at which it is, is what it does next,
--- with one turn more to take; and it is over where it ended or faulted alone
-pub record IsAt (f : Frame) (i : ℕ) (r : Played) : Type 0 where
+-- process i took as many turns as there may be at most, and fewer where it doesn't compute; the action at which it is, is what it does
+-- next, with one turn more to take; and it is over where it ended or faulted alone
+pub record StandsByMeaning (f : Frame) (i : ℕ) (r : Played) : Type 0 where
   pub within : r.turns ≤ f.settings.turns
   pub fewer : (r.stage ≡ Computing → ⊥) → r.turns < f.settings.turns
   pub next :
@@ -38,14 +39,16 @@ pub record IsAt (f : Frame) (i : ℕ) (r : Played) : Type 0 where
       f.computes.doing r.text (record { 0 = i }) r.args r.replies (r.turns + 1) ≡ doing.At act
   pub over : (act : Action) → r.stage ≡ Over act → IsEnd act
 
-abbrev pub AllAre : Frame → World → Type 0
-AllAre f w = (m i : ℕ) (r : Played) → (w.nodes m).played i ≡ Some r → IsAt f i r
+abbrev pub AllStandByMeaning : Frame → World → Type 0
+AllStandByMeaning f w = (m i : ℕ) (r : Played) → (w.nodes m).played i ≡ Some r → StandsByMeaning f i r
 
 -- `out`, so a process that has no turns left took just so many, and computes
-pub record StepsTurn (f : Frame) : Type 0 where
-  pub opening : AllAre f (opening_world f)
-  pub step : (w v : World) (step : Step) → Next f w step v → AllAre f w → AllAre f v
-  pub out : (i : ℕ) (r : Played) → IsAt f i r → has_no_turns f (Some r) ≡ true → (r.turns ≡ f.settings.turns) × (r.stage ≡ Computing)
+pub record StepsByMeaning (f : Frame) : Type 0 where
+  pub opening : AllStandByMeaning f (opening_world f)
+  pub step : (w v : World) (step : Step) → Next f w step v → AllStandByMeaning f w → AllStandByMeaning f v
+  pub out :
+      (i : ℕ) (r : Played) → StandsByMeaning f i r → has_no_turns f (Some r) ≡ true →
+      (r.turns ≡ f.settings.turns) × (r.stage ≡ Computing)
 
-abbrev pub AllTurn : Type 0
-AllTurn = (f : Frame) → StepsTurn f
+abbrev pub AllByMeaning : Type 0
+AllByMeaning = (f : Frame) → StepsByMeaning f
