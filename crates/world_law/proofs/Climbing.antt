@@ -397,7 +397,7 @@ node_of : (f : Frame) (m i : ℕ) (o : Option Played) (v : NodeWork) → (asks_a
 node_of f m i None v = refl
 node_of f m i (Some r) v = node_at f m i r r.stage v
 
-node_below : (f : Frame) (m n : ℕ) (v : NodeWork) → (asks_below f m n v).node ≡ v.node
+pub node_below : (f : Frame) (m n : ℕ) (v : NodeWork) → (asks_below f m n v).node ≡ v.node
 node_below f m zero v = refl
 node_below f m (suc i) v = node_of f m i ((asks_below f m i v).node.played i) (asks_below f m i v) ∙ node_below f m i v
 

@@ -14,6 +14,7 @@ use Rattle.world_law.specs.Holds.{StepsHold}
 use Rattle.world_law.specs.Homes.{AreHome, StepsHome}
 use Rattle.world_law.specs.Packets.{StepsNumber}
 use Rattle.world_law.specs.Places.{StepsReach}
+use Rattle.world_law.specs.Turns.{StepsByMeaning}
 use Rattle.world_law.proofs.Ages.{Fresh, step_later}
 use Rattle.world_law.proofs.Arriving.{stands_after, steps_reach}
 use Rattle.world_law.proofs.Asking.{all_asks, step_asks}
@@ -25,6 +26,7 @@ use Rattle.world_law.proofs.Moments.{MoreLaws}
 use Rattle.world_law.proofs.Numbering.{steps_number}
 use Rattle.world_law.proofs.Smallness.{steps_count}
 use Rattle.world_law.proofs.TrueAnswers.{all_answers, step_true}
+use Rattle.world_law.proofs.Turning.{steps_turn}
 
 -- no process is here beyond those that are counted
 fresh_home : (f : Frame) (w : World) → AreHome f w → (m : ℕ) → Fresh (w.nodes m)
@@ -46,6 +48,7 @@ steps_hold more law routes agreed f small =
     let caught_up : StepsCatchUp f = steps_catch_up more.laws f small in
     let home : StepsHome f = steps_home more agreed f small in
     let reach : StepsReach f = steps_reach more.laws agreed f small in
+    let meaning : StepsByMeaning f = steps_turn f in
     record {
       opening = record {
         grouped = grouped.opening;
@@ -54,6 +57,7 @@ steps_hold more law routes agreed f small =
         places = numbered.opening.1;
         caught_up = caught_up.opening;
         home = home.opening;
+        meaning = meaning.opening;
         answers = all_answers f [] (opening_world f) refl;
         asks = all_asks f [] (opening_world f) refl;
         calls = reach.opening;
@@ -68,6 +72,7 @@ steps_hold more law routes agreed f small =
             places = both.1;
             caught_up = caught_up.step w v step next submit h.grouped h.caught_up;
             home = home.step w v step next submit h.grouped h.home;
+            meaning = meaning.step w v step next h.meaning;
             answers = step_true f w v step next h.answers;
             asks = step_asks f w v step next fresh h.asks;
             calls = stands_after f w v step next fresh h.asks h.places h.calls;

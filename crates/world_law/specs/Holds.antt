@@ -13,6 +13,7 @@ use Rattle.world_law.specs.Grouped.{Grouped, Submits}
 use Rattle.world_law.specs.Homes.{AreHome}
 use Rattle.world_law.specs.Packets.{AreNumbered, PlacesWithin}
 use Rattle.world_law.specs.Places.{CallsStand, PlacesRise}
+use Rattle.world_law.specs.Turns.{AllStandByMeaning}
 
 pub record Holds (f : Frame) (w : World) : Type 0 where
   pub grouped : Grouped f w
@@ -21,6 +22,7 @@ pub record Holds (f : Frame) (w : World) : Type 0 where
   pub places : PlacesWithin w
   pub caught_up : AllCaughtUp f w
   pub home : AreHome f w
+  pub meaning : AllStandByMeaning f w
   pub answers : AnswersTrue w
   pub asks : AsksTrue w
   pub calls : CallsStand w

@@ -24,6 +24,7 @@ ghost use Rattle.world_law.specs.Once.{RunsOnce};
 ghost use Rattle.world_law.specs.Packets.{AllNumber};
 ghost use Rattle.world_law.specs.Places.{AllReach, PlacesNeverFall};
 ghost use Rattle.world_law.specs.SoundPackets.{AllLettersSound};
+ghost use Rattle.world_law.specs.Turns.{AllByMeaning};
 
 use group_law::{agreement_law, packets_are_sound};
 use group_rules::wire_law;
@@ -153,3 +154,9 @@ pub fn answers_reach()
     agreement_law::<Message>();
     wire_law::<Message, Reply>();
 }
+
+/// In every run the action at which a process is, is what it does next by its meaning, after its replies; it took no more turns than there
+/// may be, and fewer where it doesn't compute; and it is over where it ended or faulted alone.
+pub fn processes_stand_by_meaning()
+    ensures { AllByMeaning }
+{}
