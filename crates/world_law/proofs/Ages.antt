@@ -80,12 +80,12 @@ passed_forks_none single (action.Fork text args place_on) e = let f : false ≡ 
 passed_forks_none single action.Ended e = refl
 passed_forks_none single (action.Faulted fault) e = refl
 
-counts : (single : Test) (p : Performs) (c : Copied) (x : Message) (keeps : Bool) →
+pub counts : (single : Test) (p : Performs) (c : Copied) (x : Message) (keeps : Bool) →
     (after_entry single p c x keeps).processes ≡ c.processes + length (forked x.action)
 counts single p c x keeps = cond_both (is_passed single x.action) _ _ (λ (z : Copied). z.processes ≡ c.processes + length (forked x.action))
     (λ e. let n = passed_forks_none single x.action e in omega (arith, n)) (λ e. refl)
 
-born_many : (nodes parent place : ℕ) (a : Action) → length (begun_by nodes parent place a) ≡ length (forked a)
+pub born_many : (nodes parent place : ℕ) (a : Action) → length (begun_by nodes parent place a) ≡ length (forked a)
 born_many nodes parent place (action.Make kind object) = refl
 born_many nodes parent place (action.Call kind op object args) = refl
 born_many nodes parent place (action.Fork text args place_on) = refl
@@ -108,7 +108,7 @@ none_begins m count [] v none i le = none i le
 none_begins m count (process ∷ processes) v none i le = cond_both (process.home == m) _ _ (λ (u : NodeWork). u.node.played i ≡ None)
     (λ e. at_other v.node.played count i (Some (newborn process)) (λ same_one. omega (arith, le, same_one)) ∙ none i le) (λ e. none i le)
 
-count_begins : (m count : ℕ) (born : List Begun) (v : NodeWork) → (begins m count born v).node.copies.processes ≡ v.node.copies.processes
+pub count_begins : (m count : ℕ) (born : List Begun) (v : NodeWork) → (begins m count born v).node.copies.processes ≡ v.node.copies.processes
 count_begins m count [] v = refl
 count_begins m count (process ∷ processes) v = cond_both (process.home == m) _ _ (λ (u : NodeWork). u.node.copies.processes ≡ v.node.copies.processes)
     (λ e. refl) (λ e. refl)
@@ -353,7 +353,7 @@ happens_later f w (event.Suspect node) given may h =
     (goes_joins (coordinate (group f) node (w.nodes node).member) (idle (w.nodes node))) (h node))
 happens_later f w event.Swap given may h = record { later = λ m i r is. (r, is, later_same r); fresh = h }
 
-posted_nodes : (f : Frame) (mails : List Mail) (fates : List Fate) (w : World) → (posts_all f w mails fates).nodes ≡ w.nodes
+pub posted_nodes : (f : Frame) (mails : List Mail) (fates : List Fate) (w : World) → (posts_all f w mails fates).nodes ≡ w.nodes
 posted_nodes f [] fates w = refl
 posted_nodes f (mail ∷ mails) [] w = refl
 posted_nodes f (mail ∷ mails) (one ∷ fates) w = posted_nodes f mails fates (posts f w mail one)

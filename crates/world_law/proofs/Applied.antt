@@ -9,7 +9,7 @@ use Rattle.book_law.specs.Passes.{Test, is_passed, lines_after}
 use Rattle.group_rules.specs.Messages.{Group}
 use Rattle.group_rules.specs.World.{Past}
 use Rattle.world_rules.specs.Applying.{answers, applies, applies_each, applies_one, applies_with, begins, copies_take, due_entries, passes_limit, tries_reads}
-use Rattle.world_rules.specs.Frame.{Frame}
+use Rattle.world_rules.specs.Frame.{Frame, group}
 use Rattle.world_rules.specs.Nodes.{NodeWork, known, past_after}
 use Rattle.world_rules.specs.Processes.{Begun, begun_by, home_in, singles_of}
 use Rattle.world_law.proofs.Still.{Others, Still, still_answers, still_begins, still_on, still_reads}
@@ -22,7 +22,7 @@ pub record Applied (g : Group Message) (m more : ℕ) (v u : NodeWork) : Type 0 
   pub least : v.node.copies.applied ≤ u.node.copies.applied
   pub most : u.node.copies.applied ≤ v.node.copies.applied + more
 
-one_more : (single : Test) (p : Performs) (c : Copied) (x : Message) (keeps : Bool) → (after_entry single p c x keeps).applied ≡ c.applied + 1
+pub one_more : (single : Test) (p : Performs) (c : Copied) (x : Message) (keeps : Bool) → (after_entry single p c x keeps).applied ≡ c.applied + 1
 one_more single p c x keeps = cond_both (is_passed single x.action) _ _ (λ (z : Copied). z.applied ≡ c.applied + 1) (λ e. refl) (λ e. refl)
 
 applied_with : (f : Frame) (g : Group Message) (m k : ℕ) (processes : List Begun) (count place : ℕ) (x : Message) (v : NodeWork) →
@@ -67,3 +67,23 @@ applied_due f g m k v below =
     length-drop v.node.copies.applied (take v.node.member.accepted v.node.member.log) ∙
     ap (λ z. z - v.node.copies.applied) (length-take v.node.member.accepted v.node.member.log) in
     record { member = due.member; past = due.past; others = due.others; least = due.least; most = omega (arith, due.most, n) }
+
+-- one entry is one more
+pub applied_exactly : (f : Frame) (m : ℕ) (x : Message) (v : NodeWork) → (applies_one f m x v).node.copies.applied ≡ v.node.copies.applied + 1
+applied_exactly f m x v =
+    let ps : List Begun = known f v.node in
+    let count : ℕ = v.node.copies.processes in
+    let place : ℕ = suc v.node.copies.applied in
+    let lines = lines_after (singles_of f ps) f.performs v.node.copies x in
+    let born : List Begun = begun_by f.settings.nodes (home_in ps x.process.0) place x.action in
+    let taken : NodeWork = copies_take f m ps x v in
+    let told : NodeWork = answers place lines taken in
+    let u : NodeWork = begins m count born told in
+    let s : Still (group f) m taken (tries_reads f u.node.copies.processes u) =
+    still_on (still_answers (group f) m place lines taken)
+    (still_on (still_begins (group f) m m count born told) (still_reads f (group f) m u.node.copies.processes u)) in
+    s.applied ∙ one_more (singles_of f ps) f.performs v.node.copies x (home_in ps x.process.0 == m)
+
+-- so the member stays with however many entries
+pub member_applies : (f : Frame) (m : ℕ) (xs : List Message) (v : NodeWork) → (applies_each f m xs v).node.member ≡ v.node.member
+member_applies f m xs v = (applied_each f (group f) m m xs v).member

@@ -496,7 +496,7 @@ asks_closes f w step u h =
       held = λ m. subst (λ (nodes : ℕ → Node). AsksAreTrue nodes (nodes m).held) (sym p.stay) (h.asks.held m);
     }
 
-step_asks : (f : Frame) (w v : World) (step : Step) → Next f w step v → ((m : ℕ) → Fresh (w.nodes m)) → AsksTrue w → AsksTrue v
+pub step_asks : (f : Frame) (w v : World) (step : Step) → Next f w step v → ((m : ℕ) → Fresh (w.nodes m)) → AsksTrue w → AsksTrue v
 step_asks f w v step next fresh h = subst AsksTrue (sym next.after)
     (asks_closes f w step (happens f w step.event next.given) (sent_happens f w step.event next.given next.possible fresh h))
 

@@ -233,7 +233,7 @@ pub on_home : (f : Frame) (w : World) (i : ℕ) → 0 < f.settings.nodes → w.l
 on_home f w i some lives = both_true _ _ (lt-ltb _ _ (home_low f w i some)) lives
 
 -- what an event does
-going_happens : (laws : Laws) (f : Frame) (w : World) (event : world.Event) (given : Known event) → 2 * (group f).resilience < (group f).nodes →
+pub going_happens : (laws : Laws) (f : Frame) (w : World) (event : world.Event) (given : Known event) → 2 * (group f).resilience < (group f).nodes →
     Possible f w event given → MayAll f w event → (h : Grouped f w) → Going f h.events (happens f w event given)
 going_happens laws f w (event.Burst process place turns) burst small may submit h =
     part_goes f (home_of f w process.0) (computes process.0 place burst.reads burst.end (w.nodes (home_of f w process.0))) (untouched w) (going f w h)

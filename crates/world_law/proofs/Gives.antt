@@ -37,7 +37,7 @@ use Rattle.world_law.proofs.Still.{Still, still_again, still_arrives, still_asks
 use Rattle.world_law.proofs.Travels.{fly_found, fly_ticked, fly_without}
 
 -- from the opening world, whatever events came before the step
-from_start : (f : Frame) (b : List (Event Message)) (w : World) (m : ℕ) (v : NodeWork) → Good (group f) b w m v → Good (group f) [] w m v
+pub from_start : (f : Frame) (b : List (Event Message)) (w : World) (m : ℕ) (v : NodeWork) → Good (group f) b w m v → Good (group f) [] w m v
 from_start f b w m v h = record {
   reached = record { more = b ++ h.reached.more; run = h.reached.run };
   noted = h.noted;
@@ -64,7 +64,7 @@ are_notes more f small w m [] v grouped on h = step_round more f small w m v gro
 are_notes more f small w m (one ∷ rest) v grouped on h =
     (step_round more f small w m v grouped on h, are_notes more f small w m rest (round f m v) grouped on (rounds_round more.laws f w m v small on h).good)
 
-gives : (more : MoreLaws) (f : Frame) → 2 * (group f).resilience < (group f).nodes → (w : World) (m : ℕ) (v : NodeWork) → Grouped f w →
+pub gives : (more : MoreLaws) (f : Frame) → 2 * (group f).resilience < (group f).nodes → (w : World) (m : ℕ) (v : NodeWork) → Grouped f w →
     (nat_lt m (group f).nodes && w.lives m) ≡ true → KeepsEntries (w.nodes m) v.node → Good (group f) [] w m v → Gives f m w v
 gives more f small w m v grouped on kept h = record {
   entries = kept;
@@ -74,7 +74,7 @@ gives more f small w m v grouped on kept h = record {
 
 -- ---- an action
 
-start : (more : MoreLaws) (f : Frame) → 2 * (group f).resilience < (group f).nodes → (w : World) (m : ℕ) → Grouped f w →
+pub start : (more : MoreLaws) (f : Frame) → 2 * (group f).resilience < (group f).nodes → (w : World) (m : ℕ) → Grouped f w →
     Good (group f) [] w m (idle (w.nodes m))
 start more f small w m grouped = from_start f grouped.events w m (idle (w.nodes m)) (start_good more.laws f w m small grouped)
 
@@ -134,7 +134,7 @@ kept_stage more f small w m i r (Reading act) grouped on may = refl
 kept_stage more f small w m i r (Asking act) grouped on may = refl
 kept_stage more f small w m i r (Over act) grouped on may = refl
 
-kept_acts : (more : MoreLaws) (f : Frame) → 2 * (group f).resilience < (group f).nodes → (w : World) (m i : ℕ) (o : Option Played) → Grouped f w →
+pub kept_acts : (more : MoreLaws) (f : Frame) → 2 * (group f).resilience < (group f).nodes → (w : World) (m i : ℕ) (o : Option Played) → Grouped f w →
     (nat_lt m (group f).nodes && w.lives m) ≡ true → ((r : Played) (act : Action) → o ≡ Some r → r.stage ≡ Acting act → May f w m i r) →
     KeepsEntries (w.nodes m) (acts_of f m i o (idle (w.nodes m))).node
 kept_acts more f small w m i None grouped on may = refl

@@ -43,3 +43,7 @@ low_from f processes applied (x ∷ xs) some h = low_from f (with_entry f proces
 pub home_low : (f : Frame) (w : World) (i : ℕ) → 0 < f.settings.nodes → home_of f w i < f.settings.nodes
 home_low f w i some = low_in f.settings.nodes (processes_in f (agreed f w)) i some
     (low_from f (first_process f ∷ []) 0 (agreed f w) some (some, tt))
+
+-- whichever entries they came from
+pub known_low : (f : Frame) (entries : List Message) (i : ℕ) → 0 < f.settings.nodes → home_in (processes_in f entries) i < f.settings.nodes
+known_low f entries i some = low_in f.settings.nodes (processes_in f entries) i some (low_from f (first_process f ∷ []) 0 entries some (some, tt))

@@ -22,7 +22,7 @@ longest_is w (suc n) = ap (λ xs. longer_of xs (applied_at w n)) (longest_is w n
 agreed_is : (f : Frame) (w : World) → agreed f w ≡ performed (group f) (group_world w)
 agreed_is f w = longest_is w f.settings.nodes
 
-run_append : {M : Type 0} (g : Group M) (w : GroupWorld M) (xs ys : List (Event M)) → run g (run g w xs) ys ≡ run g w (xs ++ ys)
+pub run_append : {M : Type 0} (g : Group M) (w : GroupWorld M) (xs ys : List (Event M)) → run g (run g w xs) ys ≡ run g w (xs ++ ys)
 run_append g w [] ys = refl
 run_append g w (x ∷ xs) ys = run_append g (gnext g w x) xs ys
 
@@ -39,7 +39,7 @@ here : (law : AgreedLaw Message) (f : Frame) → 2 * (group f).resilience < (gro
     GroupsList (group f) (group_world w) (group_world w)
 here law f small w h = two_moments law f small w w h (record { grouped = h; more = []; since = sym (append-nil h.events) })
 
-one_list : (law : AgreedLaw Message) (f : Frame) → 2 * (group f).resilience < (group f).nodes → (w : World) → Grouped f w → OneList f w
+pub one_list : (law : AgreedLaw Message) (f : Frame) → 2 * (group f).resilience < (group f).nodes → (w : World) → Grouped f w → OneList f w
 one_list law f small w h =
     let one = here law f small w h in
     record {

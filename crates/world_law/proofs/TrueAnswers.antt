@@ -96,9 +96,9 @@ posted_true f aside (mail ∷ mails) (one ∷ fates) w h k =
 
 -- ---- a member's part
 
-record Going (u : AtWork) : Type 0 where
-  answers : AnswersTrue u.world
-  mails : MailsTrue u.world.aside u.mails
+pub record Going (u : AtWork) : Type 0 where
+  pub answers : AnswersTrue u.world
+  pub mails : MailsTrue u.world.aside u.mails
 
 start : (w : World) (m : ℕ) → AnswersTrue w → Tells (none_left w.aside) (idle (w.nodes m))
 start w m h = subst (λ xs. TellsOf xs [] (w.nodes m).held (w.nodes m).given []) (sym (append-nil w.aside))
@@ -151,7 +151,7 @@ below_true f (suc m) u h =
     cond_both (v.world.lives m) _ _ Going
     (λ e. part f m (ticks f m (v.world.nodes m)) v k (tells_ticks v.world.aside f m (v.world.nodes m) (start v.world m k.answers))) (λ e. k)
 
-happens_true : (f : Frame) (w : World) (event : world.Event) (given : Known event) → AnswersTrue w → Going (happens f w event given)
+pub happens_true : (f : Frame) (w : World) (event : world.Event) (given : Known event) → AnswersTrue w → Going (happens f w event given)
 happens_true f w (event.Burst process place turns) burst h =
     let m : ℕ = home_of f w process.0 in
     part f m (computes process.0 place burst.reads burst.end (w.nodes m)) (untouched w) (going w h)
@@ -183,7 +183,7 @@ closes_true f w step u h =
           (subst (λ nodes. GivenTrue u.world.aside (nodes m).given) (sym p.nodes) (h.answers.given m));
     }
 
-step_true : (f : Frame) (w v : World) (step : Step) → Next f w step v → AnswersTrue w → AnswersTrue v
+pub step_true : (f : Frame) (w v : World) (step : Step) → Next f w step v → AnswersTrue w → AnswersTrue v
 step_true f w v step next h = subst AnswersTrue (sym next.after)
     (closes_true f w step (happens f w step.event next.given) (happens_true f w step.event next.given h))
 

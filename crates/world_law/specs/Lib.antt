@@ -6,3 +6,11 @@ pub mod Answers
 pub mod Going
 pub mod Asks
 pub mod Gives
+pub mod Counts
+pub mod Packets
+pub mod CaughtUp
+pub mod SoundPackets
+pub mod Acts
+pub mod Places
+pub mod Holds
+pub mod Homes

@@ -6,16 +6,24 @@
 //! code: its functions are laws, whose bodies are empty or call the group's laws.
 #![tactic(auto)]
 
+ghost use Rattle.world_law.specs.Acts.{AllActsMeet};
 ghost use Rattle.world_law.specs.Answers.{AllAnswers};
 ghost use Rattle.world_law.specs.Asks.{AllAsks};
+ghost use Rattle.world_law.specs.CaughtUp.{AllCatchUp, AllRoundsEnd};
+ghost use Rattle.world_law.specs.Counts.{AllCount, AllMomentsCount};
 ghost use Rattle.world_law.specs.Gives.{AllGive};
 ghost use Rattle.world_law.specs.Going.{ProcessesGoOn};
 ghost use Rattle.world_law.specs.Grouped.{AllGrouped};
+ghost use Rattle.world_law.specs.Holds.{AllHold};
+ghost use Rattle.world_law.specs.Homes.{AllHome};
 ghost use Rattle.world_law.specs.Lists.{AllGrow};
 ghost use Rattle.world_law.specs.Moments.{AllMoments};
 ghost use Rattle.world_law.specs.Once.{RunsOnce};
+ghost use Rattle.world_law.specs.Packets.{AllNumber};
+ghost use Rattle.world_law.specs.Places.{AllReach, PlacesNeverFall};
+ghost use Rattle.world_law.specs.SoundPackets.{AllLettersSound};
 
-use group_law::agreement_law;
+use group_law::{agreement_law, packets_are_sound};
 use group_rules::wire_law;
 use value_core::{Message, Processor, Reply};
 
@@ -53,8 +61,93 @@ pub fn processes_go_on()
     ensures { ProcessesGoOn }
 {}
 
+/// In every run no process's place falls, where each Answer on its way to a process is an old one, or of the call that the process asks,
+/// and then from no lower a place.
+pub fn places_never_fall()
+    ensures { PlacesNeverFall }
+{}
+
 /// In every run each Ask that is in flight, or waits for its place, is of a process that asks this call of an owner, from this place, or
 /// that has its reply by now.
 pub fn asks_are_true()
     ensures { AllAsks }
 {}
+
+/// How great the numbers of a run are.
+///
+/// - `steps`: in every run, whose submissions are allowed, there are at most as many submissions as steps, and as many ticks and coordinations as
+///   steps of each member; so in a group of at most 16 members, and after at most 4,000,000 steps, all numbers of entries and of incarnations,
+///   of members and of what travels, are below 2^62.
+/// - `moments`: so it is at each moment of an event, with what the event did so far.
+pub fn numbers_stay_small()
+    ensures steps { AllCount }
+    ensures moments { AllMomentsCount }
+{
+    agreement_law::<Message>();
+    wire_law::<Message, Reply>();
+}
+
+/// In every run whose submissions are allowed, packets are numbered: those in flight stand in order, the wires were asked about packets 1,
+/// 2 and so on, about each once, and the next number is in flight nowhere. A letter goes from a member to a member, and no process, and no
+/// Ask or Answer, has a place beyond what its member applied.
+pub fn packets_are_numbered()
+    ensures { AllNumber }
+{
+    agreement_law::<Message>();
+    wire_law::<Message, Reply>();
+}
+
+/// In every run whose submissions are allowed, what travels is what bytes spell, where the messages that were submitted or are next, and the
+/// replies of what was performed beside the list, are sound.
+pub fn letters_are_sound()
+    ensures { AllLettersSound }
+{
+    agreement_law::<Message>();
+    wire_law::<Message, Reply>();
+    packets_are_sound::<Message, Reply>();
+}
+
+/// Members catch up.
+///
+/// - `steps`: after each step no entry is due at a living member, or its next one would pass a limit.
+/// - `rounds`: as many rounds as messages wait at its sequencer suffice for that, a round more changes nothing, and so a member may stop
+///   once nothing is due.
+pub fn members_catch_up()
+    ensures steps { AllCatchUp }
+    ensures rounds { AllRoundsEnd }
+{
+    agreement_law::<Message>();
+    wire_law::<Message, Reply>();
+}
+
+/// In every run the wire in use is the one behind as many exchanges as the run has, and an act of a wire is passed over just where its event
+/// isn't possible.
+pub fn acts_meet_runs()
+    ensures { AllActsMeet }
+{}
+
+/// All that the group's side says of each world of a run, carried from step to step, where what is submitted may be; and processes go on,
+/// at places that don't fall.
+pub fn runs_hold()
+    ensures { AllHold }
+{
+    agreement_law::<Message>();
+    wire_law::<Message, Reply>();
+}
+
+/// In every run whose submissions are allowed, each process is at its home: who plays it is the member that its fork named, and no other.
+pub fn processes_are_home()
+    ensures { AllHome }
+{
+    agreement_law::<Message>();
+    wire_law::<Message, Reply>();
+}
+
+/// In every run whose submissions are allowed, each Answer on its way to a process is an old one, or of the call that the process asks, and
+/// then from no lower a place; so no process's place falls (`places_never_fall`).
+pub fn answers_reach()
+    ensures { AllReach }
+{
+    agreement_law::<Message>();
+    wire_law::<Message, Reply>();
+}

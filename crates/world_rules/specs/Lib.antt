@@ -18,3 +18,5 @@ pub mod NetworkSteps
 pub mod ProcessSteps
 pub mod SingleCopies
 pub mod Wrong
+pub mod Acts
+pub mod ActRows
