@@ -20,7 +20,7 @@ returns g c =
     record {
       small = settings.resilience;
       messages = c.agreement_law.ensures.messages;
-      grouped = c.group_steps.ensures.events;
+      holds = c.runs_hold.ensures;
       gives = c.group_steps.ensures.gives;
       lists = c.group_steps.ensures.lists;
       courses = c.worlds_are_courses.ensures.courses f same_p same_q settings;
@@ -38,6 +38,15 @@ returns g c =
           record { waiters = λ n all. stuck_at f w l ends k n all; singles = single_stuck f w l ends k; living = living_stuck f w settings.some l ends k };
       may = λ f same_p same_q settings steps w replays i.
           let l = laws f same_p same_q settings in kept_may f w l (replayed f steps w l replays) i;
+      holds = λ f same_p same_q settings steps w replays.
+          let l = laws f same_p same_q settings in
+          let k = replayed f steps w l replays in
+          k.holds;
+      goes = λ f same_p same_q settings steps w v step replays next.
+          let l = laws f same_p same_q settings in
+          let k = replayed f steps w l replays in
+          let on = l.holds f l.small in
+          record { later = on.later w v step next k.holds; rise = on.rise w v step next k.holds };
       once = λ f same steps w v one two.
           let runs = c.replay_law.ensures.once f same in
           runs.replays steps w v one two;
