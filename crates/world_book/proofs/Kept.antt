@@ -90,7 +90,7 @@ course_of f w k = k.courses (singles_in f w) (λ o lt. refl)
 
 -- ---- steps
 
-opening_kept : (f : Frame) → Laws f → Kept f (opening_world f)
+pub opening_kept : (f : Frame) → Laws f → Kept f (opening_world f)
 opening_kept f laws =
     let steps : StepsHold f = laws.holds f laws.small in
     let courses = laws.courses in
@@ -113,7 +113,7 @@ kept_may f w laws k i =
     let h = course_of f w k in
     may laws.messages f (singles_in f w) laws.small w h.course (stands_for f (singles_in f w) w h) (grouped_of f w k) k.homes i
 
-submits : (f : Frame) (w : World) (e : world.Event) → ((i : ℕ) → MaySubmit f w i) → Submits f w e
+pub submits : (f : Frame) (w : World) (e : world.Event) → ((i : ℕ) → MaySubmit f w i) → Submits f w e
 submits f w (event.Act process) may = may process.0
 submits f w (event.Burst process place turns) may = tt
 submits f w (event.Deliver packet copy) may = tt
@@ -122,7 +122,7 @@ submits f w (event.Crash node) may = tt
 submits f w (event.Suspect node) may = tt
 submits f w event.Swap may = tt
 
-step_kept : (f : Frame) (w v : World) (step : Step) → Laws f → Next f w step v → Kept f w → Kept f v
+pub step_kept : (f : Frame) (w v : World) (step : Step) → Laws f → Next f w step v → Kept f w → Kept f v
 step_kept f w v step laws next k =
     let may : Submits f w step.event = submits f w step.event (kept_may f w laws k) in
     let steps : StepsHold f = laws.holds f laws.small in

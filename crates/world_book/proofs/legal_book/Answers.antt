@@ -1,10 +1,11 @@
 use Rattle.std.proofs.Common.{◌≡◌, sym, subst}
 use Rattle.value_core.specs.Meaning.{Computes, Performs}
 use Rattle.book_law.specs.Fitness.{EndsStuck}
-use Rattle.book_law.specs.Machines.{RunsFit}
+use Rattle.book_law.specs.Machines.{RunsFit, RunsSound}
 use Rattle.world_rules.specs.Frame.{AreSettings, Frame}
 use Rattle.world_book.proofs.Kept.{Laws, is_kept, kept_may, replayed}
 use Rattle.world_book.proofs.Over.{living_stuck}
+use Rattle.world_book.proofs.Sounding.{is_sound}
 use Rattle.world_book.proofs.Stuck.{single_stuck, stuck_at}
 use Rattle.world_book.proofs.legal_book.Goals as goal
 
@@ -47,6 +48,12 @@ returns g c =
           let k = replayed f steps w l replays in
           let on = l.holds f l.small in
           record { later = on.later w v step next k.holds; rise = on.rise w v step next k.holds };
+      sound = λ f same_p same_q settings steps w replays.
+          let l = laws f same_p same_q settings in
+          let courses : RunsSound f.performs f.computes =
+          subst (λ (p : Performs). RunsSound p f.computes) (sym same_p)
+          (subst (λ (q : Computes). RunsSound (g.P.Performer.performs m) q) (sym same_q) c.every_call_fits.ensures.sound) in
+          is_sound f steps w l (record { few = settings.few; courses = courses; letters = c.letters_are_sound.ensures }) replays;
       once = λ f same steps w v one two.
           let runs = c.replay_law.ensures.once f same in
           runs.replays steps w v one two;
