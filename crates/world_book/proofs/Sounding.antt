@@ -1,5 +1,5 @@
 -- Messages and replies of a run are those of its course, which are sound; so what travels is.
-use Rattle.std.proofs.Common.{◌≡◌, ◌≤◌, ◌<◌, ◌⊎◌, inl, inr, ⊎_elim, ℕ, Bool, true, List, [], ◌∷◌, Option, Some, length, refl, sym, ap, ◌∙◌, subst}
+use Rattle.std.proofs.Common.{◌≡◌, ◌≤◌, inl, inr, ⊎_elim, ℕ, true, List, [], ◌∷◌, length, refl, sym, ap, ◌∙◌, subst}
 use Rattle.std.proofs.Math.Bool.{Bool-set}
 use Rattle.std.specs.Prelude.{IsTrue}
 use Rattle.orca_base.specs.declared.ids.CallNo.{CallNo}
@@ -7,7 +7,7 @@ use Rattle.orca_base.specs.declared.ids.ProcessNo.{ProcessNo}
 use Rattle.orca_base.specs.declared.limits.TheConstants.{NODES}
 use Rattle.value_core.specs.History.{most_turns}
 use Rattle.value_core.specs.Performable.{is_performable}
-use Rattle.value_core.specs.Sound.{IsSoundLine, IsSoundMessage, IsSoundReply}
+use Rattle.value_core.specs.Sound.{IsSoundMessage}
 use Rattle.value_core.specs.declared.action.Action.{Action}
 use Rattle.value_core.specs.declared.meaning.Doing.TheVariants as doing
 use Rattle.value_core.specs.declared.message.Message.{Message}
@@ -16,7 +16,7 @@ use Rattle.group_law.specs.Messages.{Messages}
 use Rattle.book_law.specs.Course.{Came, Course, submitted}
 use Rattle.book_law.specs.Course.Next.{Submits}
 use Rattle.book_law.specs.Course.Came.{Then}
-use Rattle.book_law.specs.Events.{In, Runner}
+use Rattle.book_law.specs.Events.{In}
 use Rattle.book_law.specs.Machines.{AllSound, RunsSound as CoursesSound}
 use Rattle.book_law.specs.Promise.{IsInBook, WereAsked}
 use Rattle.book_law.specs.declared.placing.Placed.{Placed}
@@ -25,7 +25,6 @@ use Rattle.book_law.proofs.InBook.{all_in_book}
 use Rattle.book_law.proofs.Running.{processes_run}
 use Rattle.world_rules.specs.declared.event.Step.{Step}
 use Rattle.world_rules.specs.Frame.{Frame, group}
-use Rattle.world_rules.specs.Played.{Played, Stage}
 use Rattle.world_rules.specs.Played.Stage.{Acting, Asking}
 use Rattle.world_rules.specs.Steps.{Leads, Next, Replays}
 use Rattle.world_rules.specs.Worlds.{World, group_world, opening_world, singles_in}
@@ -34,7 +33,7 @@ use Rattle.world_law.specs.SoundPackets.{AllLettersSound, FlySound, LettersSound
 use Rattle.world_course.specs.Corresponds.{Stands}
 use Rattle.world_course.specs.Processes.{IsFreeAt, IsOut, IsRunner, StageStands}
 use Rattle.world_book.specs.Sounding.{IsSound}
-use Rattle.world_book.proofs.Kept.{HasCourse, Kept, Laws, course_of, grouped_of, kept_may, opening_kept, stands_for, step_kept, submits}
+use Rattle.world_book.proofs.Kept.{Kept, Laws, course_of, grouped_of, kept_may, opening_kept, stands_for, step_kept, submits}
 use Rattle.world_book.proofs.Submitting.{IsRun, run_of}
 
 -- what this stands on, beside the other laws
