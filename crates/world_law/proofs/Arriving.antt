@@ -1,5 +1,5 @@
 -- Each Answer reaches its process, along a run.
-use Rattle.std.proofs.Common.{◌≡◌, ◌==◌, ◌+◌, ◌≤◌, ◌<◌, ◌*◌, ℕ, zero, suc, List, [], ◌∷◌, ◌++◌, Option, None, Some, length, refl, sym, ap, ◌∙◌, arith, subst}
+use Rattle.std.proofs.Common.{◌≡◌, ◌<◌, ◌*◌, ℕ, zero, suc, List, [], ◌∷◌, ◌++◌, Option, None, Some, refl, sym, ap, ◌∙◌, arith, subst}
 use Rattle.std.proofs.lemmas.Bool.{cond_both}
 use Rattle.std.specs.List.{AllByRecursion as Each}
 use Rattle.orca_base.specs.declared.ids.CallNo.{CallNo}
@@ -19,25 +19,25 @@ use Rattle.world_rules.specs.declared.event.Step.{Step}
 use Rattle.world_rules.specs.Frame.{Frame, group}
 use Rattle.world_rules.specs.Mail.{Carried, Errand, Mail, is_whole, receiver_of}
 use Rattle.world_rules.specs.Mail.Errand.{Ask, Answer}
-use Rattle.world_rules.specs.Nodes.{Given, Node, NodeWork, does, idle, joins, mails_of, opening_node, plays}
+use Rattle.world_rules.specs.Nodes.{Given, Node, NodeWork, does, idle, joins, mails_of}
 use Rattle.world_rules.specs.Nodes.Deed.{Performs}
-use Rattle.world_rules.specs.Parts.{acts, acts_of, asks_again, catches_up, computes, performs_all, receives, receives_mail, suspects, ticks}
+use Rattle.world_rules.specs.Parts.{acts_of, asks_again, catches_up, computes, performs_all, receives, receives_mail}
 use Rattle.world_rules.specs.Played.{Played}
-use Rattle.world_rules.specs.Steps.{AtWork, Burst, IsBurst, Known, Leads, Next, Possible, after_part, closes, comes, comes_whole, happens, lives_in, posts_all, ticks_below, untouched}
+use Rattle.world_rules.specs.Steps.{AtWork, Burst, IsBurst, Known, Leads, Next, Possible, after_part, closes, comes_whole, happens, lives_in, ticks_below, untouched}
 use Rattle.world_rules.specs.Worlds.{World, home_of, opening_world}
-use Rattle.world_law.specs.Asks.{AskIsTrue, AskStands, AsksAreTrue, AsksTrue, FliesAsking, MailAsksTrue}
+use Rattle.world_law.specs.Asks.{AskIsTrue, AsksAreTrue, AsksTrue, FliesAsking, MailAsksTrue}
 use Rattle.world_law.specs.Grouped.{Grouped}
 use Rattle.world_law.specs.Homes.{AreHome}
 use Rattle.world_law.specs.Packets.{PlacesWithin}
-use Rattle.world_law.specs.Places.{AnswerStands, AnswersReach, CallStands, CallsStand, MailReaches, MailStands, Plays, Reaches, ReachesOne, StepsReach, plays_of}
-use Rattle.world_law.proofs.Ages.{Ages, Fresh, Going, On, ages_by, ages_part, below_later, burst_later, goes_acts, goes_joins, goes_mail, leads_later, opening_fresh, posted_nodes, same_world}
+use Rattle.world_law.specs.Places.{AnswerStands, CallStands, CallsStand, MailReaches, MailStands, Plays, Reaches, ReachesOne, StepsReach, plays_of}
+use Rattle.world_law.proofs.Ages.{Fresh, Going, On, ages_by, ages_part, below_later, burst_later, goes_acts, goes_joins, goes_mail, leads_later, opening_fresh, posted_nodes, same_world}
 use Rattle.world_law.proofs.Asking.{all_asks}
 use Rattle.world_law.proofs.Flying.{each_append, each_first, each_found, each_more, each_posted, each_ticked}
 use Rattle.world_law.proofs.Going.{Goes, goes_again, goes_on}
 use Rattle.world_law.proofs.Grouping.{Laws}
 use Rattle.world_law.proofs.Homing.{home_is}
 use Rattle.world_law.proofs.Maps.{at_both, at_image, at_self}
-use Rattle.world_law.proofs.Reaching.{AllOf, AskFits, ErrandFits, Even, Fits, FitsOf, LaterAll, MailFits, call_later, errand_later, errands_in, even_joins, fits_acts, fits_again, fits_arrives, fits_even, fits_up, later_on_all, mail_fits_later}
+use Rattle.world_law.proofs.Reaching.{ErrandFits, Even, Fits, FitsOf, LaterAll, MailFits, call_later, errand_later, errands_in, even_joins, fits_acts, fits_again, fits_arrives, fits_even, fits_up, later_on_all, mail_fits_later}
 
 -- ---- a world at work
 
@@ -257,7 +257,7 @@ stands_after f w v step next fresh asks places h =
     let flies : Each (λ (flight : Flight Carried). MailFits all flight.packet.mail) c.flights =
     each_posted f (MailFits all) u.mails step.fates u.world k.mails k.flights in
     let nodes : c.nodes ≡ u.world.nodes = posted_nodes f u.mails step.fates u.world in
-        let stood : Stood u.world.nodes c.flights = record {
+    let stood : Stood u.world.nodes c.flights = record {
       flights = each_more (λ (flight : Flight Carried). MailFits all flight.packet.mail) (λ (flight : Flight Carried). MailStands all flight.packet.mail)
           (λ flight is. mail_stands all flight.packet.mail is) c.flights flies;
       held = λ m. each_more (ErrandFits all) (AnswerStands all) (errand_stands all) (u.world.nodes m).held (k.held m);

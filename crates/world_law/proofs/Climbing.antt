@@ -1,5 +1,5 @@
 -- Places never fall, in each act of a member.
-use Rattle.std.proofs.Common.{◌≡◌, ◌==◌, ◌||◌, ◌+◌, ◌≤◌, ◌<◌, ◌⊎◌, if◌then◌else◌, ℕ, zero, suc, Bool, List, [], ◌∷◌, ◌++◌, length, length-append, Option, None, Some, refl, sym, ap, ◌∙◌, arith, subst, inl, inr, nat_lt, nat_le}
+use Rattle.std.proofs.Common.{◌≡◌, ◌==◌, ◌||◌, ◌+◌, ◌≤◌, if◌then◌else◌, ℕ, zero, suc, List, [], ◌∷◌, length, length-append, Option, None, Some, refl, sym, ap, ◌∙◌, arith, subst, inl, inr, nat_lt, nat_le}
 use Rattle.std.proofs.lemmas.Bool.{cond_both, eqb-true, leb-true}
 use Rattle.std.specs.List.{AllByRecursion as Each}
 use Rattle.orca_base.specs.declared.ids.CallNo.{CallNo}
@@ -27,7 +27,7 @@ use Rattle.net_rules.specs.declared.flight.Flight.{Flight}
 use Rattle.world_rules.specs.declared.event.Event as world
 use Rattle.world_rules.specs.declared.event.Event.TheVariants as event
 use Rattle.world_rules.specs.declared.event.Step.{Step}
-use Rattle.world_rules.specs.Applying.{answers, applies, applies_all, applies_each, applies_one, begins, copies_take, due_entries, notes, passes_limit, performs_read, round, rounds, tries_as, tries_of, tries_read, tries_reads}
+use Rattle.world_rules.specs.Applying.{answers, applies, applies_all, applies_each, applies_one, begins, copies_take, due_entries, passes_limit, performs_read, round, rounds, tries_as, tries_of, tries_read, tries_reads}
 use Rattle.world_rules.specs.Bursts.{Ran, read_line, reads_on}
 use Rattle.world_rules.specs.Frame.{Frame, group}
 use Rattle.world_rules.specs.Mail.{Carried, Errand, Mail, is_whole, place_of, receiver_of}
@@ -35,22 +35,21 @@ use Rattle.world_rules.specs.Mail.Errand.{Ask, Answer}
 use Rattle.world_rules.specs.Nodes.{Given, Node, NodeWork, becomes, changes, does, idle, if_played, joins, known, plays}
 use Rattle.world_rules.specs.Nodes.Deed.{Performs, Submits}
 use Rattle.world_rules.specs.Owners.{arrives, hands, hands_all, hands_to, hears_as, hears_of, holds, is_held, performs_call, takes, takes_asked, takes_call, takes_each, takes_reached, waits_here}
-use Rattle.world_rules.specs.Parts.{acts, acts_at, acts_by, acts_of, asks, asks_again, asks_again_at, asks_again_by, asks_again_of, asks_below, asks_owner, calls_as, catches_up, computes, performs_all, receives_mail, submits, suspects, ticks}
+use Rattle.world_rules.specs.Parts.{acts, acts_at, acts_by, acts_of, asks, asks_again, asks_again_at, asks_again_by, asks_again_of, asks_below, asks_owner, calls_as, catches_up, computes, performs_all, submits, suspects, ticks}
 use Rattle.world_rules.specs.Parts.{receives as receives_part}
 use Rattle.world_rules.specs.Played.{Played, Stage, moves_to, newborn, next_call, receives}
 use Rattle.world_rules.specs.Played.Stage.{Computing, Acting, Submitted, Reading, Asking, Over}
 use Rattle.world_rules.specs.Processes.{Begun, begun_by, home_in, owner_in, singles_of}
-use Rattle.world_rules.specs.Steps.{AtWork, Burst, IsBurst, Known, Leads, Next, Possible, after_part, closes, comes, comes_whole, happens, lives_in, ticks_below, untouched}
+use Rattle.world_rules.specs.Steps.{AtWork, Burst, IsBurst, Known, Leads, Next, Possible, after_part, closes, comes_whole, happens, lives_in, ticks_below, untouched}
 use Rattle.world_rules.specs.Worlds.{World, home_of, opening_world}
 use Rattle.world_law.specs.Going.{Later}
-use Rattle.world_law.specs.Grouped.{Grouped}
 use Rattle.world_law.specs.Packets.{PlacesWithin}
 use Rattle.world_law.specs.Places.{AnswersReach, MailReaches, PlacesRise, Reaches, ReachesOne}
 use Rattle.world_law.proofs.Ages.{Fresh, On, ages_by, ages_rounds, goes_acts, goes_joins, goes_mail, leads_later, opening_fresh, posted_nodes}
 use Rattle.world_law.proofs.Applied.{one_more}
 use Rattle.world_law.proofs.Flying.{each_append, each_found}
 use Rattle.world_law.proofs.Going.{Goes, goes_again, goes_on, goes_takes, later_on, later_receives, later_same}
-use Rattle.world_law.proofs.Maps.{at_both, at_here}
+use Rattle.world_law.proofs.Maps.{at_both}
 use Rattle.world_law.proofs.Sending.{applied_answers, applied_if}
 use Rattle.world_law.proofs.Walking.{performed_node}
 
@@ -398,7 +397,7 @@ node_of : (f : Frame) (m i : ℕ) (o : Option Played) (v : NodeWork) → (asks_a
 node_of f m i None v = refl
 node_of f m i (Some r) v = node_at f m i r r.stage v
 
-node_below : (f : Frame) (m n : ℕ) (v : NodeWork) → (asks_below f m n v).node ≡ v.node
+pub node_below : (f : Frame) (m n : ℕ) (v : NodeWork) → (asks_below f m n v).node ≡ v.node
 node_below f m zero v = refl
 node_below f m (suc i) v = node_of f m i ((asks_below f m i v).node.played i) (asks_below f m i v) ∙ node_below f m i v
 

@@ -1,5 +1,5 @@
 -- Submissions, ticks and coordinations are counted along a run.
-use Rattle.std.proofs.Common.{◌≡◌, ◌&&◌, ◌+◌, ◌≤◌, ◌<◌, ◌*◌, if◌then◌else◌, ℕ, zero, suc, Bool, true, false, List, [], ◌∷◌, ◌++◌, Option, None, Some, refl, sym, ap, ◌∙◌, arith, subst, nat_lt, length}
+use Rattle.std.proofs.Common.{◌≡◌, ◌+◌, ◌≤◌, ◌<◌, ◌*◌, if◌then◌else◌, ℕ, suc, Bool, true, false, List, [], ◌∷◌, ◌++◌, Option, None, Some, refl, sym, ap, ◌∙◌, arith, subst, nat_lt, length}
 use Rattle.std.proofs.Math.Nat.{mul-suc}
 use Rattle.std.proofs.lemmas.Bool.{cond_both, le-leb, leb-false}
 use Rattle.orca_base.specs.declared.limits.TheConstants.{EVENTS, NODES}
@@ -25,7 +25,7 @@ use Rattle.world_rules.specs.declared.standing.Standing.TheVariants.{OutOfTurns,
 use Rattle.world_rules.specs.Applying.{applies, applies_all, applies_one, notes, round, rounds}
 use Rattle.world_rules.specs.Frame.{Frame, group}
 use Rattle.world_rules.specs.Mail.{Mail, receiver_of}
-use Rattle.world_rules.specs.Nodes.{Node, NodeWork, does, idle, joins, known, past_after, plays}
+use Rattle.world_rules.specs.Nodes.{NodeWork, does, idle, joins, known, past_after, plays}
 use Rattle.world_rules.specs.Nodes.Deed.{Submits}
 use Rattle.world_rules.specs.Owners.{takes_reached}
 use Rattle.world_rules.specs.Parts.{acts_at, acts_by, acts_of, asks_again, calls, calls_as, catches_up, computes, receives_mail, submits}
@@ -39,7 +39,7 @@ use Rattle.world_law.specs.Counts.{AfterSteps, AreSmall, Counted, CountedAt, Mom
 use Rattle.world_law.specs.Gives.{acted, came, coordinated, timed}
 use Rattle.world_law.specs.Grouped.{Come, Comes, Grouped}
 use Rattle.world_law.specs.Grouped.{Submits as MayAll}
-use Rattle.world_law.specs.Moments.{IsMoment, Lives, world_at}
+use Rattle.world_law.specs.Moments.{Lives, world_at}
 use Rattle.world_law.proofs.Applied.{applied_due, applied_one}
 use Rattle.world_law.proofs.AtWork.{at_start, at_still, at_work, both_true, coordinated_is, noted_is, submitted_is, ticked_is}
 use Rattle.world_law.proofs.Events.{world_is}

@@ -1,5 +1,5 @@
 -- Acts of wires in every run.
-use Rattle.std.proofs.Common.{◌≡◌, ◌+◌, ℕ, zero, suc, Bool, true, false, not, List, [], ◌∷◌, Option, None, Some, take, slice_get, refl, sym, ap, ◌∙◌, arith, subst}
+use Rattle.std.proofs.Common.{◌≡◌, ◌+◌, ℕ, zero, suc, Bool, true, false, not, List, [], ◌∷◌, Option, None, Some, take, slice_get, refl, ap, ◌∙◌, arith, subst}
 use Rattle.std.proofs.lemmas.Bool.{cond_both}
 use Rattle.net_rules.specs.Flights.{ready_copy, ticked, without}
 use Rattle.net_rules.specs.declared.fate.Fate.{Fate}
@@ -10,7 +10,7 @@ use Rattle.group_rules.specs.Sets.{entry_at}
 use Rattle.world_rules.specs.declared.event.Event as world
 use Rattle.world_rules.specs.declared.event.Event.TheVariants as event
 use Rattle.world_rules.specs.declared.event.Step.{Step}
-use Rattle.world_rules.specs.Acts.{before, event_of, is_passed_over, swaps_by, swaps_in}
+use Rattle.world_rules.specs.Acts.{event_of, is_passed_over, swaps_by, swaps_in}
 use Rattle.world_rules.specs.Frame.{Frame}
 use Rattle.world_rules.specs.Mail.{Carried, Mail, is_whole, receiver_of}
 use Rattle.world_rules.specs.Steps.{AtWork, Known, Leads, Next, Possible, Replays, comes, comes_whole, happens, lives_in, may_swap, posts, posts_all, ticks_below, untouched}

@@ -1,5 +1,5 @@
 -- Flights: what holds of each of them, their order, and what is told of them, as letters are posted.
-use Rattle.std.proofs.Common.{◌≡◌, ◌==◌, ◌||◌, ◌+◌, ◌≤◌, ◌<◌, if◌then◌else◌, ℕ, zero, suc, Bool, true, false, cond, Option, None, Some, List, [], ◌∷◌, ◌++◌, append_assoc, append-nil, length, length-append, map, refl, sym, ap, ◌∙◌, arith, subst, inl, inr, ltb}
+use Rattle.std.proofs.Common.{◌≡◌, ◌==◌, ◌||◌, ◌+◌, ◌<◌, if◌then◌else◌, ℕ, suc, Bool, true, false, cond, Option, Some, List, [], ◌∷◌, ◌++◌, append_assoc, append-nil, length, length-append, map, refl, sym, ap, ◌∙◌, arith, subst, inl, inr, ltb}
 use Rattle.std.proofs.lemmas.Bool.{cond_both, eqb-true, ltb-false, ne_eqb}
 use Rattle.std.specs.List.{AllByRecursion as Each, find}
 use Rattle.net_rules.specs.Flights.{ComesBefore, InOrder, copies, joined, nearer, ticked, travels}

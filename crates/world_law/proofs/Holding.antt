@@ -1,5 +1,5 @@
 -- All of it is so in each world of a run.
-use Rattle.std.proofs.Common.{◌≡◌, ◌≤◌, ◌<◌, ◌*◌, ℕ, [], Option, None, Some, refl, arith}
+use Rattle.std.proofs.Common.{◌≡◌, ◌<◌, ◌*◌, ℕ, [], Option, None, Some, refl, arith}
 use Rattle.value_core.specs.declared.message.Message.{Message}
 use Rattle.group_law.specs.Agreed.{AgreedLaw}
 use Rattle.group_law.specs.Numbers.{FewEventsLaw}

@@ -1,8 +1,7 @@
 -- Each process is at its home, along a run.
-use Rattle.std.proofs.Common.{◌≡◌, ◌==◌, ◌&&◌, ◌+◌, ◌≤◌, ◌<◌, ◌*◌, ℕ, zero, suc, true, List, [], ◌∷◌, ◌++◌, append_assoc, append-nil, length, length-append, take, drop, slice_get, Option, None, Some, refl, sym, ap, ◌∙◌, arith, subst, nat_lt}
+use Rattle.std.proofs.Common.{◌≡◌, ◌==◌, ◌+◌, ◌≤◌, ◌<◌, ◌*◌, ℕ, zero, suc, List, [], ◌∷◌, ◌++◌, append_assoc, append-nil, length, length-append, take, drop, Option, None, Some, refl, sym, ap, ◌∙◌, arith, subst, nat_lt}
 use Rattle.std.proofs.lemmas.Bool.{cond_both, eqb-true}
 use Rattle.std.proofs.lemmas.List.{length-take, take-append-drop}
-use Rattle.value_core.specs.History.{forked}
 use Rattle.value_core.specs.declared.action.Action.{Action}
 use Rattle.value_core.specs.declared.action.Action.TheVariants as action
 use Rattle.value_core.specs.declared.action.Class.{Class}
@@ -21,23 +20,23 @@ use Rattle.world_rules.specs.Frame.{Frame, group}
 use Rattle.world_rules.specs.Mail.{Mail, receiver_of}
 use Rattle.world_rules.specs.Nodes.{Node, NodeWork, entries_of, idle, known, opening_node}
 use Rattle.world_rules.specs.Owners.{takes_reached}
-use Rattle.world_rules.specs.Parts.{acts_at, acts_by, acts_of, asks_again, calls_as, catches_up, computes, receives_mail}
+use Rattle.world_rules.specs.Parts.{acts_at, acts_by, acts_of, calls_as, catches_up, computes, receives_mail}
 use Rattle.world_rules.specs.Played.{Played, Stage, newborn, next_call}
 use Rattle.world_rules.specs.Played.Stage.{Computing, Acting, Submitted, Reading, Asking, Over}
-use Rattle.world_rules.specs.Processes.{Begun, begun_by, first_process, home_in, home_or_first, processes_from, processes_in, singles_of, with_entry}
-use Rattle.world_rules.specs.Steps.{AtWork, Next, after_part, closes, happens}
+use Rattle.world_rules.specs.Processes.{Begun, begun_by, first_process, home_in, processes_from, processes_in, singles_of, with_entry}
+use Rattle.world_rules.specs.Steps.{AtWork, Next, happens}
 use Rattle.world_rules.specs.Worlds.{World, agreed, applied_at, home_of}
-use Rattle.world_law.specs.Gives.{AreNotes, Gives, acted, came, timed}
+use Rattle.world_law.specs.Gives.{AreNotes, Gives, came, timed}
 use Rattle.world_law.specs.Grouped.{Come, Grouped}
 use Rattle.world_law.specs.Grouped.{Submits as MayAll}
 use Rattle.world_law.specs.Homes.{AreHome, IsHome, StepsHome}
 use Rattle.world_law.specs.Lists.{OneList}
 use Rattle.world_law.specs.Moments.{Lives}
 use Rattle.world_law.proofs.Ages.{born_many, burst_later, count_begins, counts, goes_acts, goes_joins, goes_mail, goes_notes, posted_nodes}
-use Rattle.world_law.proofs.Applied.{applied_exactly, applied_one, member_applies}
+use Rattle.world_law.proofs.Applied.{applied_exactly, applied_one}
 use Rattle.world_law.proofs.AtWork.{coordinated_is, ticked_is}
 use Rattle.world_law.proofs.Gives.{from_start, gives, kept_acts, start}
-use Rattle.world_law.proofs.Going.{Goes, goes_again, goes_answers, goes_on, goes_reached, goes_reads, idles}
+use Rattle.world_law.proofs.Going.{Goes, goes_again, goes_answers, goes_on, goes_reached, goes_reads}
 use Rattle.world_law.proofs.Grouping.{Laws}
 use Rattle.world_law.proofs.Homes.{known_low}
 use Rattle.world_law.proofs.Lists.{one_list}

@@ -33,3 +33,5 @@ pub mod Homing
 pub mod Suspending
 pub mod Reaching
 pub mod Arriving
+pub mod Carrying
+pub mod Turning

@@ -1,9 +1,9 @@
 -- What a note does to its member: it accepts more by messages that waited alone, which then wait no more.
-use Rattle.std.proofs.Common.{◌≡◌, ◌==◌, ◌≤◌, ◌⊎◌, ◌-◌, max, min, nat_le, if◌then◌else◌, ℕ, zero, suc, Bool, List, [], ◌∷◌, ◌++◌, length, length-append, append_assoc, append-nil, refl, sym, ap, ◌∙◌, arith, subst, inl, inr}
+use Rattle.std.proofs.Common.{◌≡◌, ◌==◌, ◌≤◌, ◌⊎◌, ◌-◌, max, min, nat_le, ℕ, zero, suc, Bool, List, [], ◌∷◌, ◌++◌, length, length-append, append_assoc, append-nil, refl, sym, ap, ◌∙◌, arith, subst, inl, inr}
 use Rattle.std.proofs.lemmas.Bool.{cond_both}
 use Rattle.orca_base.specs.declared.limits.TheConstants.{ENTRIES_BEFORE_PURGE}
 use Rattle.value_core.specs.declared.message.Message.{Message}
-use Rattle.group_rules.specs.Member.{Kind, Member, Waiting, has_room, leads, purged, stable_of}
+use Rattle.group_rules.specs.Member.{Kind, Member, Waiting, has_room, leads, stable_of}
 use Rattle.group_rules.specs.Messages.{Group, is_repeat}
 use Rattle.group_rules.specs.Sequencer.{finish, numbering, order, order_all_waiting, order_waiting, order_while_room, ordered, purge}
 use Rattle.group_rules.specs.Receiver.{send_status}

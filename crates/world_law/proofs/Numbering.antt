@@ -1,24 +1,19 @@
 -- Letters are sent by members to members, places are within what was applied, and packets are numbered, along a run.
-use Rattle.std.proofs.Common.{◌≡◌, ◌&&◌, ◌+◌, ◌≤◌, ◌<◌, ◌*◌, ◌⊎◌, ℕ, zero, suc, true, List, [], ◌∷◌, ◌++◌, map, Option, None, Some, refl, sym, ap, ◌∙◌, arith, subst, nat_lt}
+use Rattle.std.proofs.Common.{◌≡◌, ◌≤◌, ◌<◌, ◌*◌, ℕ, zero, suc, List, [], ◌∷◌, ◌++◌, Some, refl, sym, ap, ◌∙◌, arith, subst, nat_lt}
 use Rattle.std.proofs.lemmas.Bool.{and_parts, ltb-true}
 use Rattle.std.specs.List.{AllByRecursion as Each}
 use Rattle.orca_base.specs.declared.ids.ProcessNo.{ProcessNo}
 use Rattle.value_core.specs.History.{Objects}
-use Rattle.value_core.specs.declared.action.Action.{Action}
-use Rattle.value_core.specs.declared.action.Action.TheVariants as action
 use Rattle.value_core.specs.declared.action.Line.{Line}
 use Rattle.value_core.specs.declared.message.Message.{Message}
-use Rattle.value_core.specs.declared.processor.Halt.{Halt}
-use Rattle.value_core.specs.declared.processor.Halt.TheVariants as halt
 use Rattle.group_law.specs.Agreed.{Forward, GoesOn}
 use Rattle.group_law.specs.Promise.{Conditions}
 use Rattle.group_law.specs.Sends.{ByRoute, RoutesLaw}
-use Rattle.group_rules.specs.Member.{Letter, Member, nobody}
+use Rattle.group_rules.specs.Member.{Member, nobody}
 use Rattle.group_rules.specs.Steps.{deliver, timer}
 use Rattle.group_rules.specs.Reset.{coordinate}
 use Rattle.group_rules.specs.World.{GroupWorld, opening, run}
 use Rattle.group_rules.specs.Work.{Work}
-use Rattle.net_rules.specs.Flights.{nearer, ticked, without}
 use Rattle.net_rules.specs.declared.fate.Fate.{Fate}
 use Rattle.net_rules.specs.declared.flight.Flight.{Flight}
 use Rattle.world_rules.specs.declared.event.Event as world
@@ -26,29 +21,29 @@ use Rattle.world_rules.specs.declared.event.Event.TheVariants as event
 use Rattle.world_rules.specs.declared.event.Step.{Step}
 use Rattle.world_rules.specs.Bursts.{Ran, reads_on}
 use Rattle.world_rules.specs.Frame.{Frame, group}
-use Rattle.world_rules.specs.Mail.{Carried, Errand, Mail, place_of}
+use Rattle.world_rules.specs.Mail.{Carried, Mail, place_of}
 use Rattle.world_rules.specs.Mail.Errand.{Ask, Answer}
-use Rattle.world_rules.specs.Nodes.{Given, Node, NodeWork, idle, joins, mails_of, opening_node, plays}
+use Rattle.world_rules.specs.Nodes.{Given, Node, NodeWork, idle, joins, mails_of, opening_node}
 use Rattle.world_rules.specs.Parts.{catches_up, computes, performs_all}
 use Rattle.world_rules.specs.Played.{Played, newborn}
 use Rattle.world_rules.specs.Steps.{AtWork, Burst, IsBurst, Known, Next, Possible, after_part, asked_of, closes, crashes, happens, posts, posts_all, swaps, untouched}
 use Rattle.world_rules.specs.Processes.{first_process}
 use Rattle.world_rules.specs.Worlds.{Told, World, group_world, home_of}
-use Rattle.world_law.specs.Gives.{acted, came, coordinated, taken_from, timed, waited}
+use Rattle.world_law.specs.Gives.{timed}
 use Rattle.world_law.specs.Grouped.{AllFly, Come, Grouped}
 use Rattle.world_law.specs.Grouped.{Submits as MayAll}
 use Rattle.world_law.specs.Moments.{Lives}
 use Rattle.world_law.specs.Packets.{AreNumbered, IsNumbered, IsSent, PlacesWithin, StepsNumber, TellsWire}
 use Rattle.world_law.proofs.AtWork.{at_work}
-use Rattle.world_law.proofs.Events.{Going, goes_on, going_happens}
+use Rattle.world_law.proofs.Events.{Going, going_happens}
 use Rattle.world_law.proofs.Ages.{posted_nodes}
 use Rattle.world_law.proofs.Flying.{Counts, CountsOf, asked_others, counts_post, each_append, each_first, each_more, each_posted, each_ticked, none_travels, order_first, order_ticked, posts_tell}
-use Rattle.world_law.proofs.Grouping.{Good, Laws, Rounded, caught_up, members_at}
+use Rattle.world_law.proofs.Grouping.{Laws, Rounded, caught_up, members_at}
 use Rattle.world_law.proofs.Lists.{run_append}
 use Rattle.world_law.proofs.Maps.{at_both}
-use Rattle.world_law.proofs.Sending.{AllFrom, Holds, IsFrom, Says, Sends, SendsOf, StandsBy, from_acts, sends_acts, sends_again, sends_arrives, sends_up, stands_free}
-use Rattle.world_law.proofs.Travels.{AllCome, posted_all}
-use Rattle.world_law.proofs.Walking.{Allowed, Start, Walks, asked_by, begun, good_begun, performed_mails, performed_node, ticked_by, walk_event}
+use Rattle.world_law.proofs.Sending.{AllFrom, Says, Sends, StandsBy, from_acts, sends_acts, sends_again, sends_arrives, sends_up}
+use Rattle.world_law.proofs.Travels.{AllCome}
+use Rattle.world_law.proofs.Walking.{Allowed, Start, Walks, begun, good_begun, performed_mails, performed_node, walk_event}
 
 -- ---- members go forward
 
@@ -100,14 +95,16 @@ all_sent S f nodes m applied installed (Mail.Grouped letter ∷ mails) low a k h
 all_sent S f nodes m applied installed (Mail.Sends incarnation from to errand ∷ mails) low a k h =
     let is : from ≡ m = h.0.sender in
     let place = h.0.place in
-    let known = h.0.known in
-    (
-      ((
-        omega (arith, is, low),
-        h.0.receiver,
-        subst (λ n. place_of errand ≤ (nodes n).copies.applied) (sym is) (omega (arith, place, a)),
-        subst (λ n. incarnation ≤ (nodes n).member.installed) (sym is) (omega (arith, known, k)),
-      ), h.0.says),
+    let known = h.0.known in (
+      (
+        (
+          omega (arith, is, low),
+          h.0.receiver,
+          subst (λ n. place_of errand ≤ (nodes n).copies.applied) (sym is) (omega (arith, place, a)),
+          subst (λ n. incarnation ≤ (nodes n).member.installed) (sym is) (omega (arith, known, k)),
+        ),
+        h.0.says,
+      ),
       all_sent S f nodes m applied installed mails low a k h.1,
     )
 
@@ -159,9 +156,9 @@ module _ (S : Message → Type 0) (laws : Laws) (f : Frame) (small : 2 * (group 
       let low : m < f.settings.nodes = ltb-true m f.settings.nodes (and_parts (nat_lt m f.settings.nodes) (w.lives m) on).0 in
       let same : nodes m ≡ v.node = at_both w.nodes m v.node m (λ (n : Node). n ≡ v.node) (λ e. refl) (λ no. absurd (no refl)) in
       let forth : Forth w.nodes nodes = λ k. at_both w.nodes m v.node k
-          (λ (n : Node). ((w.nodes k).copies.applied ≤ n.copies.applied) × ((w.nodes k).member.installed ≤ n.member.installed))
-          (λ e. subst (λ i. ((w.nodes i).copies.applied ≤ v.node.copies.applied) × ((w.nodes i).member.installed ≤ v.node.member.installed)) (sym e) on_it)
-          (λ no. (omega arith, omega arith)) in
+      (λ (n : Node). ((w.nodes k).copies.applied ≤ n.copies.applied) × ((w.nodes k).member.installed ≤ n.member.installed))
+      (λ e. subst (λ i. ((w.nodes i).copies.applied ≤ v.node.copies.applied) × ((w.nodes i).member.installed ≤ v.node.member.installed)) (sym e) on_it)
+      (λ no. (omega arith, omega arith)) in
       record {
         here = λ k i r. at_both w.nodes m v.node k (λ (n : Node). n.played i ≡ Some r → StandsBy S n.copies.applied i r)
             (λ e found. sent.here i r found) (λ no found. h.here k i r found);
@@ -197,10 +194,10 @@ module _ (S : Message → Type 0) (laws : Laws) (f : Frame) (small : 2 * (group 
       let installed : u.node.member.installed ≡ (w.nodes m).member.installed = ap (λ (n : Node). n.member.installed) same in
       let nodes : ℕ → Node = (after_part f m v (untouched w)).world.nodes in
       let forth : Forth w.nodes nodes = λ k. at_both w.nodes m v.node k
-          (λ (n : Node). ((w.nodes k).copies.applied ≤ n.copies.applied) × ((w.nodes k).member.installed ≤ n.member.installed))
-          (λ e. subst (λ j. ((w.nodes j).copies.applied ≤ v.node.copies.applied) × ((w.nodes j).member.installed ≤ v.node.member.installed)) (sym e)
-          (omega (arith, applied), omega (arith, installed)))
-          (λ no. (omega arith, omega arith)) in
+      (λ (n : Node). ((w.nodes k).copies.applied ≤ n.copies.applied) × ((w.nodes k).member.installed ≤ n.member.installed))
+      (λ e. subst (λ j. ((w.nodes j).copies.applied ≤ v.node.copies.applied) × ((w.nodes j).member.installed ≤ v.node.member.installed)) (sym e)
+      (omega (arith, applied), omega (arith, installed)))
+      (λ no. (omega arith, omega arith)) in
       record {
         places = record {
           processes = λ k j r. at_both w.nodes m v.node k (λ (n : Node). n.played j ≡ Some r → r.place ≤ n.copies.applied)
@@ -360,8 +357,7 @@ event_numbered laws routes f small w event given may submit grouped places h =
     let u : AtWork = happens f w event given in
     let left : Left_so Whatever f u = left_happens Whatever laws f small w event given grouped may submit (placed_so f w places h) in
     let told : Tells f w u = telling laws f small w event given grouped may submit h in
-    let after : Grouped f u.world = (going_happens laws f w event given small may submit grouped).grouped in
-    (
+    let after : Grouped f u.world = (going_happens laws f w event given small may submit grouped).grouped in (
       record {
         order = told.counts.order;
         each = told.counts.each;

@@ -3,7 +3,6 @@ use Rattle.std.proofs.Common.{◌≡◌, ◌==◌, ◌||◌, ◌+◌, ◌≤◌,
 use Rattle.std.proofs.lemmas.Bool.{cond_both, leb-true}
 use Rattle.std.specs.List.{AllByRecursion as Each}
 use Rattle.orca_base.specs.declared.ids.CallNo.{CallNo}
-use Rattle.orca_base.specs.declared.ids.ProcessNo.{ProcessNo}
 use Rattle.value_core.specs.Meaning.{Performs as Meant}
 use Rattle.value_core.specs.declared.action.Action.{Action}
 use Rattle.value_core.specs.declared.action.Action.TheVariants as action
@@ -24,7 +23,7 @@ use Rattle.group_rules.specs.Member.{Waiting}
 use Rattle.group_rules.specs.Sets.{with_at}
 use Rattle.group_rules.specs.Steps.{note, submit}
 use Rattle.group_rules.specs.Work.{Act, Work}
-use Rattle.world_rules.specs.Applying.{answers, applies, applies_all, applies_each, applies_one, begins, copies_take, due_entries, notes, passes_limit, performs_read, round, rounds, tries_as, tries_of, tries_read, tries_reads}
+use Rattle.world_rules.specs.Applying.{answers, applies, applies_all, applies_each, applies_one, begins, copies_take, due_entries, passes_limit, performs_read, round, rounds, tries_as, tries_of, tries_read, tries_reads}
 use Rattle.world_rules.specs.Frame.{Frame, group}
 use Rattle.world_rules.specs.Mail.{Errand, Mail, place_of}
 use Rattle.world_rules.specs.Mail.Errand.{Ask, Answer}
@@ -39,12 +38,11 @@ use Rattle.world_law.specs.Asks.{WasAsked}
 use Rattle.world_law.specs.Going.{Later}
 use Rattle.world_law.specs.Places.{CallStands, Plays, Reaches}
 use Rattle.world_law.proofs.Ages.{Fresh, On, ages_rounds, goes_calls_as, goes_submits, moved}
-use Rattle.world_law.proofs.Applied.{applied_one, one_more}
+use Rattle.world_law.proofs.Applied.{one_more}
 use Rattle.world_law.proofs.Flying.{each_append, each_more}
-use Rattle.world_law.proofs.Going.{Goes, goes_call, goes_changes, goes_hands, goes_hears, later_same}
+use Rattle.world_law.proofs.Going.{goes_changes, goes_hands, goes_hears, later_same}
 use Rattle.world_law.proofs.Maps.{at_both, at_here}
 use Rattle.world_law.proofs.Once.{trichotomy}
-use Rattle.world_law.proofs.Quiet.{quiet_rounds}
 use Rattle.world_law.proofs.Sending.{applied_if}
 use Rattle.world_law.proofs.Suspending.{lines_so, waits_so}
 

@@ -3,7 +3,6 @@
 use Rattle.std.proofs.Common.{◌≡◌, ◌==◌, ◌||◌, ◌+◌, ◌≤◌, ◌<◌, if◌then◌else◌, ℕ, zero, suc, List, [], ◌∷◌, ◌++◌, map, length, Option, None, Some, refl, sym, ap, ◌∙◌, arith, subst, nat_lt, nat_le}
 use Rattle.std.proofs.lemmas.Bool.{cond_both, leb-true}
 use Rattle.orca_base.specs.declared.ids.CallNo.{CallNo}
-use Rattle.orca_base.specs.declared.ids.ProcessNo.{ProcessNo}
 use Rattle.value_core.specs.declared.action.Action.{Action}
 use Rattle.value_core.specs.declared.action.Action.TheVariants as action
 use Rattle.value_core.specs.declared.action.Class.{Class}
@@ -28,7 +27,7 @@ use Rattle.world_rules.specs.Mail.Errand.{Ask, Answer}
 use Rattle.world_rules.specs.Nodes.{Deed, Given, NodeWork, becomes, changes, does, entries_of, if_played, joins, known, mails_of, plays}
 use Rattle.world_rules.specs.Nodes.Deed.{Acts, Performs, Submits}
 use Rattle.world_rules.specs.Owners.{arrives, hands, hands_all, hands_to, hears_as, hears_of, holds, is_held, performs_call, sends, takes, takes_asked, takes_call, takes_each, takes_reached, waits_here}
-use Rattle.world_rules.specs.Parts.{acts_at, acts_by, acts_of, asks, asks_again, asks_again_at, asks_again_by, asks_again_of, asks_below, asks_owner, calls, calls_as, catches_up, performs_all, reads, submits}
+use Rattle.world_rules.specs.Parts.{acts_at, acts_by, acts_of, asks, asks_again, asks_again_at, asks_again_by, asks_again_of, asks_below, asks_owner, calls_as, catches_up, performs_all, submits}
 use Rattle.world_rules.specs.Played.{Played, Stage, moves_to, newborn, next_call, receives}
 use Rattle.world_rules.specs.Played.Stage.{Computing, Acting, Submitted, Reading, Asking, Over}
 use Rattle.world_rules.specs.Processes.{Begun, begun_by, home_in, owner_in, singles_of}

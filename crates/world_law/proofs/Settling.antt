@@ -1,16 +1,15 @@
 -- The rounds that `waiting` counts leave nothing due, and a round more changes nothing.
-use Rattle.std.proofs.Common.{◌≡◌, ◌+◌, ◌≤◌, ◌<◌, ◌⊎◌, ℕ, zero, suc, true, false, is_some, List, [], ◌∷◌, ◌++◌, length, take, drop, refl, sym, ap, ◌∙◌, arith, subst, inl, inr, nat_lt}
-use Rattle.std.proofs.lemmas.Bool.{cond_both, cond-false, le-ltb, ltb-false, ltb-true}
+use Rattle.std.proofs.Common.{◌≡◌, ◌+◌, ◌≤◌, ◌<◌, ◌⊎◌, ℕ, suc, List, [], ◌∷◌, ◌++◌, length, take, drop, refl, sym, ap, ◌∙◌, arith, subst, inl, inr, nat_lt}
+use Rattle.std.proofs.lemmas.Bool.{cond_both, cond-false, le-ltb, ltb-false}
 use Rattle.std.proofs.lemmas.List.{drop-drop, take-append-le}
 use Rattle.value_core.specs.declared.message.Message.{Message}
-use Rattle.object_manager.specs.After.{Copied}
 use Rattle.group_rules.specs.Member.{Member, Waiting}
 use Rattle.group_rules.specs.Steps.{note, noted}
 use Rattle.world_rules.specs.Applying.{applies, applies_all, applies_each, applies_one, due_entries, notes, passes_limit, round, rounds}
 use Rattle.world_rules.specs.Frame.{Frame, group}
-use Rattle.world_rules.specs.Nodes.{Node, NodeWork, joins}
+use Rattle.world_rules.specs.Nodes.{NodeWork}
 use Rattle.world_law.specs.CaughtUp.{HasCaughtUp, IsSettled, MayCatchUp, StopsAt}
-use Rattle.world_law.proofs.Applied.{Applied, applied_due, applied_exactly, member_applies}
+use Rattle.world_law.proofs.Applied.{applied_due, applied_exactly, member_applies}
 use Rattle.world_law.proofs.AtWork.{if_true}
 use Rattle.world_law.proofs.Noted.{Noted, note_noted}
 use Rattle.world_law.proofs.Once.{trichotomy}

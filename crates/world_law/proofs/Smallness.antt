@@ -1,10 +1,9 @@
 -- The numbers of a run are small, and so are those of what travels.
-use Rattle.std.proofs.Common.{◌≡◌, ◌≤◌, ◌<◌, ◌*◌, ℕ, List, [], ◌∷◌, refl, arith}
+use Rattle.std.proofs.Common.{◌<◌, ◌*◌, List, [], ◌∷◌, refl, arith}
 use Rattle.std.proofs.Math.Nat.{mul-le-mul_left}
 use Rattle.std.specs.List.{AllByRecursion as Each}
-use Rattle.orca_base.specs.declared.limits.TheConstants.{EVENTS, NODES}
 use Rattle.value_core.specs.declared.message.Message.{Message}
-use Rattle.group_law.specs.Numbers.{FewEventsLaw, MOST}
+use Rattle.group_law.specs.Numbers.{FewEventsLaw}
 use Rattle.group_law.specs.Sends.{RoutesLaw}
 use Rattle.group_rules.specs.World.{Sent}
 use Rattle.net_rules.specs.declared.flight.Flight.{Flight}
@@ -12,7 +11,7 @@ use Rattle.world_rules.specs.declared.event.Event as world
 use Rattle.world_rules.specs.Frame.{Frame, group}
 use Rattle.world_rules.specs.Mail.{Carried, Mail}
 use Rattle.world_rules.specs.Steps.{AtWork, Known, Possible, happens}
-use Rattle.world_rules.specs.Worlds.{World, group_world}
+use Rattle.world_rules.specs.Worlds.{World}
 use Rattle.world_law.specs.Counts.{AreSmall, IsSmallMail, StepsCount}
 use Rattle.world_law.specs.Grouped.{AllFly, Come, Grouped}
 use Rattle.world_law.specs.Grouped.{Submits as MayAll}

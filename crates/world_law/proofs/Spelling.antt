@@ -1,12 +1,11 @@
 -- What travels is sound, where messages and replies are.
-use Rattle.std.proofs.Common.{◌≡◌, ◌≤◌, ◌<◌, ◌*◌, ◌⊎◌, ℕ, List, [], ◌∷◌, Option, None, Some, length, refl, sym, ap, ◌∙◌, subst, inl, inr}
+use Rattle.std.proofs.Common.{◌≡◌, ◌≤◌, ◌<◌, ◌*◌, ℕ, List, [], ◌∷◌, Some, refl, sym, ap, ◌∙◌, subst, inl, inr}
 use Rattle.std.specs.List.{AllByRecursion as Each}
 use Rattle.orca_base.specs.declared.limits.TheConstants.{NODES}
 use Rattle.value_core.specs.Sound.{IsSoundMessage, IsSoundReply}
 use Rattle.value_core.specs.declared.action.Action.{Action}
 use Rattle.value_core.specs.declared.action.Reply.{Reply}
 use Rattle.value_core.specs.declared.message.Message.{Message}
-use Rattle.book_law.specs.declared.placing.Placed.{Placed}
 use Rattle.group_law.proofs.Travelling.{sound_weaker}
 use Rattle.group_law.specs.SoundPackets.{IsReply, IsSubmitted, SoundLaw}
 use Rattle.group_packets.specs.Sound.{IsSoundPacket}
@@ -26,7 +25,7 @@ use Rattle.world_rules.specs.Played.{Played, Stage}
 use Rattle.world_rules.specs.Played.Stage.{Computing, Acting, Submitted, Reading, Asking, Over}
 use Rattle.world_rules.specs.Steps.{AtWork, Known, Next, Possible, closes, happens, posts, posts_all, untouched}
 use Rattle.world_rules.specs.Worlds.{World, group_world}
-use Rattle.world_law.specs.Answers.{AnswersTrue, MailIsTrue, Stands}
+use Rattle.world_law.specs.Answers.{AnswersTrue, MailIsTrue}
 use Rattle.world_law.specs.Grouped.{Come, Grouped}
 use Rattle.world_law.specs.Grouped.{Submits as MayAll}
 use Rattle.world_law.specs.Packets.{AreNumbered, IsSent, PlacesWithin}
@@ -37,7 +36,7 @@ use Rattle.world_law.proofs.Events.{Going, going_happens}
 use Rattle.world_law.proofs.Flying.{each_first, each_posted, each_ticked}
 use Rattle.world_law.proofs.Grouping.{Laws}
 use Rattle.world_law.proofs.Numbering.{Left_so, Placed_so, Sent_by, left_happens}
-use Rattle.world_law.proofs.Sending.{Holds, StandsBy, out_of}
+use Rattle.world_law.proofs.Sending.{out_of}
 use Rattle.world_law.proofs.Travels.{AllCome}
 use Rattle.world_law.proofs.TrueAnswers.{happens_true}
 use Rattle.world_law.proofs.Walking.{Walks, walk_event}

@@ -1,5 +1,5 @@
 -- What holds of a call and of each that waits holds of the lines that are performed then, and of the calls that wait on.
-use Rattle.std.proofs.Common.{◌≡◌, ℕ, zero, suc, List, [], ◌∷◌, ◌++◌, length, slice_get, Option, None, Some, refl, subst}
+use Rattle.std.proofs.Common.{◌≡◌, ℕ, zero, suc, List, [], ◌∷◌, length, slice_get, Option, None, Some, refl, subst}
 use Rattle.std.specs.Prelude.{remove}
 use Rattle.std.specs.List.{AllByRecursion as Each}
 use Rattle.orca_base.specs.declared.ids.CallNo.{CallNo}

@@ -1,12 +1,11 @@
 -- An event as parts of members, each of which begins in one of four ways and then catches up: whatever holds before and after each part
 -- holds after the event. Beside it the messages that were submitted, and the ticks and coordinations, are counted.
-use Rattle.std.proofs.Common.{◌≡◌, ◌&&◌, ◌+◌, ◌≤◌, ◌<◌, ◌*◌, ℕ, zero, suc, true, List, [], ◌∷◌, Option, None, Some, refl, sym, ap, ◌∙◌, arith, subst, nat_lt, length}
+use Rattle.std.proofs.Common.{◌≡◌, ◌+◌, ◌≤◌, ◌<◌, ◌*◌, ℕ, zero, suc, true, List, [], ◌∷◌, Option, None, Some, refl, sym, arith, subst, length}
 use Rattle.std.proofs.lemmas.Bool.{and_parts, cond_both, lt-ltb}
 use Rattle.orca_base.specs.declared.ids.ProcessNo.{ProcessNo}
 use Rattle.value_core.specs.declared.action.Action.{Action}
 use Rattle.value_core.specs.declared.action.Line.{Line}
 use Rattle.value_core.specs.declared.message.Message.{Message}
-use Rattle.group_rules.specs.Steps.{timer}
 use Rattle.group_rules.specs.World.{Event, may_submit}
 use Rattle.net_rules.specs.Flights.{ready_copy, ticked, without}
 use Rattle.net_rules.specs.declared.flight.Flight.{Flight}
@@ -19,7 +18,7 @@ use Rattle.world_rules.specs.Nodes.Deed.{Performs}
 use Rattle.world_rules.specs.Parts.{asks_again, catches_up, performs_all, receives_mail}
 use Rattle.world_rules.specs.Played.{Played}
 use Rattle.world_rules.specs.Played.Stage.{Acting}
-use Rattle.world_rules.specs.Steps.{AtWork, Burst, IsBurst, Known, Possible, after_part, bursts, comes, comes_whole, crashes, delivers, happens, lives_in, may_act_as, passes_tick, swaps, ticks_at, ticks_below, untouched}
+use Rattle.world_rules.specs.Steps.{AtWork, Burst, IsBurst, Known, Possible, after_part, bursts, comes, comes_whole, crashes, delivers, happens, lives_in, may_act_as, swaps, ticks_below, untouched}
 use Rattle.world_rules.specs.Worlds.{World, group_world, home_of, played_in}
 use Rattle.world_law.specs.Gives.{acted, came, coordinated, taken_from, timed, waited}
 use Rattle.world_law.specs.Grouped.{Come, Grouped}
@@ -28,7 +27,7 @@ use Rattle.world_law.specs.Moments.{Lives}
 use Rattle.world_law.proofs.AtWork.{both_true}
 use Rattle.world_law.proofs.Events.{Going, going, going_below, good_of, good_receives, on_home, start_good, with_flights}
 use Rattle.world_law.proofs.Grouping.{Good, Laws, good_coordinate, good_still, good_timer}
-use Rattle.world_law.proofs.Still.{Still, still_again}
+use Rattle.world_law.proofs.Still.{still_again}
 use Rattle.world_law.proofs.Travels.{fly_found, fly_ticked, fly_without}
 
 -- how a member's part begins: its process's action is carried out, a letter comes, its timer runs, it coordinates

@@ -66,10 +66,11 @@ pub record StepsCount (f : Frame) : Type 0 where
   pub within : (w v : World) (step : Step) → Next f w step v → (v.steps ≡ suc w.steps) × (w.steps < f.settings.events)
   pub small : (w : World) (steps : ℕ) → f.settings.nodes ≤ NODES → steps ≤ EVENTS → AfterSteps f w steps → AreSmall w
   pub flights :
-      (w : World) → Grouped f w → AreNumbered f w → AreSmall w → Each (λ (flight : Flight Carried). IsSmallMail flight.packet.mail) w.flights
+      (w : World) → Grouped f w → AreNumbered f w → AreSmall w →
+      Each (λ (flight : Flight Carried). IsSmallMail flight.packet.mail) w.flights
   pub letters :
-      (w : World) (event : world.Event) (given : Known event) → Possible f w event given → Submits f w event → Grouped f w → PlacesWithin w →
-      AreNumbered f w → AreSmall (happens f w event given).world → Each IsSmallMail (happens f w event given).mails
+      (w : World) (event : world.Event) (given : Known event) → Possible f w event given → Submits f w event → Grouped f w →
+      PlacesWithin w → AreNumbered f w → AreSmall (happens f w event given).world → Each IsSmallMail (happens f w event given).mails
 
 -- ---- within an event
 

@@ -1,5 +1,5 @@
 -- All that the group's side says of each world of a run, as one: what a world that is carried from step to step may keep.
-use Rattle.std.specs.Prelude.{◌<◌, ◌*◌, ℕ}
+use Rattle.std.specs.Prelude.{◌<◌, ◌*◌}
 use Rattle.world_rules.specs.declared.event.Step.{Step}
 use Rattle.world_rules.specs.Frame.{Frame}
 use Rattle.world_rules.specs.Steps.{Next}

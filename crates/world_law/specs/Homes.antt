@@ -24,7 +24,8 @@ pub record StepsHome (f : Frame) : Type 0 where
   pub step : (w v : World) (step : Step) → Next f w step v → Submits f w step.event → Grouped f w → AreHome f w → AreHome f v
   pub home : (w : World) (m i : ℕ) (r : Played) → Grouped f w → AreHome f w → (w.nodes m).played i ≡ Some r → home_of f w i ≡ m
   pub once :
-      (w : World) (m k i : ℕ) (r s : Played) → Grouped f w → AreHome f w → (w.nodes m).played i ≡ Some r → (w.nodes k).played i ≡ Some s → m ≡ k
+      (w : World) (m k i : ℕ) (r s : Played) → Grouped f w → AreHome f w → (w.nodes m).played i ≡ Some r →
+      (w.nodes k).played i ≡ Some s → m ≡ k
 
 abbrev pub AllHome : Type 0
 AllHome = (f : Frame) → 2 * f.settings.resilience < f.settings.nodes → StepsHome f

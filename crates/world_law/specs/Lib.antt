@@ -14,3 +14,4 @@ pub mod Acts
 pub mod Places
 pub mod Holds
 pub mod Homes
+pub mod Turns

@@ -1,5 +1,5 @@
--- How packets are numbered: those in flight stand in order, and the wires were asked about packets 1, 2 and so on, about each once. And what
--- the places of a run are: none is beyond what its member applied.
+-- How packets are numbered: those in flight stand in order, and the wires were asked about packets 1, 2 and so on, about each once. And
+-- what the places of a run are: none is beyond what its member applied.
 use Rattle.std.specs.Prelude.{◌≡◌, ◌≤◌, ◌<◌, ◌+◌, ◌*◌, ℕ, suc, false, List, [], ◌∷◌, ◌++◌, Some, length, map}
 use Rattle.std.specs.List.{AllByRecursion as Each}
 use Rattle.net_rules.specs.Flights.{InOrder, travels}
@@ -24,8 +24,8 @@ pub record PlacesWithin (w : World) : Type 0 where
 
 -- ---- letters
 
--- a letter goes from a member to a member. An Ask or Answer has a place up to what its sender applied, and an incarnation up to the one that
--- it installed
+-- a letter goes from a member to a member. An Ask or Answer has a place up to what its sender applied, and an incarnation up to the one
+-- that it installed
 abbrev pub IsSent : Frame → (ℕ → Node) → Mail → Type 0
 IsSent f nodes (Mail.Grouped letter) = (letter.packet.from < f.settings.nodes) × (letter.to < f.settings.nodes)
 IsSent f nodes (Mail.Sends incarnation from to errand) =
@@ -66,8 +66,8 @@ pub record TellsWire (w v : World) (step : Step) : Type 0 where
   pub sent : v.sent ≡ w.sent + length step.fates
   pub others : (wire : ℕ) → (wire ≡ v.swaps → ⊥) → asked_of wire v.told ≡ asked_of wire w.told
 
--- `event`, an event leaves what is in flight numbered; `letters`, each letter that it sends goes so in the world that it leaves; `posts`, and is
--- numbered once it is posted; so it is after a step, which tells the wire in use
+-- `event`, an event leaves what is in flight numbered; `letters`, each letter that it sends goes so in the world that it leaves; `posts`,
+-- and is numbered once it is posted; `step`, so it is after a step; `tells`, which tells the wire in use
 pub record StepsNumber (f : Frame) : Type 0 where
   pub opening : AreNumbered f (opening_world f) × PlacesWithin (opening_world f)
   pub event :

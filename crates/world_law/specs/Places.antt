@@ -1,5 +1,5 @@
--- Places never fall: a process's place rises with what it reads and hears, where each Answer on its way to it is of the call that it asks and
--- from no lower a place, or an old one.
+-- Places never fall: a process's place rises with what it reads and hears, where each Answer on its way to it is of the call that it asks
+-- and from no lower a place, or an old one. And so each Answer is.
 use Rattle.std.specs.Prelude.{◌≡◌, ◌≤◌, ◌<◌, ◌⊎◌, ◌*◌, ℕ, List, Option, Some, length}
 use Rattle.std.specs.List.{AllByRecursion as Each}
 use Rattle.orca_base.specs.declared.ids.CallNo.{CallNo}
@@ -76,14 +76,15 @@ pub record CallsStand (w : World) : Type 0 where
   pub held : (m : ℕ) → Each (AnswerStands (plays_of w)) (w.nodes m).held
   pub given : (m i : ℕ) (one : Given) → (w.nodes m).given i ≡ Some one → CallStands (plays_of w) one.place i one.call
   pub waits :
-      (m : ℕ) → Each (λ (call : Suspended). CallStands (plays_of w) (w.nodes m).copies.applied call.process.0 call.call) (w.nodes m).copies.waits
+      (m : ℕ) →
+      Each (λ (call : Suspended). CallStands (plays_of w) (w.nodes m).copies.applied call.process.0 call.call) (w.nodes m).copies.waits
 
 -- `step`, so it stays; `reach`, so each Answer reaches its process, since no two members play one
 pub record StepsReach (f : Frame) : Type 0 where
   pub opening : CallsStand (opening_world f)
   pub step :
-      (steps : List Step) (w v : World) (step : Step) → Leads f (opening_world f) steps w → Next f w step v → PlacesWithin w → CallsStand w →
-      CallsStand v
+      (steps : List Step) (w v : World) (step : Step) → Leads f (opening_world f) steps w → Next f w step v → PlacesWithin w →
+      CallsStand w → CallsStand v
   pub reach : (w : World) → Grouped f w → AreHome f w → CallsStand w → AnswersReach w
 
 abbrev pub AllReach : Type 0

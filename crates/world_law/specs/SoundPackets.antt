@@ -1,6 +1,6 @@
 -- What travels can be spelled in bytes, where the messages that processes submit and ask, and the replies of what was performed beside the
 -- list, are sound.
-use Rattle.std.specs.Prelude.{◌≡◌, ◌≤◌, ◌<◌, ◌⊎◌, ◌*◌, ℕ, List, Some, length}
+use Rattle.std.specs.Prelude.{◌≡◌, ◌≤◌, ◌<◌, ◌⊎◌, ◌*◌, ℕ, Some, length}
 use Rattle.std.specs.List.{AllByRecursion as Each}
 use Rattle.orca_base.specs.declared.limits.TheConstants.{NODES}
 use Rattle.value_core.specs.Sound.{IsSoundMessage, IsSoundReply}

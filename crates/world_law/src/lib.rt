@@ -1,9 +1,11 @@
 //! The law of the world: what is true of every run, over the definitions of `world_rules` alone.
 //!
 //! What stands here is the group's side. Replays are one; each event is a list of the group's events, where what it submits may be
-//! submitted, so the law of the group speaks of the world at each moment of an event; Asks and Answers are true;
-//! processes go on. That the kept book is a history stands above (`world_course`, `world_book`). It stands on `group_law`, and has no
-//! code: its functions are laws, whose bodies are empty or call the group's laws.
+//! submitted, so the law of the group speaks of the world at each moment of an event; numbers stay small, packets are numbered and what
+//! travels is sound; members catch up; Asks and Answers are true and come to where they belong; processes are at their homes and go on, at
+//! places that don't fall. `runs_hold` has all that as one, from step to step. That the kept book is a history stands above
+//! (`world_course`, `world_book`). It stands on `group_law`, and has no code: its functions are laws, whose bodies are empty or call the
+//! group's laws.
 #![tactic(auto)]
 
 ghost use Rattle.world_law.specs.Acts.{AllActsMeet};
@@ -22,6 +24,7 @@ ghost use Rattle.world_law.specs.Once.{RunsOnce};
 ghost use Rattle.world_law.specs.Packets.{AllNumber};
 ghost use Rattle.world_law.specs.Places.{AllReach, PlacesNeverFall};
 ghost use Rattle.world_law.specs.SoundPackets.{AllLettersSound};
+ghost use Rattle.world_law.specs.Turns.{AllTurn};
 
 use group_law::{agreement_law, packets_are_sound};
 use group_rules::wire_law;
@@ -75,9 +78,9 @@ pub fn asks_are_true()
 
 /// How great the numbers of a run are.
 ///
-/// - `steps`: in every run, whose submissions are allowed, there are at most as many submissions as steps, and as many ticks and coordinations as
-///   steps of each member; so in a group of at most 16 members, and after at most 4,000,000 steps, all numbers of entries and of incarnations,
-///   of members and of what travels, are below 2^62.
+/// - `steps`: in every run whose submissions are allowed there are at most as many submissions as steps, and as many ticks and
+///   coordinations of each member; so in a group of at most 16 members, and after at most 4,000,000 steps, all numbers of entries and of
+///   incarnations, of members and of what travels, are below 2^62.
 /// - `moments`: so it is at each moment of an event, with what the event did so far.
 pub fn numbers_stay_small()
     ensures steps { AllCount }
@@ -97,8 +100,8 @@ pub fn packets_are_numbered()
     wire_law::<Message, Reply>();
 }
 
-/// In every run whose submissions are allowed, what travels is what bytes spell, where the messages that were submitted or are next, and the
-/// replies of what was performed beside the list, are sound.
+/// In every run whose submissions are allowed, what travels is what bytes spell, where the messages that were submitted or are next, and
+/// the replies of what was performed beside the list, are sound.
 pub fn letters_are_sound()
     ensures { AllLettersSound }
 {
@@ -120,8 +123,8 @@ pub fn members_catch_up()
     wire_law::<Message, Reply>();
 }
 
-/// In every run the wire in use is the one behind as many exchanges as the run has, and an act of a wire is passed over just where its event
-/// isn't possible.
+/// In every run the wire in use is the one behind as many exchanges as the run has, each event meets the world of the steps before it, and
+/// an act of a wire is passed over just where its event isn't possible.
 pub fn acts_meet_runs()
     ensures { AllActsMeet }
 {}
@@ -151,3 +154,9 @@ pub fn answers_reach()
     agreement_law::<Message>();
     wire_law::<Message, Reply>();
 }
+
+/// In every run the action at which a process is, is what it does next by its meaning, after its replies; it took no more turns than there may
+/// be, and fewer where it doesn't compute; and it is over where it ended or faulted alone.
+pub fn processes_stand_by_meaning()
+    ensures { AllTurn }
+{}

@@ -103,8 +103,9 @@ AreAccounted f steps [] = Unit {0}
 AreAccounted f steps (one ∷ more) = IsAccounted f steps one.0 one.1 × AreAccounted f steps more
 
 -- `asked` has what each wire was asked in the run. `packets`, each was asked about the packets that were sent while it was in use, with the
--- fates of those steps; `acts`, before each event that is no burst the wire in use was asked what it does; `caused`, each crash, suspicion and
--- exchange is the answer to the last such question; `given`, each act that a wire gave is the event of its number, or was passed over
+-- fates of those steps; `acts`, before each event that is no burst the wire in use was asked what it does; `caused`, each crash, suspicion
+-- and exchange is the answer to the last such question; `given`, each act that a wire gave is the event of its number, or was passed over.
+-- Where memory lacked, the last question of the wire in use may have an answer that is neither: `given` then holds without it
 pub record WereUsed (f : Frame) (steps : List Step) (w : World) (asked : ℕ → List Asked) : Type 0 where
   pub packets : (wire : ℕ) → packets_in (asked wire) ≡ asked_of wire w.told
   pub acts :

@@ -2,9 +2,9 @@
 //! (docs/RUNTIME.md, The world of a run).
 //!
 //! The floors above cite `Possible` and `happens`: where an event may be and what it leaves; `Next` and `Replays`: the worlds that steps
-//! lead to; `Book`, `places` and `standing`: what is told of a world; `WereUsed`: what wires were asked and gave. It stands on the definitions of copies, of the book, of the group
-//! and of wires. Its types are plain data; its functions carry no code, and each has clauses that the check computes. What is true of
-//! every run isn't said here, nor is a packet spelled in bytes.
+//! lead to; `Book`, `places` and `standing`: what is told of a world; `WereUsed`: what wires were asked and gave. It stands on the
+//! definitions of copies, of the book, of the group and of wires. Its types are plain data; its functions carry no code, and each has
+//! clauses that the check computes. What is true of every run isn't said here, nor is a packet spelled in bytes.
 #![tactic(auto)]
 
 mod acts;
