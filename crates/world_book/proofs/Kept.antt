@@ -12,7 +12,7 @@ use Rattle.book_law.specs.declared.placing.Placed.{Placed}
 use Rattle.book_law.proofs.Kept.{Kept as KeptBook, Promised}
 use Rattle.book_law.specs.Course.{Came, Course, opening_course}
 use Rattle.book_law.specs.Events.{Runner}
-use Rattle.book_law.specs.Members.{AreOfBook, Holds, copies_of}
+use Rattle.book_law.specs.Members.{AreOfBook, Holds as MemberHolds, copies_of}
 use Rattle.book_law.specs.Passes.{Test}
 use Rattle.book_law.specs.Promise.{AtMostOneMore, arrived}
 use Rattle.book_law.specs.Replicated.{all_replicated}
@@ -33,7 +33,8 @@ use Rattle.world_rules.specs.Processes.{home_or_first, owner_in, processes_in}
 use Rattle.world_rules.specs.Steps.{Leads, Next, Replays}
 use Rattle.world_rules.specs.Worlds.{Book, World, agreed, opening_world, processes_of, singles_in}
 use Rattle.world_law.specs.Gives.{AllGive}
-use Rattle.world_law.specs.Grouped.{AllGrouped, Grouped, MaySubmit, StepsGrouped, Submits}
+use Rattle.world_law.specs.Grouped.{Grouped, MaySubmit, Submits}
+use Rattle.world_law.specs.Holds.{AllHold, Holds, StepsHold}
 use Rattle.world_law.specs.Lists.{AllGrow, ListsGrow}
 use Rattle.world_law.proofs.Ages.{Fresh, opening_fresh, step_later}
 use Rattle.world_course.specs.Corresponds.{Agrees, IsMember, Stands}
@@ -61,7 +62,7 @@ OwnersHave f =
 pub record Laws (f : Frame) : Type 0 where
   pub small : 2 * (group f).resilience < (group f).nodes
   pub messages : MessagesLaw Message
-  pub grouped : AllGrouped
+  pub holds : AllHold
   pub gives : AllGive
   pub lists : AllGrow
   pub courses : AreCourses f
@@ -75,10 +76,13 @@ pub record HasCourse (f : Frame) (single : Test) (w : World) : Type 0 where
 -- what is carried from step to step: for each test that agrees with the choices of the list a course, and the rest, which knows no test
 pub record Kept (f : Frame) (w : World) : Type 0 where
   pub courses : (single : Test) → Agrees f single (agreed f w) → HasCourse f single w
-  pub grouped : Grouped f w
+  pub holds : Holds f w
   pub homes : AtHome w
   pub fresh : (m : ℕ) → Fresh (w.nodes m)
   pub reads : AllRead f w
+
+pub grouped_of : (f : Frame) (w : World) → Kept f w → Grouped f w
+grouped_of f w k = let h = k.holds in h.grouped
 
 -- by the run's own test
 pub course_of : (f : Frame) (w : World) → Kept f w → HasCourse f (singles_in f w) w
@@ -86,16 +90,16 @@ course_of f w k = k.courses (singles_in f w) (λ o lt. refl)
 
 -- ---- steps
 
-opening_kept : (f : Frame) → Laws f → Kept f (opening_world f)
+pub opening_kept : (f : Frame) → Laws f → Kept f (opening_world f)
 opening_kept f laws =
-    let steps : StepsGrouped f = laws.grouped f laws.small in
+    let steps : StepsHold f = laws.holds f laws.small in
     let courses = laws.courses in
     record {
       courses = λ single agrees. record {
         course = opening_course f.computes 0;
         follows = courses.opening single (agrees_take f single (agreed f (opening_world f)) 0 agrees);
       };
-      grouped = steps.opening;
+      holds = steps.opening;
       homes = λ i m is. absurd (cc is);
       fresh = λ m. opening_fresh f m;
       reads = opening_read f;
@@ -107,9 +111,9 @@ stands_for f single w h = let g = h.follows in let is = g.corresponds in is.stan
 pub kept_may : (f : Frame) (w : World) → Laws f → Kept f w → (i : ℕ) → MaySubmit f w i
 kept_may f w laws k i =
     let h = course_of f w k in
-    may laws.messages f (singles_in f w) laws.small w h.course (stands_for f (singles_in f w) w h) k.grouped k.homes i
+    may laws.messages f (singles_in f w) laws.small w h.course (stands_for f (singles_in f w) w h) (grouped_of f w k) k.homes i
 
-submits : (f : Frame) (w : World) (e : world.Event) → ((i : ℕ) → MaySubmit f w i) → Submits f w e
+pub submits : (f : Frame) (w : World) (e : world.Event) → ((i : ℕ) → MaySubmit f w i) → Submits f w e
 submits f w (event.Act process) may = may process.0
 submits f w (event.Burst process place turns) may = tt
 submits f w (event.Deliver packet copy) may = tt
@@ -118,23 +122,23 @@ submits f w (event.Crash node) may = tt
 submits f w (event.Suspect node) may = tt
 submits f w event.Swap may = tt
 
-step_kept : (f : Frame) (w v : World) (step : Step) → Laws f → Next f w step v → Kept f w → Kept f v
+pub step_kept : (f : Frame) (w v : World) (step : Step) → Laws f → Next f w step v → Kept f w → Kept f v
 step_kept f w v step laws next k =
     let may : Submits f w step.event = submits f w step.event (kept_may f w laws k) in
-    let steps : StepsGrouped f = laws.grouped f laws.small in
+    let steps : StepsHold f = laws.holds f laws.small in
     let lists : ListsGrow f = laws.lists f laws.small in
-    let goes = steps.step w v step next may k.grouped in
-    let grown = lists.grows w v step next may k.grouped in
+    let goes : Holds f v = steps.step w v step next may k.holds in
+    let grown = lists.grows w v step next may (grouped_of f w k) in
     let gone = step_later f w v step next k.fresh in
     let courses = laws.courses in
-    let gives = laws.gives f laws.small w step.event next.given k.grouped next.possible may in
+    let gives = laws.gives f laws.small w step.event next.given (grouped_of f w k) next.possible may in
     record {
       courses = λ single agrees.
           let before = k.courses single (agrees_before f single (agreed f w) grown.0 (agreed f v) grown.1 agrees) in
           let on = courses.steps single w v before.course step before.follows next (given f w step.event gives)
           (agrees_all f single v goes.grouped (lists.one v goes.grouped) agrees) in
           record { course = on.0; follows = on.2 };
-      grouped = goes.grouped;
+      holds = goes;
       homes = homes_stay f w v step next gone.later k.homes;
       fresh = gone.fresh;
       reads = read_step f w v step next k.fresh k.reads;
@@ -154,7 +158,7 @@ pub list_kept : (f : Frame) (single : Test) (w : World) → Laws f → Kept f w 
 list_kept f single w laws k h =
     let lists : ListsGrow f = laws.lists f laws.small in
     let g = h.follows in
-    list_is f single w h.course g.corresponds k.grouped (lists.one w k.grouped)
+    list_is f single w h.course g.corresponds (grouped_of f w k) (lists.one w (grouped_of f w k))
 
 -- and so is its book, by the run's own test
 pub book_kept : (f : Frame) (w : World) → Laws f → (k : Kept f w) → (h : HasCourse f (singles_in f w) w) → Book f w ≡ book (singles_in f w) f.performs h.course.list h.course.aside
@@ -168,7 +172,7 @@ pub number_kept : (f : Frame) (single : Test) (w : World) → (k : Kept f w) →
 number_kept f single w k h m =
     let st = stands_for f single w h in
     let mem = st.members m in
-    let grouped = k.grouped in
+    let grouped = grouped_of f w k in
     grouped.level m ∙ sym mem.applied
 
 -- the book up to what a member applied
@@ -258,7 +262,7 @@ whole_kept f w laws k m none =
     mem : IsMember f all_replicated c st.came m (w.nodes m)
     mem = st.members m
 
-    holds : Holds all_replicated f.performs c.list c.owned m (c.applied m) (copies_of all_replicated f.performs f.computes c st.came m)
+    holds : MemberHolds all_replicated f.performs c.list c.owned m (c.applied m) (copies_of all_replicated f.performs f.computes c st.came m)
     holds = members_hold all_replicated f.performs f.computes c st.came m
 
     promised : Promised all_replicated f.performs f.computes c.list c.aside c.owned c.applied c.runners
@@ -307,7 +311,7 @@ copies_kept f w laws k m = record {
     follow : AreOfBook (singles_in f w) f.performs f.computes c m (copies_of (singles_in f w) f.performs f.computes c st.came m)
     follow = members_follow (singles_in f w) f.performs f.computes c st.came m
 
-    holds : Holds (singles_in f w) f.performs c.list c.owned m (c.applied m) (copies_of (singles_in f w) f.performs f.computes c st.came m)
+    holds : MemberHolds (singles_in f w) f.performs c.list c.owned m (c.applied m) (copies_of (singles_in f w) f.performs f.computes c st.came m)
     holds = members_hold (singles_in f w) f.performs f.computes c st.came m
 
     sound : KeptBook (singles_in f w) f.performs f.computes c.list c.aside c.owned c.entered c.applied c.runners

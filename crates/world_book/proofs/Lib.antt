@@ -9,5 +9,6 @@ pub mod Reading
 pub mod Staying
 pub mod Rests
 pub mod Kept
+pub mod Sounding
 pub mod Stuck
 pub mod Over

@@ -1,2 +1,4 @@
 pub mod Promise
 pub mod Submitting
+pub mod Holding
+pub mod Sounding

@@ -6,14 +6,16 @@
 //! theirs. Nothing is said here of whether a run ends.
 #![tactic(auto)]
 
+ghost use Rattle.world_book.specs.Holding.{RunsGoOn, RunsHold};
 ghost use Rattle.world_book.specs.Promise.{ReplaysAreOne, RunsAreKept, RunsEndStuck};
+ghost use Rattle.world_book.specs.Sounding.{RunsSound};
 ghost use Rattle.world_book.specs.Submitting.{ProcessesMaySubmit};
 
 use book_law::{every_call_fits, stuck_law};
 use group_law::agreement_law;
 use value_core::{Message, Processor};
 use world_course::worlds_are_courses;
-use world_law::{group_steps, replay_law};
+use world_law::{group_steps, letters_are_sound, replay_law, runs_hold};
 
 /// The law of every run, for every setting that a run may have and every list of steps. A call of this function does nothing.
 ///
@@ -25,15 +27,24 @@ use world_law::{group_steps, replay_law};
 ///   process of a living member is stuck that hasn't ended or faulted.
 /// - `may`: a process at an action that wasn't carried out may submit it, so that `group_steps` of `world_law` speaks of each of these
 ///   runs.
+/// - `holds`: so all that the group's side says where what is submitted may be submitted, holds of each world of a run: packets are
+///   numbered, numbers small, members caught up, processes at home, Asks and Answers true, and no place beyond what a member applied.
+/// - `goes`: and in each step of a run processes go on, at places that don't fall.
+/// - `sound`: what was submitted, what a process is about to ask, what was performed beside the list, and what travels, is sound.
 /// - `once`: a list of steps leads to one world at most.
 pub fn legal_book<P: Processor>(machine: &P)
     ensures kept { RunsAreKept (P.performs machine.now) (P.computes machine.now) }
     ensures stuck { RunsEndStuck (P.performs machine.now) (P.computes machine.now) }
     ensures may { ProcessesMaySubmit (P.performs machine.now) (P.computes machine.now) }
+    ensures holds { RunsHold (P.performs machine.now) (P.computes machine.now) }
+    ensures goes { RunsGoOn (P.performs machine.now) (P.computes machine.now) }
+    ensures sound { RunsSound (P.performs machine.now) (P.computes machine.now) }
     ensures once { ReplaysAreOne (P.computes machine.now) }
 {
     agreement_law::<Message>();
     group_steps();
+    runs_hold();
+    letters_are_sound();
     worlds_are_courses(machine);
     every_call_fits(machine);
     replay_law(machine);

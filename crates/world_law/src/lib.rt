@@ -3,9 +3,9 @@
 //! What stands here is the group's side. Replays are one; each event is a list of the group's events, where what it submits may be
 //! submitted, so the law of the group speaks of the world at each moment of an event; numbers stay small, packets are numbered and what
 //! travels is sound; members catch up; Asks and Answers are true and come to where they belong; processes are at their homes and go on, at
-//! places that don't fall. `runs_hold` has all that as one, from step to step. That the kept book is a history isn't here: it rests on
-//! `book_law`, by showing that each world is a run of it (`world_book`). It stands on `group_law`, and has no code: its functions are laws,
-//! whose bodies are empty or call the group's laws.
+//! places that don't fall. `runs_hold` has all that as one, from step to step. That the kept book is a history stands above
+//! (`world_course`, `world_book`). It stands on `group_law`, and has no code: its functions are laws, whose bodies are empty or call the
+//! group's laws.
 #![tactic(auto)]
 
 ghost use Rattle.world_law.specs.Acts.{AllActsMeet};

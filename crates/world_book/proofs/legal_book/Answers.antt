@@ -1,10 +1,11 @@
 use Rattle.std.proofs.Common.{◌≡◌, sym, subst}
 use Rattle.value_core.specs.Meaning.{Computes, Performs}
 use Rattle.book_law.specs.Fitness.{EndsStuck}
-use Rattle.book_law.specs.Machines.{RunsFit}
+use Rattle.book_law.specs.Machines.{RunsFit, RunsSound}
 use Rattle.world_rules.specs.Frame.{AreSettings, Frame}
 use Rattle.world_book.proofs.Kept.{Laws, is_kept, kept_may, replayed}
 use Rattle.world_book.proofs.Over.{living_stuck}
+use Rattle.world_book.proofs.Sounding.{is_sound}
 use Rattle.world_book.proofs.Stuck.{single_stuck, stuck_at}
 use Rattle.world_book.proofs.legal_book.Goals as goal
 
@@ -20,7 +21,7 @@ returns g c =
     record {
       small = settings.resilience;
       messages = c.agreement_law.ensures.messages;
-      grouped = c.group_steps.ensures.events;
+      holds = c.runs_hold.ensures;
       gives = c.group_steps.ensures.gives;
       lists = c.group_steps.ensures.lists;
       courses = c.worlds_are_courses.ensures.courses f same_p same_q settings;
@@ -38,6 +39,21 @@ returns g c =
           record { waiters = λ n all. stuck_at f w l ends k n all; singles = single_stuck f w l ends k; living = living_stuck f w settings.some l ends k };
       may = λ f same_p same_q settings steps w replays i.
           let l = laws f same_p same_q settings in kept_may f w l (replayed f steps w l replays) i;
+      holds = λ f same_p same_q settings steps w replays.
+          let l = laws f same_p same_q settings in
+          let k = replayed f steps w l replays in
+          k.holds;
+      goes = λ f same_p same_q settings steps w v step replays next.
+          let l = laws f same_p same_q settings in
+          let k = replayed f steps w l replays in
+          let on = l.holds f l.small in
+          record { later = on.later w v step next k.holds; rise = on.rise w v step next k.holds };
+      sound = λ f same_p same_q settings steps w replays.
+          let l = laws f same_p same_q settings in
+          let courses : RunsSound f.performs f.computes =
+          subst (λ (p : Performs). RunsSound p f.computes) (sym same_p)
+          (subst (λ (q : Computes). RunsSound (g.P.Performer.performs m) q) (sym same_q) c.every_call_fits.ensures.sound) in
+          is_sound f steps w l (record { few = settings.few; courses = courses; letters = c.letters_are_sound.ensures }) replays;
       once = λ f same steps w v one two.
           let runs = c.replay_law.ensures.once f same in
           runs.replays steps w v one two;

@@ -1,0 +1,20 @@
+-- What is said in a run can be spelled in bytes: what was submitted, what processes are about to ask, what was performed beside the list,
+-- and what travels.
+use Rattle.std.specs.Prelude.{◌≡◌, List}
+use Rattle.value_core.specs.Meaning.{Computes, Performs}
+use Rattle.world_rules.specs.declared.event.Step.{Step}
+use Rattle.world_rules.specs.Frame.{AreSettings, Frame}
+use Rattle.world_rules.specs.Steps.{Replays}
+use Rattle.world_rules.specs.Worlds.{World}
+use Rattle.world_law.specs.SoundPackets.{FlySound, NextSound, SaidSound}
+
+pub record IsSound (f : Frame) (w : World) : Type 0 where
+  pub said : SaidSound w
+  pub next : NextSound w
+  pub flies : FlySound f w
+
+-- so it is in every run of a lawful program with these meanings
+abbrev pub RunsSound : Performs → Computes → Type 0
+RunsSound p q =
+    (f : Frame) → f.performs ≡ p → f.computes ≡ q → AreSettings f.settings → (steps : List Step) (w : World) →
+    Replays f steps w → IsSound f w
