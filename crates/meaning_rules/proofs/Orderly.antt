@@ -48,6 +48,7 @@ use Rattle.meaning_rules.specs.Programs.{ObjectType, begin_scope, function_scope
 use Rattle.meaning_rules.specs.Statements as named
 use Rattle.meaning_rules.specs.Statements.{names_at}
 use Rattle.meaning_rules.specs.Accepted.{AreInOrder, BodyInOrder, IsOrderly, AreTexts, GivesOrder}
+use Rattle.meaning_rules.proofs.OperatorsFit.{or_either}
 use Rattle.meaning_rules.proofs.Judged.{left_none, right_none, both_left, both_right, all_at}
 
 -- ---- lists
@@ -100,25 +101,17 @@ units (x ∷ xs) = (tt, units xs)
 
 in_range : (low high c : ℕ) → high ≤ 127 → is_in_range low high c ≡ true → IsCode c
 in_range low high c less is =
-    let top_c = leb-true c high (second (nat_le low c) (nat_le c high) is) in
-    omega (arith, less, top_c)
-  where
-    second : (a b : Bool) → (a && b) ≡ true → b ≡ true
-    second true b e = e
-    second false b e = absurd cc
-
-either : (a b : Bool) → (a || b) ≡ true → (P : Type 0) → (a ≡ true → P) → (b ≡ true → P) → P
-either true b is P f g = f refl
-either false b is P f g = g is
+    let below = leb-true c high (both_right (nat_le low c) (nat_le c high) is) in
+    omega (arith, less, below)
 
 first_code : (c : ℕ) → is_ascii_alphabetic c ≡ true → IsCode c
-first_code c is = either (is_in_range 65 90 c) (is_in_range 97 122 c) is (IsCode c) (in_range 65 90 c (omega arith)) (in_range 97 122 c (omega arith))
+first_code c is = or_either (is_in_range 65 90 c) (is_in_range 97 122 c) is (IsCode c) (in_range 65 90 c (omega arith)) (in_range 97 122 c (omega arith))
 
 next_code : (c : ℕ) → is_name_byte c ≡ true → IsCode c
 next_code c is =
-    either (is_ascii_alphanumeric c) (c == 95) is (IsCode c)
-    (λ h. either (is_in_range 48 57 c || is_in_range 65 90 c) (is_in_range 97 122 c) h (IsCode c)
-    (λ k. either (is_in_range 48 57 c) (is_in_range 65 90 c) k (IsCode c) (in_range 48 57 c (omega arith)) (in_range 65 90 c (omega arith))) (in_range 97 122 c (omega arith)))
+    or_either (is_ascii_alphanumeric c) (c == 95) is (IsCode c)
+    (λ h. or_either (is_in_range 48 57 c || is_in_range 65 90 c) (is_in_range 97 122 c) h (IsCode c)
+    (λ k. or_either (is_in_range 48 57 c) (is_in_range 65 90 c) k (IsCode c) (in_range 48 57 c (omega arith)) (in_range 65 90 c (omega arith))) (in_range 97 122 c (omega arith)))
     (λ h. let same : c ≡ 95 = eqb-true c 95 h in omega (arith, same))
 
 rest_codes : (cs : List ℕ) → list_all is_name_byte cs ≡ true → All IsCode cs
