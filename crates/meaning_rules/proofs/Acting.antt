@@ -51,6 +51,7 @@ use Rattle.meaning_rules.specs.Fitting.{IsOf, Fits, AreFitting, FitsReply, FitsR
 use Rattle.meaning_rules.specs.PhrasesFit.{IsThere, Preserves, IsResult}
 use Rattle.meaning_rules.specs.Accepted.{IsKnown, TakesValue, IsPlain, AreTaken, IsOperation, IsProcess, IsAccepted}
 use Rattle.meaning_rules.specs.Replies.{Front}
+use Rattle.meaning_rules.proofs.Called.{well}
 use Rattle.meaning_rules.proofs.Fronts.{fronts}
 use Rattle.meaning_rules.proofs.Judged.{left_none, right_none, asked, unless_none, unless_is, local_at, opening_at}
 use Rattle.meaning_rules.proofs.OperatorsFit.{joined_codes}
@@ -137,11 +138,6 @@ object_there us kinds t i e (datum.fields w) h = absurd (subst (λ o. OfBy us ki
 object_there us kinds t i e (datum.set w) h = absurd (subst (λ o. OfBy us kinds o (inside_of t) (datum.set w)) e h)
 object_there us kinds t i e (datum.bag w) h = absurd (subst (λ o. OfBy us kinds o (inside_of t) (datum.bag w)) e h)
 
-well : (way : Use) (n m : Name) (s : Signature) (es : Exprs) → called_well way n.at m s es ≡ [] → (is_used_well way s.result ≡ true) × (length s.formals ≡ count_of es)
-well way n m s es none =
-    (asked 33 n.at (is_used_well way s.result) (left_none (asks 33 n.at (is_used_well way s.result)) _ none),
-    eqb-true (length s.formals) (count_of es) (asked 29 m.at (length s.formals == count_of es) (right_none (asks 33 n.at (is_used_well way s.result)) _ none)))
-
 module _ (kinds : Kinds) (v : Scope) (plain_scope : IsPlain v) (facts : IsAccepted v.program) (way : Use) (o m : Name) (es : Exprs) where
   abbrev Judged : Invoked → Found DataType
   Judged i = invoke_found v way o m es i (arguments v (invoked_signature i).formals es)
@@ -199,7 +195,7 @@ module _ (kinds : Kinds) (v : Scope) (plain_scope : IsPlain v) (facts : IsAccept
       by_operation l t i named typed object (Some s) at is =
           let operation = facts.operations i m.text s at in
           let all = parts (judged.AnOperation s) (ap (λ j. (Judged j).breaches) (sym is) ∙ none) in
-          let fine = well way o m s es all.0 in
+          let fine = well way o.at m s es all.0 in
           record {
             signed = s;
             known = operation.formals;
@@ -237,7 +233,7 @@ module _ (kinds : Kinds) (v : Scope) (facts : IsAccepted v.program) (p : Name) (
     signed = s;
     is = ap forked_signature is;
     known = process.formals;
-    many = (well judged.AsStatement p p s es (ap (fork_rules p es) (sym is) ∙ none)).1;
+    many = (well judged.AsStatement p.at p s es (ap (fork_rules p es) (sym is) ∙ none)).1;
     forks = λ xs on taken.
         small_arguments v.program kinds v.locals xs Any (λ args s1. act (action.Fork (programs.text_of v.program p.text) args on) s1) (λ less.
         act_preserves v.program kinds v.locals Any (λ frame. action.Fork (programs.text_of v.program p.text) (data_of xs) on)

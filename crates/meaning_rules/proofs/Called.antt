@@ -183,7 +183,7 @@ pub record IsCall (kinds : Kinds) (call : Calls) (v : Scope) (way : Use) (n : Na
       Preserves v.program kinds v.locals (Option Datum) (IsResult v.program kinds signed.result) (invoked call (callee v n) (fresh_node v es) ps)
 
 -- what its own rules say
-well : (way : Use) (at : Place) (n : Name) (s : Signature) (es : Exprs) → called_well way at n s es ≡ [] → (is_used_well way s.result ≡ true) × (length s.formals ≡ count_of es)
+pub well : (way : Use) (at : Place) (n : Name) (s : Signature) (es : Exprs) → called_well way at n s es ≡ [] → (is_used_well way s.result ≡ true) × (length s.formals ≡ count_of es)
 well way at n s es none =
     (asked 33 at (is_used_well way s.result) (left_none (asks 33 at (is_used_well way s.result)) _ none),
     eqb-true (length s.formals) (count_of es) (asked 29 n.at (length s.formals == count_of es) (right_none (asks 33 at (is_used_well way s.result)) _ none)))

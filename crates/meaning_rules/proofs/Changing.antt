@@ -32,7 +32,7 @@ use Rattle.meaning_rules.specs.PhrasesFit.{IsTarget, Preserves}
 use Rattle.meaning_rules.proofs.Everywhere.{held_holds, change_holds, store_holds, take_holds}
 use Rattle.meaning_rules.proofs.Fronts.{fronts}
 use Rattle.meaning_rules.specs.Replies.{Front}
-use Rattle.meaning_rules.proofs.PartSizes.{size_some}
+use Rattle.meaning_rules.proofs.PartsFit.{given}
 use Rattle.meaning_rules.proofs.Preserving.{Any, then_preserves, goes_preserves, gives_preserves, stored_preserves, frame_at}
 
 -- ---- sizes
@@ -83,12 +83,8 @@ without_least_small (datum.object p n) = omega arith
 first_small : (w : Data) (e : Datum) → first_of (list_of w) ≡ Ok e → size_of e ≤ size_of_all w
 first_small datum.none e is = absurd cc
 first_small (datum.more v w) e is =
-    let same : size_of v ≡ size_of e = ap (λ r. size_of (given r)) is in
+    let same : size_of v ≡ size_of e = ap (λ r. size_of (given v r)) is in
     omega (arith, same)
-  where
-    given : Result Datum FaultKind → Datum
-    given (Ok x) = x
-    given (Err fault) = v
 
 least_small : (v e : Datum) → least_of v ≡ Ok e → size_of e ≤ size_of v
 least_small (datum.set w) e is = let less = first_small w e is in omega (arith, less)
@@ -228,10 +224,6 @@ module _ (us : List Source) (kinds : Kinds) where
 
       pub store_preserves : (x : Datum) → IsOf us kinds x u → Preserves us kinds ls (Unit {0}) Any (store to x)
       store_preserves x one = enlarge_preserves (λ old. Ok x) (λ old new h is. subst (λ y. IsOf us kinds y u) (ap (given x) is) one)
-        where
-          given : Datum → Result Datum FaultKind → Datum
-          given y (Ok z) = z
-          given y (Err fault) = y
 
       -- ---- sets and bags
 
@@ -240,19 +232,11 @@ module _ (us : List Source) (kinds : Kinds) where
         put_preserves x one =
             enlarge_preserves (λ all. Ok (inserted x all)) (λ old new h is.
             subst (λ y. IsOf us kinds y u) (ap (given old) is) ((elements kinds u old g h.0).puts x one))
-          where
-            given : Datum → Result Datum FaultKind → Datum
-            given y (Ok z) = z
-            given y (Err fault) = y
 
         pub drop_preserves : (x : Datum) → Preserves us kinds ls (Unit {0}) Any (drop_element to x)
         drop_preserves x =
             change_preserves (λ all. Ok (deleted x all)) (λ old new h is.
             subst (λ y. IsOf us kinds y u × (size_of y ≤ size_of old)) (ap (given old) is) ((elements kinds u old g h.0).drops x, deleted_small x old))
-          where
-            given : Datum → Result Datum FaultKind → Datum
-            given y (Ok z) = z
-            given y (Err fault) = y
 
         pub take_preserves : Preserves us kinds ls Datum (λ x. Fits us kinds x (Some (inside_of u))) (take to)
         take_preserves =
@@ -265,10 +249,6 @@ module _ (us : List Source) (kinds : Kinds) where
             (change_preserves (λ old. Ok (without_least old)) (λ old new h is.
             subst (λ y. IsOf us kinds y u × (size_of y ≤ size_of old)) (ap (given old) is) ((elements kinds u old g h.0).rests, without_least_small old))) (λ x done.
             goes_preserves us kinds ls _ least one)))
-          where
-            given : Datum → Result Datum FaultKind → Datum
-            given y (Ok z) = z
-            given y (Err fault) = y
 
       -- ---- graphs
 

@@ -27,3 +27,4 @@ pub mod FittingBodies
 pub mod FittingProcesses
 pub mod Preserved
 pub mod Soundly
+pub mod Orderly

@@ -28,7 +28,7 @@ use Rattle.value_ops.specs.Integers.{Outcome, divided_by, fitted, is_word, quoti
 use Rattle.value_ops.specs.Texts as texts
 use Rattle.meaning_rules.specs.Operators.{integer_in, truth_in, of_integer, of_string, of_truth, decides, applied}
 use Rattle.meaning_rules.specs.Fitting.{IsOf, Fits}
-use Rattle.meaning_rules.proofs.Judged.{SameTypes, left_none, right_none, asked, unless_none, unless_is, fits_tested}
+use Rattle.meaning_rules.proofs.Judged.{SameTypes, both_left, both_right, left_none, right_none, asked, unless_none, unless_is, fits_tested}
 use lib.Signed.{mag, mag_rem}
 
 -- ---- numbers and characters
@@ -37,25 +37,21 @@ pub is_word_word : (z : ℤ) → is_word z ≡ true → IsWord z
 is_word_word (pos n) is = record { sfits = ltb-true n (2 ^ 63) is }
 is_word_word (negsuc n) is = record { sfits = ltb-true n (2 ^ 63) is }
 
-or_either : (a b : Bool) → (a || b) ≡ true → (P : Type 0) → (a ≡ true → P) → (b ≡ true → P) → P
+pub or_either : (a b : Bool) → (a || b) ≡ true → (P : Type 0) → (a ≡ true → P) → (b ≡ true → P) → P
 or_either true b is P f g = f refl
 or_either false b is P f g = g is
-
-both_true : (a b : Bool) → (a && b) ≡ true → (a ≡ true) × (b ≡ true)
-both_true true b is = (refl, is)
-both_true false b is = absurd cc
 
 pub character_code : (c : ℕ) → is_character c ≡ true → IsCode c
 character_code c is =
     or_either (nat_le 32 c && nat_le c 126) (c == 10 || c == 9) is (IsCode c)
-    (λ h. let less = leb-true c 126 (both_true (nat_le 32 c) (nat_le c 126) h).1 in omega (arith, less))
+    (λ h. let less = leb-true c 126 (both_right (nat_le 32 c) (nat_le c 126) h) in omega (arith, less))
     (λ h. or_either (c == 10) (c == 9) h (IsCode c) (λ e. let same : c ≡ 10 = grind arith in omega (arith, same)) (λ e. let same : c ≡ 9 = grind arith in omega (arith, same)))
 
 pub character_codes : (s : List ℕ) → list_all is_character s ≡ true → All IsCode s
 character_codes [] is = All-nil IsCode
 character_codes (c ∷ s) is =
-    let parts = both_true (is_character c) (list_all is_character s) is in
-    All-cons IsCode c s (character_code c parts.0) (character_codes s parts.1)
+    All-cons IsCode c s (character_code c (both_left (is_character c) (list_all is_character s) is))
+    (character_codes s (both_right (is_character c) (list_all is_character s) is))
 
 module _ (us : List Source) (kinds : Kinds) where
   pub integer_fits : (z : ℤ) → IsWord z → Fits us kinds (datum.int z) (Some (plain Integer))

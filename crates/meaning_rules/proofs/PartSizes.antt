@@ -9,6 +9,7 @@ use Rattle.value_ops.specs.Sizes.{place_of}
 use Rattle.value_paths.specs.declared.step.Step.{Step}
 use Rattle.value_paths.specs.declared.step.Step.TheVariants.{Field, Index, Node}
 use Rattle.value_paths.specs.Paths.{array_in, at_place, found, part_to}
+use Rattle.meaning_rules.proofs.PartsFit.{given}
 use Rattle.graph_values.specs.Graphs.{fields_in, is_named, node_in, nodes_in, nodes_of, value_at, value_in}
 
 pub size_some : (v : Datum) → 1 ≤ size_of v
@@ -30,14 +31,10 @@ length_size (datum.more v w) =
     let rest = length_size w in
     omega (arith, one, rest)
 
--- the value in an option, and in a result
+-- the value in an option
 abbrev inner : Datum → Option Datum → Datum
 inner v None = v
 inner v (Some x) = x
-
-abbrev result_in : Datum → Result Datum FaultKind → Datum
-result_in v (Ok x) = x
-result_in v (Err fault) = v
 
 pub get_size : (w : Data) (k : ℕ) (p : Datum) → slice_get (list_of w) k ≡ Some p → size_of p ≤ size_of_all w
 get_size datum.none k p is = absurd cc
@@ -50,7 +47,7 @@ get_size (datum.more v w) (suc k) p is =
 
 pub found_is : (o : Option Datum) (p : Datum) → found o ≡ Ok p → o ≡ Some p
 found_is None p is = absurd cc
-found_is (Some x) p is = ap (λ r. Some (result_in x r)) is
+found_is (Some x) p is = ap (λ r. Some (given x r)) is
 
 fields_size : (v : Datum) (k : ℕ) (p : Datum) → slice_get (fields_in v) k ≡ Some p → size_of p ≤ size_of v
 fields_size (datum.fields w) k p is =

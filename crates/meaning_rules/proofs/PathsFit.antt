@@ -26,7 +26,7 @@ use Rattle.meaning_rules.specs.Fitting.{IsOf, NodesOf, ValuesOf, Fits}
 use Rattle.meaning_rules.specs.PartsFit.{PartsFit, LeadsTo}
 use Rattle.meaning_rules.specs.PathsFit.{StepsTo, Leads, HasPart, PathsFit}
 use Rattle.meaning_rules.specs.GraphsFit.{KeepsGraph, GraphsFit}
-use Rattle.meaning_rules.proofs.PartsFit.{OfBy}
+use Rattle.meaning_rules.proofs.PartsFit.{OfBy, given}
 use Rattle.meaning_rules.proofs.PartSizes.{part_size, array_length}
 
 -- ---- paths
@@ -81,10 +81,6 @@ module _ (us : List Source) (parts : PartsFit us) (kinds : Kinds) where
     part = λ p is. subst (λ x. Fits us kinds x (Some u)) (ap (given v) is) (subst (λ x. Fits us kinds v (Some x)) leads h);
     put = λ p x is one. subst (λ y. IsOf us kinds x y) (sym leads) one;
   }
-    where
-      given : Datum → Result Datum FaultKind → Datum
-      given y (Ok x) = x
-      given y (Err fault) = y
   path_fits (step ∷ path) v t u leads h =
       record {
         walks = (
@@ -184,17 +180,9 @@ module _ (us : List Source) (kinds : Kinds) where
   nodes_fit (datum.more next (datum.more (datum.bag u) w)) t h = absurd h
   nodes_fit (datum.more next (datum.more (datum.object q n) w)) t h = absurd h
 
-  abbrev named_by : ℤ → Result (ℤ × Datum) FaultKind → ℤ
-  named_by z (Ok x) = x.0
-  named_by z (Err fault) = z
-
   abbrev grown_by : Datum → Result (ℤ × Datum) FaultKind → Datum
   grown_by v (Ok x) = x.1
   grown_by v (Err fault) = v
-
-  abbrev rest_by : Datum → Result Datum FaultKind → Datum
-  rest_by v (Ok x) = x
-  rest_by v (Err fault) = v
 
   module _ (laws : GraphLaws) (t : DataType) (e : outside_of t ≡ types.Within layer.Graph) where
     graph_of_type : (next : ℤ) (nodes : List Datum) → IsGraph (graph_of next nodes) → IsWord next → NodesFit nodes (inside_of t) → IsOf us kinds (graph_of next nodes) t
@@ -232,7 +220,7 @@ module _ (us : List Source) (kinds : Kinds) where
           by None e2 = absurd cc
           by (Some v) e2 =
               let graph = laws.deleted_graph name g rest own.0 is in
-              let same : graph_of (name_in g) (without_node name (nodes_in g)) ≡ rest = ap (rest_by g) e2 in
+              let same : graph_of (name_in g) (without_node name (nodes_in g)) ≡ rest = ap (given g) e2 in
               subst (λ x. IsOf us kinds x t) same (graph_of_type (name_in g) (without_node name (nodes_in g)) (subst IsGraph (sym same) graph.0) own.1
               (one_less name (nodes_in g) (inside_of t) (nodes_fit w (inside_of t) own.2)))
 

@@ -68,16 +68,6 @@ module _ (us : List Source) (kinds : Kinds) where
         (λ x s1 fits1 holds answers. (others x holds).preserves s1 fits1 answers);
   }
 
-  -- with what holds of the variables in hand
-  pub then_knowing : {A B : Type 0} (ls : List Local) (P : A → Type 0) (Q : B → Type 0) (f : State → Out A) (next : A → State → Out B) →
-      Front A f → Preserves us kinds ls A P f → ((x : A) (s : State) → P x → AreFitting us kinds s.frame ls → Preserves us kinds ls B Q (next x)) →
-      Preserves us kinds ls B Q (λ s. after (f s) next)
-  then_knowing ls P Q f next front first others = record {
-    preserves = λ s fits all.
-        after_preserves ls ls P Q f next s (f s) (front.front s) (first.preserves s fits (first_answers f next s all)) all
-        (λ x s1 fits1 holds answers. (others x s1 holds fits1).preserves s1 fits1 answers);
-  }
-
   weaker_leaves : {A : Type 0} (ls : List Local) (P Q : A → Type 0) → ((x : A) → P x → Q x) → (o : Out A) → Leaves us kinds ls P o → Leaves us kinds ls Q o
   weaker_leaves ls P Q f (Goes x s) h = (h.0, f x h.1)
   weaker_leaves ls P Q f (Stops (Needs need)) h = h
