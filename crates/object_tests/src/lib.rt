@@ -1,5 +1,5 @@
-//! Tests of the objects' floor: values, entries on copies of pools and flags, the calls of the copies and of the queue, and
-//! what may go to another thread.
+//! Tests of the objects' floor: entries on copies of pools and flags, the calls of the copies and of the queue, and what may go
+//! to another thread.
 //!
 //! They stand here, so that the crates below have none. Nothing stands on it.
 #![tactic(auto)]
@@ -12,5 +12,3 @@ mod entries;
 mod sent;
 #[cfg(test)]
 mod singles;
-#[cfg(test)]
-mod values;

@@ -1,4 +1,5 @@
-//! Tests of operators, graphs and paths: each edge that the language names, and what is written of a value.
+//! Tests of values, operators, graphs and paths: what is copied and told apart, each edge that the language names, and what is written of a
+//! value.
 //!
 //! They stand here, so that the crates below have none. Nothing stands on it.
 #![tactic(auto)]
@@ -9,3 +10,5 @@ mod graphs;
 mod operators;
 #[cfg(test)]
 mod paths;
+#[cfg(test)]
+mod values;
