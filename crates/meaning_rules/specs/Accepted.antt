@@ -26,7 +26,7 @@ use Rattle.type_rules.specs.Declarations.{field_locals, operation_view}
 use Rattle.type_rules.specs.Scopes.{Local, Scope, value_local, signature, operation_of}
 use Rattle.type_rules.specs.Statements.{stmts_breaches}
 use Rattle.type_rules.specs.Breaches.{IsWellTyped}
-use Rattle.value_core.specs.Datum.{Datum, Data, data_of}
+use Rattle.value_core.specs.Datum.{Datum, data_of}
 use Rattle.value_core.specs.Fits.{Kinds}
 use Rattle.value_core.specs.Integers.{IsWord}
 use Rattle.value_core.specs.Size.{size_of_all}

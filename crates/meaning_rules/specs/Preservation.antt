@@ -1,5 +1,5 @@
 -- Preservation, phrase by phrase and for whole programs (PhrasesFit.antt, Accepted.antt).
-use Rattle.std.specs.Prelude.{◌≡◌, ℕ, List, [], Option, Some}
+use Rattle.std.specs.Prelude.{◌≡◌, ℕ, List, [], Some}
 use Rattle.orca_base.specs.declared.ids.KindNo.{KindNo}
 use Rattle.orca_base.specs.declared.ids.OpNo.{OpNo}
 use Rattle.orca_base.specs.declared.ids.TextNo.{TextNo}
@@ -28,7 +28,6 @@ use Rattle.meaning_rules.specs.Meanings.{computes_of}
 use Rattle.meaning_rules.specs.Fitting.{Fits, FitsState, FitsArgs, FitsText, FitsReply}
 use Rattle.meaning_rules.specs.PathsFit.{Leads}
 use Rattle.meaning_rules.specs.PhrasesFit.{Preserves, Returns, CallsFit}
-use Rattle.meaning_rules.specs.Accepted.{IsPlain, IsAccepted}
 
 -- ---- phrases, whatever levels of calls are left
 

@@ -46,8 +46,7 @@ ghost use Rattle.meaning_rules.specs.ProcessExamples.{programs as process_progra
 
 use graph_values::graphs_law;
 use type_rules::typing_law;
-use value_ops::elements_law;
-use value_ops::texts_law;
+use value_ops::{elements_law, texts_law};
 use value_paths::paths_law;
 
 /// Programs of processes and functions: what each writes, and how it stands then.
