@@ -1,13 +1,11 @@
 -- A program that is accepted: a process without objects, whose body is empty.
 use Rattle.std.proofs.Common.{refl, ap, sym, ◌∙◌, subst, arith}
-use Rattle.std.specs.Prelude.{◌≡◌, ◌≤◌, ◌<◌, ◌+◌, ◌^◌, ℕ, ℤ, zero, suc, Bool, true, false, not, cond, nat_lt, List, [], ◌∷◌, map, position, slice_get, unwrap_or, length, Option, Some, None, option_and_then}
+use Rattle.std.specs.Prelude.{◌≡◌, ◌≤◌, ◌<◌, ◌+◌, ◌^◌, ℕ, ℤ, zero, suc, Bool, true, false, not, cond, nat_lt, List, [], ◌∷◌, slice_get, unwrap_or, length, Option, Some, None}
 use Rattle.std.specs.List.{All, AllByRecursion}
 use Rattle.orca_base.specs.declared.ids.KindNo.{KindNo}
-use Rattle.orca_base.specs.declared.limits.TheConstants.{VALUE_SIZE}
 use Rattle.orca_syntax.specs.Syntax.{Kind, Parameter, Block}
 use Rattle.link_rules.specs.Units.{Source}
 use Rattle.type_rules.specs.declared.signature.Formal.{Formal}
-use Rattle.type_rules.specs.declared.signature.Formal.TheVariants.{ByValue, Shared, Out}
 use Rattle.type_rules.specs.declared.signature.Signature.{Signature}
 use Rattle.type_rules.specs.declared.types.DataType.{DataType}
 use Rattle.type_rules.specs.declared.types.Base.TheVariants as base
@@ -16,11 +14,10 @@ use Rattle.type_rules.specs.Types as types
 use Rattle.type_rules.specs.Types.{Outside}
 use Rattle.type_rules.specs.TopLevel as top
 use Rattle.type_rules.specs.TopLevel.{What, TopName, bears, number_of, stands_for, top_names}
-use Rattle.type_rules.specs.Scopes.{Local, signature, operation_of, formal, view_of, own_names}
+use Rattle.type_rules.specs.Scopes.{signature, operation_of}
 use Rattle.value_core.specs.Datum.{Datum, data_of}
 use Rattle.value_core.specs.Datum as datum
 use Rattle.value_core.specs.Fits.{Kinds}
-use Rattle.value_core.specs.Size.{size_of_all}
 use Rattle.value_core.specs.Integers.{IsWord}
 use Rattle.value_core.specs.Sound.{IsCode}
 use Rattle.type_rules.specs.Constants.{chain_from}
@@ -28,11 +25,11 @@ use Rattle.type_rules.specs.declared.names.Chain.TheVariants.{EndsAt}
 use Rattle.std.proofs.lemmas.List.Elements.{All-nil}
 use Rattle.meaning_rules.proofs.Called.{top_at}
 use Rattle.meaning_rules.specs.Openings.{field_types}
-use Rattle.meaning_rules.specs.Programs.{ObjectType, function_scope, object_type, process_scope, process_texts, specified, text_of, type_at, main_text}
+use Rattle.meaning_rules.specs.Programs.{ObjectType, object_type, process_scope, process_texts, text_of, type_at}
 use Rattle.meaning_rules.specs.Statements.{names_at}
 use Rattle.meaning_rules.specs.Fitting.{FitsText, FitsTop}
 use Rattle.meaning_rules.specs.ProcessExamples.{empty_main}
-use Rattle.meaning_rules.specs.Accepted.{IsKnown, IsFunction, IsObjectType, IsOperation, IsPlain, IsProcess, AreInOrder, AreTaken, TakesValue, IsOrderly, IsAccepted}
+use Rattle.meaning_rules.specs.Accepted.{IsKnown, IsPlain, IsProcess, AreInOrder, AreTaken, TakesValue, IsAccepted}
 
 abbrev us : List Source
 us = empty_main
