@@ -64,9 +64,11 @@ pub record Preservation (us : List Source) : Type 0 where
   pub functions : (kinds : Kinds) (levels : ℕ) → CallsFit us kinds (calls us levels)
   -- a made state fits; what a try leaves fits again, and what it replies fits
   pub makings : (kinds : Kinds) (kind : KindNo) → IfMade (making_of us kind) (FitsState us kinds kind)
-  pub states : (kinds : Kinds) (kind : KindNo) (op : OpNo) (state args : Data) → FitsState us kinds kind state → FitsArgs us kinds kind op args →
+  pub states : (kinds : Kinds) (kind : KindNo) (op : OpNo) (state args : Data) → FitsState us kinds kind state →
+      FitsArgs us kinds kind op args →
       KeepsState (tries_of us kind op state args) (FitsState us kinds kind)
-  pub replies : (kinds : Kinds) (kind : KindNo) (op : OpNo) (state args : Data) → FitsState us kinds kind state → FitsArgs us kinds kind op args →
+  pub replies : (kinds : Kinds) (kind : KindNo) (op : OpNo) (state args : Data) → FitsState us kinds kind state →
+      FitsArgs us kinds kind op args →
       RepliesWell (tries_of us kind op state args) (FitsReply us kind op)
   -- processes are lawful, and the first one has no arguments
   pub processes : (kinds : Kinds) (text : TextNo) (number : ProcessNo) (args : Data) (replies : List Reply) → FitsText us kinds text args →

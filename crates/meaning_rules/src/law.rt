@@ -202,9 +202,9 @@ pub fn fitting_law()
     graphs_law();
 }
 
-/// Preservation, of a program that is accepted. A phrase without a breach, evaluated in variables that fit their scope, gives what is of its
-/// type and leaves variables that fit, as long as replies are such as its actions can get; an action to which it comes is of an object that
-/// is there, and of arguments that fit. So do functions; a made state fits, what a try leaves and replies fits, and processes are lawful.
+/// Preservation, of a program with `IsAccepted`. A phrase without a breach, evaluated in variables that fit their scope, gives what is of
+/// its type and leaves variables that fit, as long as replies are such as its actions can get; an action to which it comes is of an object
+/// that is there, and of arguments that fit. So do functions; a made state fits, what a try leaves and replies fits, and processes are lawful.
 /// What fits is sound. Where no rule is broken and the texts' words are sound, all bodies are in order, as `IsAccepted` asks; and a
 /// program has it.
 pub fn typed_law()
