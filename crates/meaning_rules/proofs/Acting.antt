@@ -1,10 +1,10 @@
 -- Calls of operations, forks and lines of output without a breach: the actions are of objects and arguments that fit, and their replies
 -- give what is of the operation's result.
-use Rattle.std.proofs.Common.{refl, ap, sym, ◌∙◌, subst, arith, leb-true, eqb-true}
-use Rattle.std.specs.Prelude.{◌≡◌, ◌≤◌, ◌<◌, ◌+◌, ◌==◌, ◌++◌, ◌^◌, ℕ, zero, suc, ℤ, Bool, true, false, not, if◌then◌else◌, nat_le, List, [], ◌∷◌, length, map, slice_get, ok_or, unwrap_or, is_some, Option, Some, None, option_and_then, Result, Ok, Err, IfOk}
+use Rattle.std.proofs.Common.{refl, ap, sym, ◌∙◌, subst, arith, leb-true}
+use Rattle.std.specs.Prelude.{◌≡◌, ◌≤◌, ◌++◌, ℕ, ℤ, Bool, true, false, if◌then◌else◌, nat_le, List, [], ◌∷◌, length, slice_get, ok_or, unwrap_or, Option, Some, None, Result, Ok, Err, IfOk}
 use Rattle.std.specs.Option.{option_map_or}
 use Rattle.std.specs.List.{All, AllByRecursion, Contains}
-use Rattle.std.proofs.lemmas.List.Elements.{Contains-append_left, Contains-append_right, Contains-push, All-nil, All-cons, All-contains}
+use Rattle.std.proofs.lemmas.List.Elements.{Contains-append_left, Contains-append_right, Contains-push}
 use Rattle.orca_base.specs.declared.fault.FaultKind.{FaultKind}
 use Rattle.orca_base.specs.declared.fault.FaultKind.TheVariants.{IndexOutside, TooLarge}
 use Rattle.orca_base.specs.declared.ids.KindNo.{KindNo}
@@ -13,14 +13,13 @@ use Rattle.orca_base.specs.declared.limits.TheConstants.{TEXT_LENGTH, VALUE_SIZE
 use Rattle.orca_tree.specs.declared.tree.Name.{Name}
 use Rattle.orca_syntax.specs.Syntax.{Exprs}
 use Rattle.link_rules.specs.Units.{Source}
-use Rattle.type_rules.specs.declared.signature.Formal.{Formal}
 use Rattle.type_rules.specs.declared.signature.Signature.{Signature}
 use Rattle.type_rules.specs.declared.types.DataType.{DataType}
 use Rattle.type_rules.specs.declared.types.Base.TheVariants as base
 use Rattle.type_rules.specs.declared.types.Layer.TheVariants as layer
 use Rattle.type_rules.specs.Types as types
 use Rattle.type_rules.specs.Types.{Outside, outside_of, inside_of, object_in}
-use Rattle.type_rules.specs.Rules.{Found, found, unless, asks, breaks}
+use Rattle.type_rules.specs.Rules.{Found}
 use Rattle.type_rules.specs.TopLevel as top
 use Rattle.type_rules.specs.TopLevel.{What, TopName, StandsFor, stands_for}
 use Rattle.type_rules.specs.Scopes.{Local, Scope, local, signature, operation_of}
@@ -32,28 +31,26 @@ use Rattle.value_core.specs.Datum.{Datum, Data, data_of}
 use Rattle.value_core.specs.Datum as datum
 use Rattle.value_core.specs.Fits.{Kinds}
 use Rattle.value_core.specs.History.{output_kind, output_object}
-use Rattle.value_core.specs.Integers.{IsWord}
-use Rattle.value_core.specs.Size.{size_of, size_of_all}
-use Rattle.value_core.specs.Sound.{IsCode, IsSound}
+use Rattle.value_core.specs.Size.{size_of_all}
+use Rattle.value_core.specs.Sound.{IsCode}
 use Rattle.value_core.specs.View.{datum_of}
 use Rattle.value_core.specs.declared.action.Action.TheVariants as action
 use Rattle.value_core.specs.declared.action.Reply.{Reply}
 use Rattle.value_core.specs.declared.action.Reply.TheVariants as reply
-use Rattle.value_ops.specs.Texts.{joined, text_of}
+use Rattle.value_ops.specs.Texts.{joined}
 use Rattle.meaning_rules.specs.Operators.{and_then, fitting_all}
 use Rattle.meaning_rules.specs.Programs as programs
 use Rattle.meaning_rules.specs.Programs.{kind_of, op_of}
-use Rattle.meaning_rules.specs.States.{State, Out, Goes, after, gives, act}
+use Rattle.meaning_rules.specs.States.{State, Out, after, gives, act}
 use Rattle.meaning_rules.specs.Designators.{slot, root_type, value_in}
 use Rattle.meaning_rules.specs.Calls.{operate, fork, write, id_in, object_number}
 use Rattle.meaning_rules.specs.Statements.{line_of}
-use Rattle.meaning_rules.specs.Fitting.{IsOf, Fits, AreFitting, FitsReply, FitsResult}
+use Rattle.meaning_rules.specs.Fitting.{IsOf, Fits, FitsResult}
 use Rattle.meaning_rules.specs.PhrasesFit.{IsThere, Preserves, IsResult}
-use Rattle.meaning_rules.specs.Accepted.{IsKnown, TakesValue, IsPlain, AreTaken, IsOperation, IsProcess, IsAccepted}
-use Rattle.meaning_rules.specs.Replies.{Front}
+use Rattle.meaning_rules.specs.Accepted.{TakesValue, IsPlain, AreTaken, IsOperation, IsProcess, IsAccepted}
 use Rattle.meaning_rules.proofs.Called.{well}
 use Rattle.meaning_rules.proofs.Fronts.{fronts}
-use Rattle.meaning_rules.proofs.Judged.{left_none, right_none, asked, unless_none, unless_is, local_at, opening_at}
+use Rattle.meaning_rules.proofs.Judged.{left_none, right_none, unless_none, unless_is, local_at, opening_at}
 use Rattle.meaning_rules.proofs.OperatorsFit.{joined_codes}
 use Rattle.meaning_rules.proofs.PartsFit.{OfBy}
 use Rattle.meaning_rules.proofs.Preserving.{Any, Answered, then_preserves, gives_preserves, act_preserves, frame_at}

@@ -1,12 +1,8 @@
 -- Calls of functions and of operations without a breach: what they call, what they pass, and what comes of it.
-use Rattle.std.proofs.Common.{refl, ap, sym, ◌∙◌, subst, arith, leb-true, eqb-true}
-use Rattle.std.specs.Prelude.{◌≡◌, ◌≤◌, ◌==◌, ◌++◌, ℕ, zero, suc, ℤ, Bool, true, false, not, ◌||◌, ◌&&◌, if◌then◌else◌, nat_le, List, [], ◌∷◌, length, map, slice_get, ok_or, unwrap_or, is_some, Option, Some, None, option_map, option_and_then, Result, Ok, Err, IfOk}
-use Rattle.std.specs.Option.{option_map_or}
-use Rattle.std.specs.List.{AllByRecursion, Contains, list_any}
-use Rattle.std.proofs.lemmas.List.Elements.{Contains-append_right}
-use Rattle.orca_base.specs.declared.fault.FaultKind.{FaultKind}
-use Rattle.orca_base.specs.declared.fault.FaultKind.TheVariants.{IndexOutside, TooLarge}
-use Rattle.orca_base.specs.declared.ids.KindNo.{KindNo}
+use Rattle.std.proofs.Common.{refl, ap, sym, ◌∙◌, subst, leb-true, eqb-true}
+use Rattle.std.specs.Prelude.{◌≡◌, ◌≤◌, ◌==◌, ◌++◌, ℕ, ℤ, Bool, true, false, not, ◌||◌, ◌&&◌, if◌then◌else◌, nat_le, List, [], ◌∷◌, length, map, slice_get, Option, Some, None, option_map, Ok, Err, IfOk}
+use Rattle.std.specs.List.{AllByRecursion, list_any}
+use Rattle.orca_base.specs.declared.fault.FaultKind.TheVariants.{TooLarge}
 use Rattle.orca_base.specs.declared.limits.TheConstants.{VALUE_SIZE}
 use Rattle.orca_base.specs.declared.place.Place.{Place}
 use Rattle.orca_tree.specs.declared.tree.Mode.{Mode}
@@ -15,7 +11,6 @@ use Rattle.orca_tree.specs.declared.tree.Name.{Name}
 use Rattle.orca_syntax.specs.Syntax as syn
 use Rattle.orca_syntax.specs.Syntax.{Expr, Exprs, Kind, Parameter, Block}
 use Rattle.link_rules.specs.Units.{Source}
-use Rattle.type_rules.specs.declared.breach.Breach.{Breach}
 use Rattle.type_rules.specs.declared.names.Predeclared.{Predeclared}
 use Rattle.type_rules.specs.declared.names.Predeclared.TheVariants as predeclared
 use Rattle.type_rules.specs.declared.signature.Formal.{Formal}
@@ -26,41 +21,32 @@ use Rattle.type_rules.specs.declared.types.Base.TheVariants as base
 use Rattle.type_rules.specs.declared.types.Layer.TheVariants as layer
 use Rattle.type_rules.specs.Types as types
 use Rattle.type_rules.specs.Types.{Outside, outside_of, inside_of, object_in, plain}
-use Rattle.type_rules.specs.Rules.{Found, found, unless, asks, breaks}
+use Rattle.type_rules.specs.Rules.{Found, asks}
 use Rattle.type_rules.specs.TopLevel as top
 use Rattle.type_rules.specs.TopLevel.{What, TopName, StandsFor, stands_for, at_number, numbered, everywhere, sees, number_of, predeclared, top_names}
 use Rattle.type_rules.specs.Constants.{View}
-use Rattle.type_rules.specs.Scopes.{Local, Scope, local, type_of, parameter_found, passed, formal, view_of, own_names, signature, operation_of, may_invoke}
+use Rattle.type_rules.specs.Scopes.{Local, Scope, local, type_of, parameter_found, passed, formal, view_of, own_names, signature, may_invoke}
 use Rattle.type_rules.specs.Expressions.{Called, Use, called, function_of, outer_function, top_function, call_found, invoke_found, arguments, function_rules, called_well, count_of, is_used_well, result_type, roots_differ, signature_of, acts, operation_rules, invoked_signature, of_local, of_type, of_object, of_operation, outer_object, Invoked, AsValue, AsStatement}
 use Rattle.type_rules.specs.Expressions as judged
 use Rattle.value_core.specs.Datum.{Datum, Data, data_of}
-use Rattle.value_core.specs.Datum as datum
 use Rattle.value_core.specs.Fits.{Kinds}
 use Rattle.value_core.specs.Size.{size_of_all}
-use Rattle.value_core.specs.View.{datum_of}
-use Rattle.value_core.specs.declared.action.Action.TheVariants as action
-use Rattle.value_core.specs.declared.action.Reply.{Reply}
-use Rattle.value_core.specs.declared.action.Reply.TheVariants as reply
 use Rattle.value_paths.specs.declared.step.Step.TheVariants.{Node}
 use Rattle.meaning_rules.specs.Openings.{opening}
 use Rattle.meaning_rules.specs.Operators.{fitting_all}
-use Rattle.meaning_rules.specs.Programs.{kind_of, op_of}
-use Rattle.meaning_rules.specs.States.{State, Out, Goes, after, gives, act}
-use Rattle.meaning_rules.specs.Designators.{slot, root_type, designator_type}
-use Rattle.meaning_rules.specs.Variables.{Target, add_node, delete_node}
-use Rattle.meaning_rules.specs.Calls.{Calls, Passed, Given, Lent, Callee, AFunction, Adds, Deletes, NoFunction, callee, function_named, function_in, modes_of, fresh_node, invoked, operate, id_in, object_number, values_in}
-use Rattle.meaning_rules.specs.Fitting.{IsOf, Fits, AreFitting, FitsReply, FitsResult}
-use Rattle.meaning_rules.specs.PathsFit.{Leads}
-use Rattle.meaning_rules.specs.PhrasesFit.{AreGiven, CallsFit, IsTarget, IsThere, Preserves, IsResult}
-use Rattle.meaning_rules.specs.Accepted.{IsKnown, IsOpening, IsKnownFormal, IsPlain, IsFunction, AreTaken, IsOperation, IsAccepted}
+use Rattle.meaning_rules.specs.States.{State, Out, after, gives}
+use Rattle.meaning_rules.specs.Designators.{designator_type}
+use Rattle.meaning_rules.specs.Variables.{Target, add_node}
+use Rattle.meaning_rules.specs.Calls.{Calls, Passed, Given, Lent, AFunction, Adds, Deletes, callee, function_named, function_in, modes_of, fresh_node, invoked, values_in}
+use Rattle.meaning_rules.specs.Fitting.{Fits}
+use Rattle.meaning_rules.specs.PhrasesFit.{AreGiven, CallsFit, IsTarget, Preserves, IsResult}
+use Rattle.meaning_rules.specs.Accepted.{IsOpening, IsKnownFormal, IsPlain, IsAccepted}
 use Rattle.meaning_rules.proofs.Fronts.{fronts}
-use Rattle.meaning_rules.proofs.Judged.{left_none, right_none, asked, unless_none, unless_is, all_at, local_at, opening_at}
+use Rattle.meaning_rules.proofs.Judged.{left_none, right_none, asked, unless_none, unless_is, all_at}
 use Rattle.meaning_rules.proofs.Changing.{add_preserves, delete_preserves}
-use Rattle.meaning_rules.proofs.PartsFit.{OfBy}
 use Rattle.meaning_rules.proofs.PathsFit.{graph_is}
 use Rattle.meaning_rules.proofs.Premises.{Laws}
-use Rattle.meaning_rules.proofs.Preserving.{Answered, then_preserves, weaker_preserves, gives_preserves, act_preserves, frame_at}
-use Rattle.meaning_rules.proofs.StaysFit.{fits_more}
+use Rattle.meaning_rules.proofs.Preserving.{then_preserves, weaker_preserves, gives_preserves}
 use Rattle.meaning_rules.proofs.Steps.{leads_on, graph_not_object}
 
 -- ---- what is passed
@@ -184,9 +170,10 @@ pub record IsCall (kinds : Kinds) (call : Calls) (v : Scope) (way : Use) (n : Na
 
 -- what its own rules say
 pub well : (way : Use) (at : Place) (n : Name) (s : Signature) (es : Exprs) → called_well way at n s es ≡ [] → (is_used_well way s.result ≡ true) × (length s.formals ≡ count_of es)
-well way at n s es none =
-    (asked 33 at (is_used_well way s.result) (left_none (asks 33 at (is_used_well way s.result)) _ none),
-    eqb-true (length s.formals) (count_of es) (asked 29 n.at (length s.formals == count_of es) (right_none (asks 33 at (is_used_well way s.result)) _ none)))
+well way at n s es none = (
+  asked 33 at (is_used_well way s.result) (left_none (asks 33 at (is_used_well way s.result)) _ none),
+  eqb-true (length s.formals) (count_of es) (asked 29 n.at (length s.formals == count_of es) (right_none (asks 33 at (is_used_well way s.result)) _ none)),
+)
 
 module _ (kinds : Kinds) (call : Calls) (v : Scope) (plain_scope : IsPlain v) (facts : IsAccepted v.program) (laws : Laws v.program) (fit : CallsFit v.program kinds call)
     (way : Use) (n : Name) (es : Exprs) where

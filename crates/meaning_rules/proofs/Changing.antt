@@ -1,6 +1,6 @@
 -- What is read from variables that fit is of its type, and what is stored leaves them fitting.
-use Rattle.std.proofs.Common.{refl, ap, sym, ◌∙◌, subst, arith, leb-true}
-use Rattle.std.specs.Prelude.{◌≡◌, ◌≤◌, ◌+◌, ℕ, zero, suc, ℤ, Bool, true, false, if◌then◌else◌, nat_le, List, [], ◌∷◌, length, is_some, slice_get, ok_or, Option, Some, None, Result, Ok, Err, IfOk}
+use Rattle.std.proofs.Common.{refl, ap, sym, subst, arith, leb-true}
+use Rattle.std.specs.Prelude.{◌≡◌, ◌≤◌, ◌+◌, ℤ, Bool, true, false, if◌then◌else◌, nat_le, List, [], ◌∷◌, is_some, slice_get, ok_or, Option, Some, None, Result, Ok, Err, IfOk}
 use Rattle.std.specs.Ordering.{is_eq}
 use Rattle.orca_base.specs.declared.fault.FaultKind.{FaultKind}
 use Rattle.orca_base.specs.declared.fault.FaultKind.TheVariants.{IndexOutside, TooLarge}
@@ -17,19 +17,19 @@ use Rattle.value_core.specs.Datum as datum
 use Rattle.value_core.specs.Fits.{Kinds}
 use Rattle.value_core.specs.Order.{datum_cmp}
 use Rattle.value_core.specs.Size.{size_of, size_of_all}
-use Rattle.value_ops.specs.Elements.{deleted, elements, first_of, inserted, least_of, rest_of, without, without_least}
+use Rattle.value_ops.specs.Elements.{deleted, first_of, inserted, least_of, rest_of, without, without_least}
 use Rattle.graph_values.specs.Graphs as graphs
 use Rattle.value_paths.specs.declared.step.Step.{Step as ValueStep}
 use Rattle.value_paths.specs.Paths.{CanWalk, part_at, with_part}
 use Rattle.meaning_rules.specs.Operators.{and_then, fitting, integer_in}
-use Rattle.meaning_rules.specs.States.{State, Out, Goes, after, gives}
-use Rattle.meaning_rules.specs.Variables.{Target, whole_at, held, stored, changed_at, changed_whole, change, enlarge, store, put, drop_element, take, add_node, delete_node}
+use Rattle.meaning_rules.specs.States.{Goes, after, gives}
+use Rattle.meaning_rules.specs.Variables.{Target, whole_at, held, stored, changed_at, change, enlarge, store, put, drop_element, take, add_node, delete_node}
 use Rattle.meaning_rules.specs.Fitting.{IsOf, Fits, AreFitting}
-use Rattle.meaning_rules.specs.ElementsFit.{Gathers, KeepsElements, ElementsFit}
-use Rattle.meaning_rules.specs.GraphsFit.{KeepsGraph, GraphsFit}
+use Rattle.meaning_rules.specs.ElementsFit.{Gathers, ElementsFit}
+use Rattle.meaning_rules.specs.GraphsFit.{GraphsFit}
 use Rattle.meaning_rules.specs.PathsFit.{Leads, HasPart, PathsFit}
 use Rattle.meaning_rules.specs.PhrasesFit.{IsTarget, Preserves}
-use Rattle.meaning_rules.proofs.Everywhere.{held_holds, change_holds, store_holds, take_holds}
+use Rattle.meaning_rules.proofs.Everywhere.{held_holds, change_holds, store_holds}
 use Rattle.meaning_rules.proofs.Fronts.{fronts}
 use Rattle.meaning_rules.specs.Replies.{Front}
 use Rattle.meaning_rules.proofs.PartsFit.{given}

@@ -1,6 +1,6 @@
 -- What holds of all that evaluations are made of (Closed.antt) holds of every phrase, function and process.
 use Rattle.std.proofs.Common.{refl}
-use Rattle.std.specs.Prelude.{◌≡◌, ℕ, zero, suc, ◌+◌, ℤ, pos, ◌+ℤ◌, List, [], ◌∷◌, ◌++◌, Bool, true, false, Option, Some, None, Result, Ok, drop, length, slice_get, slice_set, ok_or, is_some, if◌then◌else◌}
+use Rattle.std.specs.Prelude.{◌≡◌, ℕ, zero, suc, ◌+◌, ℤ, pos, ◌+ℤ◌, List, [], ◌∷◌, ◌++◌, Bool, true, false, Option, Some, None, Result, Ok, drop, length, slice_get, slice_set, ok_or, is_some}
 use Rattle.orca_base.specs.declared.fault.FaultKind.{FaultKind}
 use Rattle.orca_base.specs.declared.fault.FaultKind.TheVariants.{IndexOutside, NoReturn, TooDeep}
 use Rattle.orca_base.specs.declared.ids.ProcessNo.{ProcessNo}
@@ -22,8 +22,8 @@ use Rattle.value_paths.specs.Paths.{part_at}
 use Rattle.meaning_rules.specs.Operators.{and_then}
 use Rattle.meaning_rules.specs.Operators.{integer_in, truth_in, decides, applied, fitting}
 use Rattle.meaning_rules.specs.States.{State, Out, Goes, gives}
-use Rattle.meaning_rules.specs.Designators.{root_type, stepped_type, named_value, value_in}
-use Rattle.meaning_rules.specs.Variables.{Target, target, load, held, change, enlarge, store, put, drop_element, take, stored, changed_whole, whole_at}
+use Rattle.meaning_rules.specs.Designators.{root_type, stepped_type, value_in}
+use Rattle.meaning_rules.specs.Variables.{Target, target, load, held, change, enlarge, store, put, drop_element, take, stored}
 use Rattle.value_core.specs.Datum.{data_of}
 use Rattle.value_core.specs.History.{output_kind, output_object}
 use Rattle.value_core.specs.declared.action.Action.{Action}
@@ -31,9 +31,9 @@ use Rattle.value_core.specs.declared.action.Action.TheVariants as action
 use Rattle.meaning_rules.specs.Programs.{kind_of, op_of, text_of}
 use Rattle.meaning_rules.specs.States.{act}
 use Rattle.meaning_rules.specs.Operators.{fitting_all}
-use Rattle.meaning_rules.specs.Calls.{object_named, object_number, Calls, Passed, Given, Lent, Callee, AFunction, Adds, Deletes, NoFunction, as_passed, first_mode, callee, modes_of, fresh_node, invoked, operate, fork, write, id_in}
+use Rattle.meaning_rules.specs.Calls.{object_number, Calls, Passed, Given, Lent, Callee, AFunction, Adds, Deletes, NoFunction, as_passed, first_mode, callee, modes_of, fresh_node, invoked, operate, fork, write, id_in}
 use Rattle.meaning_rules.specs.Expressions.{eval, eval_links, eval_path, eval_step, eval_all, eval_passed, eval_target, joined_with}
-use Rattle.meaning_rules.specs.Loops.{Flow, On, Back, Over, Again, Leave, always, taken_if, otherwise, ended, round_if, until, with_name, without_name, counted_round, count, rounds}
+use Rattle.meaning_rules.specs.Loops.{Flow, On, Back, Over, Again, Leave, always, taken_if, otherwise, ended, round_if, until, without_name, counted_round, count, rounds}
 use Rattle.meaning_rules.specs.Statements.{change_elements, give_back, member, line_of, texts_of, run, run_all, run_arms, run_arm}
 use Rattle.orca_syntax.specs.Syntax.{Block}
 use Rattle.link_rules.specs.Units.{Source}
@@ -41,11 +41,11 @@ use Rattle.type_rules.specs.TopLevel as top
 use Rattle.type_rules.specs.TopLevel.{What, TopName, top_names, stands_for}
 use Rattle.value_core.specs.Datum.{list_of}
 use Rattle.value_core.specs.Performable.{is_performable}
-use Rattle.meaning_rules.specs.States.{Stops, Faults, Busy, after, turn}
+use Rattle.meaning_rules.specs.States.{Stops, Busy, after}
 use Rattle.meaning_rules.specs.Designators.{slot, outer_value}
 use Rattle.meaning_rules.specs.Variables.{changed_at}
-use Rattle.meaning_rules.specs.Loops.{Round, go_on, repeated}
-use Rattle.meaning_rules.specs.Programs.{function_scope, process_scope, process_texts}
+use Rattle.meaning_rules.specs.Loops.{Round, go_on}
+use Rattle.meaning_rules.specs.Programs.{function_scope, process_scope}
 use Rattle.meaning_rules.specs.Functions.{hand_back, leave, returned, own_frame, enter_body, enter_what, enter, calls, all_calls}
 use Rattle.meaning_rules.specs.Processes.{own_object, make, behind, variable_made, variables_made, object_type_of, block_run, what_run, text_run}
 use Rattle.meaning_rules.proofs.Closed.{Closed}

@@ -1,26 +1,18 @@
 -- Functions, operations and makings preserve what fits.
 use Rattle.std.proofs.Common.{refl, ap, sym, ◌∙◌, subst, arith, eqb-true}
-use Rattle.std.specs.Prelude.{◌≡◌, ◌≤◌, ◌<◌, ◌+◌, ◌==◌, ℕ, zero, suc, Bool, true, false, if◌then◌else◌, List, [], ◌∷◌, ◌++◌, map, flat_map, drop, length, slice_get, is_some, Option, Some, None, option_map, IfSome}
-use Rattle.std.specs.List.{AllByRecursion, Contains}
-use Rattle.std.proofs.lemmas.List.{append_assoc, length-append, length-map, append-nil}
-use Rattle.orca_base.specs.declared.fault.FaultKind.TheVariants.{NoReturn, TooDeep}
+use Rattle.std.specs.Prelude.{◌≡◌, ◌+◌, ◌==◌, ℕ, zero, suc, Bool, true, false, if◌then◌else◌, List, [], ◌∷◌, ◌++◌, map, flat_map, drop, length, slice_get, is_some, Option, Some, None, option_map, IfSome}
+use Rattle.std.specs.List.{AllByRecursion}
+use Rattle.std.proofs.lemmas.List.{append_assoc, length-append}
+use Rattle.orca_base.specs.declared.fault.FaultKind.TheVariants.{TooDeep}
 use Rattle.orca_base.specs.declared.ids.KindNo.{KindNo}
 use Rattle.orca_base.specs.declared.ids.OpNo.{OpNo}
-use Rattle.orca_base.specs.declared.limits.TheConstants.{OPERATION_TURNS, VALUE_SIZE}
 use Rattle.orca_tree.specs.declared.tree.Mode.{Mode}
 use Rattle.orca_tree.specs.declared.tree.Mode.TheVariants as mode
 use Rattle.orca_syntax.specs.Syntax as syn
 use Rattle.orca_syntax.specs.Syntax.{Expr, Kind, Parameter, Stmts, Guard, Body, Operation, Block}
 use Rattle.link_rules.specs.Units.{Source}
-use Rattle.type_rules.specs.declared.signature.Formal.{Formal}
-use Rattle.type_rules.specs.declared.signature.Formal.TheVariants.{ByValue, Shared, Out as ByOut, SomeGraph, NodeOf}
 use Rattle.type_rules.specs.declared.types.DataType.{DataType}
-use Rattle.type_rules.specs.declared.types.Base.TheVariants as base
-use Rattle.type_rules.specs.declared.types.Layer.TheVariants as layer
-use Rattle.type_rules.specs.Types as types
-use Rattle.type_rules.specs.Types.{Outside, outside_of, inside_of, is_object, object_in}
-use Rattle.type_rules.specs.TopLevel as top
-use Rattle.type_rules.specs.TopLevel.{What, TopName, top_names}
+use Rattle.type_rules.specs.TopLevel.{TopName}
 use Rattle.type_rules.specs.Constants.{View}
 use Rattle.type_rules.specs.TypePhrases.{data_found}
 use Rattle.type_rules.specs.Rules.{Found}
@@ -29,33 +21,27 @@ use Rattle.orca_tree.specs.declared.tree.Name.{Name}
 use Rattle.type_rules.specs.Scopes.{Local, Scope, type_of, parameter_found, passed, formal, parameter_local, value_local, locals_of, view_of, own_names, signature, role_of}
 use Rattle.type_rules.specs.Declarations.{field_locals, operation_view}
 use Rattle.type_rules.specs.declared.names.LocalRole.TheVariants.{Variable}
-use Rattle.value_core.specs.Datum.{Datum, Data, data_of, list_of, list_of-data_of}
-use Rattle.value_core.specs.Datum as datum
+use Rattle.value_core.specs.Datum.{Datum, Data, list_of, list_of-data_of}
 use Rattle.value_core.specs.Fits.{Kinds, IfMade, KeepsState, RepliesWell}
-use Rattle.value_core.specs.Size.{size_of, size_of_all}
-use Rattle.value_core.specs.View.{datum_of, value_of, datum_of-value_of}
-use Rattle.value_core.specs.declared.action.Action.{Action}
-use Rattle.value_core.specs.declared.action.Reply.{Reply}
+use Rattle.value_core.specs.View.{datum_of-value_of}
 use Rattle.value_core.specs.declared.action.Reply.TheVariants as reply
-use Rattle.value_core.specs.declared.meaning.Making.{Making}
-use Rattle.value_core.specs.declared.meaning.Making.TheVariants as making
 use Rattle.value_core.specs.declared.meaning.Tried.{Tried}
 use Rattle.value_core.specs.declared.meaning.Tried.TheVariants as tried
 use Rattle.meaning_rules.specs.Openings.{opening}
 use Rattle.meaning_rules.specs.Operators.{truth_in}
 use Rattle.meaning_rules.specs.Programs.{ObjectType, object_type, type_at, function_scope, operation_scope, operation_variables, begin_scope, result_in}
-use Rattle.meaning_rules.specs.States.{State, Stop, Out, Goes, Stops, Needs, Faults, Busy, after, turn}
-use Rattle.meaning_rules.specs.Variables.{Target, store}
-use Rattle.meaning_rules.specs.Calls.{Calls, Passed, Given, Lent, values_in}
+use Rattle.meaning_rules.specs.States.{State, Out, Goes, Stops, after, turn}
+use Rattle.meaning_rules.specs.Variables.{store}
+use Rattle.meaning_rules.specs.Calls.{Calls, Passed, Given, Lent}
 use Rattle.meaning_rules.specs.Expressions.{eval}
 use Rattle.meaning_rules.specs.Loops.{Flow, On, Back}
 use Rattle.meaning_rules.specs.Statements.{run_all}
 use Rattle.meaning_rules.specs.Functions.{opened, parameter_values, hand_back, leave, returned, own_frame, enter_body, enter_what, enter, calls, all_calls}
 use Rattle.meaning_rules.specs.Operations.{start, fault_of, reply_of, done, body_ended, body_tried, chosen, guard_tried, guards_tried, alternatives_tried, operation_start, own_count, alternatives, operation_tried, type_tried, tries_of, begun_with, made, type_made, making_of}
-use Rattle.meaning_rules.specs.Fitting.{IsOf, Fits, AreFitting, AreArguments, FitsState, FitsType, FitsArgs, FitsArgsOf, FitsOperation, FitsParameters, FitsReply, FitsReplyOf, FitsResultOf, FitsResult}
-use Rattle.meaning_rules.specs.PhrasesFit.{AreAnswers, AreGiven, CallsFit, IsTarget, Leaves, Preserves, IsResult, Returns}
-use Rattle.meaning_rules.specs.Accepted.{IsKnown, IsOfData, IsData, IsOpening, HoldsData, IsPlain, IsKnownResult, IsFunction, AreInOrder, BodyInOrder, IsOperationBody, IsObjectType, IsAccepted}
-use Rattle.meaning_rules.specs.Replies.{with_replies, Front}
+use Rattle.meaning_rules.specs.Fitting.{Fits, AreFitting, FitsState, FitsType, FitsArgs, FitsArgsOf, FitsOperation, FitsParameters, FitsReply, FitsReplyOf, FitsResultOf, FitsResult}
+use Rattle.meaning_rules.specs.PhrasesFit.{AreAnswers, AreGiven, CallsFit, Leaves, Preserves, IsResult, Returns}
+use Rattle.meaning_rules.specs.Accepted.{IsOfData, HoldsData, IsKnownResult, IsFunction, AreInOrder, BodyInOrder, IsOperationBody, IsObjectType, IsAccepted}
+use Rattle.meaning_rules.specs.Replies.{Front}
 use Rattle.meaning_rules.proofs.Changing.{store_preserves}
 use Rattle.meaning_rules.proofs.Everywhere as everywhere
 use Rattle.meaning_rules.proofs.FittingStatements.{run_all_preserves}

@@ -1,31 +1,25 @@
 -- Expressions and statements without a breach preserve what fits.
 use Rattle.std.proofs.Common.{refl, ap, sym, ◌∙◌, subst, arith}
-use Rattle.std.proofs.lemmas.Int.{ints}
-use Rattle.std.specs.Prelude.{◌≡◌, ◌≤◌, ◌<◌, ◌+◌, ℕ, zero, suc, ℤ, pos, negsuc, neg_ℤ, ◌+ℤ◌, ◌-ℤ◌, nat_abs, int_le, Bool, true, false, not, ◌&&◌, if◌then◌else◌, List, [], ◌∷◌, ◌++◌, map, drop, length, slice_get, ok_or, is_some, Option, Some, None, option_map, Result, Ok, Err, IfOk}
+use Rattle.std.specs.Prelude.{◌≡◌, ◌≤◌, ℕ, pos, neg_ℤ, Bool, true, false, not, ◌&&◌, List, [], ◌∷◌, ◌++◌, map, length, slice_get, ok_or, Option, Some, None, option_map, IfOk}
 use Rattle.std.specs.Option.{option_map_or}
 use Rattle.std.specs.List.{AllByRecursion}
-use Rattle.std.proofs.lemmas.List.Elements.{All-nil}
 use Rattle.orca_base.specs.declared.fault.FaultKind.TheVariants.{IndexOutside}
 use Rattle.orca_base.specs.declared.place.Place.{Place}
-use Rattle.orca_tree.specs.declared.tree.Mode.TheVariants as mode
 use Rattle.orca_tree.specs.declared.tree.Name.{Name}
 use Rattle.orca_tree.specs.declared.tree.Operator.{Operator}
 use Rattle.orca_syntax.specs.Places.{expr_place}
-use Rattle.orca_syntax.specs.Sound.{IsSoundExpr, AreSoundLinks, IsSoundStep, IsSoundPath, AreSoundExprs, IsSoundStmt, AreSoundStmts, IsSoundArm, AreSoundArms}
+use Rattle.orca_syntax.specs.Sound.{IsSoundExpr, AreSoundLinks, IsSoundPath, AreSoundExprs}
 use Rattle.orca_syntax.specs.Syntax as syn
 use Rattle.orca_syntax.specs.Syntax.{Expr, Links, Step, Path, Exprs, Stmt, Stmts, Arm, Arms}
 use Rattle.type_rules.specs.declared.signature.Formal.{Formal}
 use Rattle.type_rules.specs.declared.signature.Formal.TheVariants.{ByValue, Shared, Out as ByOut, SomeGraph, NodeOf}
 use Rattle.type_rules.specs.declared.types.DataType.{DataType}
 use Rattle.type_rules.specs.declared.types.Base.TheVariants as base
-use Rattle.type_rules.specs.declared.types.Layer.TheVariants as layer
-use Rattle.type_rules.specs.Types as types
-use Rattle.type_rules.specs.Types.{outside_of, inside_of, plain, is_boolean, is_integer, is_counted, is_numbered, is_gathering, is_graph, is_printed, is_node_name, same_type}
-use Rattle.type_rules.specs.Rules.{Found, found, unless, asks, fits, agree}
+use Rattle.type_rules.specs.Types.{outside_of, inside_of, plain, is_boolean, is_integer, is_counted, is_numbered, is_gathering, is_graph}
+use Rattle.type_rules.specs.Rules.{Found, found, asks, fits, agree}
 use Rattle.type_rules.specs.TopLevel.{stands_for}
 use Rattle.type_rules.specs.Scopes.{Scope, Local, local}
-use Rattle.type_rules.specs.Expressions.{typed, chained, walked, stepped, step_found, arguments, suits, operand, joined, named_value, value_of, outer_value, written_root, gathering, taken, may_be_written, is_written, is_element, count_of, result_type, called, invoked, signature_of, call_found, invoke_found, invoked_signature, acts, AsValue, AsStatement}
-use Rattle.type_rules.specs.Statements.{wants, assigns, returns, value_found, changes, printed, forks, forked, fork_rules, forked_signature, with_loop, counts, wants_if_any, stmt_breaches, stmts_breaches, arms_breaches, arm_breaches}
+use Rattle.type_rules.specs.Expressions.{typed, chained, walked, stepped, step_found, arguments, suits, joined, value_of, outer_value, written_root, gathering, may_be_written, is_written, count_of, AsValue}
 use Rattle.value_core.specs.Datum.{Datum}
 use Rattle.value_core.specs.Datum as datum
 use Rattle.value_core.specs.Fits.{Kinds}
@@ -37,30 +31,30 @@ use Rattle.value_ops.specs.Sizes.{number_in, ordinal_of}
 use Rattle.value_paths.specs.declared.step.Step.{Step as ValueStep}
 use Rattle.value_paths.specs.Paths.{part_at}
 use Rattle.meaning_rules.specs.Operators.{integer_in, truth_in, of_integer, decides, applied, fitting, and_then}
-use Rattle.meaning_rules.specs.States.{State, Out, Goes, after, gives, turn}
+use Rattle.meaning_rules.specs.States.{State, Out, Goes, after, gives}
 use Rattle.meaning_rules.specs.Designators as designators
 use Rattle.meaning_rules.specs.Designators.{slot, root_type, stepped_type, path_type, designator_type, step_to_field, step_by_index, value_in}
-use Rattle.meaning_rules.specs.Variables.{Target, target, put, drop_element}
+use Rattle.meaning_rules.specs.Variables.{Target, target}
 use Rattle.meaning_rules.specs.Calls as callables
 use Rattle.meaning_rules.specs.Calls.{Calls, Passed, Given, Lent, as_passed, callee, modes_of, fresh_node}
 use Rattle.meaning_rules.specs.Expressions.{eval, eval_links, eval_path, eval_step, eval_all, eval_passed, eval_target, joined_with, result}
-use Rattle.meaning_rules.specs.Loops.{Flow, On, Back, Round, Over, Again, Leave, always, taken_if, otherwise, ended, round_if, until, rounds}
-use Rattle.meaning_rules.specs.Statements.{change_elements, give_back, member, line_of, texts_of, run, run_all, run_arms, run_arm}
+use Rattle.meaning_rules.specs.Loops.{Flow}
+use Rattle.meaning_rules.specs.Statements.{run_all}
 use Rattle.meaning_rules.specs.Fitting.{Fits}
 use Rattle.meaning_rules.specs.PathsFit.{Leads, StepsTo}
-use Rattle.meaning_rules.specs.PhrasesFit.{IsTarget, Preserves, IsResult, Returns}
-use Rattle.meaning_rules.specs.Accepted.{IsKnown, IsKnownFormal}
+use Rattle.meaning_rules.specs.PhrasesFit.{IsTarget, Preserves, IsResult}
+use Rattle.meaning_rules.specs.Accepted.{IsKnownFormal}
 use Rattle.meaning_rules.specs.Replies.{Front}
-use Rattle.meaning_rules.proofs.Acting.{IsInvoked, is_invoked, IsForked, is_forked, is_line, write_preserves}
+use Rattle.meaning_rules.proofs.Acting.{is_invoked}
 use Rattle.meaning_rules.proofs.Called.{IsPassed, ArePassed, mode_in, is_call}
-use Rattle.meaning_rules.proofs.Changing.{fitting_fits, held_preserves, take_preserves, store_preserves, put_preserves, drop_preserves}
+use Rattle.meaning_rules.proofs.Changing.{fitting_fits, held_preserves, take_preserves}
 use Rattle.meaning_rules.proofs.Everywhere as everywhere
 use Rattle.meaning_rules.proofs.Fronts.{fronts}
-use Rattle.meaning_rules.proofs.Judged.{SameTypes, IsWritten, is_written as is_written_name, left_none, right_none, both_left, both_right, asked, unless_none, unless_is, walked_none, local_at, opening_at, fits_tested, fits_known}
-use Rattle.meaning_rules.proofs.OperatorsFit.{IsJoined, is_joined, character_code, character_codes, integer_fits, truth_fits, integer_word, fitted_integral}
-use Rattle.meaning_rules.proofs.Preserving.{Any, after_preserves, then_preserves, goes_preserves, gives_preserves, turn_preserves, weaker_preserves, go_on_preserves, Rounds, repeated_preserves, count_preserves, AreWords}
-use Rattle.meaning_rules.proofs.Steps.{IsStep, is_field_step, is_index_step, walked_on}
-use Rattle.meaning_rules.proofs.Valued.{Stands, stands_in_loop, loop_local, gathers_so, links_so, operand_parts, number_word, ordinal_word, AreClean, AreTyped, clean_arguments, texts_codes, agreed, are_taken, result_fits, IsSimple, no_step, IsOuter, is_outer}
+use Rattle.meaning_rules.proofs.Judged.{SameTypes, is_written as is_written_name, left_none, right_none, both_left, both_right, asked, unless_none, unless_is, walked_none, local_at, opening_at}
+use Rattle.meaning_rules.proofs.OperatorsFit.{is_joined, character_code, character_codes, integer_fits, truth_fits, fitted_integral}
+use Rattle.meaning_rules.proofs.Preserving.{then_preserves, goes_preserves, gives_preserves, weaker_preserves}
+use Rattle.meaning_rules.proofs.Steps.{is_field_step, is_index_step, walked_on}
+use Rattle.meaning_rules.proofs.Valued.{Stands, gathers_so, links_so, operand_parts, number_word, ordinal_word, AreClean, AreTyped, clean_arguments, agreed, are_taken, result_fits, no_step, is_outer}
 
 -- ---- chains
 
@@ -130,14 +124,23 @@ module _ (kinds : Kinds) (call : Calls) (call_front : (i : ℕ) (ps : List Passe
       let agrees = asked 30 (expr_place e) (agree t (typed v e).is) (left_none (asks 30 (expr_place e) (agree t (typed v e).is)) _ suit) in
       let writes = asked 32 (expr_place e) (may_be_written v e) (right_none (asks 30 (expr_place e) (agree t (typed v e).is)) _ suit) in
       first_then v Target Passed _ _ (eval_target call v e) _ (everywhere.target_holds Front fronts call call_front v e) (place writes) (λ to h.
-      goes v Passed _ (Lent to) (h.0, known.1 ∙ ap Some (st.laws.same.same known.0 h.0
-      (ap (λ o. agree (Some known.0) o) (sym h.1) ∙ (ap (λ o. agree o (typed v e).is) (sym known.1) ∙ agrees))), h.3))
+      goes v Passed _ (Lent to) (
+        h.0,
+        known.1 ∙ ap Some (st.laws.same.same known.0 h.0
+            (ap (λ o. agree (Some known.0) o) (sym h.1) ∙ (ap (λ o. agree o (typed v e).is) (sym known.1) ∙ agrees))),
+        h.3,
+      ))
   one_passed v st SomeGraph known e suit value place =
       let both = asked 41 (expr_place e) (may_be_written v e && fits is_graph (typed v e).is) suit in
       first_then v Target Passed _ _ (eval_target call v e) _ (everywhere.target_holds Front fronts call call_front v e)
       (place (both_left (may_be_written v e) (fits is_graph (typed v e).is) both)) (λ to h.
-      goes v Passed _ (Lent to) (h.0, h.2, h.3, links_so (outside_of h.0)
-      (ap (fits is_graph) (sym h.1) ∙ both_right (may_be_written v e) (fits is_graph (typed v e).is) both)))
+      goes v Passed _ (Lent to) (
+        h.0,
+        h.2,
+        h.3,
+        links_so (outside_of h.0)
+            (ap (fits is_graph) (sym h.1) ∙ both_right (may_be_written v e) (fits is_graph (typed v e).is) both),
+      ))
 
   joined_preserves : (v : Scope) → Stands kinds call v → (o : Operator) (at : Place) (left : Found DataType) (e : Expr) → (joined o at left (expr_place e) (typed v e)).breaches ≡ [] →
       (x : Datum) → Of v left.is x → (b : Bool) → decides o x ≡ b → Fit v Datum (Of v (typed v e).is) (eval call v e) →

@@ -1,12 +1,11 @@
 -- Processes: what one does next names only objects that it knows, by their types, and hands on only what fits.
 use Rattle.std.proofs.Common.{refl, ap, sym, ◌∙◌, subst, arith, inl, inr, eq-or-lt_of_le}
-use Rattle.std.specs.Prelude.{◌≡◌, ◌⊎◌, ◌≤◌, ◌<◌, ◌+◌, ℕ, zero, suc, Bool, true, false, List, [], ◌∷◌, ◌++◌, map, flat_map, take, drop, length, slice_get, is_some, Option, Some, None, option_and_then}
+use Rattle.std.specs.Prelude.{◌≡◌, ◌⊎◌, ◌≤◌, ◌<◌, ◌+◌, ℕ, zero, suc, Bool, true, false, List, [], ◌∷◌, ◌++◌, map, take, drop, length, slice_get, is_some, Option, Some, None, option_and_then}
 use Rattle.std.specs.List.{AllByRecursion, Contains}
-use Rattle.std.proofs.lemmas.List.{append_assoc, append-nil, length-append, length-map, take-append-drop, length-take-le}
+use Rattle.std.proofs.lemmas.List.{append_assoc, append-nil, length-append}
 use Rattle.std.proofs.lemmas.List.Elements.{Contains-append_left, Contains-append_right, Contains-append_cases, Contains-push, Contains-push_cases}
 use Rattle.orca_base.specs.declared.fault.FaultKind.{FaultKind}
 use Rattle.orca_base.specs.declared.ids.KindNo.{KindNo}
-use Rattle.orca_base.specs.declared.ids.OpNo.{OpNo}
 use Rattle.orca_base.specs.declared.ids.TextNo.{TextNo}
 use Rattle.orca_base.specs.declared.ids.ProcessNo.{ProcessNo}
 use Rattle.orca_base.specs.declared.ids.ObjectId.{ObjectId}
@@ -26,11 +25,9 @@ use Rattle.value_core.specs.Fits.{Kinds, ExtendsKinds}
 use Rattle.value_core.specs.History.{most_turns, output_kind, output_object}
 use Rattle.value_core.specs.Lawful.{next_of, FitsAction, RepliesFitFrom, RepliesFit, made_by, own_from, own_objects, IsArgumentOf, IsKnownObject, output, own, argument, KnowsIn, IsLawfulDoing, IsLawful}
 use Rattle.value_core.specs.Meaning.{Computes}
-use Rattle.value_core.specs.declared.action.Action.{Action}
 use Rattle.value_core.specs.declared.action.Action.TheVariants as action
 use Rattle.value_core.specs.declared.action.Reply.{Reply}
 use Rattle.value_core.specs.declared.action.Reply.TheVariants as reply
-use Rattle.value_core.specs.declared.meaning.Doing.{Doing}
 use Rattle.value_core.specs.declared.meaning.Doing.TheVariants as doing
 use Rattle.meaning_rules.specs.Openings.{opening}
 use Rattle.meaning_rules.specs.Programs.{kind_of, process_scope, process_texts}
@@ -38,11 +35,11 @@ use Rattle.meaning_rules.specs.States.{State, Out, Goes, Stops, Needs, Faults, B
 use Rattle.meaning_rules.specs.Loops.{Flow}
 use Rattle.meaning_rules.specs.Statements.{run_all}
 use Rattle.meaning_rules.specs.Functions.{all_calls}
-use Rattle.meaning_rules.specs.Processes.{own_object, object_type_of, variable_made, variables_made, block_run, what_run, text_run, doing_of, next_doing}
+use Rattle.meaning_rules.specs.Processes.{own_object, object_type_of, variable_made, variables_made, block_run, what_run, text_run, doing_of}
 use Rattle.meaning_rules.specs.Meanings.{computes_of}
 use Rattle.meaning_rules.specs.Fitting.{IsObject, IsOf, Fits, AreFitting, AreArguments, FitsArgs, FitsText, FitsTop, FitsWhat, FitsReply}
-use Rattle.meaning_rules.specs.PhrasesFit.{AreAnswers, IsThere, FitsNeed, Leaves, Returns}
-use Rattle.meaning_rules.specs.Accepted.{AreInOrder, IsOpening, IsOfData, IsPlain, IsAccepted}
+use Rattle.meaning_rules.specs.PhrasesFit.{AreAnswers, IsThere, Leaves, Returns}
+use Rattle.meaning_rules.specs.Accepted.{AreInOrder, IsOpening, IsPlain, IsAccepted}
 use Rattle.meaning_rules.proofs.Everywhere as everywhere
 use Rattle.meaning_rules.proofs.FittingBodies.{calls_fit, fitting_length, fitting_more_locals, opening_fits}
 use Rattle.meaning_rules.proofs.FittingStatements.{run_all_preserves}
@@ -51,7 +48,7 @@ use Rattle.meaning_rules.proofs.Acting.{object_outside}
 use Rattle.meaning_rules.proofs.Objectless.{fits_without}
 use Rattle.meaning_rules.proofs.PartsFit.{OfBy}
 use Rattle.meaning_rules.proofs.Premises.{Laws}
-use Rattle.meaning_rules.proofs.StaysFit.{fits_more, fitting_more, args_more, text_more}
+use Rattle.meaning_rules.proofs.StaysFit.{fitting_more, args_more, text_more}
 use Rattle.meaning_rules.specs.Replies.{Front}
 
 -- ---- objects of variables
@@ -264,9 +261,11 @@ module _ (us : List Source) where
             let there : Contains more (it.0, kind_of us object.0) =
             has (it.0, kind_of us object.0)
             (subst (λ o. Contains (given_of o v) (it.0, kind_of us object.0)) (sym opening_l.known.1)
-            (subst (λ xs. Contains xs (it.0, kind_of us object.0)) (sym it.3) (Contains-push [] (it.0, kind_of us object.0)))) in
-            (subst (λ x. IsOf us more x opening_l.known.0) (sym it.1)
-            (subst (λ o. OfBy us more o (inside_of opening_l.known.0) (Object_of it.0)) (sym object.1) there), k.1)
+            (subst (λ xs. Contains xs (it.0, kind_of us object.0)) (sym it.3) (Contains-push [] (it.0, kind_of us object.0)))) in (
+              subst (λ x. IsOf us more x opening_l.known.0) (sym it.1)
+                  (subst (λ o. OfBy us more o (inside_of opening_l.known.0) (Object_of it.0)) (sym object.1) there),
+              k.1,
+            )
         by false is k = fits_without us kinds more v (Some opening_l.known.0) (opening_l.known.0, refl, opening_l.data_type opening_l.known.0 opening_l.known.1 is) k
 
     given_fit : (vs : List Datum) (ls : List Local) → AllByRecursion (IsOpening us) ls → AreFitting us kinds vs ls → AreFitting us (objects_given vs ls) vs ls
@@ -315,9 +314,11 @@ module _ (us : List Source) where
       by None is rest =
           (opening_fits us (objects_made us number ls count) l.type (all.0.known.0, all.0.known.1, all.0.data_type all.0.known.0 all.0.known.1 (no_object is)), rest count)
       by (Some i) is rest = (
-        subst (λ o. Fits us ((own_object number count, kind_of us i) ∷ objects_made us number ls (count + 1)) (datum.object number.0 count) o) (sym all.0.known.1)
-            (subst (λ x. OfBy us ((own_object number count, kind_of us i) ∷ objects_made us number ls (count + 1)) x (inside_of all.0.known.0) (datum.object number.0 count)) (sym (object_type_is i is))
-            (Contains-append_left ((own_object number count, kind_of us i) ∷ []) (objects_made us number ls (count + 1)) (own_object number count, kind_of us i) (Contains-push [] (own_object number count, kind_of us i))), omega arith),
+        subst (λ o. Fits us ((own_object number count, kind_of us i) ∷ objects_made us number ls (count + 1)) (datum.object number.0 count) o) (sym all.0.known.1) (
+          subst (λ x. OfBy us ((own_object number count, kind_of us i) ∷ objects_made us number ls (count + 1)) x (inside_of all.0.known.0) (datum.object number.0 count)) (sym (object_type_is i is))
+              (Contains-append_left ((own_object number count, kind_of us i) ∷ []) (objects_made us number ls (count + 1)) (own_object number count, kind_of us i) (Contains-push [] (own_object number count, kind_of us i))),
+          omega arith,
+        ),
         fitting_more us (objects_made us number ls (count + 1)) ((own_object number count, kind_of us i) ∷ objects_made us number ls (count + 1))
             (λ entry has. Contains-append_right ((own_object number count, kind_of us i) ∷ []) (objects_made us number ls (count + 1)) entry has) (values_made us number ls (count + 1)) ls (rest (count + 1)),
       )

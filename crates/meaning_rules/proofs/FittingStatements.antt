@@ -1,42 +1,40 @@
 -- Statements without a breach preserve what fits, and what they return is of the result's type.
 use Rattle.std.proofs.Common.{refl, ap, sym, ◌∙◌, subst, arith}
 use Rattle.std.proofs.lemmas.Int.{ints}
-use Rattle.std.specs.Prelude.{◌≡◌, ◌≤◌, ◌<◌, ◌+◌, ◌≤ℤ◌, ℕ, zero, suc, ℤ, pos, negsuc, ◌+ℤ◌, ◌-ℤ◌, nat_abs, int_le, Bool, true, false, if◌then◌else◌, List, [], ◌∷◌, ◌++◌, Option, Some, None, Result, Ok, Err, IfOk}
-use Rattle.std.specs.List.{AllByRecursion}
+use Rattle.std.specs.Prelude.{◌≡◌, ◌<◌, ◌+◌, ◌≤ℤ◌, ℕ, ℤ, pos, negsuc, ◌+ℤ◌, ◌-ℤ◌, nat_abs, int_le, Bool, true, false, if◌then◌else◌, List, [], ◌++◌, Option, Some, None, IfOk}
 use Rattle.std.proofs.lemmas.List.Elements.{All-nil}
 use Rattle.orca_base.specs.declared.place.Place.{Place}
 use Rattle.orca_tree.specs.declared.tree.Name.{Name}
 use Rattle.orca_syntax.specs.Places.{expr_place}
-use Rattle.orca_syntax.specs.Sound.{IsSoundExpr, IsSoundPath, AreSoundExprs, IsSoundStmt, AreSoundStmts, IsSoundArm, AreSoundArms}
+use Rattle.orca_syntax.specs.Sound.{IsSoundStmt, AreSoundStmts, IsSoundArm, AreSoundArms}
 use Rattle.orca_syntax.specs.Syntax as syn
 use Rattle.orca_syntax.specs.Syntax.{Expr, Path, Exprs, Stmt, Stmts, Arm, Arms}
 use Rattle.type_rules.specs.declared.types.DataType.{DataType}
 use Rattle.type_rules.specs.declared.types.Base.TheVariants as base
 use Rattle.type_rules.specs.Types.{outside_of, inside_of, plain, is_boolean, is_integer, is_gathering, is_printed, same_type}
-use Rattle.type_rules.specs.Rules.{Found, found, unless, asks, breaks, fits, agree}
-use Rattle.type_rules.specs.Scopes.{Scope, Local}
+use Rattle.type_rules.specs.Rules.{Found, asks, fits, agree}
+use Rattle.type_rules.specs.Scopes.{Scope}
 use Rattle.type_rules.specs.Expressions.{typed, walked, written_root, gathering, is_element, arguments, roots_differ, acts, AsStatement}
-use Rattle.type_rules.specs.Statements.{wants, assigns, returns, value_found, changes, printed, forks, forked, fork_rules, forked_signature, with_loop, counts, wants_if_any, stmt_breaches, stmts_breaches, arms_breaches, arm_breaches}
+use Rattle.type_rules.specs.Statements.{wants, returns, value_found, changes, printed, forks, forked, fork_rules, forked_signature, with_loop, counts, wants_if_any, stmt_breaches, stmts_breaches, arms_breaches, arm_breaches}
 use Rattle.value_core.specs.Datum.{Datum}
-use Rattle.value_core.specs.Datum as datum
 use Rattle.value_core.specs.Fits.{Kinds}
 use Rattle.value_core.specs.Integers.{IsWord}
 use Rattle.value_paths.specs.declared.step.Step.{Step as ValueStep}
 use Rattle.meaning_rules.specs.Operators.{integer_in, truth_in, fitting}
 use Rattle.meaning_rules.specs.States.{State, Out, Goes, after, gives, turn}
 use Rattle.meaning_rules.specs.Designators.{root_type}
-use Rattle.meaning_rules.specs.Variables.{Target, target, store, put, drop_element}
+use Rattle.meaning_rules.specs.Variables.{target, store, put, drop_element}
 use Rattle.meaning_rules.specs.Calls as callables
 use Rattle.meaning_rules.specs.Calls.{Calls, Passed, callee, modes_of, fresh_node}
 use Rattle.meaning_rules.specs.Expressions.{eval, eval_path, eval_all, eval_passed}
-use Rattle.meaning_rules.specs.Loops.{Flow, On, Back, Round, Over, Again, Leave, go_on, always, taken_if, otherwise, ended, round_if, until, rounds}
+use Rattle.meaning_rules.specs.Loops.{Flow, On, Back, Round, Over, Again, Leave, always, taken_if, otherwise, ended, round_if, until, rounds}
 use Rattle.meaning_rules.specs.Statements.{give_back, member, line_of, texts_of, run, run_all, run_arms, run_arm}
 use Rattle.meaning_rules.specs.Fitting.{IsOf, Fits}
 use Rattle.meaning_rules.specs.PhrasesFit.{IsTarget, Preserves, IsResult, Returns}
-use Rattle.meaning_rules.specs.Accepted.{IsKnown, IsKnownResult}
+use Rattle.meaning_rules.specs.Accepted.{IsKnownResult}
 use Rattle.meaning_rules.specs.Replies.{Front}
-use Rattle.meaning_rules.proofs.Acting.{IsInvoked, is_invoked, IsForked, is_forked, IsLine, is_line, write_preserves}
-use Rattle.meaning_rules.proofs.Called.{ArePassed, mode_in, is_call}
+use Rattle.meaning_rules.proofs.Acting.{is_invoked, is_forked, IsLine, is_line, write_preserves}
+use Rattle.meaning_rules.proofs.Called.{ArePassed, is_call}
 use Rattle.meaning_rules.proofs.Changing.{fitting_fits, store_preserves, put_preserves, drop_preserves}
 use Rattle.meaning_rules.proofs.Everywhere as everywhere
 use Rattle.meaning_rules.proofs.FittingPhrases.{eval_preserves, all_preserves, arguments_preserves, path_preserves, placed}
@@ -103,7 +101,7 @@ module _ (kinds : Kinds) (call : Calls) (call_front : (i : ℕ) (ps : List Passe
   returns_some us same (Some t) at f known none = (
     left_none f.breaches _ none,
     λ y h. subst (λ o. Fits us kinds y o) (sym known.1)
-    (fits_agreed us kinds same y known.0 f.is h (ap (λ o. agree o f.is) (sym known.1) ∙ asked 23 at (agree t f.is) (right_none f.breaches _ none))),
+        (fits_agreed us kinds same y known.0 f.is h (ap (λ o. agree o f.is) (sym known.1) ∙ asked 23 at (agree t f.is) (right_none f.breaches _ none))),
   )
 
   fitting_of : (us : _) (x : Datum) (o : Option DataType) → Fits us kinds x o → IfOk (fitting x) (λ y. Fits us kinds y o)

@@ -1,6 +1,6 @@
 -- Replies are used from the front: what an evaluation did with some of them it does with these alone, and others behind change nothing.
-use Rattle.std.proofs.Common.{refl, ap, sym, ◌∙◌, subst}
-use Rattle.std.specs.Prelude.{◌≡◌, ℕ, zero, suc, true, List, [], ◌∷◌, ◌++◌, Option, Some, None, Result, Ok, Err}
+use Rattle.std.proofs.Common.{refl, ap, sym, ◌∙◌}
+use Rattle.std.specs.Prelude.{◌≡◌, ℕ, zero, suc, true, List, [], ◌∷◌, ◌++◌, Option, Result, Ok, Err}
 use Rattle.std.proofs.lemmas.List.{append_assoc}
 use Rattle.orca_base.specs.declared.fault.FaultKind.{FaultKind}
 use Rattle.value_core.specs.Datum.{Datum}

@@ -28,3 +28,4 @@ pub mod FittingProcesses
 pub mod Preserved
 pub mod Soundly
 pub mod Orderly
+pub mod AcceptedExample

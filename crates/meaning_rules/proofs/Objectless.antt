@@ -1,6 +1,6 @@
 -- A value of a type in which no object is fits whatever objects there are.
-use Rattle.std.proofs.Common.{refl, ap, sym, ◌∙◌, subst}
-use Rattle.std.specs.Prelude.{◌≡◌, ℕ, zero, suc, true, false, is_some, List, [], ◌∷◌, slice_get, Option, Some, None}
+use Rattle.std.proofs.Common.{refl, ap, sym, subst}
+use Rattle.std.specs.Prelude.{◌≡◌, ℕ, zero, suc, false, is_some, List, [], ◌∷◌, slice_get, Option, Some, None}
 use Rattle.link_rules.specs.Units.{Source}
 use Rattle.type_rules.specs.declared.types.DataType.{DataType}
 use Rattle.type_rules.specs.declared.types.Base.TheVariants as base
@@ -11,7 +11,7 @@ use Rattle.value_core.specs.Datum.{Datum, Data}
 use Rattle.value_core.specs.Datum as datum
 use Rattle.value_core.specs.Fits.{Kinds}
 use Rattle.meaning_rules.specs.Openings.{field_types}
-use Rattle.meaning_rules.specs.Fitting.{IsArray, IsSet, IsBag, IsRecord, IsObject, IsOf, AllOf, AreOf, NodesOf, ValuesOf, Fits}
+use Rattle.meaning_rules.specs.Fitting.{IsRecord, IsObject, IsOf, AllOf, AreOf, NodesOf, ValuesOf, Fits}
 use Rattle.meaning_rules.specs.Accepted.{TypeStep, Inside, ToField, Holds, IsOfData}
 use Rattle.meaning_rules.proofs.StaysFit.{array_more, set_more, bag_more}
 

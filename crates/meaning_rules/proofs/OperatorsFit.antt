@@ -1,32 +1,31 @@
 -- What operators give of operands that fit is of the type that typing gives.
 use Rattle.std.proofs.Common.{refl, ap, sym, ◌∙◌, subst, arith, leb-true, ltb-true, ◌||◌}
-use Rattle.std.specs.Prelude.{◌≡◌, ◌<◌, ◌≤◌, ◌+◌, ◌==◌, ◌^◌, ℕ, zero, suc, ℤ, pos, negsuc, ◌+ℤ◌, ◌-ℤ◌, ◌*ℤ◌, Bool, true, false, not, ◌&&◌, if◌then◌else◌, nat_le, nat_lt, int_div, int_rem, unsigned_abs, List, [], ◌∷◌, ◌++◌, length, Option, Some, None, Result, Ok, Err, IfOk}
+use Rattle.std.specs.Prelude.{◌≡◌, ◌≤◌, ◌+◌, ◌==◌, ◌^◌, ℕ, ℤ, pos, negsuc, ◌+ℤ◌, ◌-ℤ◌, ◌*ℤ◌, Bool, true, false, ◌&&◌, if◌then◌else◌, nat_le, int_div, int_rem, unsigned_abs, List, [], ◌∷◌, ◌++◌, length, Some, Result, Ok, Err, IfOk}
 use Rattle.std.specs.List.{All, list_all}
 use Rattle.std.proofs.lemmas.List.Elements.{All-append, All-nil, All-cons}
 use Rattle.std.proofs.lemmas.List.{length-append}
 use Rattle.orca_base.specs.declared.fault.FaultKind.{FaultKind}
 use Rattle.orca_base.specs.declared.fault.FaultKind.TheVariants.{DivideByZero, Overflow, TooLarge}
-use Rattle.orca_base.specs.declared.limits.TheConstants.{TEXT_LENGTH, VALUE_SIZE}
+use Rattle.orca_base.specs.declared.limits.TheConstants.{TEXT_LENGTH}
 use Rattle.orca_base.specs.declared.place.Place.{Place}
 use Rattle.orca_lexer.specs.Spelling.{is_character}
 use Rattle.orca_tree.specs.declared.tree.Operator.{Operator}
 use Rattle.orca_tree.specs.declared.tree.Operator.TheVariants as op
 use Rattle.link_rules.specs.Units.{Source}
 use Rattle.type_rules.specs.declared.types.DataType.{DataType}
-use Rattle.type_rules.specs.declared.types.Base.TheVariants.{Integer, Boolean, Character, String}
-use Rattle.type_rules.specs.Types.{plain, same_type, is_integer, is_boolean, is_string}
-use Rattle.type_rules.specs.Rules.{Found, found, unless, asks, fits}
-use Rattle.type_rules.specs.Expressions.{joined, operands, operand, relation, membership, are_compared, holds_element}
+use Rattle.type_rules.specs.declared.types.Base.TheVariants.{Integer, Boolean, String}
+use Rattle.type_rules.specs.Types.{plain, is_integer, is_boolean, is_string}
+use Rattle.type_rules.specs.Rules.{Found, unless, asks, fits}
+use Rattle.type_rules.specs.Expressions.{joined, operands, relation, are_compared, holds_element}
 use Rattle.value_core.specs.Datum.{Datum}
 use Rattle.value_core.specs.Datum as datum
 use Rattle.value_core.specs.Fits.{Kinds}
 use Rattle.value_core.specs.History.{string_in}
 use Rattle.value_core.specs.Integers.{IsWord}
-use Rattle.value_core.specs.Size.{size_of}
 use Rattle.value_core.specs.Sound.{IsCode}
-use Rattle.value_ops.specs.Integers.{Outcome, divided_by, fitted, is_word, quotient_of, remainder_of}
+use Rattle.value_ops.specs.Integers.{Outcome, divided_by, fitted, is_word, remainder_of}
 use Rattle.value_ops.specs.Texts as texts
-use Rattle.meaning_rules.specs.Operators.{integer_in, truth_in, of_integer, of_string, of_truth, decides, applied}
+use Rattle.meaning_rules.specs.Operators.{integer_in, of_integer, of_string, of_truth, decides, applied}
 use Rattle.meaning_rules.specs.Fitting.{IsOf, Fits}
 use Rattle.meaning_rules.proofs.Judged.{SameTypes, both_left, both_right, left_none, right_none, asked, unless_none, unless_is, fits_tested}
 use lib.Signed.{mag, mag_rem}

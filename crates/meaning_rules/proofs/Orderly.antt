@@ -1,25 +1,21 @@
 -- A program that breaks no rule, and whose texts have sound words, has bodies in order; its constants are numbers of 64 bits, and the names
 -- of its enumerations' values have the codes of chars.
-use Rattle.std.proofs.Common.{refl, ap, sym, ◌∙◌, subst, arith, leb-true, eqb-true}
-use Rattle.std.specs.Prelude.{◌≡◌, ◌≤◌, ◌<◌, ◌^◌, ◌||◌, ◌&&◌, ◌==◌, nat_le, ℕ, zero, suc, ℤ, pos, negsuc, neg_ℤ, Bool, true, false, cond, if◌then◌else◌, bytes_eq, List, [], ◌∷◌, ◌++◌, map, flat_map, filter, filter_map, length, slice_get, Option, Some, None, option_and_then, IfSome}
+use Rattle.std.proofs.Common.{refl, ap, sym, subst, arith, leb-true, eqb-true}
+use Rattle.std.specs.Prelude.{◌≡◌, ◌≤◌, ◌<◌, ◌^◌, ◌||◌, ◌==◌, nat_le, ℕ, zero, suc, pos, neg_ℤ, Bool, true, false, cond, if◌then◌else◌, bytes_eq, List, [], ◌∷◌, ◌++◌, map, flat_map, filter, filter_map, length, slice_get, Option, Some, None, option_and_then, IfSome}
 use Rattle.std.specs.Char.{is_ascii_alphabetic, is_ascii_alphanumeric}
 use Rattle.std.specs.Int.{is_in_range}
 use Rattle.std.specs.List.{All, AllByRecursion, cons_option, list_all, list_any}
 use Rattle.std.specs.Option.{option_map_or}
 use Rattle.std.proofs.lemmas.List.Elements.{All-from_recursion, All-nil, All-cons}
-use Rattle.orca_base.specs.declared.ids.KindNo.{KindNo}
 use Rattle.orca_lexer.specs.Shapes.{is_name_byte, is_word}
-use Rattle.orca_lexer.specs.Spelling.{IsSound}
-use Rattle.orca_lexer.specs.declared.token.TokenKind.TheVariants as kind
 use Rattle.orca_tree.specs.declared.tree.Name.{Name}
 use Rattle.orca_tree.specs.declared.tree.Bound.{Bound}
 use Rattle.orca_tree.specs.declared.tree.Bound.TheVariants as bounds
-use Rattle.orca_syntax.specs.Sound.{IsSoundName, IsSoundBound, IsSoundDefinition, IsSoundDecl, IsSoundSyntax, IsSoundOperation, IsSoundGuard, IsSoundBody, AreSoundStmts, AreSoundNames}
+use Rattle.orca_syntax.specs.Sound.{IsSoundName, IsSoundBound, IsSoundDefinition, IsSoundDecl, IsSoundSyntax, IsSoundOperation, IsSoundGuard, IsSoundBody, AreSoundStmts}
 use Rattle.orca_syntax.specs.Syntax as syn
 use Rattle.orca_syntax.specs.Syntax.{Kind, Stmts, Parameter, Guard, Body, Operation, Block, Definition, Decl}
 use Rattle.link_rules.specs.Units.{Source, module_name, values_of}
-use Rattle.link_rules.specs.Declarations.{Declared, declarations, declarations_of}
-use Rattle.link_rules.specs.declared.role.Role.TheVariants.{Other}
+use Rattle.link_rules.specs.Declarations.{declarations, declarations_of}
 use Rattle.type_rules.specs.declared.breach.Breach.{Breach}
 use Rattle.type_rules.specs.declared.names.Chain.{Chain}
 use Rattle.type_rules.specs.declared.names.Chain.TheVariants.{EndsAt, GoesRound, Fails}
@@ -30,8 +26,8 @@ use Rattle.type_rules.specs.Types.{Outside}
 use Rattle.type_rules.specs.TopLevel as top
 use Rattle.type_rules.specs.TopLevel.{What, TopName, StandsFor, stands_for, top_at, top_names, unit_names, names_in, name_in, role_in, what_in, values_at, values_in}
 use Rattle.type_rules.specs.Order.{comes_before, in_text_order, put}
-use Rattle.type_rules.specs.Breaches.{IsWellTyped, breaches, type_error, unit_breaches}
-use Rattle.type_rules.specs.Constants.{bound_chain, chain_from, chain_of, chain_of_what, chain_within, numbered_chain, value_chain}
+use Rattle.type_rules.specs.Breaches.{type_error, unit_breaches}
+use Rattle.type_rules.specs.Constants.{bound_chain, chain_of, chain_of_what, chain_within, numbered_chain, value_chain}
 use Rattle.type_rules.specs.TypePhrases.{kind_found, data_found}
 use Rattle.type_rules.specs.declared.names.Owner.{Owner}
 use Rattle.type_rules.specs.Scopes.{Scope, own_names, view_of, specification, texts}
@@ -44,10 +40,10 @@ use Rattle.type_rules.specs.declared.types.Measured.{Measured}
 use Rattle.type_rules.specs.Constants.{View}
 use Rattle.value_core.specs.Integers.{IsWord}
 use Rattle.value_core.specs.Sound.{IsCode}
-use Rattle.meaning_rules.specs.Programs.{ObjectType, begin_scope, function_scope, implementation, implements, is_process, object_type, operation_scope, process_scope, process_texts, specifications, specified, type_at}
+use Rattle.meaning_rules.specs.Programs.{ObjectType, begin_scope, function_scope, implementation, implements, is_process, operation_scope, process_scope, process_texts, specifications, specified, type_at}
 use Rattle.meaning_rules.specs.Statements as named
 use Rattle.meaning_rules.specs.Statements.{names_at}
-use Rattle.meaning_rules.specs.Accepted.{AreInOrder, BodyInOrder, IsOrderly, AreTexts, GivesOrder}
+use Rattle.meaning_rules.specs.Accepted.{AreInOrder, BodyInOrder, GivesOrder}
 use Rattle.meaning_rules.proofs.OperatorsFit.{or_either}
 use Rattle.meaning_rules.proofs.Judged.{left_none, right_none, both_left, both_right, all_at}
 
@@ -328,7 +324,7 @@ module _ (us : List Source) where
         begins = opening_order (begin_scope us t) opening (right_none (flat_map (operation_breaches us m fields) os) opened five) words;
         operations =
             all_both (λ o. operation_breaches us m fields o ≡ []) IsSoundOperation (λ o. BodyInOrder (operation_scope us t o false) o.body) os
-                (λ o a b. operation_order t o a b) (each_none (operation_breaches us m fields) os (left_none (flat_map (operation_breaches us m fields) os) opened five)) sound;
+            (λ o a b. operation_order t o a b) (each_none (operation_breaches us m fields) os (left_none (flat_map (operation_breaches us m fields) os) opened five)) sound;
       }
 
   implements_order : (name m : List ℕ) (d : Decl) → IsFine m d → (t : ObjectType) → implements name m d ≡ Some t → IsOrderlyType t

@@ -1,6 +1,6 @@
 -- A part is no larger than the whole.
-use Rattle.std.proofs.Common.{refl, ap, sym, ◌∙◌, subst, arith}
-use Rattle.std.specs.Prelude.{◌≡◌, ◌<◌, ◌≤◌, ◌+◌, ◌^◌, Bool, true, false, if◌then◌else◌, ℕ, zero, suc, ℤ, pos, List, [], ◌∷◌, length, slice_get, unwrap_or, Option, Some, None, Result, Ok, Err}
+use Rattle.std.proofs.Common.{refl, ap, arith}
+use Rattle.std.specs.Prelude.{◌≡◌, ◌≤◌, ◌+◌, Bool, true, false, if◌then◌else◌, ℕ, zero, suc, ℤ, pos, List, [], ◌∷◌, length, slice_get, unwrap_or, Option, Some, None, Result, Ok, Err}
 use Rattle.orca_base.specs.declared.fault.FaultKind.{FaultKind}
 use Rattle.value_core.specs.Datum.{Datum, Data, list_of, data_of, data_of-list_of, list_of-data_of}
 use Rattle.value_core.specs.Datum as datum

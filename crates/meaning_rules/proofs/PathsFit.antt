@@ -1,14 +1,12 @@
 -- Paths in values of a type, and nodes that are added and deleted.
-use Rattle.std.proofs.Common.{refl, ap, sym, ◌∙◌, subst, arith, inl, inr, eq-or-lt_of_le}
-use Rattle.std.specs.Prelude.{◌≡◌, ◌⊎◌, ◌<◌, ◌≤◌, ◌^◌, ◌+ℤ◌, ◌≤ℤ◌, Bool, true, false, if◌then◌else◌, ℕ, zero, suc, ◌+◌, ℤ, pos, negsuc, is_some, List, [], ◌∷◌, ◌++◌, length, slice_get, Option, Some, None, Result, Ok, Err, IfOk}
+use Rattle.std.proofs.Common.{refl, ap, sym, subst, arith, inl, inr, eq-or-lt_of_le}
+use Rattle.std.specs.Prelude.{◌≡◌, ◌⊎◌, ◌<◌, ◌+ℤ◌, ◌≤ℤ◌, Bool, true, false, if◌then◌else◌, ℤ, pos, negsuc, is_some, List, [], ◌∷◌, ◌++◌, Option, Some, None, Result, Ok, Err, IfOk}
 use Rattle.std.specs.Ordering.{int_eq}
 use Rattle.std.proofs.lemmas.Int.{ints}
 use Rattle.orca_base.specs.declared.fault.FaultKind.{FaultKind}
 use Rattle.orca_base.specs.declared.fault.FaultKind.TheVariants.{IndexOutside, Overflow}
-use Rattle.orca_base.specs.declared.limits.TheConstants.{VALUE_SIZE}
 use Rattle.link_rules.specs.Units.{Source}
 use Rattle.type_rules.specs.declared.types.DataType.{DataType}
-use Rattle.type_rules.specs.declared.types.Base.TheVariants as base
 use Rattle.type_rules.specs.declared.types.Layer.TheVariants as layer
 use Rattle.type_rules.specs.Types as types
 use Rattle.type_rules.specs.Types.{outside_of, inside_of}
@@ -16,12 +14,10 @@ use Rattle.value_core.specs.Datum.{Datum, Data, list_of, data_of, data_of-list_o
 use Rattle.value_core.specs.Datum as datum
 use Rattle.value_core.specs.Fits.{Kinds}
 use Rattle.value_core.specs.Integers.{IsWord}
-use Rattle.value_core.specs.Size.{size_of}
 use Rattle.value_paths.specs.declared.step.Step.{Step}
 use Rattle.value_paths.specs.declared.step.Step.TheVariants.{Field, Index, Node}
 use Rattle.value_paths.specs.Paths.{and_then, CanStep, CanWalk, part_at, part_to, where_found, with_part, with_step}
-use Rattle.graph_values.specs.Graphs.{IsGraph, added, deleted, graph_of, is_named, last_name, name_in, node_in, node_of, nodes_in, where_named, without_node}
-use Rattle.meaning_rules.specs.Openings.{field_types}
+use Rattle.graph_values.specs.Graphs.{IsGraph, added, deleted, graph_of, is_named, last_name, name_in, node_in, node_of, nodes_in, without_node}
 use Rattle.meaning_rules.specs.Fitting.{IsOf, NodesOf, ValuesOf, Fits}
 use Rattle.meaning_rules.specs.PartsFit.{PartsFit, LeadsTo}
 use Rattle.meaning_rules.specs.PathsFit.{StepsTo, Leads, HasPart, PathsFit}
@@ -208,8 +204,8 @@ module _ (us : List Source) (kinds : Kinds) where
               let same : graph_of (name_in g +ℤ pos 1) (nodes_in g ++ node_of (name_in g) fresh ∷ []) ≡ grown = ap (grown_by g) e2 in (
                 subst IsWord (sym graph.1) own.1,
                 subst (λ x. IsOf us kinds x t) same (graph_of_type (name_in g +ℤ pos 1) (nodes_in g ++ node_of (name_in g) fresh ∷ [])
-                (subst IsGraph (sym same) graph.0) (next_word (name_in g) own.1 own.0.next at)
-                (one_more (nodes_in g) (node_of (name_in g) fresh) (inside_of t) (nodes_fit w (inside_of t) own.2) one)),
+                    (subst IsGraph (sym same) graph.0) (next_word (name_in g) own.1 own.0.next at)
+                    (one_more (nodes_in g) (node_of (name_in g) fresh) (inside_of t) (nodes_fit w (inside_of t) own.2) one)),
               )
 
       deletes : (name : ℤ) (rest : Datum) → deleted name g ≡ Ok rest → IsOf us kinds rest t

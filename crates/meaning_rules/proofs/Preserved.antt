@@ -1,14 +1,11 @@
 -- Preservation: what is proved of phrases, functions, operations and processes, put together.
-use Rattle.std.proofs.Common.{refl, ap, sym, ◌∙◌, subst, arith}
-use Rattle.std.specs.Prelude.{◌≡◌, ℕ, List, [], slice_get, Option, Some, None}
-use Rattle.orca_syntax.specs.Syntax.{Block}
+use Rattle.std.proofs.Common.{sym, subst, arith}
+use Rattle.std.specs.Prelude.{ℕ, List}
 use Rattle.link_rules.specs.Units.{Source}
-use Rattle.type_rules.specs.TopLevel as top
-use Rattle.type_rules.specs.TopLevel.{TopName}
 use Rattle.type_rules.specs.Scopes.{Scope}
 use Rattle.value_core.specs.Datum as datum
 use Rattle.value_core.specs.Fits.{Kinds}
-use Rattle.meaning_rules.specs.Programs.{main_text, process_texts}
+use Rattle.meaning_rules.specs.Programs.{main_text}
 use Rattle.meaning_rules.specs.Functions.{calls}
 use Rattle.meaning_rules.specs.Fitting.{FitsTop, FitsWhat, FitsText}
 use Rattle.meaning_rules.specs.Replies.{Front}

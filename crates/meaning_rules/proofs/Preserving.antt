@@ -1,6 +1,6 @@
 -- What evaluations preserve, from what they are made of.
 use Rattle.std.proofs.Common.{refl, ap, sym, ◌∙◌, subst, arith}
-use Rattle.std.specs.Prelude.{◌≡◌, ◌<◌, ℕ, zero, suc, ◌+◌, ℤ, pos, ◌+ℤ◌, List, [], ◌∷◌, ◌++◌, length, drop, slice_get, slice_set, Option, Some, None, Result, Ok, Err, IfOk}
+use Rattle.std.specs.Prelude.{◌≡◌, ◌<◌, ℕ, zero, suc, ℤ, pos, ◌+ℤ◌, List, [], ◌∷◌, ◌++◌, drop, slice_get, slice_set, Option, Some, None, Result, Ok, Err, IfOk}
 use Rattle.std.proofs.lemmas.List.{append_assoc}
 use Rattle.std.proofs.lemmas.Int.{ints}
 use Rattle.orca_base.specs.declared.fault.FaultKind.{FaultKind}
@@ -10,21 +10,18 @@ use Rattle.type_rules.specs.Scopes.{Local}
 use Rattle.value_core.specs.Datum.{Datum}
 use Rattle.value_core.specs.Datum as datum
 use Rattle.value_core.specs.Fits.{Kinds}
-use Rattle.value_core.specs.Integers.{IsWord}
 use Rattle.value_core.specs.Lawful.{FitsAction}
-use Rattle.value_core.specs.Performable.{is_performable}
 use Rattle.value_core.specs.View.{datum_of}
 use Rattle.value_core.specs.declared.action.Action.{Action}
 use Rattle.value_core.specs.declared.action.Reply.{Reply}
 use Rattle.value_core.specs.declared.action.Reply.TheVariants as reply
 use Rattle.value_core.specs.declared.meaning.Doing.TheVariants as doing
-use Rattle.meaning_rules.specs.States.{State, Stop, Out, Goes, Stops, Needs, Faults, Busy, after, gives, begun, turn, replied, act}
+use Rattle.meaning_rules.specs.States.{State, Out, Goes, Stops, Needs, Faults, Busy, after, gives, begun, turn, replied, act}
 use Rattle.meaning_rules.specs.Variables.{stored}
 use Rattle.meaning_rules.specs.Loops.{Flow, On, Back, Round, Over, Again, Leave, go_on, loop, repeated, next_round, with_name, without_name, counted_round, count}
 use Rattle.meaning_rules.specs.Replies.{with_replies, Fronted, Front}
 use Rattle.meaning_rules.specs.Fitting.{Fits, AreFitting, FitsReply}
 use Rattle.meaning_rules.specs.PhrasesFit.{AreAnswers, FitsNeed, Leaves, Preserves}
-use Rattle.meaning_rules.proofs.Closed.{Closed}
 use Rattle.meaning_rules.proofs.Fronts.{fronts}
 
 abbrev pub Any : {A : Type 0} → A → Type 0

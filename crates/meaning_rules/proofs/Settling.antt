@@ -4,7 +4,6 @@ use Rattle.std.proofs.Common.{refl, ap, ◌∙◌}
 use Rattle.std.proofs.lemmas.List.{append_assoc}
 use Rattle.std.specs.Prelude.{◌≡◌, ℕ, ◌++◌, List, true, Result, Ok, Err, [], ◌∷◌, zero, suc, slice_get}
 use Rattle.orca_base.specs.declared.fault.FaultKind.{FaultKind}
-use Rattle.value_core.specs.Datum.{Datum}
 use Rattle.value_core.specs.Performable.{is_performable}
 use Rattle.value_core.specs.declared.action.Action.{Action}
 use Rattle.value_core.specs.declared.action.Action.TheVariants as action
@@ -14,7 +13,7 @@ use Rattle.value_core.specs.declared.meaning.Doing.TheVariants as doing
 use Rattle.link_rules.specs.Units.{Source}
 use Rattle.meaning_rules.specs.Programs.{process_texts}
 use Rattle.meaning_rules.specs.States.{State, Out, Goes, Stops, Needs, Faults, Busy, after, gives, begun, replied}
-use Rattle.meaning_rules.specs.Loops.{Flow, On, Round, Over, Again, Leave, loop, next_round}
+use Rattle.meaning_rules.specs.Loops.{Flow, Round, Over, Again, Leave, loop, next_round}
 use Rattle.meaning_rules.specs.Functions.{all_calls}
 use Rattle.meaning_rules.specs.Processes.{doing_of, text_run}
 use Rattle.meaning_rules.specs.Settled.{IsSettled}

@@ -1,16 +1,13 @@
 -- A value that fits a type of data is sound.
-use Rattle.std.proofs.Common.{refl, ap, sym, ◌∙◌, subst, arith}
-use Rattle.std.specs.Prelude.{◌≡◌, ◌≤◌, ◌<◌, ◌+◌, ◌^◌, ◌≤ℤ◌, ◌<ℤ◌, ℕ, zero, suc, ℤ, pos, max, true, false, is_some, List, [], ◌∷◌, map, take, length, slice_get, Option, Some, None, option_map}
-use Rattle.std.specs.List.{All, AllByRecursion, Contains}
-use Rattle.std.specs.List.Sorted.{IsSorted, IsStrictlySortedBy}
-use Rattle.std.proofs.lemmas.Int.{ints}
-use Rattle.std.proofs.lemmas.List.Elements.{All-from_recursion, recursion_from_All}
+use Rattle.std.proofs.Common.{refl, ap, sym, subst, arith}
+use Rattle.std.specs.Prelude.{◌≡◌, ◌≤◌, ◌+◌, ℕ, zero, suc, true, false, is_some, List, [], ◌∷◌, length, slice_get, Option, Some, None}
+use Rattle.std.specs.List.{All, AllByRecursion}
+use Rattle.std.proofs.lemmas.List.Elements.{All-from_recursion}
 use Rattle.orca_base.specs.declared.ids.KindNo.{KindNo}
 use Rattle.orca_base.specs.declared.ids.OpNo.{OpNo}
 use Rattle.orca_base.specs.declared.ids.TextNo.{TextNo}
-use Rattle.orca_base.specs.declared.ids.ObjectId.{ObjectId}
-use Rattle.orca_base.specs.declared.limits.TheConstants.{PARAMETERS, VALUE_NESTING, VALUE_SIZE}
-use Rattle.orca_syntax.specs.Syntax.{Kind, Operation}
+use Rattle.orca_base.specs.declared.limits.TheConstants.{VALUE_NESTING, VALUE_SIZE}
+use Rattle.orca_syntax.specs.Syntax.{Operation}
 use Rattle.link_rules.specs.Units.{Source}
 use Rattle.type_rules.specs.declared.types.DataType.{DataType}
 use Rattle.type_rules.specs.declared.types.Base.TheVariants as base
@@ -19,30 +16,28 @@ use Rattle.type_rules.specs.Types as types
 use Rattle.type_rules.specs.Types.{Outside, outside_of, inside_of, is_object, object_in}
 use Rattle.type_rules.specs.TopLevel as top
 use Rattle.type_rules.specs.TopLevel.{What, TopName}
-use Rattle.type_rules.specs.Scopes.{Local, value_local}
-use Rattle.type_rules.specs.Declarations.{field_locals, operation_view}
+use Rattle.type_rules.specs.Scopes.{Local}
+use Rattle.type_rules.specs.Declarations.{field_locals}
 use Rattle.value_core.specs.Datum.{Datum, Data, list_of, data_of}
 use Rattle.value_core.specs.Datum as datum
 use Rattle.value_core.specs.Fits.{Kinds}
 use Rattle.value_core.specs.Integers.{IsWord}
-use Rattle.value_core.specs.Order.{datum_cmp}
 use Rattle.value_core.specs.Size.{size_of, size_of_all}
 use Rattle.value_core.specs.Sound.{AreSound, AreSoundArguments, AreWellFormed, IsCode, IsShort, IsSound, IsSoundReply, IsWellFormed, nesting, nesting_of_all}
 use Rattle.value_core.specs.View.{datum_of}
 use Rattle.value_core.specs.declared.action.Reply.{Reply}
 use Rattle.value_core.specs.declared.action.Reply.TheVariants as reply
-use Rattle.graph_values.specs.Graphs.{IsGraph, name_in, nodes_in, value_in}
+use Rattle.graph_values.specs.Graphs.{IsGraph, name_in, nodes_in}
 use Rattle.graph_values.specs.SoundNodes.{IsSoundNode}
 use Rattle.meaning_rules.specs.Openings.{field_types}
 use Rattle.meaning_rules.specs.Programs.{ObjectType, object_type, process_scope, process_texts, result_in}
-use Rattle.meaning_rules.specs.Statements.{names_at}
-use Rattle.meaning_rules.specs.Fitting.{IsArray, IsSet, IsBag, IsRecord, IsNamed, IsObject, IsOf, AllOf, AreOf, NodesOf, ValuesOf, Fits, AreFitting, AreArguments, FitsState, FitsType, FitsArgs, FitsArgsOf, FitsWriting, FitsOperation, FitsParameters, FitsText, FitsTop, FitsWhat, FitsReply, FitsReplyOf, FitsResultOf, FitsResult}
+use Rattle.meaning_rules.specs.Fitting.{IsArray, IsSet, IsBag, IsRecord, IsObject, IsOf, AllOf, AreOf, NodesOf, ValuesOf, Fits, AreFitting, AreArguments, FitsState, FitsType, FitsArgs, FitsArgsOf, FitsOperation, FitsParameters, FitsText, FitsTop, FitsWhat, FitsReply, FitsReplyOf, FitsResultOf, FitsResult}
 use Rattle.meaning_rules.specs.Accepted.{IsData, IsOfData, IsKnownResult, IsOpening, IsAccepted}
 use Rattle.meaning_rules.specs.FitsSound.{AreNumbered, FitsSound}
 use Rattle.meaning_rules.proofs.Objectless.{Objectless, inside_objectless, field_objectless}
 use Rattle.meaning_rules.proofs.FittingBodies.{fitting_length}
 use Rattle.meaning_rules.proofs.FittingProcesses.{all_take, is_object_outside, object_of_type}
-use Rattle.meaning_rules.proofs.PartSizes.{size_some, length_size}
+use Rattle.meaning_rules.proofs.PartSizes.{length_size}
 use Rattle.meaning_rules.proofs.Valued.{named_less}
 
 -- ---- what the outside of a type says

@@ -1,6 +1,6 @@
 -- Steps without a breach lead to the types that typing gives.
-use Rattle.std.proofs.Common.{refl, ap, sym, ◌∙◌, subst, arith}
-use Rattle.std.specs.Prelude.{◌≡◌, ◌<◌, ◌++◌, ℕ, ℤ, Bool, true, false, cond, nat_lt, List, [], ◌∷◌, length, map, find, position, bytes_eq, slice_get, unwrap_or, Option, Some, None, option_map, is_some}
+use Rattle.std.proofs.Common.{refl, ap, sym, ◌∙◌, subst}
+use Rattle.std.specs.Prelude.{◌≡◌, ◌++◌, ℕ, ℤ, Bool, true, false, cond, List, [], ◌∷◌, length, map, find, position, bytes_eq, slice_get, unwrap_or, Option, Some, None, option_map, is_some}
 use Rattle.std.specs.Option.{option_map_or}
 use Rattle.std.specs.List.{position_or_len}
 use Rattle.std.proofs.Common.{lt-ltb}
@@ -16,21 +16,21 @@ use Rattle.type_rules.specs.declared.types.Base.TheVariants as base
 use Rattle.type_rules.specs.declared.types.Layer.TheVariants as layer
 use Rattle.type_rules.specs.Types as types
 use Rattle.type_rules.specs.Types.{Outside, outside_of, inside_of, is_object, object_in}
-use Rattle.type_rules.specs.Rules.{Found, found, unless, asks, breaks}
+use Rattle.type_rules.specs.Rules.{found, asks, breaks}
 use Rattle.type_rules.specs.TopLevel as top
 use Rattle.type_rules.specs.TopLevel.{What, TopName, top_names}
 use Rattle.type_rules.specs.TypePhrases.{data_found, whole_module}
 use Rattle.type_rules.specs.Scopes.{Scope, type_of}
-use Rattle.type_rules.specs.Expressions.{typed, stepped, step_found, walked, field_step, field_found, field_of, field_at, field_of_what, field_in, index_step, is_indexed_by, index_of}
+use Rattle.type_rules.specs.Expressions.{typed, stepped, step_found, walked, field_found, field_of, field_at, field_of_what, is_indexed_by, index_of}
 use Rattle.value_core.specs.Datum.{Datum}
 use Rattle.value_paths.specs.declared.step.Step.{Step as ValueStep}
 use Rattle.value_paths.specs.declared.step.Step.TheVariants as step
-use Rattle.meaning_rules.specs.Openings.{fields_in, fields_of_what, record_fields, field_number, types_in, field_types}
+use Rattle.meaning_rules.specs.Openings.{fields_of_what, field_number, types_in, field_types}
 use Rattle.meaning_rules.specs.Operators.{integer_in}
-use Rattle.meaning_rules.specs.Designators.{stepped_type, path_type, step_to_field, step_by_index, field_of_base, index_into}
+use Rattle.meaning_rules.specs.Designators.{stepped_type, step_to_field, step_by_index, field_of_base, index_into}
 use Rattle.meaning_rules.specs.PathsFit.{StepsTo, Leads}
-use Rattle.meaning_rules.specs.Accepted.{IsKnown, IsAccepted}
-use Rattle.meaning_rules.proofs.Judged.{left_none, right_none, asked, unless_none, unless_is, walked_none, found_whole}
+use Rattle.meaning_rules.specs.Accepted.{IsAccepted}
+use Rattle.meaning_rules.proofs.Judged.{left_none, right_none, asked, unless_none, unless_is}
 
 -- ---- fields
 

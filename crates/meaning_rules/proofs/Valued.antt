@@ -1,6 +1,6 @@
 -- Small facts of values and scopes that the induction over phrases uses.
 use Rattle.std.proofs.Common.{refl, ap, sym, ◌∙◌, subst, arith}
-use Rattle.std.specs.Prelude.{◌≡◌, ◌≤◌, ◌<◌, ◌+◌, ◌^◌, ℕ, zero, suc, ℤ, pos, Bool, true, false, not, ◌&&◌, List, [], ◌∷◌, ◌++◌, length, slice_get, unwrap_or, is_some, Option, Some, None, option_map, Result, Ok, Err}
+use Rattle.std.specs.Prelude.{◌≡◌, ◌≤◌, ◌<◌, ℕ, zero, suc, pos, Bool, true, false, List, [], ◌∷◌, ◌++◌, length, slice_get, unwrap_or, Option, Some, None, option_map}
 use Rattle.std.specs.Option.{option_map_or}
 use Rattle.std.specs.List.{All, AllByRecursion}
 use Rattle.std.proofs.lemmas.List.Elements.{All-nil, All-cons, recursion_from_All}
@@ -18,7 +18,7 @@ use Rattle.type_rules.specs.declared.types.Layer.TheVariants as layer
 use Rattle.type_rules.specs.declared.types.DataType.{DataType}
 use Rattle.type_rules.specs.Types as types
 use Rattle.type_rules.specs.Types.{Outside, outside_of, plain, gathers, links_nodes, is_object}
-use Rattle.type_rules.specs.Rules.{Found, found, unless, asks, fits, agree}
+use Rattle.type_rules.specs.Rules.{Found, found, asks, fits, agree}
 use Rattle.type_rules.specs.declared.names.Predeclared.TheVariants as predeclared
 use Rattle.type_rules.specs.declared.names.LocalRole.TheVariants.{LoopVariable}
 use Rattle.type_rules.specs.declared.names.Chain.{Chain}
@@ -28,14 +28,13 @@ use Rattle.type_rules.specs.TopLevel.{What, TopName, StandsFor, stands_for, top_
 use Rattle.type_rules.specs.Constants.{chain_from}
 use Rattle.type_rules.specs.Scopes.{Scope, Local}
 use Rattle.type_rules.specs.Statements.{with_loop}
-use Rattle.type_rules.specs.Expressions.{typed, stepped, arguments, suits, suits_first, operand, outer_value, top_value, predeclared_value, count_of, walked, is_used_well, result_type, AsValue}
-use Rattle.type_rules.specs.Expressions as judged
+use Rattle.type_rules.specs.Expressions.{typed, stepped, arguments, suits, operand, outer_value, top_value, count_of, is_used_well, result_type, AsValue}
 use Rattle.value_core.specs.Datum.{Datum, Data, list_of}
 use Rattle.value_core.specs.Datum as datum
 use Rattle.value_core.specs.Fits.{Kinds}
 use Rattle.value_core.specs.Integers.{IsWord}
-use Rattle.value_core.specs.Size.{size_of, size_of_all}
-use Rattle.value_core.specs.Sound.{IsCode, IsSound, nesting}
+use Rattle.value_core.specs.Size.{size_of}
+use Rattle.value_core.specs.Sound.{IsCode, nesting}
 use Rattle.value_ops.specs.Sizes.{number_in, ordinal_of}
 use Rattle.value_ops.specs.Texts.{text_of}
 use Rattle.value_paths.specs.declared.step.Step.{Step as ValueStep}
@@ -49,10 +48,10 @@ use Rattle.meaning_rules.specs.Fitting.{IsNamed, IsOf, Fits}
 use Rattle.meaning_rules.specs.ElementsFit.{Gathers}
 use Rattle.meaning_rules.specs.PathsFit.{Leads}
 use Rattle.meaning_rules.specs.PhrasesFit.{CallsFit, IsResult}
-use Rattle.meaning_rules.specs.Accepted.{IsKnown, TakesValue, IsOpening, TypeStep, Inside, ToField, Holds, IsData, IsPlain, AreTaken, IsAccepted}
+use Rattle.meaning_rules.specs.Accepted.{IsKnown, TakesValue, TypeStep, Inside, ToField, Holds, IsData, IsPlain, AreTaken, IsAccepted}
 use Rattle.meaning_rules.proofs.Called.{top_at}
 use Rattle.meaning_rules.specs.Calls.{Calls}
-use Rattle.meaning_rules.proofs.Judged.{SameTypes, left_none, right_none, asked, unless_none, unless_is, fits_agreed}
+use Rattle.meaning_rules.proofs.Judged.{left_none, right_none, asked, unless_none, unless_is, fits_agreed}
 use Rattle.meaning_rules.proofs.OperatorsFit.{integer_fits}
 use Rattle.meaning_rules.proofs.PartSizes.{length_size}
 use Rattle.meaning_rules.proofs.Premises.{Laws}

@@ -26,7 +26,7 @@ use Rattle.type_rules.specs.Declarations.{field_locals, operation_view}
 use Rattle.type_rules.specs.Scopes.{Local, Scope, value_local, signature, operation_of}
 use Rattle.type_rules.specs.Statements.{stmts_breaches}
 use Rattle.type_rules.specs.Breaches.{IsWellTyped}
-use Rattle.value_core.specs.Datum.{Datum, Data, data_of}
+use Rattle.value_core.specs.Datum.{Datum, data_of}
 use Rattle.value_core.specs.Fits.{Kinds}
 use Rattle.value_core.specs.Integers.{IsWord}
 use Rattle.value_core.specs.Size.{size_of_all}
@@ -53,7 +53,8 @@ abbrev pub Holds : List Source → List TypeStep → DataType → DataType → T
 Holds us [] t u = t ≡ u
 Holds us (Inside ∷ path) t u = Holds us path (inside_of t) u
 Holds us (ToField place ∷ path) t u =
-    (i : ℕ) × (w : DataType) × (outside_of t ≡ types.Bare (base.Record i)) × (slice_get (field_types us i) place ≡ Some (Some w)) × Holds us path w u
+    (i : ℕ) × (w : DataType) × (outside_of t ≡ types.Bare (base.Record i)) × (slice_get (field_types us i) place ≡ Some (Some w))
+    × Holds us path w u
 
 -- the type of data: nothing within is of an object type, its values nest no deeper than values may, and a variable of the type, or of what
 -- steps through its values lead to, opens with a value that fits
@@ -132,10 +133,12 @@ pub record IsObjectType (us : List Source) (t : ObjectType) : Type 0 where
 pub record IsOrderly (us : List Source) : Type 0 where
   pub functions : (i : ℕ) (t : TopName) (ps : List Parameter) (r : Option Kind) (b : Block) → slice_get (top_names us) i ≡ Some t →
       t.what ≡ top.Function ps r b → AreInOrder (function_scope us t.defined.by ps r b) b.statements
-  pub processes : (i : ℕ) (t : TopName) (ps : List Parameter) (b : Block) → slice_get (process_texts us) i ≡ Some t → t.what ≡ top.Process ps b →
+  pub processes : (i : ℕ) (t : TopName) (ps : List Parameter) (b : Block) → slice_get (process_texts us) i ≡ Some t →
+      t.what ≡ top.Process ps b →
       AreInOrder (process_scope us t.defined.by ps b) b.statements
   pub begins : (kind : KindNo) (t : ObjectType) → object_type us kind ≡ Some t → IfSome t.begins (AreInOrder (begin_scope us t))
-  pub operations : (kind : KindNo) (t : ObjectType) → object_type us kind ≡ Some t → (i : ℕ) (o : Operation) → slice_get t.operations i ≡ Some o →
+  pub operations : (kind : KindNo) (t : ObjectType) → object_type us kind ≡ Some t → (i : ℕ) (o : Operation) →
+      slice_get t.operations i ≡ Some o →
       BodyInOrder (operation_scope us t o false) o.body
   pub constants : (i : ℕ) (z : ℤ) → chain_from us i ≡ EndsAt z → IsWord z
   pub names : (o : Outside) → All (All IsCode) (names_at us o)
@@ -182,7 +185,8 @@ pub record IsAccepted (us : List Source) : Type 0 where
   pub functions : (i : ℕ) (t : TopName) (ps : List Parameter) (r : Option Kind) (b : Block) → slice_get (top_names us) i ≡ Some t →
       t.what ≡ top.Function ps r b → IsFunction us t ps r b
   pub object_types : (kind : KindNo) (t : ObjectType) → object_type us kind ≡ Some t → IsObjectType us t
-  pub texts : (i : ℕ) (t : TopName) (ps : List Parameter) (b : Block) → slice_get (process_texts us) i ≡ Some t → t.what ≡ top.Process ps b →
+  pub texts : (i : ℕ) (t : TopName) (ps : List Parameter) (b : Block) → slice_get (process_texts us) i ≡ Some t →
+      t.what ≡ top.Process ps b →
       IsPlain (process_scope us t.defined.by ps b)
   pub operations : (i : ℕ) (name : List ℕ) (s : Signature) → operation_of us i name ≡ Some s → IsOperation us i name s
   pub processes : (home name : List ℕ) (i : ℕ) (t : TopName) (ps : List Parameter) (b : Block) → stands_for us home name ≡ top.Top i t →

@@ -1,5 +1,5 @@
 -- What fits is sound: bytes spell it.
-use Rattle.std.specs.Prelude.{◌≡◌, ◌<◌, ◌^◌, List}
+use Rattle.std.specs.Prelude.{◌<◌, ◌^◌, List}
 use Rattle.std.specs.List.{Contains}
 use Rattle.orca_base.specs.declared.ids.KindNo.{KindNo}
 use Rattle.orca_base.specs.declared.ids.OpNo.{OpNo}

@@ -1,5 +1,5 @@
 -- Preservation, phrase by phrase and for whole programs (PhrasesFit.antt, Accepted.antt).
-use Rattle.std.specs.Prelude.{◌≡◌, ℕ, List, [], Option, Some}
+use Rattle.std.specs.Prelude.{◌≡◌, ℕ, List, [], Some}
 use Rattle.orca_base.specs.declared.ids.KindNo.{KindNo}
 use Rattle.orca_base.specs.declared.ids.OpNo.{OpNo}
 use Rattle.orca_base.specs.declared.ids.TextNo.{TextNo}
@@ -28,7 +28,6 @@ use Rattle.meaning_rules.specs.Meanings.{computes_of}
 use Rattle.meaning_rules.specs.Fitting.{Fits, FitsState, FitsArgs, FitsText, FitsReply}
 use Rattle.meaning_rules.specs.PathsFit.{Leads}
 use Rattle.meaning_rules.specs.PhrasesFit.{Preserves, Returns, CallsFit}
-use Rattle.meaning_rules.specs.Accepted.{IsPlain, IsAccepted}
 
 -- ---- phrases, whatever levels of calls are left
 
@@ -65,9 +64,11 @@ pub record Preservation (us : List Source) : Type 0 where
   pub functions : (kinds : Kinds) (levels : ℕ) → CallsFit us kinds (calls us levels)
   -- a made state fits; what a try leaves fits again, and what it replies fits
   pub makings : (kinds : Kinds) (kind : KindNo) → IfMade (making_of us kind) (FitsState us kinds kind)
-  pub states : (kinds : Kinds) (kind : KindNo) (op : OpNo) (state args : Data) → FitsState us kinds kind state → FitsArgs us kinds kind op args →
+  pub states : (kinds : Kinds) (kind : KindNo) (op : OpNo) (state args : Data) → FitsState us kinds kind state →
+      FitsArgs us kinds kind op args →
       KeepsState (tries_of us kind op state args) (FitsState us kinds kind)
-  pub replies : (kinds : Kinds) (kind : KindNo) (op : OpNo) (state args : Data) → FitsState us kinds kind state → FitsArgs us kinds kind op args →
+  pub replies : (kinds : Kinds) (kind : KindNo) (op : OpNo) (state args : Data) → FitsState us kinds kind state →
+      FitsArgs us kinds kind op args →
       RepliesWell (tries_of us kind op state args) (FitsReply us kind op)
   -- processes are lawful, and the first one has no arguments
   pub processes : (kinds : Kinds) (text : TextNo) (number : ProcessNo) (args : Data) (replies : List Reply) → FitsText us kinds text args →

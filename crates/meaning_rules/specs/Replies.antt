@@ -26,7 +26,8 @@ with_replies replies s = record s { replies = replies }
 -- begins the last turn, it does so with more replies behind
 abbrev pub Fronted : {A : Type 0} → (State → Out A) → State → Out A → Type 0
 Fronted f s (Goes x s1) =
-    (used : List Reply) × (s.replies ≡ used ++ s1.replies) × ((rest : List Reply) → f (with_replies (used ++ rest) s) ≡ Goes x (with_replies rest s1))
+    (used : List Reply) × (s.replies ≡ used ++ s1.replies)
+    × ((rest : List Reply) → f (with_replies (used ++ rest) s) ≡ Goes x (with_replies rest s1))
 Fronted f s (Stops (Needs action)) = Unit {0}
 Fronted f s (Stops (Faults fault)) = (rest : List Reply) → f (with_replies (s.replies ++ rest) s) ≡ Stops (Faults fault)
 Fronted f s (Stops Busy) = (rest : List Reply) → f (with_replies (s.replies ++ rest) s) ≡ Stops Busy

@@ -46,8 +46,7 @@ ghost use Rattle.meaning_rules.specs.ProcessExamples.{programs as process_progra
 
 use graph_values::graphs_law;
 use type_rules::typing_law;
-use value_ops::elements_law;
-use value_ops::texts_law;
+use value_ops::{elements_law, texts_law};
 use value_paths::paths_law;
 
 /// Programs of processes and functions: what each writes, and how it stands then.
@@ -203,15 +202,17 @@ pub fn fitting_law()
     graphs_law();
 }
 
-/// Preservation, of a program that is accepted. A phrase without a breach, evaluated in variables that fit their scope, gives what is of its
-/// type and leaves variables that fit, as long as replies are such as its actions can get; an action to which it comes is of an object that
-/// is there, and of arguments that fit. So do functions; a made state fits, what a try leaves and replies fits, and processes are lawful.
-/// What fits is sound. Where no rule is broken and the texts' words are sound, all bodies are in order, as `IsAccepted` asks.
+/// Preservation, of a program with `IsAccepted`. A phrase without a breach, evaluated in variables that fit their scope, gives what is of
+/// its type and leaves variables that fit, as long as replies are such as its actions can get; an action to which it comes is of an object
+/// that is there, and of arguments that fit. So do functions; a made state fits, what a try leaves and replies fits, and processes are lawful.
+/// What fits is sound. Where no rule is broken and the texts' words are sound, all bodies are in order, as `IsAccepted` asks; and a
+/// program has it.
 pub fn typed_law()
     ensures phrases { (v : Scope) → IsAccepted v.program → IsPlain v → PhrasesPreserve v }
     ensures programs { (us : List Source) → IsAccepted us → Preservation us }
     ensures sound { (us : List Source) → IsAccepted us → FitsSound us }
     ensures orderly { (us : List Source) → GivesOrder us }
+    ensures example { IsAccepted empty_main }
 {
     typing_law();
     elements_law();

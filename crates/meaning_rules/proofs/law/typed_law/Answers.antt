@@ -4,6 +4,7 @@ use Rattle.meaning_rules.proofs.PathsFit.{paths_fit, graphs_fit}
 use Rattle.meaning_rules.proofs.Changing.{deleted_small_graph}
 use Rattle.meaning_rules.proofs.Premises.{Laws}
 use Rattle.meaning_rules.proofs.Preserved.{phrases_preserve, preservation}
+use Rattle.meaning_rules.proofs.AcceptedExample.{accepted}
 use Rattle.meaning_rules.proofs.Orderly.{gives_order}
 use Rattle.meaning_rules.proofs.Soundly.{fits_sound}
 use Rattle.meaning_rules.proofs.law.typed_law.Goals as goal
@@ -25,4 +26,4 @@ returns c =
       sizes = record { sizes = c.paths_law.ensures.sizes; deleted_node = deleted_small_graph c.graphs_law.ensures.size_deleted };
       told = c.texts_law.ensures.told_codes;
     } in
-    record { phrases = λ v facts plain. phrases_preserve v facts (laws v.program) plain; programs = λ us facts. preservation us facts (laws us); sound = λ us facts. fits_sound us facts (record { sound = c.graphs_law.ensures.sound }); orderly = gives_order }
+    record { phrases = λ v facts plain. phrases_preserve v facts (laws v.program) plain; programs = λ us facts. preservation us facts (laws us); sound = λ us facts. fits_sound us facts (record { sound = c.graphs_law.ensures.sound }); orderly = gives_order; example = accepted }
