@@ -1,15 +1,12 @@
 -- Rows of layers, compared from the end.
-use Rattle.std.proofs.Common.{◌≡◌, ℕ, suc, ◌+◌, ◌<◌, Bool, true, false, ◌&&◌, List, [], ◌∷◌, length, get_or, drop, refl, sym, ap, ◌∙◌}
-use Rattle.type_rules.specs.Types.{Layer, same_layer, same_layers}
+use Rattle.std.proofs.Common.{◌≡◌, ℕ, zero, suc, ◌+◌, ◌<◌, Bool, true, false, ◌&&◌, List, [], ◌∷◌, length, get_or, drop, refl, sym, ap, ◌∙◌, arith}
+use Rattle.std.specs.Prelude.{◌==◌, slice_get}
+use Rattle.std.proofs.lemmas.Bool.{eqb-true}
+use Rattle.type_rules.specs.declared.types.Base.{Base}
+use Rattle.type_rules.specs.declared.types.Layer.{Layer}
+use Rattle.type_rules.specs.Types.{outside, same_layer, same_layers}
 use Rattle.type_forms.proofs.Loops.{rest_is}
-
-abbrev pub is_nothing : List Layer → Bool
-is_nothing [] = true
-is_nothing (l ∷ ls) = false
-
-pub bare_layers : (ls : List Layer) → same_layers ls [] ≡ is_nothing ls
-bare_layers [] = refl
-bare_layers (l ∷ ls) = refl
+use Rattle.type_exprs.specs.Wanted.{outside_by}
 
 and_false : (b : Bool) → (b && false) ≡ false
 and_false true = refl
@@ -26,3 +23,21 @@ pub layers_more : (ls ms : List Layer) (i : ℕ) (l m : Layer) → i < length ls
     same_layers (drop i ls) (drop i ms) ≡ (same_layer l m && same_layers (drop (i + 1) ls) (drop (i + 1) ms))
 layers_more ls ms i l m lt lu is js =
     ap (λ (v : List Layer). same_layers v (drop i ms)) (rest_is ls i l lt is) ∙ ap (same_layers (l ∷ drop (i + 1) ls)) (rest_is ms i m lu js)
+
+-- ---- the outermost layer
+
+pub outside_first : (ls : List Layer) (b : Base) → outside_by (slice_get ls 0) b ≡ outside ls b
+outside_first [] b = refl
+outside_first (l ∷ ls) b = refl
+
+pub empty_same : (ls : List Layer) → (length ls == 0) ≡ same_layers ls []
+empty_same [] = refl
+empty_same (l ∷ ls) = by_test (length (l ∷ ls) == 0) refl
+  where
+    by_test : (b : Bool) → (length (l ∷ ls) == 0) ≡ b → b ≡ false
+    by_test true is = let none = eqb-true (length (l ∷ ls)) 0 is in absurd (omega (arith, none))
+    by_test false is = refl
+
+pub nothing_inside : (ls : List Layer) → length ls ≡ zero → ls ≡ drop 1 ls
+nothing_inside [] e = refl
+nothing_inside (l ∷ ls) e = absurd (omega (arith, e))

@@ -1,5 +1,5 @@
 -- Chains and paths, one part further; and what is left of arguments.
-use Rattle.std.proofs.Common.{◌≡◌, ℕ, zero, suc, ◌<◌, ◌+◌, List, [], ◌∷◌, ◌++◌, length, get_or, take, drop, Option, refl, sym, ap, ◌∙◌, arith}
+use Rattle.std.proofs.Common.{◌≡◌, ℕ, zero, suc, ◌<◌, ◌+◌, List, [], ◌∷◌, ◌++◌, length, get_or, take, drop, Bool, false, Option, Some, refl, sym, ap, ◌∙◌, arith}
 use Rattle.std.proofs.lemmas.List.{append_assoc, take_more}
 use Rattle.orca_base.specs.declared.place.Place.{Place}
 use Rattle.orca_tree.specs.declared.tree.Name.{Name}
@@ -7,17 +7,21 @@ use Rattle.orca_tree.specs.declared.tree.Link.{Link}
 use Rattle.orca_tree.specs.declared.tree.Selector.{Selector}
 use Rattle.orca_tree.specs.declared.tree.Expression.{Expression}
 use Rattle.orca_syntax.specs.Shown.{expr, exprs, links, path, step}
-use Rattle.orca_syntax.specs.Syntax.{Expr}
+use Rattle.orca_syntax.specs.Syntax.{Expr, Get}
+use Rattle.link_rules.specs.Units.{Source}
+use Rattle.type_rules.specs.TopLevel.{TopName, What}
 use Rattle.orca_syntax.specs.Places.{expr_place}
 use Rattle.type_rules.specs.declared.breach.Breach.{Breach}
 use Rattle.type_rules.specs.declared.types.DataType.{DataType}
 use Rattle.type_rules.specs.declared.signature.Formal.TheVariants as passing
 use Rattle.type_rules.specs.Order.{least, lesser}
 use Rattle.type_rules.specs.Rules.{Found}
-use Rattle.type_rules.specs.Scopes.{Formal, Scope}
-use Rattle.type_rules.specs.Expressions.{arguments, chained, joined, lent_root, lent_roots, step_found, stepped, suits_first, typed, walked}
+use Rattle.type_rules.specs.declared.signature.Formal.{Formal}
+use Rattle.type_rules.specs.Scopes.{Scope, local}
+use Rattle.type_rules.specs.Expressions.{arguments, chained, count_of, has_object, joined, named_here, lent_root, lent_roots, step_found, stepped, suits_first, typed, walked}
 use Rattle.type_rules.proofs.Least.{least_of_both, lesser_assoc}
 use Rattle.type_forms.proofs.Loops.{rest_is}
+use Rattle.type_tables.specs.Tables.{signature_numbered, signature_of_what}
 use Rattle.type_exprs.specs.Scoped.{at_place}
 
 -- ---- chains of operators
@@ -46,6 +50,10 @@ walked_more w f ss i s lt is =
     ap (λ (v : List Selector). walked w f (path v)) (take_more ss i s lt ∙ ap (λ (v : Selector). take i ss ++ v ∷ []) (sym is)) ∙ walked_push w f (take i ss) s
 
 -- ---- arguments
+
+pub counted : (es : List Expression) → count_of (exprs es) ≡ length es
+counted [] = refl
+counted (e ∷ es) = let rest = counted es in omega (arith, rest)
 
 pub drop_once : {A : Type 0} (i : ℕ) (xs : List A) → drop 1 (drop i xs) ≡ drop (i + 1) xs
 drop_once {A} zero xs = refl
@@ -94,3 +102,18 @@ argument_more w fs es i e first own new all lt is o n h =
     ∙ ap (λ (l : List Formal). lesser first (least (inside ++ (suit ++ arguments w l (exprs (drop (i + 1) es)))))) (sym (drop_once i fs))
     ∙ ap (λ (l : List Expression). lesser first (least (arguments w (drop i fs) (exprs l)))) (sym (rest_is es i e lt is))
     ∙ h
+
+-- ---- names of objects
+
+pub no_object : (w : Scope) (n : Name) (ps : List Selector) → (length ps ≡ zero → ⊥) → has_object (named_here w (Get n (path ps))) ≡ false
+no_object w n [] apart = absurd (apart refl)
+no_object w n (s ∷ ps) apart = refl
+
+pub an_object : (w : Scope) (n : Name) (ps : List Selector) → length ps ≡ zero → has_object (named_here w (Get n (path ps))) ≡ has_object (local w n.text)
+an_object w n [] e = refl
+an_object w n (s ∷ ps) e = absurd (omega (arith, e))
+
+-- ---- functions by their numbers
+
+pub function_is : (us : List Source) (o : Option TopName) (t : TopName) (w : What) → o ≡ Some t → t.what ≡ w → signature_numbered us o ≡ signature_of_what us t w
+function_is us o t w e f = ap (signature_numbered us) e ∙ ap (signature_of_what us t) f

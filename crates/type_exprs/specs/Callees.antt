@@ -1,19 +1,19 @@
 -- What is called, by reference.
 use Rattle.type_rules.specs.Expressions as rules
-use Rattle.type_exprs.specs.declared.calls.Called.{Called}
-use Rattle.type_exprs.specs.declared.calls.Called.TheVariants as called
-use Rattle.type_exprs.specs.declared.calls.Invoked.{Invoked}
-use Rattle.type_exprs.specs.declared.calls.Invoked.TheVariants as invoked
+use Rattle.type_exprs.specs.declared.calls.FunctionCallee.{FunctionCallee}
+use Rattle.type_exprs.specs.declared.calls.FunctionCallee.TheVariants as called
+use Rattle.type_exprs.specs.declared.calls.OperationCallee.{OperationCallee}
+use Rattle.type_exprs.specs.declared.calls.OperationCallee.TheVariants as invoked
 use Rattle.type_exprs.specs.declared.calls.Use.{Use}
 use Rattle.type_exprs.specs.declared.calls.Use.TheVariants as use_
 
-abbrev pub called_as : Called → rules.Called
+abbrev pub called_as : FunctionCallee → rules.Called
 called_as called.Unknown = rules.Unknown
 called_as called.NoFunction = rules.NoFunction
 called_as (called.AFunction s) = rules.AFunction s.now
 called_as (called.AGraphFunction s) = rules.AGraphFunction s.now
 
-abbrev pub invoked_as : Invoked → rules.Invoked
+abbrev pub invoked_as : OperationCallee → rules.Invoked
 invoked_as invoked.UnknownObject = rules.UnknownObject
 invoked_as invoked.NoObject = rules.NoObject
 invoked_as invoked.Untyped = rules.Untyped

@@ -3,7 +3,9 @@ use Rattle.std.specs.Prelude.{◌≡◌, ℕ, Bool, List, [], ◌∷◌, if◌th
 use Rattle.std.specs.List.{list_any}
 use Rattle.std.specs.Borrow.{Bor}
 use Rattle.orca_tree.specs.declared.tree.Name.{Name}
-use Rattle.type_rules.specs.Types.{plain, Integer}
+use Rattle.type_rules.specs.declared.types.Base.TheVariants.{Integer}
+use Rattle.type_rules.specs.declared.names.LocalRole.TheVariants.{LoopVariable}
+use Rattle.type_rules.specs.Types.{plain}
 use Rattle.type_rules.specs.declared.signature.Formal.{Formal}
 use Rattle.type_rules.specs.Scopes as rules
 use Rattle.type_tables.specs.Entries.{entry}
@@ -42,7 +44,7 @@ local_in s n = if counts s.loops.now n then Some (local_as n s.counter.now) else
 pub record IsScope (s : Scope) (w : rules.Scope) : Type 0 where
   pub tables : AreTables w.program s.tables
   pub home : w.home ≡ s.home.now
-  pub counter : (n : List ℕ) → local_as n s.counter.now ≡ record { name = n; role = rules.LoopVariable; type = Some (plain Integer) }
+  pub counter : (n : List ℕ) → local_as n s.counter.now ≡ record { name = n; role = LoopVariable; type = Some (plain Integer) }
   pub locals : (n : List ℕ) → local_in s n ≡ rules.local w n
   pub owner : w.owner ≡ s.owner
   pub in_guard : w.in_guard ≡ s.in_guard

@@ -1,6 +1,9 @@
 -- What a rule wants a type to be.
 use Rattle.std.specs.Prelude.{Bool, Option, Some, None}
-use Rattle.type_rules.specs.Types.{DataType, Base, Layer, Outside, Bare, Within, is_boolean, is_integer, is_string, is_node_name, is_gathering, is_graph, is_numbered, is_counted, is_printed}
+use Rattle.type_rules.specs.declared.types.Base.{Base}
+use Rattle.type_rules.specs.declared.types.Layer.{Layer}
+use Rattle.type_rules.specs.declared.types.DataType.{DataType}
+use Rattle.type_rules.specs.Types.{Outside, Bare, Within, is_boolean, is_integer, is_string, is_node_name, is_gathering, is_graph, is_numbered, is_counted, is_printed}
 use Rattle.type_exprs.specs.declared.kinds.Wanted.{Wanted}
 use Rattle.type_exprs.specs.declared.kinds.Wanted.TheVariants as wants
 

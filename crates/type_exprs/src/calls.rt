@@ -26,7 +26,7 @@ use type_rules::{Base, Breach, DataType, Formal, Owner, Predeclared, Signature};
 
 /// What is called by a function's name.
 #[derive(Clone, Copy)]
-pub enum Called<'a> {
+pub enum FunctionCallee<'a> {
     Unknown,
     NoFunction,
     AFunction { signature: &'a Signature },
@@ -35,7 +35,7 @@ pub enum Called<'a> {
 
 /// What is called by an object's name and an operation's.
 #[derive(Clone, Copy)]
-pub enum Invoked<'a> {
+pub enum OperationCallee<'a> {
     UnknownObject,
     NoObject,
     Untyped,
@@ -51,59 +51,59 @@ pub enum Use {
 }
 
 // What is called by a name of the top level.
-fn top_function<'a>(scope: Scope<'a, '_>, number: usize, item: Top<'_>) -> Called<'a>
+fn top_function<'a>(scope: Scope<'a, '_>, number: usize, item: Top<'_>) -> FunctionCallee<'a>
     ensures { (w : scopes.Scope) → IsScope scope.entry w → slice_get (top_names w.program) number ≡ Some (top item.entry) →
         called_as result ≡ rules.top_function w (top item.entry) (what item.entry.what) }
 {
     match item.what {
         What::Function { .. } => match scope.tables.signature(number) {
-            None => Called::NoFunction,
-            Some(signature) => Called::AFunction { signature },
+            None => FunctionCallee::NoFunction,
+            Some(signature) => FunctionCallee::AFunction { signature },
         },
-        _ => Called::NoFunction,
+        _ => FunctionCallee::NoFunction,
     }
 }
 
 // What is called by a name that every module has.
-fn predeclared_function<'a>(scope: Scope<'a, '_>, word: Predeclared) -> Called<'a>
+fn predeclared_function<'a>(scope: Scope<'a, '_>, word: Predeclared) -> FunctionCallee<'a>
     ensures { (w : scopes.Scope) → IsScope scope.entry w → called_as result ≡ rules.predeclared_function word }
 {
     match word {
-        Predeclared::AddNode => Called::AGraphFunction {
+        Predeclared::AddNode => FunctionCallee::AGraphFunction {
             signature: scope.tables.add_node,
         },
-        Predeclared::DeleteNode => Called::AGraphFunction {
+        Predeclared::DeleteNode => FunctionCallee::AGraphFunction {
             signature: scope.tables.delete_node,
         },
-        _ => Called::NoFunction,
+        _ => FunctionCallee::NoFunction,
     }
 }
 
 // What is called by a name that is none of the body's.
-fn outer_function<'a>(scope: Scope<'a, '_>, is: Standing<'_>) -> Called<'a>
+fn outer_function<'a>(scope: Scope<'a, '_>, is: Standing<'_>) -> FunctionCallee<'a>
     ensures { (w : scopes.Scope) → IsScope scope.entry w → IsInside w.program is.entry →
         called_as result ≡ rules.outer_function w (standing is.entry) }
 {
     match is {
-        Standing::Nothing => Called::Unknown,
+        Standing::Nothing => FunctionCallee::Unknown,
         Standing::Top { number, item } => top_function(scope, number, item),
         Standing::Everywhere { word } => predeclared_function(scope, word),
     }
 }
 
 // What is called by a name, where this is what it is of the body.
-fn function_of<'a>(scope: Scope<'a, '_>, name: &str, local: Option<&Local>) -> Called<'a>
+fn function_of<'a>(scope: Scope<'a, '_>, name: &str, local: Option<&Local>) -> FunctionCallee<'a>
     ensures { (w : scopes.Scope) → IsScope scope.entry w →
         called_as result ≡ rules.function_of w name.now (lent_local name.now local.entry) }
 {
     match local {
         None => outer_function(scope, outer(scope, name)),
-        Some(_) => Called::NoFunction,
+        Some(_) => FunctionCallee::NoFunction,
     }
 }
 
 /// What is called by a name.
-pub fn called<'a>(scope: Scope<'a, '_>, name: &Name) -> Called<'a>
+pub fn called<'a>(scope: Scope<'a, '_>, name: &Name) -> FunctionCallee<'a>
     ensures { (w : scopes.Scope) → IsScope scope.entry w → called_as result ≡ rules.called w name.now }
 {
     let local = scope.local(name.text.as_str());
@@ -215,16 +215,16 @@ fn function_rules(
     way: Use,
     name: &Name,
     given: &[Expression],
-    is: Called<'_>,
+    is: FunctionCallee<'_>,
 ) -> Option<Breach>
     ensures { (w : scopes.Scope) → IsScope scope.entry w →
         FirstOf result (rules.function_rules w (used_as way) name.now (exprs given.now) (called_as is.entry)) }
 {
     match is {
-        Called::Unknown => breaks(2, name.at),
-        Called::NoFunction => breaks(26, name.at),
-        Called::AFunction { signature } => own_rules(scope, way, name, signature, given),
-        Called::AGraphFunction { signature } => lesser(
+        FunctionCallee::Unknown => breaks(2, name.at),
+        FunctionCallee::NoFunction => breaks(26, name.at),
+        FunctionCallee::AFunction { signature } => own_rules(scope, way, name, signature, given),
+        FunctionCallee::AGraphFunction { signature } => lesser(
             asks(18, name.at, !scope.in_guard),
             called_well(way, name.at, name, signature, given),
         ),
@@ -232,12 +232,12 @@ fn function_rules(
 }
 
 /// The parameters of what is called.
-pub fn formals_of(is: Called<'_>) -> &[Formal]
+pub fn formals_of(is: FunctionCallee<'_>) -> &[Formal]
     ensures { result.now ≡ (rules.signature_of (called_as is.entry)).formals }
 {
     match is {
-        Called::Unknown | Called::NoFunction => &[],
-        Called::AFunction { signature } | Called::AGraphFunction { signature } => {
+        FunctionCallee::Unknown | FunctionCallee::NoFunction => &[],
+        FunctionCallee::AFunction { signature } | FunctionCallee::AGraphFunction { signature } => {
             signature.formals.as_slice()
         }
     }
@@ -257,12 +257,12 @@ fn result_type(
 }
 
 // The type of what a call gives, where it is known.
-fn called_type(alloc: Global, is: Called<'_>) -> Result<Option<DataType>, NoMemory>
+fn called_type(alloc: Global, is: FunctionCallee<'_>) -> Result<Option<DataType>, NoMemory>
     ensures { IfOk result (λ t. t ≡ rules.result_type (rules.signature_of (called_as is.entry)).result) }
 {
     match is {
-        Called::Unknown | Called::NoFunction => Ok(None),
-        Called::AFunction { signature } | Called::AGraphFunction { signature } => {
+        FunctionCallee::Unknown | FunctionCallee::NoFunction => Ok(None),
+        FunctionCallee::AFunction { signature } | FunctionCallee::AGraphFunction { signature } => {
             Ok(result_type(alloc, &signature.result)?)
         }
     }
@@ -275,7 +275,7 @@ pub fn function_found(
     way: Use,
     name: &Name,
     given: &[Expression],
-    is: Called<'_>,
+    is: FunctionCallee<'_>,
     inside: Option<Breach>,
 ) -> Result<Found<DataType>, NoMemory>
     ensures { (w : scopes.Scope) → IsScope scope.entry w → (bs : List BreachRule) → FirstOf inside bs →
@@ -301,21 +301,25 @@ fn object_number(kind: &DataType) -> Option<usize>
 }
 
 // The operation of this name, where this is its signature, if it has one.
-fn of_operation(signature: Option<&Signature>) -> Invoked<'_>
+fn of_operation(signature: Option<&Signature>) -> OperationCallee<'_>
     ensures { invoked_as result ≡ rules.of_operation (option_map (λ s. s.now) signature.entry) }
 {
     match signature {
-        None => Invoked::NoOperation,
-        Some(signature) => Invoked::AnOperation { signature },
+        None => OperationCallee::NoOperation,
+        Some(signature) => OperationCallee::AnOperation { signature },
     }
 }
 
 // The operation of this name of the object type of this number, if it is one.
-fn of_object<'a>(scope: Scope<'a, '_>, operation: &Name, number: Option<usize>) -> Invoked<'a>
+fn of_object<'a>(
+    scope: Scope<'a, '_>,
+    operation: &Name,
+    number: Option<usize>,
+) -> OperationCallee<'a>
     ensures { (w : scopes.Scope) → IsScope scope.entry w → invoked_as result ≡ rules.of_object w operation.now number }
 {
     match number {
-        None => Invoked::NoObject,
+        None => OperationCallee::NoObject,
         Some(number) => of_operation(scope.tables.operation(number, operation.text.as_str())),
     }
 }
@@ -325,22 +329,22 @@ fn of_type<'a>(
     scope: Scope<'a, '_>,
     operation: &Name,
     kind: &Option<DataType>,
-) -> Invoked<'a>
+) -> OperationCallee<'a>
     ensures { (w : scopes.Scope) → IsScope scope.entry w → invoked_as result ≡ rules.of_type w operation.now kind.now }
 {
     match kind {
-        None => Invoked::Untyped,
+        None => OperationCallee::Untyped,
         Some(kind) => of_object(scope, operation, object_number(kind)),
     }
 }
 
 // What is called before `$` that is no name of the body.
-fn outer_object(is: Standing<'_>) -> Invoked<'static>
+fn outer_object(is: Standing<'_>) -> OperationCallee<'static>
     ensures { invoked_as result ≡ rules.outer_object (standing is.entry) }
 {
     match is {
-        Standing::Nothing => Invoked::UnknownObject,
-        _ => Invoked::NoObject,
+        Standing::Nothing => OperationCallee::UnknownObject,
+        _ => OperationCallee::NoObject,
     }
 }
 
@@ -350,7 +354,7 @@ fn of_local<'a>(
     object: &Name,
     operation: &Name,
     local: Option<&Local>,
-) -> Invoked<'a>
+) -> OperationCallee<'a>
     ensures { (w : scopes.Scope) → IsScope scope.entry w →
         invoked_as result ≡ rules.of_local w object.now operation.now (lent_local object.now.text local.entry) }
 {
@@ -360,14 +364,14 @@ fn of_local<'a>(
             if may_be_object(local.role) {
                 of_type(scope, operation, &local.kind)
             } else {
-                Invoked::NoObject
+                OperationCallee::NoObject
             }
         }
     }
 }
 
 /// What is called by an object's name and an operation's.
-pub fn invoked<'a>(scope: Scope<'a, '_>, object: &Name, operation: &Name) -> Invoked<'a>
+pub fn invoked<'a>(scope: Scope<'a, '_>, object: &Name, operation: &Name) -> OperationCallee<'a>
     ensures { (w : scopes.Scope) → IsScope scope.entry w → invoked_as result ≡ rules.invoked w object.now operation.now }
 {
     let local = scope.local(object.text.as_str());
@@ -380,38 +384,38 @@ fn operation_rules(
     object: &Name,
     operation: &Name,
     given: &[Expression],
-    is: Invoked<'_>,
+    is: OperationCallee<'_>,
 ) -> Option<Breach>
     ensures { FirstOf result
         (rules.operation_rules (used_as way) object.now operation.now (exprs given.now) (invoked_as is.entry)) }
 {
     match is {
-        Invoked::UnknownObject => breaks(2, object.at),
-        Invoked::NoObject => breaks(27, object.at),
-        Invoked::Untyped => None,
-        Invoked::NoOperation => breaks(28, operation.at),
-        Invoked::AnOperation { signature } => {
+        OperationCallee::UnknownObject => breaks(2, object.at),
+        OperationCallee::NoObject => breaks(27, object.at),
+        OperationCallee::Untyped => None,
+        OperationCallee::NoOperation => breaks(28, operation.at),
+        OperationCallee::AnOperation { signature } => {
             called_well(way, object.at, operation, signature, given)
         }
     }
 }
 
 /// The parameters of an operation that is called.
-pub fn operation_formals(is: Invoked<'_>) -> &[Formal]
+pub fn operation_formals(is: OperationCallee<'_>) -> &[Formal]
     ensures { result.now ≡ (rules.invoked_signature (invoked_as is.entry)).formals }
 {
     match is {
-        Invoked::AnOperation { signature } => signature.formals.as_slice(),
+        OperationCallee::AnOperation { signature } => signature.formals.as_slice(),
         _ => &[],
     }
 }
 
 // The type of what an operation gives, where it is known.
-fn invoked_type(alloc: Global, is: Invoked<'_>) -> Result<Option<DataType>, NoMemory>
+fn invoked_type(alloc: Global, is: OperationCallee<'_>) -> Result<Option<DataType>, NoMemory>
     ensures { IfOk result (λ t. t ≡ rules.result_type (rules.invoked_signature (invoked_as is.entry)).result) }
 {
     match is {
-        Invoked::AnOperation { signature } => Ok(result_type(alloc, &signature.result)?),
+        OperationCallee::AnOperation { signature } => Ok(result_type(alloc, &signature.result)?),
         _ => Ok(None),
     }
 }
@@ -434,12 +438,12 @@ pub fn operation_found(
     object: &Name,
     operation: &Name,
     given: &[Expression],
-    is: Invoked<'_>,
+    is: OperationCallee<'_>,
     inside: Option<Breach>,
 ) -> Result<Found<DataType>, NoMemory>
     ensures { (w : scopes.Scope) → IsScope scope.entry w → (bs : List BreachRule) → FirstOf inside bs →
         IfOk result (λ f. Finds f
-            (rules.invoke_found w (used_as way) object.now operation.now (exprs given.now) (invoked_as is.entry) bs)) }
+        (rules.invoke_found w (used_as way) object.now operation.now (exprs given.now) (invoked_as is.entry) bs)) }
 {
     let own = operation_rules(way, object, operation, given, is);
     let gives = invoked_type(alloc, is)?;

@@ -2,7 +2,8 @@
 
 ghost use Rattle.std.specs.Prelude.{◌≡◌, IfOk, option_map};
 ghost use Rattle.type_rules.specs.Rules.{Found as RuleFound};
-ghost use Rattle.type_rules.specs.Types.{DataType as DataTypeRule, inside_of as rule_inside_of, outside_of};
+ghost use Rattle.type_rules.specs.declared.types.DataType.{DataType as DataTypeRule};
+ghost use Rattle.type_rules.specs.Types.{inside_of as rule_inside_of, outside_of};
 ghost use Rattle.type_rules.specs.Scopes as scopes;
 ghost use Rattle.type_rules.specs.Expressions as rules;
 ghost use Rattle.type_forms.specs.Finding.{Finds};
@@ -65,11 +66,7 @@ pub fn written_root(
 }
 
 // Of a record, the type of the field with this name.
-fn field_of<'a>(
-    scope: Scope<'a, '_>,
-    name: &str,
-    kind: &DataType,
-) -> Option<&'a Option<DataType>>
+fn field_of<'a>(scope: Scope<'a, '_>, name: &str, kind: &DataType) -> Option<&'a Option<DataType>>
     ensures { (w : scopes.Scope) → IsScope scope.entry w →
         option_map (λ t. t.now) result ≡ rules.field_of w name.now (outside_of kind.now) }
 {

@@ -5,7 +5,8 @@ ghost use Rattle.orca_syntax.specs.Shown.{expr, exprs, links as links_shown, pat
 ghost use Rattle.orca_syntax.specs.Places.{expr_place};
 ghost use Rattle.orca_syntax.specs.Syntax.{Expr};
 ghost use Rattle.type_rules.specs.Rules.{Found as RuleFound, found as rule_found};
-ghost use Rattle.type_rules.specs.Types.{DataType as DataTypeRule, plain as rule_plain};
+ghost use Rattle.type_rules.specs.declared.types.DataType.{DataType as DataTypeRule};
+ghost use Rattle.type_rules.specs.Types.{plain as rule_plain};
 ghost use Rattle.type_rules.specs.Scopes as scopes;
 ghost use Rattle.type_rules.specs.Expressions as rules;
 ghost use Rattle.type_forms.specs.Finding.{Finds, FirstOf};
@@ -161,11 +162,7 @@ fn stepped(
 
 // The value of a designator.
 #[cycle(expressions)]
-fn read(
-    alloc: Global,
-    scope: Scope<'_, '_>,
-    from: &Designator,
-) -> Result<Found<DataType>, NoMemory>
+fn read(alloc: Global, scope: Scope<'_, '_>, from: &Designator) -> Result<Found<DataType>, NoMemory>
     ensures { (w : scopes.Scope) → IsScope scope.entry w →
         IfOk result (λ r. Finds r (rules.walked w (rules.named_value w from.now.name) (path_shown from.now.path.items))) }
 {
@@ -175,11 +172,7 @@ fn read(
 
 // A designator of a set or bag that is to be written.
 #[cycle(expressions)]
-fn lent(
-    alloc: Global,
-    scope: Scope<'_, '_>,
-    of: &Designator,
-) -> Result<Found<DataType>, NoMemory>
+fn lent(alloc: Global, scope: Scope<'_, '_>, of: &Designator) -> Result<Found<DataType>, NoMemory>
     ensures { (w : scopes.Scope) → IsScope scope.entry w → IfOk result (λ r. Finds r
         (rules.gathering of.now.name.at (rules.walked w (rules.written_root w 38 of.now.name) (path_shown of.now.path.items)))) }
 {
@@ -201,10 +194,7 @@ fn argument(
         ((rules.typed w (expr e.now)).breaches ++ rules.suits_first w (at_place formals.now place) (expr e.now) (rules.typed w (expr e.now)).is)) }
 {
     let found = typed(alloc, scope, e)?;
-    Ok(lesser(
-        found.first,
-        suits_at(scope, formals, place, e, &found.is),
-    ))
+    Ok(lesser(found.first, suits_at(scope, formals, place, e, &found.is)))
 }
 
 // The first rule that an argument breaks for its parameter, where there is one.

@@ -19,7 +19,10 @@ mod places;
 mod scope;
 mod values;
 
-pub use calls::{Called, Invoked, Use, called, called_well, function_found, invoked, operation_found};
+pub use calls::{
+    FunctionCallee, OperationCallee, Use, called, called_well, function_found, invoked,
+    operation_found,
+};
 pub use designators::{gathering, written_root};
 pub use expressions::{arguments, typed, walked};
 pub use kinds::{Wanted, agree, inside_of, meets, plain, same_type};

@@ -2,7 +2,8 @@
 
 ghost use Rattle.std.specs.Prelude.{◌≡◌, ◌++◌, ◌&&◌, IfOk};
 ghost use Rattle.type_rules.specs.Rules.{Found as RuleFound, asks as rule_asks, fits};
-ghost use Rattle.type_rules.specs.Types.{DataType as DataTypeRule, inside_of as rule_inside_of, is_gathering, same_type as rule_same_type};
+ghost use Rattle.type_rules.specs.declared.types.DataType.{DataType as DataTypeRule};
+ghost use Rattle.type_rules.specs.Types.{inside_of as rule_inside_of, is_gathering, same_type as rule_same_type};
 ghost use Rattle.type_rules.specs.Expressions as rules;
 ghost use Rattle.type_forms.specs.Finding.{Finds, FirstOf};
 ghost use Rattle.type_exprs.specs.Wanted.{test};

@@ -31,12 +31,7 @@ fn enumeration(alloc: Global, scope: Scope<'_, '_>, of: &str) -> Option<DataType
 }
 
 // A name of the top level in the place of a value.
-fn top_value(
-    alloc: Global,
-    scope: Scope<'_, '_>,
-    name: &Name,
-    is: What<'_>,
-) -> Found<DataType>
+fn top_value(alloc: Global, scope: Scope<'_, '_>, name: &Name, is: What<'_>) -> Found<DataType>
     ensures { (w : scopes.Scope) → IsScope scope.entry w → Finds result (rules.top_value w name.now (what is.entry)) }
 {
     match is {
