@@ -116,7 +116,9 @@ fn chained(
     let mut left = first;
     'links: for link in links {
         let right = typed(alloc, scope, &link.right)?;
-        left = joined(alloc, link.operator, at, left, place_of(&link.right), right)?;
+        let place = place_of(&link.right);
+        let next = joined(alloc, link.operator, at, left, place, right)?;
+        left = next;
     }
     Ok(left)
 }
