@@ -3,3 +3,8 @@ pub mod Imports
 pub mod Settling
 pub mod FirstOfBoth
 pub mod ArrayLimits
+pub mod TypeParts
+pub mod SettledTypes
+pub mod Cut
+pub mod Loops
+pub mod NewNames

@@ -5,3 +5,5 @@ pub mod Chains
 pub mod Views
 pub mod Measures
 pub mod Forms
+pub mod Parts
+pub mod Settled

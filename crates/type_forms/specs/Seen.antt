@@ -4,6 +4,7 @@ use Rattle.std.specs.Borrow.{Bor}
 use Rattle.std.specs.BTreeMap.{BTreeMap, get_by}
 use Rattle.std.specs.Cmp.Lexicographic.{slice_cmp}
 use Rattle.std.specs.Ordering.{nat_cmp}
+use Rattle.orca_tree.specs.declared.tree.Name.{Name}
 use Rattle.orca_syntax.specs.Shown.{block, definition, head, kind, operation, parameter}
 use Rattle.link_rules.specs.Units.{Import, defined}
 use Rattle.type_rules.specs.TopLevel as tops
@@ -34,3 +35,7 @@ has names n = is_some (get_by (λ k. slice_cmp nat_cmp n k.now) names)
 -- a module imports a name
 abbrev pub is_imported : List ℕ → List ℕ → Import → Bool
 is_imported m n i = bytes_eq i.by m && bytes_eq i.name.text n
+
+-- names that are lent
+abbrev pub lent : List (Bor Name) → List Name
+lent ns = map (λ n. n.now) ns

@@ -20,9 +20,9 @@ use type_rules::{Chain, Predeclared};
 
 /// Where a phrase stands: its module, and the names of its body.
 #[derive(Clone, Copy)]
-pub struct View<'a> {
+pub struct View<'a, 'p> {
     pub home: &'a str,
-    pub names: &'a Names<'a>,
+    pub names: &'a Names<'p>,
 }
 
 /// What a name stands for: one of the body's, or one of the module's.
@@ -33,7 +33,7 @@ pub enum Sense<'a> {
 }
 
 /// What a name stands for, where a phrase stands.
-pub fn sense_of<'a>(index: &Index<'a>, view: View<'_>, name: &Name) -> Sense<'a>
+pub fn sense_of<'a>(index: &Index<'a>, view: View<'_, '_>, name: &Name) -> Sense<'a>
     ensures inside { (us : List Source) → Indexes index.now us → IsSenseInside us result }
     ensures senses { (us : List Source) → Indexes index.now us → (w : rules.View) → IsView us view.entry w →
         sensed result ≡ rule_of_sense w name.now }
@@ -100,7 +100,7 @@ fn named_bound(chains: &[Chain], name: &Name, sense: Sense<'_>) -> Found<i128>
 }
 
 /// A bound of an array, or the value of a constant.
-pub fn bound(index: &Index<'_>, chains: &[Chain], view: View<'_>, value: &Bound) -> Found<i128>
+pub fn bound(index: &Index<'_>, chains: &[Chain], view: View<'_, '_>, value: &Bound) -> Found<i128>
     ensures { (us : List Source) → Indexes index.now us → AreChains us chains.now → (w : rules.View) → IsView us view.entry w →
         Finds result (rule_of_bound w value.now) }
 {

@@ -144,6 +144,13 @@ impl<'a> Index<'a> {
         self.tops.len()
     }
 
+    /// The names of the top level, by their numbers.
+    pub fn tops(&self) -> &[Top<'a>]
+        ensures { (us : List Source) → Indexes self.now us → map top result.now ≡ names_of_top us }
+    {
+        self.tops.as_slice()
+    }
+
     /// A name of the top level, by its number.
     pub fn item(&self, number: usize) -> Option<&Top<'a>>
         ensures { (us : List Source) → Indexes self.now us →

@@ -10,7 +10,7 @@ ghost use Rattle.type_rules.specs.declared.breach.Breach.{Breach as BreachType};
 ghost use Rattle.type_rules.specs.Constants as rules;
 ghost use Rattle.type_rules.specs.TypePhrases as phrases;
 ghost use Rattle.orca_syntax.specs.Places.{bound_place, kind_place};
-ghost use Rattle.type_forms.specs.Forms.{AreForms};
+ghost use Rattle.type_forms.specs.Forms.{AreForms, AreTyped};
 ghost use Rattle.type_forms.specs.Seen.{what};
 ghost use Rattle.type_forms.specs.Indexed.{Indexes};
 ghost use Rattle.type_forms.specs.Chains.{AreChains};
@@ -148,7 +148,7 @@ fn is_number_one(value: &Bound) -> bool
 }
 
 // Whether a bound is the predeclared `graph`.
-fn is_graph_bound(index: &Index<'_>, view: View<'_>, value: &Bound) -> bool
+fn is_graph_bound(index: &Index<'_>, view: View<'_, '_>, value: &Bound) -> bool
     ensures { (us : List Source) → Indexes index.now us → (w : rules.View) → IsView us view.entry w →
         result ≡ phrases.is_graph_bound w value.now }
 {
@@ -258,14 +258,14 @@ fn graph(
 
 /// What the type phrases of a program are read with: its names, its constants, and its declared types.
 #[derive(Clone, Copy)]
-pub struct Forms<'a> {
-    pub index: &'a Index<'a>,
+pub struct Forms<'a, 'p> {
+    pub index: &'a Index<'p>,
     pub chains: &'a [Chain],
     pub types: &'a [Option<Measured>],
 }
 
-// The place of a type phrase.
-fn place_of(phrase: &TypePhrase) -> Place
+/// The place of a type phrase.
+pub fn place_of(phrase: &TypePhrase) -> Place
     ensures { result ≡ kind_place (kind_shown phrase.now) }
 {
     match phrase {
@@ -282,8 +282,8 @@ fn place_of(phrase: &TypePhrase) -> Place
 
 // An array or a graph, of what was found of its elements.
 fn bounded(
-    forms: Forms<'_>,
-    view: View<'_>,
+    forms: Forms<'_, '_>,
+    view: View<'_, '_>,
     at: Place,
     low: &Bound,
     high: &Bound,
@@ -305,8 +305,8 @@ fn bounded(
 #[cycle(phrases)]
 pub fn phrase(
     alloc: Global,
-    forms: Forms<'_>,
-    view: View<'_>,
+    forms: Forms<'_, '_>,
+    view: View<'_, '_>,
     kind: &TypePhrase,
 ) -> Result<Found<Measured>, NoMemory>
     ensures { (us : List Source) → AreForms us forms.entry → (w : rules.View) → IsView us view.entry w →
@@ -345,8 +345,8 @@ pub fn phrase(
 #[cycle(phrases)]
 pub fn data_phrase(
     alloc: Global,
-    forms: Forms<'_>,
-    view: View<'_>,
+    forms: Forms<'_, '_>,
+    view: View<'_, '_>,
     kind: &TypePhrase,
 ) -> Result<Found<Measured>, NoMemory>
     ensures { (us : List Source) → AreForms us forms.entry → (w : rules.View) → IsView us view.entry w →
@@ -354,4 +354,30 @@ pub fn data_phrase(
 {
     let found = phrase(alloc, forms, view, kind)?;
     Ok(of_data(place_of(kind), found))
+}
+
+/// What a type phrase of a program is.
+pub fn kind_found(
+    alloc: Global,
+    forms: Forms<'_, '_>,
+    view: View<'_, '_>,
+    kind: &TypePhrase,
+) -> Result<Found<Measured>, NoMemory>
+    ensures { (us : List Source) → AreTyped us forms.entry → (w : rules.View) → IsView us view.entry w →
+        IfOk result (λ f. Finds f (phrases.kind_found w (kind_shown kind.now))) }
+{
+    phrase(alloc, forms, view, kind)
+}
+
+/// What a type phrase of a program is that stands as the type of data.
+pub fn data_found(
+    alloc: Global,
+    forms: Forms<'_, '_>,
+    view: View<'_, '_>,
+    kind: &TypePhrase,
+) -> Result<Found<Measured>, NoMemory>
+    ensures { (us : List Source) → AreTyped us forms.entry → (w : rules.View) → IsView us view.entry w →
+        IfOk result (λ f. Finds f (phrases.data_found w (kind_shown kind.now))) }
+{
+    data_phrase(alloc, forms, view, kind)
 }

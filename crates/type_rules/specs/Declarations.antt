@@ -69,7 +69,7 @@ block_scope us m owner find_kind v ps r b =
 abbrev pub block_breaches : List Source → List ℕ → Owner → (Kind → Found Measured) → View → List Parameter → Option Kind → Block →
     List Breach
 block_breaches us m owner find_kind v ps r b =
-    are_new [] (own_names ps b)
+    are_new (own_names ps b)
     ++ (are_free us m [] (own_names ps b)
     ++ (parameters_breaches v ps
     ++ (result_breaches v r
@@ -181,7 +181,7 @@ lacking hs (Some n) = lacks (drop n hs)
 -- 3. No name is declared twice among the operations of a specification.
 abbrev pub specification_breaches : List Source → List ℕ → Name → List Head → List Breach
 specification_breaches us m n hs =
-    are_new [] (map (λ h. h.name) hs)
+    are_new (map (λ h. h.name) hs)
     ++ (flat_map (λ h. are_free us m [] (map (λ t. t.name) h.parameters)) hs
     ++ (flat_map (λ h. values_breaches (head_view us m h) h.parameters ++ result_breaches (head_view us m h) h.result) hs
     ++ lacking hs (operation_count us n.text)))
@@ -211,7 +211,7 @@ body_breaches scope (syn.Plain ss) = stmts_breaches (scope false) ss
 
 abbrev pub operation_breaches : List Source → List ℕ → List Variables → Operation → List Breach
 operation_breaches us m fields o =
-    are_new [] (operation_names o)
+    are_new (operation_names o)
     ++ (are_free us m (texts (field_names fields)) (operation_names o)
     ++ (values_breaches (operation_view us m fields o) o.head.parameters
     ++ (result_breaches (operation_view us m fields o) o.head.result
@@ -227,7 +227,7 @@ opening_breaches v (Some ss) = stmts_breaches v ss
 abbrev pub implementation_breaches : List Source → List ℕ → Name → List Variables → List Operation → Option Stmts → List Breach
 implementation_breaches us m n fields os opening =
     asks 11 n.at (is_specified_in m (specification us n.text))
-    ++ (are_new [] (field_names fields ++ map (λ o. o.head.name) os)
+    ++ (are_new (field_names fields ++ map (λ o. o.head.name) os)
     ++ (are_free us m [] (field_names fields)
     ++ (variables_breaches (data_found (fields_view us m fields)) fields
     ++ (heads_of (specification us n.text) os (heads_match us m fields)

@@ -1,5 +1,5 @@
 -- The rules of expressions and of calls (docs/LANGUAGE.md, Typing), from 2 to 5, 13, 15, 18, 19 and 26 to 41.
-use Rattle.std.specs.Prelude.{ℕ, Bool, true, false, not, ◌&&◌, ◌||◌, List, [], ◌∷◌, ◌++◌, length, find, bytes_eq, ◌==◌, slice_get, is_some, Option, Some, None, option_map, ◌+◌, drop}
+use Rattle.std.specs.Prelude.{ℕ, Bool, true, false, not, ◌&&◌, ◌||◌, List, [], ◌∷◌, ◌++◌, length, find, bytes_eq, ◌==◌, slice_get, is_some, if◌then◌else◌, Option, Some, None, option_map, ◌+◌, drop}
 use Rattle.std.specs.List.{list_any}
 use Rattle.orca_base.specs.declared.place.Place.{Place}
 use Rattle.orca_tree.specs.declared.tree.Name.{Name}
@@ -8,13 +8,14 @@ use Rattle.orca_tree.specs.declared.tree.Operator.TheVariants as op
 use Rattle.orca_syntax.specs.Syntax as syn
 use Rattle.orca_syntax.specs.Syntax.{Expr, Links, Step, Path, Exprs, TypedName, Definition}
 use Rattle.orca_syntax.specs.Places.{expr_place}
+use Rattle.link_rules.specs.Units.{Source}
 use Rattle.type_rules.specs.Types as types
 use Rattle.type_rules.specs.Types.{DataType, Base, Layer, Outside, plain, same_type, outside_of, inside_of, object_in, is_integer, is_boolean, is_string, is_node_name, is_object, is_gathering, is_graph, is_numbered, is_counted, is_printed}
 use Rattle.type_rules.specs.TopLevel as top
 use Rattle.type_rules.specs.TopLevel.{What, TopName, Predeclared, StandsFor, stands_for, top_names, number_of}
-use Rattle.type_rules.specs.Rules.{Breach, Found, found, unless, asks, breaks, fits, agree, is_among}
+use Rattle.type_rules.specs.Rules.{Breach, Found, found, unless, asks, breaks, fits, agree, each_new}
 use Rattle.type_rules.specs.TypePhrases.{data_found, whole_module}
-use Rattle.type_rules.specs.Scopes.{LocalRole, Local, Scope, Formal, Signature, local, type_of, signature, operation_of, is_plain, may_invoke, LoopVariable, SharedParameter, ByValue, Shared, Out, SomeGraph, NodeOf}
+use Rattle.type_rules.specs.Scopes.{LocalRole, Local, Scope, Formal, Signature, local, type_of, signature, operation_of, may_be_object, is_plain, may_invoke, LoopVariable, SharedParameter, ByValue, Shared, Out, SomeGraph, NodeOf}
 
 -- ---- names in the place of a value
 
@@ -76,22 +77,22 @@ may_be_written v _ = false
 
 -- ---- steps to parts
 
-abbrev pub field_in : Scope → TopName → List ℕ → Definition → Option (Option DataType)
-field_in v t f (syn.Record at fields) =
-    option_map (λ d. type_of (data_found (whole_module v.program t) d.kind)) (find (λ d. bytes_eq d.name.text f) fields)
-field_in v t f _ = None
+abbrev pub field_in : List Source → TopName → List ℕ → Definition → Option (Option DataType)
+field_in us t f (syn.Record at fields) =
+    option_map (λ d. type_of (data_found (whole_module us t) d.kind)) (find (λ d. bytes_eq d.name.text f) fields)
+field_in us t f _ = None
 
-abbrev pub field_of_what : Scope → TopName → List ℕ → What → Option (Option DataType)
-field_of_what v t f (top.TypeName of) = field_in v t f of
-field_of_what v t f _ = None
+abbrev pub field_of_what : List Source → TopName → List ℕ → What → Option (Option DataType)
+field_of_what us t f (top.TypeName of) = field_in us t f of
+field_of_what us t f _ = None
 
-abbrev pub field_at : Scope → List ℕ → Option TopName → Option (Option DataType)
-field_at v f None = None
-field_at v f (Some t) = field_of_what v t f t.what
+abbrev pub field_at : List Source → List ℕ → Option TopName → Option (Option DataType)
+field_at us f None = None
+field_at us f (Some t) = field_of_what us t f t.what
 
 -- of a record, the type of the field with this name
 abbrev pub field_of : Scope → List ℕ → Outside → Option (Option DataType)
-field_of v f (types.Bare (types.Record i)) = field_at v f (slice_get (top_names v.program) i)
+field_of v f (types.Bare (types.Record i)) = field_at v.program f (slice_get (top_names v.program) i)
 field_of v f _ = None
 
 -- of an array or a graph, what stands in brackets behind it
@@ -132,9 +133,11 @@ abbrev pub operand : ℕ → (DataType → Bool) → Place → Found DataType �
 operand rule p at e t = unless (e.breaches ++ asks rule at (fits p e.is)) (Some t)
 
 -- 37. Operands of a relation have one type, no object type; the right side of `in` is a set or bag of the left side's type.
+abbrev pub is_data : Option DataType → Bool
+is_data t = fits (λ t. not (is_object t)) t
+
 abbrev pub are_compared : Option DataType → Option DataType → Bool
-are_compared None right = true
-are_compared (Some t) right = fits (λ u. same_type t u && not (is_object t)) right
+are_compared left right = agree left right && (is_data left && is_data right)
 
 abbrev pub relation : Place → Found DataType → Found DataType → Found DataType
 relation at left right =
@@ -184,7 +187,7 @@ named_here v _ = None
 
 abbrev pub has_object : Option Local → Bool
 has_object None = false
-has_object (Some l) = fits is_object l.type
+has_object (Some l) = may_be_object l.role && fits is_object l.type
 
 -- 30. An argument has its parameter's type.
 -- 31. An argument for `shared` is the name of an object variable or `shared` parameter of that object type.
@@ -198,20 +201,22 @@ suits v (Out t) e u = asks 30 (expr_place e) (agree t u) ++ asks 32 (expr_place 
 suits v SomeGraph e u = asks 41 (expr_place e) (may_be_written v e && fits is_graph u)
 suits v NodeOf e u = asks 41 (expr_place e) (fits is_node_name u)
 
+abbrev pub root_in : Expr → List Name
+root_in (syn.Get n p) = n ∷ []
+root_in _ = []
+
+abbrev pub lent_root : List Formal → Expr → List Name
+lent_root (Out t ∷ fs) e = root_in e
+lent_root _ e = []
+
+-- the roots of the arguments for `out`
+abbrev pub lent_roots : List Formal → Exprs → List Name
+lent_roots fs syn.no_expr = []
+lent_roots fs (syn.expr e es) = lent_root fs e ++ lent_roots (drop 1 fs) es
+
 -- 32. No two arguments for `out` of one call have one root.
-abbrev pub root_among : List (List ℕ) → Expr → List Breach
-root_among before (syn.Get n p) = asks 32 n.at (not (is_among before n.text))
-root_among before _ = []
-
-abbrev pub with_root : List (List ℕ) → Expr → List (List ℕ)
-with_root before (syn.Get n p) = n.text ∷ before
-with_root before _ = before
-
-abbrev pub roots_differ : List (List ℕ) → List Formal → Exprs → List Breach
-roots_differ before fs syn.no_expr = []
-roots_differ before [] (syn.expr e es) = []
-roots_differ before (Out t ∷ fs) (syn.expr e es) = root_among before e ++ roots_differ (with_root before e) fs es
-roots_differ before (_ ∷ fs) (syn.expr e es) = roots_differ before fs es
+abbrev pub roots_differ : List Formal → Exprs → List Breach
+roots_differ fs es = each_new 32 [] (lent_roots fs es)
 
 abbrev pub count_of : Exprs → ℕ
 count_of syn.no_expr = 0
@@ -311,7 +316,7 @@ outer_object top.Nothing = UnknownObject
 outer_object _ = NoObject
 
 abbrev pub of_local : Scope → Name → Name → Option Local → Invoked
-of_local v o m (Some l) = of_type v m l.type
+of_local v o m (Some l) = if may_be_object l.role then of_type v m l.type else NoObject
 of_local v o m None = outer_object (stands_for v.program v.home o.text)
 
 abbrev pub invoked : Scope → Name → Name → Invoked
@@ -345,7 +350,7 @@ taken v at d = unless (asks 18 at (not v.in_guard) ++ d.breaches) (option_map in
 
 abbrev pub call_found : Scope → Use → Name → Exprs → Called → List Breach → Found DataType
 call_found v way n es c inside =
-    unless (function_rules v way n es c ++ (inside ++ roots_differ [] (signature_of c).formals es)) (result_type (signature_of c).result)
+    unless (function_rules v way n es c ++ (inside ++ roots_differ (signature_of c).formals es)) (result_type (signature_of c).result)
 
 abbrev pub invoke_found : Scope → Use → Name → Name → Exprs → Invoked → List Breach → Found DataType
 invoke_found v way o m es i inside =

@@ -41,7 +41,11 @@ agree (Some t) u = fits (same_type t) u
 abbrev pub is_among : List (List ℕ) → List ℕ → Bool
 is_among ns n = list_any (bytes_eq n) ns
 
--- 3. No name is declared twice: behind these, each of a list is new. The place is the later name's.
-abbrev pub are_new : List (List ℕ) → List Name → List Breach
-are_new before [] = []
-are_new before (n ∷ ns) = asks 3 n.at (not (is_among before n.text)) ++ are_new (n.text ∷ before) ns
+-- a rule asks that behind these each of a list is new; the place is the later name's
+abbrev pub each_new : ℕ → List (List ℕ) → List Name → List Breach
+each_new rule before [] = []
+each_new rule before (n ∷ ns) = asks rule n.at (not (is_among before n.text)) ++ each_new rule (n.text ∷ before) ns
+
+-- 3. No name is declared twice.
+abbrev pub are_new : List Name → List Breach
+are_new ns = each_new 3 [] ns

@@ -1,9 +1,9 @@
 -- Bodies: their names, and what may stand in them (docs/LANGUAGE.md, Names).
-use Rattle.std.specs.Prelude.{ℕ, Bool, true, false, List, ◌++◌, map, flat_map, find, bytes_eq, slice_get, Option, Some, None, option_map}
-use Rattle.orca_base.specs.declared.place.Place.{Place}
+use Rattle.std.specs.Prelude.{ℕ, Bool, true, false, ◌&&◌, List, ◌++◌, map, flat_map, find, bytes_eq, slice_get, Option, Some, None, option_map}
 use Rattle.orca_tree.specs.declared.tree.Name.{Name}
 use Rattle.orca_tree.specs.declared.tree.Mode.{Mode}
 use Rattle.orca_tree.specs.declared.tree.Mode.TheVariants as mode
+use Rattle.orca_syntax.specs.Syntax as syn
 use Rattle.orca_syntax.specs.Syntax.{Kind, TypedName, Parameter, Variables, Block, Head}
 use Rattle.orca_syntax.specs.Places.{kind_place}
 use Rattle.link_rules.specs.Units.{Source}
@@ -47,17 +47,27 @@ abbrev pub is_field : LocalRole → Bool
 is_field ObjectField = true
 is_field _ = false
 
+-- what may be an object: a variable, and a `shared` parameter
+abbrev pub may_be_object : LocalRole → Bool
+may_be_object Variable = true
+may_be_object SharedParameter = true
+may_be_object _ = false
+
 -- ---- types of parameters, variables and fields
 
 abbrev pub type_of : Found Measured → Option DataType
 type_of f = option_map (λ m. m.kind) f.is
 
--- 7. Behind `shared` stands an object type.
-abbrev pub of_object : Place → Found Measured → Found Measured
-of_object at f = unless (f.breaches ++ asks 7 at (fits (λ m. is_object m.kind) f.is)) f.is
+abbrev pub is_name : Kind → Bool
+is_name (syn.Named n) = true
+is_name _ = false
+
+-- 7. Behind `shared` stands an object type; a phrase that is no name is none, whatever stands inside.
+abbrev pub of_object : Kind → Found Measured → Found Measured
+of_object k f = unless (f.breaches ++ asks 7 (kind_place k) (is_name k && fits (λ m. is_object m.kind) f.is)) f.is
 
 abbrev pub shared_found : View → Kind → Found Measured
-shared_found v k = of_object (kind_place k) (kind_found v k)
+shared_found v k = of_object k (kind_found v k)
 
 abbrev pub parameter_found : View → Mode → Kind → Found Measured
 parameter_found v mode.Value k = data_found v k

@@ -121,7 +121,7 @@ abbrev mutual
   stmt_breaches v (syn.Repeat at ss test) = stmts_breaches v ss ++ wants v 21 is_boolean test
   stmt_breaches v (syn.Fork at n es on) =
       forks v at ++ (fork_rules n es (forked v n) ++ (arguments v (forked_signature (forked v n)).formals es
-      ++ (roots_differ [] (forked_signature (forked v n)).formals es ++ wants_if_any v 25 is_integer on)))
+      ++ (roots_differ (forked_signature (forked v n)).formals es ++ wants_if_any v 25 is_integer on)))
   stmt_breaches v (syn.WriteLine at es) = acts v at ++ printed v es
   stmt_breaches v (syn.Insert at e n p) = changes (expr_place e) (typed v e) (gathering n.at (walked v (written_root v 38 n) p))
   stmt_breaches v (syn.Delete at e n p) = changes (expr_place e) (typed v e) (gathering n.at (walked v (written_root v 38 n) p))

@@ -144,7 +144,7 @@ record_of declared v i (f ∷ fs) = field_before (data_phrase declared v f.kind)
 
 -- 3. No name is declared twice among the fields of a record.
 abbrev pub distinct_fields : List TypedName → Found Measured → Found Measured
-distinct_fields fields f = unless (f.breaches ++ are_new [] (map (λ f. f.name) fields)) f.is
+distinct_fields fields f = unless (f.breaches ++ are_new (map (λ f. f.name) fields)) f.is
 
 -- what a declared type is
 abbrev pub definition : (ℕ → Option Measured) → View → ℕ → Definition → Found Measured
