@@ -1,4 +1,0 @@
-pub mod Members
-pub mod Ways
-pub mod Ranked
-pub mod Marked
