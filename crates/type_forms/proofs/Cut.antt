@@ -1,5 +1,5 @@
 -- Sizes and nesting that are cut off just above the limits.
-use Rattle.std.proofs.Common.{◌≡◌, ℕ, ◌≤◌, ◌<◌, ◌+◌, min, max, Bool, true, false, ◌&&◌, List, [], ◌∷◌, ◌++◌, Option, Some, None, refl, sym, ap, ◌∙◌, arith}
+use Rattle.std.proofs.Common.{◌≡◌, ℕ, ◌+◌, min, Bool, true, false, ◌&&◌, List, [], ◌∷◌, ◌++◌, Option, Some, None, refl, sym, ap, ◌∙◌, arith}
 use Rattle.std.specs.Prelude.{nat_le, option_map}
 use Rattle.std.proofs.lemmas.Bool.{le-leb, leb-true}
 use Rattle.orca_base.specs.declared.place.Place.{Place}
@@ -7,8 +7,8 @@ use Rattle.orca_base.specs.declared.limits.TheConstants.{VALUE_NESTING, VALUE_SI
 use Rattle.type_rules.specs.declared.breach.Breach.{Breach}
 use Rattle.type_rules.specs.declared.types.DataType.{DataType}
 use Rattle.type_rules.specs.declared.types.Measured.{Measured}
-use Rattle.type_rules.specs.Rules.{Found, asks, fits, unless}
-use Rattle.type_rules.specs.TypePhrases.{is_small, with_field, within_limits}
+use Rattle.type_rules.specs.Rules.{asks, fits, unless}
+use Rattle.type_rules.specs.TypePhrases.{is_small, within_limits}
 use Rattle.link_rules.proofs.Truth.{and_first, and_second}
 use Rattle.type_forms.specs.Measures.{cut, cut_found}
 

@@ -1,5 +1,5 @@
 -- Names that are declared twice, one name further.
-use Rattle.std.proofs.Common.{◌≡◌, ℕ, Bool, not, List, ◌∷◌, ◌++◌, Option, sym, ap, ◌∙◌}
+use Rattle.std.proofs.Common.{◌≡◌, ℕ, not, List, ◌∷◌, Option, sym, ap, ◌∙◌}
 use Rattle.orca_tree.specs.declared.tree.Name.{Name}
 use Rattle.type_rules.specs.declared.breach.Breach.{Breach}
 use Rattle.type_rules.specs.Order.{least, lesser}

@@ -1,5 +1,5 @@
 -- Declared types, one more of them settled; and that those that stay left are none.
-use Rattle.std.proofs.Common.{◌≡◌, ℕ, zero, suc, ◌<◌, ◌≤◌, ◌+◌, Bool, true, false, cond, List, [], ◌∷◌, length, map, set, replicate, Option, Some, None, ◌⊎◌, inl, inr, refl, sym, ap, ◌∙◌, subst, arith}
+use Rattle.std.proofs.Common.{◌≡◌, ℕ, zero, suc, ◌<◌, ◌≤◌, ◌+◌, Bool, true, false, cond, List, [], ◌∷◌, length, set, replicate, Option, Some, None, ◌⊎◌, inl, inr, refl, sym, ap, ◌∙◌, subst, arith}
 use Rattle.std.specs.Prelude.{slice_get, option_map}
 use Rattle.std.specs.List.{list_all}
 use Rattle.std.proofs.lemmas.Bool.{cases_eq, cases_lt, true≢false}
@@ -9,9 +9,9 @@ use Rattle.link_rules.specs.Units.{Source}
 use Rattle.type_rules.specs.declared.types.Measured.{Measured}
 use Rattle.type_rules.specs.TopLevel.{TopName, top_names}
 use Rattle.type_rules.specs.TypePhrases.{declared_top, declared_type, declared_within, parts_of, types_at}
-use Rattle.type_forms.specs.Measures.{declared_as, declared_in}
+use Rattle.type_forms.specs.Measures.{declared_in}
 use Rattle.type_forms.specs.Parts.{AreParts, listed_at, parts_at, parts_in}
-use Rattle.type_forms.specs.Settled.{AreSettled, AreTypes, IsOpen, is_settled, open_count, or_false}
+use Rattle.type_forms.specs.Settled.{AreSettled, AreTypes, IsOpen, is_settled, open_count}
 use Rattle.type_forms.proofs.TypeParts.{no_top, same_top}
 
 -- ---- one more

@@ -1,11 +1,10 @@
 -- What a type phrase asks of declared types: it asks for those that it names alone, and it has no type where one of them has none.
-use Rattle.std.proofs.Common.{◌≡◌, ℕ, ℤ, Bool, true, false, ◌&&◌, cond, List, [], ◌∷◌, ◌++◌, map, Option, Some, None, refl, sym, ap, ◌∙◌}
-use Rattle.std.specs.Prelude.{flat_map, filter_map, option_map, slice_get}
+use Rattle.std.proofs.Common.{◌≡◌, ℕ, ℤ, Bool, true, false, ◌&&◌, cond, List, [], ◌∷◌, ◌++◌, Option, Some, None, refl, sym, ap, ◌∙◌}
+use Rattle.std.specs.Prelude.{flat_map, filter_map, option_map}
 use Rattle.std.specs.List.{list_all, cons_option}
 use Rattle.std.proofs.lemmas.Bool.{true≢false}
 use Rattle.std.proofs.lemmas.List.Folds.{list_all-append}
 use Rattle.std.proofs.lemmas.List.Elements.{filter_map-append}
-use Rattle.orca_base.specs.declared.place.Place.{Place}
 use Rattle.orca_tree.specs.declared.tree.Name.{Name}
 use Rattle.orca_tree.specs.declared.tree.Bound.{Bound}
 use Rattle.orca_syntax.specs.Syntax as syn
@@ -19,7 +18,7 @@ use Rattle.type_rules.specs.Rules.{Found, found, unless}
 use Rattle.type_rules.specs.TopLevel as top
 use Rattle.type_rules.specs.TopLevel.{What, TopName, StandsFor, stands_for, top_names}
 use Rattle.type_rules.specs.Constants.{View, OfAll, bound}
-use Rattle.type_rules.specs.TypePhrases.{array_found, array_phrase, bag_of, data_phrase, declared_number, declared_top, declared_what, definition, distinct_fields, field_before, gathering_phrase, graph_of, graph_phrase, is_graph_bound, names_of, names_within, named_type, of_data, phrase, ranged_phrase, record_of, set_of, top_type, type_number, types_at, types_within, whole_module, with_field, within_limits}
+use Rattle.type_rules.specs.TypePhrases.{array_found, array_phrase, bag_of, data_phrase, declared_number, declared_top, declared_what, definition, distinct_fields, field_before, gathering_phrase, graph_of, graph_phrase, is_graph_bound, names_of, names_within, named_type, of_data, phrase, ranged_phrase, record_of, set_of, top_type, type_number, types_at, types_within, with_field, within_limits}
 use Rattle.type_forms.specs.Parts.{part_named}
 
 abbrev Table : Type 0

@@ -6,7 +6,7 @@ use Rattle.orca_syntax.specs.Shown as shown
 use Rattle.orca_syntax.specs.Shown.{typed_name}
 use Rattle.type_rules.specs.declared.types.Measured.{Measured}
 use Rattle.type_rules.specs.Order.{least}
-use Rattle.type_rules.specs.Rules.{Found, are_new, each_new}
+use Rattle.type_rules.specs.Rules.{Found, are_new}
 use Rattle.type_rules.specs.TypePhrases.{definition, distinct_fields, record_of}
 use Rattle.type_forms.specs.Finding.{FirstOf, Finds}
 use Rattle.type_forms.specs.Seen.{lent}

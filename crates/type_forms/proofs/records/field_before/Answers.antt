@@ -1,10 +1,10 @@
-use Rattle.std.proofs.Common.{◌++◌, Option, subst, sym, ap, ◌∙◌}
+use Rattle.std.proofs.Common.{◌++◌, Option, subst, ap, ◌∙◌}
 use Rattle.std.specs.Prelude.{option_map}
 use Rattle.type_rules.specs.declared.types.Measured.{Measured}
 use Rattle.type_rules.specs.Rules.{Found, unless}
 use Rattle.type_rules.specs.TypePhrases.{with_field}
 use Rattle.type_forms.specs.Finding.{FirstOf, Finds}
-use Rattle.type_forms.specs.Measures.{cut, cut_found}
+use Rattle.type_forms.specs.Measures.{cut}
 use Rattle.type_forms.proofs.Cut.{cut_unless}
 use Rattle.type_forms.proofs.FirstOfBoth.{first_of_both}
 use Rattle.type_forms.proofs.records.field_before.Goals as goal

@@ -1,4 +1,4 @@
-use Rattle.std.proofs.Common.{◌++◌, Option, subst, sym, ap, ◌∙◌}
+use Rattle.std.proofs.Common.{subst, ap, ◌∙◌}
 use Rattle.type_rules.specs.declared.types.Measured.{Measured}
 use Rattle.type_rules.specs.Rules.{Found, asks, fits}
 use Rattle.type_rules.specs.TypePhrases.{is_small}

@@ -1,9 +1,7 @@
-use Rattle.std.proofs.Common.{◌≡◌, ℕ, ◌+◌, Bool, not, ◌||◌, List, ◌∷◌, drop, sym, ap, ◌∙◌}
+use Rattle.std.proofs.Common.{ℕ, ◌+◌, Bool, not, ◌||◌, List, ◌∷◌, drop, ap, ◌∙◌}
 use Rattle.std.specs.Prelude.{bytes_eq}
-use Rattle.std.specs.Borrow.{Bor}
-use Rattle.orca_tree.specs.declared.tree.Name.{Name}
 use Rattle.type_rules.specs.Order.{least}
-use Rattle.type_rules.specs.Rules.{asks, is_among}
+use Rattle.type_rules.specs.Rules.{asks}
 use Rattle.type_forms.specs.Seen.{has, lent}
 use Rattle.type_forms.proofs.Loops.{bytes_turned, rest_is}
 use Rattle.type_forms.proofs.NewNames.{new_step}

@@ -1,11 +1,10 @@
-use Rattle.std.proofs.Common.{◌≡◌, ℕ, Bool, true, List, Option, subst, sym, ap, ◌∙◌, arith}
+use Rattle.std.proofs.Common.{Bool, List, Option, sym, ap, ◌∙◌, arith}
 use Rattle.std.specs.Prelude.{slice_get}
 use Rattle.std.specs.List.{list_all}
 use Rattle.type_rules.specs.declared.types.Measured.{Measured}
 use Rattle.type_rules.specs.TopLevel.{top_names}
 use Rattle.type_rules.specs.TypePhrases.{declared_top, parts_of}
 use Rattle.type_forms.specs.Measures.{declared_in}
-use Rattle.type_forms.specs.Parts.{parts_in}
 use Rattle.type_forms.specs.Settled.{is_settled}
 use Rattle.type_forms.proofs.SettledTypes.{one_fewer, parts_are, settled_more}
 use Rattle.type_forms.proofs.settled.settle_one.Goals as goal

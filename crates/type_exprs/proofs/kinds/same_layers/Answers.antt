@@ -1,9 +1,0 @@
-use Rattle.std.proofs.Common.{◌≡◌, ℕ, zero, length, drop, subst, sym, ap, ◌∙◌, arith}
-use Rattle.type_rules.specs.Types.{same_layers}
-use Rattle.type_exprs.proofs.Layers.{layers_apart}
-use Rattle.type_exprs.proofs.kinds.same_layers.Goals as goal
-
-pub returns : goal.returns
-returns c =
-    let none : c.layers.left ≡ zero = omega (arith, c.layers-test.false) in
-    c.layers.invariant.2 ∙ ap (λ (k : ℕ). same_layers (drop k c.args.one.now) (drop k c.args.other.now)) none
