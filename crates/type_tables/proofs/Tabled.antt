@@ -11,9 +11,8 @@ use Rattle.type_rules.specs.declared.signature.Signature.{Signature}
 use Rattle.type_rules.specs.TopLevel.{TopName, top_names}
 use Rattle.type_rules.specs.Scopes.{operation_of}
 use Rattle.type_rules.specs.Expressions.{field_at}
-use Rattle.type_tables.specs.declared.tables.Tables.{Tables}
 use Rattle.type_tables.specs.Entries.{entry}
-use Rattle.type_tables.specs.Tables.{AreFields, AreOperations, AreSignatures, AreTables, entry_in, entry_of, fields_at, operations_at, or_none, signature_at, signature_in, signature_numbered}
+use Rattle.type_tables.specs.Tables.{AreFields, AreOperations, AreSignatures, entry_in, entry_of, fields_at, operations_at, or_none, signature_at, signature_in, signature_numbered}
 
 -- one more
 pub tabled : {A B C X : Type 0} (view : A → B) (f : B → C) (own : X → C) (xs : List A) (i : ℕ) (x : A) (ys : List X) (y : X) → i < length xs → x ≡ get_or xs i x →
