@@ -22,7 +22,7 @@ use Rattle.type_rules.specs.Types.{Outside, outside_of, inside_of, object_in}
 use Rattle.type_rules.specs.Rules.{Found}
 use Rattle.type_rules.specs.TopLevel as top
 use Rattle.type_rules.specs.TopLevel.{What, TopName, StandsFor, stands_for}
-use Rattle.type_rules.specs.Scopes.{Local, Scope, local, signature, operation_of}
+use Rattle.type_rules.specs.Scopes.{Local, Scope, local, signature, operation_of, may_be_object}
 use Rattle.type_rules.specs.Expressions.{Use, Invoked, invoked, invoke_found, arguments, called_well, count_of, is_used_well, result_type, acts, operation_rules, invoked_signature, of_local, of_type, of_object, of_operation, outer_object}
 use Rattle.type_rules.specs.Expressions as judged
 use Rattle.type_rules.specs.Statements as judged_statements
@@ -208,11 +208,15 @@ module _ (kinds : Kinds) (v : Scope) (plain_scope : IsPlain v) (facts : IsAccept
       by_object l t named typed None object is = not_invoked judged.NoObject is (λ e. absurd cc)
       by_object l t named typed (Some i) object is = by_operation l t i named typed object (operation_of v.program i m.text) refl is
 
+      by_role : (l : Local) → local v o.text ≡ Some l → (b : Bool) → invoked v o m ≡ (if b then of_type v m l.type else judged.NoObject) → IsInvoked kinds v way o m es
+      by_role l named false is = not_invoked judged.NoObject is (λ e. absurd cc)
+      by_role l named true is =
+          let known = (opening_at v plain_scope o l named).known in
+          by_object l known.0 named known.1 (object_in (outside_of known.0)) refl (is ∙ ap (of_type v m) known.1)
+
       by_local : (x : Option Local) → local v o.text ≡ x → IsInvoked kinds v way o m es
       by_local None named = by_outer (stands_for v.program v.home o.text) (ap (of_local v o m) named)
-      by_local (Some l) named =
-          let known = (opening_at v plain_scope o l named).known in
-          by_object l known.0 named known.1 (object_in (outside_of known.0)) refl (ap (of_local v o m) named ∙ ap (of_type v m) known.1)
+      by_local (Some l) named = by_role l named (may_be_object l.role) (ap (of_local v o m) named)
 
 -- ---- forks
 

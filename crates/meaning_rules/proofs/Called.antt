@@ -184,7 +184,7 @@ module _ (kinds : Kinds) (call : Calls) (v : Scope) (plain_scope : IsPlain v) (f
   parts : (c : Called) → (Judged c).breaches ≡ [] →
       (function_rules v way n es c ≡ []) × (arguments v (signature_of c).formals es ≡ []) × ((Judged c).is ≡ result_type (signature_of c).result)
   parts c none =
-      let all = unless_none (function_rules v way n es c ++ (arguments v (signature_of c).formals es ++ roots_differ [] (signature_of c).formals es)) (result_type (signature_of c).result) none in (
+      let all = unless_none (function_rules v way n es c ++ (arguments v (signature_of c).formals es ++ roots_differ (signature_of c).formals es)) (result_type (signature_of c).result) none in (
         left_none (function_rules v way n es c) _ all,
         left_none (arguments v (signature_of c).formals es) _ (right_none (function_rules v way n es c) _ all),
         ap (λ f. f.is) (unless_is _ (result_type (signature_of c).result) all),

@@ -244,16 +244,16 @@ module _ (kinds : Kinds) (call : Calls) (call_front : (i : ℕ) (ps : List Passe
         until_preserves v (Of v (typed v test).is) (eval call v test) (eval_front v test) (eval_preserves kinds call call_front v st test sound.1 tested) flow k)))
     run_preserves v st (syn.Fork at p es on) sound none =
         let one = right_none (forks v at) (fork_rules p es (forked v p) ++ (arguments v (forked_signature (forked v p)).formals es
-        ++ (roots_differ [] (forked_signature (forked v p)).formals es ++ wants_if_any v 25 is_integer on))) none in
+        ++ (roots_differ (forked_signature (forked v p)).formals es ++ wants_if_any v 25 is_integer on))) none in
         let two = right_none (fork_rules p es (forked v p)) (arguments v (forked_signature (forked v p)).formals es
-        ++ (roots_differ [] (forked_signature (forked v p)).formals es ++ wants_if_any v 25 is_integer on)) one in
-        let three = right_none (arguments v (forked_signature (forked v p)).formals es) (roots_differ [] (forked_signature (forked v p)).formals es ++ wants_if_any v 25 is_integer on) two in
+        ++ (roots_differ (forked_signature (forked v p)).formals es ++ wants_if_any v 25 is_integer on)) one in
+        let three = right_none (arguments v (forked_signature (forked v p)).formals es) (roots_differ (forked_signature (forked v p)).formals es ++ wants_if_any v 25 is_integer on) two in
         let f = is_forked kinds v st.facts p es (left_none (fork_rules p es (forked v p)) _ one) in
         let given : arguments v f.signed.formals es ≡ [] = ap (λ s. arguments v s.formals es) (sym f.is) ∙ left_none (arguments v (forked_signature (forked v p)).formals es) _ two in
         first_then v (List Datum) Flow (λ xs. AreTyped kinds v xs es) (Leaving v) (eval_all call v es) _ (everywhere.all_holds Front fronts call call_front v es)
         (all_preserves kinds call call_front v st es sound.1 (clean_arguments v f.signed.formals es given)) (λ xs h.
         first_then v (Option ℤ) Flow Any (Leaving v) (member call v on) _ (everywhere.member_holds Front fronts call call_front v on)
-        (member_preserves v st at p es on sound (right_none (roots_differ [] (forked_signature (forked v p)).formals es) _ three)) (λ m done.
+        (member_preserves v st at p es on sound (right_none (roots_differ (forked_signature (forked v p)).formals es) _ three)) (λ m done.
         first_then v (Option Datum) Flow Any (Leaving v) (callables.fork v p xs m) _ (everywhere.fork_holds Front fronts v p xs m)
         (f.forks xs m (are_taken kinds v st.facts st.laws f.signed.formals es xs f.known given f.many h)) (λ y forked_so. goes v Flow (Leaving v) On tt)))
     run_preserves v st (syn.WriteLine at es) sound none =

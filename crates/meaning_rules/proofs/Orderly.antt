@@ -159,7 +159,7 @@ module _ (us : List Source) where
       block_breaches us m o find_kind v ps r b ≡ [] → stmts_breaches (block_scope us m o find_kind v ps r b) b.statements ≡ []
   block_order m o find_kind v ps r b none =
       let stmts = stmts_breaches (block_scope us m o find_kind v ps r b) b.statements in
-      let one = right_none (are_new [] (own_names ps b)) _ none in
+      let one = right_none (are_new (own_names ps b)) _ none in
       let two = right_none (are_free us m [] (own_names ps b)) _ one in
       let three = right_none (parameters_breaches v ps) _ two in
       let four = right_none (result_breaches v r) _ three in
@@ -299,7 +299,7 @@ module _ (us : List Source) where
   operation_order : (t : ObjectType) (o : Operation) → operation_breaches us t.home t.fields o ≡ [] → IsSoundOperation o → BodyInOrder (operation_scope us t o false) o.body
   operation_order t o none sound =
       let scope : Bool → Scope = implementation_scope us t.home (operation_locals us t.home t.fields o) (result_of (operation_view us t.home t.fields o) o.head.result) in
-      let one = right_none (are_new [] (operation_names o)) _ none in
+      let one = right_none (are_new (operation_names o)) _ none in
       let two = right_none (are_free us t.home (texts (field_names t.fields)) (operation_names o)) _ one in
       let three = right_none (values_breaches (operation_view us t.home t.fields o) o.head.parameters) _ two in
       let four = right_none (result_breaches (operation_view us t.home t.fields o) o.head.result) _ three in
@@ -316,7 +316,7 @@ module _ (us : List Source) where
       let t : ObjectType = record { home = m; fields = fields; operations = os; begins = opening } in
       let opened = opening_breaches (implementation_scope us m (field_locals us m fields) None false) opening in
       let one = right_none (asks 11 n.at (is_specified_in m (specification us n.text))) _ none in
-      let two = right_none (are_new [] (field_names fields ++ map (λ o. o.head.name) os)) _ one in
+      let two = right_none (are_new (field_names fields ++ map (λ o. o.head.name) os)) _ one in
       let three = right_none (are_free us m [] (field_names fields)) _ two in
       let four = right_none (variables_breaches (data_found (fields_view us m fields)) fields) _ three in
       let five = right_none (heads_of (specification us n.text) os (heads_match us m fields)) (flat_map (operation_breaches us m fields) os ++ opened) four in

@@ -49,7 +49,7 @@ mapped_at p g xs y is = by (find p xs) refl is
     by None e f = absurd cc
     by (Some d) e f = slice_get-map g xs (unwrap_or (position p xs) 0) ∙ (ap (option_map g) (at_place p xs d e) ∙ f)
 
-field_placed : (v : Scope) (f : List ℕ) (t : TopName) (what : What) (u : Option DataType) → field_of_what v t f what ≡ Some u →
+field_placed : (v : Scope) (f : List ℕ) (t : TopName) (what : What) (u : Option DataType) → field_of_what v.program t f what ≡ Some u →
     slice_get (map (λ d. type_of (data_found (whole_module v.program t) d.kind)) (fields_of_what what))
     (unwrap_or (position (λ d. bytes_eq d.name.text f) (fields_of_what what)) 0) ≡ Some u
 field_placed v f t (top.TypeName (syn.Record at fields)) u is =
@@ -63,7 +63,7 @@ field_placed v f t (top.Implemented os) u is = absurd cc
 field_placed v f t (top.Function ps r b) u is = absurd cc
 field_placed v f t (top.Process ps b) u is = absurd cc
 
-field_placed_at : (v : Scope) (f : List ℕ) (o : Option TopName) (u : Option DataType) → field_at v f o ≡ Some u →
+field_placed_at : (v : Scope) (f : List ℕ) (o : Option TopName) (u : Option DataType) → field_at v.program f o ≡ Some u →
     slice_get (option_map_or (types_in v.program) o [])
     (unwrap_or (position (λ d. bytes_eq d.name.text f) (option_map_or (λ t. fields_of_what t.what) o [])) 0) ≡ Some u
 field_placed_at v f None u is = absurd cc
