@@ -1,0 +1,6 @@
+pub mod Moments
+pub mod Handing
+pub mod Conditions
+pub mod Starts
+pub mod Bursting
+pub mod Laws
