@@ -116,7 +116,7 @@ pub record Begins (f : Frame) (single : Test) (w : World) (m : ℕ) (s : Start) 
 led : (f : Frame) (single : Test) (w : World) (m : ℕ) (c : Course) (v : NodeWork) → Carries f single w c m v → IsMoment f w m v → At f single w m (at_moment v)
 led f single w m c v k moment = record { course = c; carries = k; hand = λ e is. absurd is; moment = moment }
 
-begins : (f : Frame) (fitness : Fitness) (single : Test) (w : World) (m : ℕ) (c : Course) (s : Start) → GroupLaws → 2 * (group f).resilience < (group f).nodes → Known f fitness single w m → Follows f single w c
+pub begins : (f : Frame) (fitness : Fitness) (single : Test) (w : World) (m : ℕ) (c : Course) (s : Start) → GroupLaws → 2 * (group f).resilience < (group f).nodes → Known f fitness single w m → Follows f single w c
     → MayStart f w m s → StartStands single f c s → Begins f single w m s
 begins f fitness single w m c (Acts i) laws small known h may stands =
     let v : NodeWork = acts_of f m i ((w.nodes m).played i) (idle (w.nodes m)) in
@@ -249,10 +249,3 @@ part_fits f fitness single w m c s laws small known none plain h may stands few 
       kept = b.kept;
       moments = λ u walk. conditions f fitness single w m u known none (walks f fitness single w m (at_moment (begun f m s (w.nodes m))) u known b.at walk) (numbers u walk);
     }
-
--- where the part ends
-pub part_ends : (f : Frame) (fitness : Fitness) (single : Test) (w : World) (m : ℕ) (c : Course) (s : Start) → GroupLaws → 2 * (group f).resilience < (group f).nodes → Known f fitness single w m → Follows f single w c
-    → MayStart f w m s → StartStands single f c s → (v : NodeWork) → Walks f m (at_moment (begun f m s (w.nodes m))) (at_moment v) → At f single w m (at_moment v)
-part_ends f fitness single w m c s laws small known h may stands v walk =
-    let b = begins f fitness single w m c s laws small known h may stands in
-    walks f fitness single w m (at_moment (begun f m s (w.nodes m))) (at_moment v) known b.at walk

@@ -129,7 +129,7 @@ begun_fits fits_args fits_text kinds nodes parent place (action.Faulted fault) b
 -- ---- its lines
 
 -- who has a message out waits with its action
-waits_out : (f : Frame) (i : ℕ) (x : Runner) (stage : Stage) (y : Message) → x.message ≡ Some y → StageStands f.computes i x stage → waits_with stage ≡ Some y.action
+pub waits_out : (f : Frame) (i : ℕ) (x : Runner) (stage : Stage) (y : Message) → x.message ≡ Some y → StageStands f.computes i x stage → waits_with stage ≡ Some y.action
 waits_out f i x Computing y out is = let e : None ≡ Some y = sym is ∙ out in absurd (cc e)
 waits_out f i x (Acting act) y out is = let e : None ≡ Some y = sym is.0 ∙ out in absurd (cc e)
 waits_out f i x (Reading act) y out is = let e : None ≡ Some y = sym is.0 ∙ out in absurd (cc e)
@@ -224,15 +224,22 @@ entry_same f fitness single w c m x v program h next =
     holds : Holds single f.performs c.list c.owned m (c.applied m) v.node.copies
     holds = subst (λ (k : Copied). Holds single f.performs c.list c.owned m (c.applied m) k) (sym mine.copies) (members_hold single f.performs f.computes c h.came m)
 
+-- what it has for a process of this member
+pub entry_replies : (f : Frame) (fitness : Fitness) (single : Test) (w : World) (d : Course) (m : ℕ) (x : Message) (v : NodeWork) → Program f fitness.state fitness.args fitness.text fitness.reply
+    → Stands f single (at_work f m w v) d → slice_get d.list (d.applied m) ≡ Some x → (i : ℕ) (y : Runner) → d.runners i ≡ Some y → y.member ≡ m → IsReplyTo y (lines_by i (entry_lines f v.node x))
+entry_replies f fitness single w d m x v program st next i y runs member =
+    let hands : HandsOne single f.performs d = hand_one single f.performs f.computes d st.came in
+    subst (λ (ls : List Line). IsReplyTo y (lines_by i ls)) (sym (entry_same f fitness single w d m x v program st next))
+    (subst (λ (n : ℕ). IsReplyTo y (lines_by i (lines_after single f.performs (copies_at single f.performs d.list (d.applied n)) x))) member
+    (hands.entry i y x runs (ap (λ (n : ℕ). slice_get d.list (d.applied n)) member ∙ next)))
+
 -- the next entry may be applied
 pub entry_fits : (f : Frame) (fitness : Fitness) (single : Test) (w : World) (c : Course) (m : ℕ) (x : Message) (v : NodeWork) → Known f fitness single w m → Corresponds f single (at_work f m w v) c → IsMoment f w m v → IsDue v.node x
     → MayApply f fitness m v.node x
 entry_fits f fitness single w c m x v known k moment due = record {
   applies = mine.applies x l.next;
   lines = λ within. may_hand f fitness single w d m v (entry_lines f v.node x) l.stands
-      (λ i y runs member. subst (λ (ls : List Line). IsReplyTo y (lines_by i ls)) (sym same)
-      (subst (λ (n : ℕ). IsReplyTo y (lines_by i (lines_after single f.performs (copies_at single f.performs d.list (d.applied n)) x))) member
-      (hands.entry i y x runs (ap (λ (n : ℕ). slice_get d.list (d.applied n)) member ∙ l.next))))
+      (entry_replies f fitness single w d m x v program l.stands l.next)
       (λ a is.
       let one = fit.performed a (inside.entries (d.applied m) x a l.next (subst (λ (ls : List Line). In a ls) same is)) in
       one.2);
@@ -255,9 +262,6 @@ entry_fits f fitness single w c m x v known k moment due = record {
 
     mine : MemberMeets f.performs fitness.state fitness.args d m v.node.copies
     mine = meets f fitness single w d m v program l.stands
-
-    hands : HandsOne single f.performs d
-    hands = hand_one single f.performs f.computes d st.came
 
     same : entry_lines f v.node x ≡ lines_after single f.performs (copies_at single f.performs d.list (d.applied m)) x
     same = entry_same f fitness single w d m x v program l.stands l.next

@@ -2,5 +2,8 @@ pub mod Going
 pub mod Fitting
 pub mod Meeting
 pub mod Beginning
+pub mod Counting
+pub mod Receiving
+pub mod Smallness
 pub mod Parts
 pub mod Bursting

@@ -14,51 +14,43 @@ use Rattle.world_rules.specs.Mail.{Carried, receiver_of}
 use Rattle.world_rules.specs.Nodes.{Node}
 use Rattle.world_rules.specs.Played.{Played}
 use Rattle.world_rules.specs.Played.Stage.{Computing}
+use Rattle.world_rules.specs.Standings.{standing}
+use Rattle.world_rules.specs.declared.standing.Standing.TheVariants.{Going}
 use Rattle.world_rules.specs.Steps.{AtWork, Known, Possible, Replays, lives_in, ticks_below, untouched}
 use Rattle.world_rules.specs.Worlds.{World, home_of, played_in}
 use Rattle.node_rules.specs.Bursting.{BurstFits}
-use Rattle.node_rules.specs.Conditions.{AreSmall, Fitness}
-use Rattle.node_rules.specs.Moments.{Moment, Walks, at_work}
-use Rattle.node_rules.specs.Starts.{EventFits, Start, begun}
+use Rattle.node_rules.specs.Conditions.{Fitness}
+use Rattle.node_rules.specs.Starts.{EventFits}
 use Rattle.node_rules.specs.Starts.Start.{Acts, Comes, Ticks, Suspects}
 
 -- the settings choose no object to be single
 abbrev pub ChoosesNone : Frame → Type 0
 ChoosesNone f = (text : TextNo) (number : ℕ) → chooses_single f.settings.choices text number ≡ false
 
--- the member's numbers are small, where its part of the event begins and at each moment of it
-pub record NumbersFit (f : Frame) (m : ℕ) (start : Start) (node : Node) : Type 0 where
-  pub before : AreSmall node
-  pub moments : (u : Moment) → Walks f m (at_work (begun f m start node)) u → AreSmall u.work.node
-
--- then what is asked of the event at this member is met
-abbrev pub PartFits : Frame → Fitness → ℕ → Start → Node → Type 0
-PartFits f fitness m start node = NumbersFit f m start node → EventFits f fitness m start node
-
 -- the members below this one ticked
 abbrev pub ticking : Frame → World → ℕ → AtWork
 ticking f w m = ticks_below f m (untouched (record w { flights = ticked w.flights }))
 
--- so it is with each member that does a part in the event: whose process acts, to which a letter comes, which suspects its sequencer; and
--- with each that lives at a tick, in the world that the members below it leave
+-- what is asked of the event is met at each member that does a part in it: whose process acts, to which a letter comes, which suspects its
+-- sequencer; and at a tick each that lives, in the world that the members below it leave
 abbrev pub PartsFit : Frame → Fitness → World → Event → Type 0
-PartsFit f fitness w (event.Act process) = PartFits f fitness (home_of f w process.0) (Acts process.0) (w.nodes (home_of f w process.0))
+PartsFit f fitness w (event.Act process) = EventFits f fitness (home_of f w process.0) (Acts process.0) (w.nodes (home_of f w process.0))
 PartsFit f fitness w (event.Deliver packet copy) =
     (flight : Flight Carried) → ready_copy packet copy w.flights ≡ Some flight → lives_in f w (receiver_of flight.packet.mail) ≡ true →
-    PartFits f fitness (receiver_of flight.packet.mail) (Comes flight.packet.mail) (w.nodes (receiver_of flight.packet.mail))
+    EventFits f fitness (receiver_of flight.packet.mail) (Comes flight.packet.mail) (w.nodes (receiver_of flight.packet.mail))
 PartsFit f fitness w event.Tick =
     (m : ℕ) → m < f.settings.nodes → (ticking f w m).world.lives m ≡ true →
-    PartFits f fitness m Ticks ((ticking f w m).world.nodes m)
-PartsFit f fitness w (event.Suspect node) = PartFits f fitness node Suspects (w.nodes node)
+    EventFits f fitness m Ticks ((ticking f w m).world.nodes m)
+PartsFit f fitness w (event.Suspect node) = EventFits f fitness node Suspects (w.nodes node)
 PartsFit f fitness w (event.Burst process place turns) = Unit {0}
 PartsFit f fitness w (event.Crash node) = Unit {0}
 PartsFit f fitness w event.Swap = Unit {0}
 
--- so it is of each possible event in every run of a program with these meanings, by settings that a run may have
+-- so it is of each possible event, while a run of a program with these meanings is going, by settings that a run may have
 abbrev pub PlainCallsFit : Performs → Computes → Fitness → Type 0
 PlainCallsFit p q fitness =
     (f : Frame) → f.performs ≡ p → f.computes ≡ q → AreSettings f.settings → ChoosesNone f → (steps : List Step) (w : World) →
-    Replays f steps w → (event : Event) (given : Known event) → Possible f w event given → PartsFit f fitness w event
+    Replays f steps w → standing f w ≡ Going → (event : Event) (given : Known event) → Possible f w event given → PartsFit f fitness w event
 
 -- ---- bursts, also where objects are single
 

@@ -1,8 +1,8 @@
 //! What the calls of a run's members ask is met (docs/RUNTIME.md, The world of a run).
 //!
 //! `node_rules` says what a member's code is asked at each moment of its part of an event. Here it is shown of each possible event of a run
-//! in which no object is single, where the numbers of members and of calls are small: at each moment the world stands for a course of the
-//! book's law (`world_course`), beside a run of the group (`world_law`), and these say the conditions. It has no code: its function is a
+//! in which no object is single: at each moment the world stands for a course of the book's law (`world_course`), beside a run of the group
+//! (`world_law`), and these say the conditions; and a process receives one reply at most in a part, so that numbers stay small. It has no code: its function is a
 //! law, whose body calls theirs.
 #![tactic(auto)]
 
@@ -14,14 +14,14 @@ use group_law::agreement_law;
 use group_rules::wire_law;
 use value_core::{Message, Processor, Reply};
 use world_course::worlds_are_courses;
-use world_law::group_steps;
+use world_law::{group_steps, numbers_stay_small};
 
 /// The calls of members in every run of a lawful program, for every setting that a run may have and every list of steps. A call of this
 /// function does nothing.
 ///
-/// - `plain`: where the settings choose no object to be single, `EventFits` of `node_rules` holds of each member's part of each possible
-///   event, by the machine's predicates, provided that its numbers are small: of a process's action, of a letter that comes, of a
-///   suspicion, and at a tick of each living member, in the world that the members below it leave.
+/// - `plain`: while a run is going whose settings choose no object to be single, `EventFits` of `node_rules` holds of each member's part of
+///   each possible event, by the machine's predicates: of a process's action, of a letter that comes, of a suspicion, and at a tick of each
+///   living member, in the world that the members below it leave.
 /// - `bursts`: also where objects are single, `BurstFits` holds of each process that computes and has turns left, on its member's copies.
 pub fn calls_fit<P: Processor>(machine: &P)
     ensures plain {
@@ -46,6 +46,7 @@ pub fn calls_fit<P: Processor>(machine: &P)
     agreement_law::<Message>();
     wire_law::<Message, Reply>();
     group_steps();
+    numbers_stay_small();
     worlds_are_courses(machine);
     every_call_fits(machine);
 }

@@ -67,11 +67,12 @@ returns g c =
       program = program_of f (g.P.Performer.performs m) (g.P.Processor.computes m) fitness.state fitness.args fitness.text fitness.reply program (g.met.P.Processor.settled m) same_p same_q settings;
       group = group;
       moments = c.group_steps.ensures.moments;
+      counts = c.numbers_stay_small.ensures.steps;
+      counting = c.numbers_stay_small.ensures.moments;
     } in
     record {
-      plain = λ f same_p same_q settings none trail w replays e given possible.
-          let l = laws f same_p same_q settings in
-          parts_fit f fitness w e given l none (replayed f trail w l.book replays) possible;
+      plain = λ f same_p same_q settings none trail w replays going e given possible.
+          parts_fit f fitness trail w e given (laws f same_p same_q settings) none replays going possible;
       bursts = λ f same_p same_q settings trail w replays i r here computes some.
           let l = laws f same_p same_q settings in
           let h = course_of f w (replayed f trail w l.book replays) in
