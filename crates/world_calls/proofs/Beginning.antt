@@ -1,5 +1,5 @@
 -- Where a member's part begins: its first piece may be done, and leaves a world that stands for a course, beside a run of the group.
-use Rattle.std.proofs.Common.{◌≡◌, ◌≤◌, ◌<◌, ◌*◌, ◌==◌, ◌%◌, ℕ, Bool, true, false, List, [], ◌∷◌, length, Option, None, Some, inl, inr, refl, sym, ap, ◌∙◌, subst, arith, take, if◌then◌else◌}
+use Rattle.std.proofs.Common.{◌≡◌, ◌<◌, ◌*◌, ◌%◌, ℕ, Bool, true, false, Option, None, Some, refl, sym, ap, ◌∙◌, subst, arith, take, if◌then◌else◌}
 use Rattle.orca_base.specs.declared.ids.ObjectId.{ObjectId}
 use Rattle.value_core.specs.declared.action.Action.{Action}
 use Rattle.value_core.specs.declared.action.Action.TheVariants as action
@@ -13,13 +13,13 @@ use Rattle.group_rules.specs.Member.Kind.{Request, Body, Order, Entry, Ack, Acce
 use Rattle.group_rules.specs.Messages.{Group}
 use Rattle.group_rules.specs.Reset.{coordinate}
 use Rattle.group_rules.specs.Steps.{deliver, timer}
-use Rattle.group_rules.specs.World.{GroupWorld, Sent, opening, run}
+use Rattle.group_rules.specs.World.{GroupWorld, Sent}
 use Rattle.group_law.specs.Promise as promise
 use Rattle.group_law.specs.Sends.{ByRoute, Routed, RoutesLaw}
 use Rattle.book_law.specs.Course.{Course}
 use Rattle.book_law.specs.Passes.{Test}
 use Rattle.world_rules.specs.Frame.{Frame, group}
-use Rattle.world_rules.specs.Mail.{Errand, Mail, receiver_of}
+use Rattle.world_rules.specs.Mail.{Mail}
 use Rattle.world_rules.specs.Nodes.{NodeWork, entries_of, idle, joins}
 use Rattle.world_rules.specs.Nodes.{known as known_by}
 use Rattle.world_rules.specs.Owners.{arrives}
@@ -36,18 +36,16 @@ use Rattle.world_law.proofs.Still.{Still, still_arrives, still_asks, still_readi
 use Rattle.world_law.proofs.Walking.{good_begun}
 use Rattle.world_law.proofs.Walking.Start.{Acted}
 use Rattle.world_law.proofs.Walking.{Allowed}
-use Rattle.world_course.specs.Corresponds.{Corresponds}
-use Rattle.world_course.specs.Errands.{ErrandStands, Follows, MailStands}
+use Rattle.world_course.specs.Errands.{Follows, MailStands}
 use Rattle.world_course.specs.Processes.{StageStands}
-use Rattle.world_course.specs.Works.{at_work}
 use Rattle.world_course.proofs.Carrying.{Carries, joins_carries}
 use Rattle.world_course.proofs.Doing.{acts_carry}
 use Rattle.world_course.proofs.Parts.{idle_carries}
 use Rattle.world_course.proofs.Reaching.{arrives_carries}
-use Rattle.node_rules.specs.Conditions.{AreSmall, Conditions, Fitness}
+use Rattle.node_rules.specs.Conditions.{AreSmall, Fitness}
 use Rattle.node_rules.specs.Moments.{Moment, Walks}
 use Rattle.node_rules.specs.Moments.{at_work as at_moment}
-use Rattle.node_rules.specs.Starts.{EventFits, JoinFits, KindFits, LetterFits, MailFits, MayAct, NewsFits, Start, StartFits, begun}
+use Rattle.node_rules.specs.Starts.{EventFits, KindFits, LetterFits, MailFits, MayAct, Start, StartFits, begun}
 use Rattle.node_rules.specs.Starts.Start.{Acts, Comes as CameIn, Ticks, Suspects}
 use Rattle.world_calls.proofs.Fitting.{read_fits, starts_at}
 use Rattle.world_calls.proofs.Going.{At, Known, walks}

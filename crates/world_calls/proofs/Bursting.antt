@@ -1,5 +1,5 @@
 -- What a burst asks of the view of its member's copies: wherever it comes by reads, a course comes to, in which they are read.
-use Rattle.std.proofs.Common.{◌≡◌, ◌≤◌, ◌<◌, ◌+◌, ◌-◌, min, ℕ, Bool, true, false, List, [], ◌∷◌, ◌++◌, Option, Some, None, inl, inr, refl, sym, ap, ◌∙◌, subst, arith}
+use Rattle.std.proofs.Common.{◌≡◌, ◌≤◌, ◌<◌, ◌+◌, ◌-◌, min, ℕ, List, [], ◌∷◌, ◌++◌, Option, Some, None, inl, refl, sym, ap, ◌∙◌, subst, arith}
 use Rattle.std.specs.Prelude.{IsTrue, is_some, not}
 use Rattle.orca_base.specs.declared.limits.TheConstants.{BURST_TURNS}
 use Rattle.orca_base.specs.declared.ids.KindNo.{KindNo}
@@ -8,7 +8,6 @@ use Rattle.orca_base.specs.declared.ids.ObjectId.{ObjectId}
 use Rattle.orca_base.specs.declared.ids.ProcessNo.{ProcessNo}
 use Rattle.value_core.specs.Datum.{Data}
 use Rattle.value_core.specs.History.{Objects, most_turns, object_at}
-use Rattle.value_core.specs.declared.action.Action.{Action}
 use Rattle.value_core.specs.declared.action.Action.TheVariants as action
 use Rattle.value_core.specs.declared.action.Instance.{Instance}
 use Rattle.value_core.specs.declared.action.Line.{Line}
@@ -26,7 +25,7 @@ use Rattle.book_law.specs.Passes.{Test}
 use Rattle.book_law.proofs.Courses.{at_own}
 use Rattle.world_rules.specs.Bursts.{Halts, last_turn, read_line, read_on}
 use Rattle.world_rules.specs.Frame.{Frame}
-use Rattle.world_rules.specs.Played.{Played, Stage}
+use Rattle.world_rules.specs.Played.{Played}
 use Rattle.world_rules.specs.Played.Stage.{Computing}
 use Rattle.world_rules.specs.Worlds.{World}
 use Rattle.world_course.specs.Corresponds.{IsMember, Stands}

@@ -1,6 +1,5 @@
 -- At each moment of a member's part its numbers of entries and of incarnations are small.
-use Rattle.std.proofs.Common.{◌≡◌, ◌≤◌, ◌<◌, ◌*◌, ◌+◌, ℕ, zero, suc, Bool, true, false, List, [], ◌∷◌, length, Option, None, Some, refl, sym, ap, ◌∙◌, subst, arith, if◌then◌else◌}
-use Rattle.std.proofs.lemmas.Bool.{lt-ltb}
+use Rattle.std.proofs.Common.{◌≡◌, ◌≤◌, ◌*◌, ◌+◌, ℕ, suc, Bool, true, false, List, length, Option, None, Some, refl, sym, ap, ◌∙◌, subst, arith, if◌then◌else◌}
 use Rattle.orca_base.specs.declared.limits.TheConstants.{EVENTS, NODES}
 use Rattle.value_core.specs.declared.action.Action.{Action}
 use Rattle.value_core.specs.declared.action.Action.TheVariants as action
@@ -9,14 +8,11 @@ use Rattle.value_core.specs.declared.action.Class.TheVariants.{Reads, Writes}
 use Rattle.value_core.specs.declared.message.Message.{Message}
 use Rattle.guard_queue.specs.declared.queue.Suspended.{Suspended}
 use Rattle.object_manager.specs.State.{message_of}
-use Rattle.group_rules.specs.Reset.{coordinate}
-use Rattle.group_rules.specs.Steps.{deliver, timer}
 use Rattle.group_rules.specs.World.{GroupWorld, may_submit}
 use Rattle.book_law.proofs.Courses.{at_own}
-use Rattle.world_rules.specs.Applying.{notes}
 use Rattle.world_rules.specs.Frame.{Frame, group}
 use Rattle.world_rules.specs.Mail.{Mail}
-use Rattle.world_rules.specs.Nodes.{Deed, Node, NodeWork, idle, joins, past_after, plays}
+use Rattle.world_rules.specs.Nodes.{Deed, Node, NodeWork, idle, past_after, plays}
 use Rattle.world_rules.specs.Nodes.{known as known_by}
 use Rattle.world_rules.specs.Owners.{arrives, holds, takes}
 use Rattle.world_rules.specs.Parts.{acts_at, acts_by, acts_of, asks, asks_again_of, calls, calls_as, submits}
@@ -25,7 +21,6 @@ use Rattle.world_rules.specs.Played.Stage.{Computing, Acting, Submitted, Reading
 use Rattle.world_rules.specs.Processes.{singles_of}
 use Rattle.world_rules.specs.Worlds.{World, group_world}
 use Rattle.world_law.specs.Counts.{Counted, CountedAt, HasSmallNumbers, MomentsCount}
-use Rattle.world_law.specs.Grouped.{Comes}
 use Rattle.world_law.specs.Moments.{IsMoment, Lives, world_at}
 use Rattle.world_law.proofs.AtWork.{at_start, at_still}
 use Rattle.world_law.proofs.Events.{world_is}

@@ -1,8 +1,7 @@
 -- What the calls of a member's part ask at a moment, from the course that the world stands for there: of its copies, of its next entry,
 -- and of the reads that wait.
-use Rattle.std.proofs.Common.{◌≡◌, ◌≤◌, ◌<◌, ◌==◌, ℕ, zero, suc, Bool, true, false, List, [], ◌∷◌, ◌++◌, Option, Some, None, inl, inr, refl, sym, ap, ◌∙◌, subst, arith, take, if◌then◌else◌}
+use Rattle.std.proofs.Common.{◌≡◌, ◌≤◌, ◌==◌, ℕ, zero, suc, Bool, true, false, List, [], ◌∷◌, ◌++◌, Some, None, inl, inr, refl, sym, ap, ◌∙◌, subst, arith, take, if◌then◌else◌}
 use Rattle.std.specs.Prelude.{slice_get}
-use Rattle.orca_base.specs.declared.ids.ProcessNo.{ProcessNo}
 use Rattle.orca_base.specs.declared.ids.KindNo.{KindNo}
 use Rattle.orca_base.specs.declared.ids.OpNo.{OpNo}
 use Rattle.orca_base.specs.declared.ids.ObjectId.{ObjectId}
@@ -17,15 +16,14 @@ use Rattle.value_core.specs.declared.meaning.Doing.TheVariants as doing
 use Rattle.value_core.specs.declared.message.Message.{Message}
 use Rattle.guard_queue.specs.Settles.{Settling}
 use Rattle.object_manager.specs.After.{Copied, acted, lines_after as lines_applied, settled_after}
-use Rattle.object_manager.specs.Applies.{Applies, CopiesBlocked, CopiesFit}
 use Rattle.object_manager.specs.Viewed.{ReadFits}
-use Rattle.book_law.specs.Book.{book, copies_at}
+use Rattle.book_law.specs.Book.{copies_at}
 use Rattle.book_law.specs.Conditions.{MemberMeets}
-use Rattle.book_law.specs.Course.{Came, Course}
+use Rattle.book_law.specs.Course.{Course}
 use Rattle.book_law.specs.Events.{In, Makes, Runner, lines_by}
 use Rattle.book_law.specs.Fitness.{ArgsFit, IsAtCall, TextFits}
 use Rattle.book_law.specs.Machines.{ActionFits, AllFit}
-use Rattle.book_law.specs.Members.{Holds, copies_of}
+use Rattle.book_law.specs.Members.{Holds}
 use Rattle.book_law.specs.Passes.{Test, is_passed, lines_after}
 use Rattle.book_law.specs.Promise.{IsInBook, WereAsked}
 use Rattle.book_law.specs.Replies.{HandsOne, IsReplyTo}
@@ -57,8 +55,8 @@ use Rattle.world_course.proofs.Listing.{Listed, listed}
 use Rattle.world_course.proofs.Program.{Program, callable, fitting}
 use Rattle.world_course.proofs.Tries.{node_at, objects_here}
 use Rattle.node_rules.specs.Conditions.{Fitness, MayApply}
-use Rattle.node_rules.specs.Handing.{MayHandAll, MayReceive, waits_with}
-use Rattle.node_rules.specs.Moments.{IsDue, born_of, entry_lines}
+use Rattle.node_rules.specs.Handing.{MayHandAll, waits_with}
+use Rattle.node_rules.specs.Moments.{IsDue, entry_lines}
 use Rattle.world_calls.proofs.Going.{Known, agreed_at}
 
 -- ---- the copies

@@ -1,15 +1,15 @@
 -- At each moment of a member's part the world stands for a course, beside a run of the group: piece by piece.
-use Rattle.std.proofs.Common.{◌≡◌, ◌≤◌, ◌<◌, ◌==◌, ℕ, suc, Bool, true, false, nat_lt, if◌then◌else◌, List, [], ◌∷◌, inl, inr, refl, sym, ap, ◌∙◌, subst, arith, take}
+use Rattle.std.proofs.Common.{◌≡◌, ◌<◌, ◌==◌, ℕ, suc, Bool, true, false, nat_lt, if◌then◌else◌, List, [], inl, inr, refl, sym, ap, ◌∙◌, subst, arith, take}
 use Rattle.value_core.specs.declared.message.Message.{Message}
 use Rattle.group_rules.specs.Member.{Member}
 use Rattle.group_rules.specs.Steps.{note}
 use Rattle.object_manager.specs.After.{Copied}
-use Rattle.book_law.specs.Course.{Came, Course}
+use Rattle.book_law.specs.Course.{Course}
 use Rattle.book_law.specs.Events.{In}
 use Rattle.book_law.specs.Passes.{Test}
 use Rattle.world_rules.specs.Applying.{copies_take, notes, tries_read}
 use Rattle.world_rules.specs.Frame.{Frame, group}
-use Rattle.world_rules.specs.Mail.{Errand, place_of}
+use Rattle.world_rules.specs.Mail.{Errand}
 use Rattle.world_rules.specs.Nodes.{Deed, NodeWork, joins, past_after}
 use Rattle.world_rules.specs.Nodes.{known as known_by}
 use Rattle.world_rules.specs.Owners.{holds, takes}
@@ -24,7 +24,7 @@ use Rattle.world_law.proofs.Events.{world_is}
 use Rattle.world_law.proofs.Still.{Still, still_again_of, still_read, still_takes}
 use Rattle.world_course.specs.Chain.{Leads}
 use Rattle.world_course.specs.Chain.Leads.{Stays}
-use Rattle.world_course.specs.Corresponds.{Agrees, Corresponds, Lifts, Stands}
+use Rattle.world_course.specs.Corresponds.{Agrees, Corresponds, Lifts}
 use Rattle.world_course.specs.Errands.{ErrandStands}
 use Rattle.world_course.specs.Group.{IsAccepted, IsAgreed}
 use Rattle.world_course.specs.Works.{at_work}
@@ -39,7 +39,7 @@ use Rattle.world_course.proofs.Silent.{Silent, silent_entry, silent_notes, silen
 use Rattle.world_course.proofs.Tries.{read_lifts}
 use Rattle.world_course.proofs.Working.{OnlyPlays, entry_only}
 use Rattle.node_rules.specs.Conditions.{Fitness}
-use Rattle.node_rules.specs.Moments.{Goes, IsDue, Moment, Walks, holds_none, takes_entry, works}
+use Rattle.node_rules.specs.Moments.{Goes, Moment, Walks, holds_none, takes_entry, works}
 use Rattle.node_rules.specs.Moments.Goes.{Takes_entry, Tries_read, Notes, Opens, Takes, Holds, Asks_again}
 
 -- what is known of a member's part: the program, the group, and a test that agrees with what any processes choose

@@ -1,5 +1,5 @@
 -- Each member's part of each possible event of a run in which no object is single.
-use Rattle.std.proofs.Common.{◌≡◌, ◌<◌, ◌≤◌, ◌*◌, ◌+◌, ◌&&◌, ℕ, zero, suc, Bool, true, false, List, [], ◌∷◌, ◌++◌, length, nat_le, Option, None, Some, refl, sym, ap, ◌∙◌, subst, arith, if◌then◌else◌}
+use Rattle.std.proofs.Common.{◌≡◌, ◌<◌, ◌≤◌, ◌*◌, ◌+◌, ℕ, zero, suc, Bool, true, false, List, [], ◌∷◌, ◌++◌, length, nat_le, Option, None, Some, refl, sym, ap, ◌∙◌, subst, arith, if◌then◌else◌}
 use Rattle.std.specs.Prelude.{slice_get}
 use Rattle.std.proofs.lemmas.Bool.{and_parts, leb-false, lt-ltb}
 use Rattle.orca_base.specs.declared.ids.ObjectId.{ObjectId}
@@ -8,8 +8,7 @@ use Rattle.value_core.specs.declared.action.Line.{Line}
 use Rattle.value_core.specs.declared.action.Reply.{Reply}
 use Rattle.value_core.specs.declared.message.Message.{Message}
 use Rattle.group_rules.specs.World.{Event as GroupEvent}
-use Rattle.net_rules.specs.declared.flight.Flight.{Flight}
-use Rattle.net_rules.specs.Flights.{ready_copy, ticked}
+use Rattle.net_rules.specs.Flights.{ticked}
 use Rattle.book_law.specs.Book.{book}
 use Rattle.book_law.specs.Course.{Course}
 use Rattle.book_law.specs.Replicated.{all_replicated}
@@ -20,16 +19,16 @@ use Rattle.world_rules.specs.declared.standing.Standing.{Standing}
 use Rattle.world_rules.specs.declared.standing.Standing.TheVariants.{OutOfEvents, OutOfTurns, Going as IsGoing}
 use Rattle.orca_base.specs.declared.what.What.{What}
 use Rattle.orca_base.specs.declared.what.What.TheVariants as what
-use Rattle.world_rules.specs.Frame.{AreSettings, Frame, group}
-use Rattle.world_rules.specs.Mail.{Carried, Mail, receiver_of}
+use Rattle.world_rules.specs.Frame.{AreSettings, Frame}
+use Rattle.world_rules.specs.Mail.{Mail, receiver_of}
 use Rattle.world_rules.specs.Nodes.{Node, idle}
 use Rattle.world_rules.specs.Nodes.{known as known_by}
 use Rattle.world_rules.specs.Parts.{ticks}
-use Rattle.world_rules.specs.Played.{Played, Stage}
+use Rattle.world_rules.specs.Played.{Stage}
 use Rattle.world_rules.specs.Played.Stage.{Computing, Acting, Submitted, Reading, Asking, Over}
 use Rattle.world_rules.specs.Processes.{Begun, processes_in, single_by, singles_of}
 use Rattle.world_rules.specs.Standings.{after_limit, first_of, is_out_of_events, is_out_of_turns, limit, limit_below, lines_limit, standing}
-use Rattle.world_rules.specs.Steps.{AtWork, Known as Given, Leads, Next, Possible, Replays, does_part, lives_in, may_act_as, ticks_at, ticks_below, untouched}
+use Rattle.world_rules.specs.Steps.{AtWork, Known as Given, Leads, Next, Possible, Replays, does_part, may_act_as, ticks_below, untouched}
 use Rattle.world_rules.specs.Worlds.{Book, World, agreed, group_world, home_of, opening_world, played_in, singles_in}
 use Rattle.world_law.specs.Counts.{AfterSteps, AllCount, AllMomentsCount, Counted, MomentsCount, StepsCount}
 use Rattle.world_law.specs.Grouped.{Come, Grouped, MaySubmit, Submits}
@@ -47,8 +46,8 @@ use Rattle.book_law.proofs.Courses.{at_other}
 use Rattle.world_book.proofs.Kept.{HasCourse, Kept, book_kept, course_of, kept_may, replayed, stands_for}
 use Rattle.world_book.proofs.Kept.{Laws as BookLaws}
 use Rattle.world_book.proofs.Submitting.{run_of}
-use Rattle.node_rules.specs.Conditions.{AreSmall, Fitness}
-use Rattle.node_rules.specs.Moments.{Moment, Walks}
+use Rattle.node_rules.specs.Conditions.{Fitness}
+use Rattle.node_rules.specs.Moments.{Walks}
 use Rattle.node_rules.specs.Moments.{at_work as at_moment}
 use Rattle.node_rules.specs.Starts.{EventFits, Start, begun}
 use Rattle.node_rules.specs.Starts.Start.{Acts, Comes, Ticks, Suspects}

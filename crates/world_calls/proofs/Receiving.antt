@@ -1,6 +1,6 @@
 -- A process receives one reply at most in a part of an event, and has at most as many as the book has lines where that begins.
-use Rattle.std.proofs.Common.{◌≡◌, ◌≤◌, ◌<◌, ◌==◌, ◌+◌, ◌⊎◌, inl, inr, ℕ, zero, suc, Bool, true, false, nat_lt, List, [], ◌∷◌, ◌++◌, length, Option, None, Some, refl, sym, ap, ◌∙◌, subst, arith, if◌then◌else◌}
-use Rattle.std.specs.Prelude.{option_map, slice_get}
+use Rattle.std.proofs.Common.{◌≡◌, ◌≤◌, ◌==◌, ◌+◌, ◌⊎◌, inl, inr, ℕ, zero, suc, Bool, true, false, List, [], ◌∷◌, ◌++◌, length, Option, None, Some, refl, sym, ap, ◌∙◌, subst, arith, if◌then◌else◌}
+use Rattle.std.specs.Prelude.{slice_get}
 use Rattle.std.proofs.lemmas.Bool.{cases_eq}
 use Rattle.std.proofs.lemmas.List.{length-append, length-map}
 use Rattle.value_core.specs.Datum as datum
@@ -13,7 +13,6 @@ use Rattle.value_core.specs.declared.action.Reply.{Reply}
 use Rattle.value_core.specs.declared.meaning.Tried.{Tried}
 use Rattle.value_core.specs.declared.message.Message.{Message}
 use Rattle.guard_queue.specs.Settles.{is_blocked}
-use Rattle.group_rules.specs.Steps.{note}
 use Rattle.orca_base.specs.declared.ids.CallNo.{CallNo}
 use Rattle.book_law.specs.Book.{book}
 use Rattle.book_law.specs.Course.{Came, Course, with_at}
@@ -23,13 +22,13 @@ use Rattle.book_law.specs.Replies.{IsReplyTo}
 use Rattle.book_law.proofs.Kept.{Kept, Stands, answer_lines, as_process}
 use Rattle.book_law.proofs.Courses.{at_other, at_own, came_sound}
 use Rattle.book_law.proofs.Processes.{born_among, replies_after}
-use Rattle.world_rules.specs.Applying.{notes, performs_read, tries_as, tries_of, tries_read}
+use Rattle.world_rules.specs.Applying.{performs_read, tries_as, tries_of, tries_read}
 use Rattle.world_rules.specs.Bursts.{read_line, read_on}
-use Rattle.world_rules.specs.Frame.{Frame, group}
+use Rattle.world_rules.specs.Frame.{Frame}
 use Rattle.world_rules.specs.Nodes.{NodeWork, does, plays}
 use Rattle.world_rules.specs.Nodes.Deed.{Performs}
 use Rattle.world_rules.specs.Owners.{hears_as, hears_of}
-use Rattle.world_rules.specs.Played.{Played, Stage, moves_to, receives}
+use Rattle.world_rules.specs.Played.{Played, Stage, receives}
 use Rattle.world_rules.specs.Played.Stage.{Computing, Acting, Submitted, Reading, Asking, Over}
 use Rattle.world_course.proofs.Applied.{received}
 

@@ -1,6 +1,6 @@
 -- At each moment of a member's part all its numbers are small, where no object is single.
-use Rattle.std.proofs.Common.{◌≡◌, ◌≤◌, ◌<◌, ◌*◌, ◌+◌, ◌^◌, ◌⊎◌, inl, inr, ℕ, zero, suc, ◌==◌, ◌||◌, Bool, true, false, nat_lt, List, [], ◌∷◌, length, Option, None, Some, refl, sym, ap, ◌∙◌, subst, arith, if◌then◌else◌}
-use Rattle.std.specs.Prelude.{option_map, slice_get}
+use Rattle.std.proofs.Common.{◌≡◌, ◌≤◌, ◌*◌, ◌+◌, ◌⊎◌, inl, inr, ℕ, suc, ◌==◌, ◌||◌, Bool, true, false, nat_lt, List, [], ◌∷◌, length, Option, None, Some, refl, sym, ap, ◌∙◌, subst, arith, if◌then◌else◌}
+use Rattle.std.specs.Prelude.{option_map}
 use Rattle.std.proofs.lemmas.Bool.{cases_eq}
 use Rattle.orca_base.specs.declared.ids.ObjectId.{ObjectId}
 use Rattle.orca_base.specs.declared.limits.TheConstants.{EVENTS, HISTORY_LINES, NODES}
@@ -14,16 +14,16 @@ use Rattle.guard_queue.specs.declared.queue.Suspended.{Suspended}
 use Rattle.object_manager.specs.State.{message_of}
 use Rattle.group_rules.specs.Steps.{note}
 use Rattle.book_law.specs.Course.{Course}
-use Rattle.book_law.specs.Events.{In, Runner, lines_by}
+use Rattle.book_law.specs.Events.{In, lines_by}
 use Rattle.book_law.specs.Passes.{Test}
-use Rattle.world_rules.specs.Applying.{notes, tries_read}
+use Rattle.world_rules.specs.Applying.{notes}
 use Rattle.world_rules.specs.Frame.{Frame, group}
 use Rattle.world_rules.specs.Mail.{Errand, Mail}
 use Rattle.world_rules.specs.Mail.Errand.{Ask, Answer}
 use Rattle.world_rules.specs.Nodes.{Node, NodeWork, idle, joins, plays}
 use Rattle.world_rules.specs.Nodes.{known as known_by}
 use Rattle.world_rules.specs.Owners.{arrives, holds, is_held, sends, takes}
-use Rattle.world_rules.specs.Parts.{acts_at, acts_by, acts_of, asks, asks_again_at, asks_again_by, asks_again_of, asks_owner, calls, calls_as}
+use Rattle.world_rules.specs.Parts.{acts_at, acts_by, acts_of, asks, asks_again_at, asks_again_by, asks_again_of, asks_owner, calls_as}
 use Rattle.world_rules.specs.Played.{Played, Stage, moves_to, newborn, next_call}
 use Rattle.world_rules.specs.Played.Stage.{Computing, Acting, Submitted, Reading, Asking, Over}
 use Rattle.world_rules.specs.Processes.{Begun, home_in, owner_in, singles_of}

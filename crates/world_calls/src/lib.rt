@@ -1,9 +1,9 @@
 //! What the calls of a run's members ask is met (docs/RUNTIME.md, The world of a run).
 //!
 //! `node_rules` says what a member's code is asked at each moment of its part of an event. Here it is shown of each possible event of a run
-//! in which no object is single: at each moment the world stands for a course of the book's law (`world_course`), beside a run of the group
-//! (`world_law`), and these say the conditions; and a process receives one reply at most in a part, so that numbers stay small. It has no code: its function is a
-//! law, whose body calls theirs.
+//! in which no object is single: at each moment the world stands for a course of the book's law (`world_course`), beside a run of the
+//! group (`world_law`), and these say the conditions; and a process receives one reply at most in a part, so that numbers stay small. It
+//! has no code: its function is a law, whose body calls theirs.
 #![tactic(auto)]
 
 ghost use Rattle.node_rules.specs.Conditions.{Fitness};
@@ -24,24 +24,20 @@ use world_law::{group_steps, numbers_stay_small};
 ///   living member, in the world that the members below it leave.
 /// - `bursts`: also where objects are single, `BurstFits` holds of each process that computes and has turns left, on its member's copies.
 pub fn calls_fit<P: Processor>(machine: &P)
-    ensures plain {
-        PlainCallsFit (P.performs machine.now) (P.computes machine.now)
+    ensures plain { PlainCallsFit (P.performs machine.now) (P.computes machine.now)
         (record {
-            state = P.fits_state machine.now;
-            args = P.fits_args machine.now;
-            text = P.fits_text machine.now;
-            reply = P.fits_reply machine.now;
-        })
-    }
-    ensures bursts {
-        AllBurstsFit (P.performs machine.now) (P.computes machine.now)
+          state = P.fits_state machine.now;
+          args = P.fits_args machine.now;
+          text = P.fits_text machine.now;
+          reply = P.fits_reply machine.now;
+        }) }
+    ensures bursts { AllBurstsFit (P.performs machine.now) (P.computes machine.now)
         (record {
-            state = P.fits_state machine.now;
-            args = P.fits_args machine.now;
-            text = P.fits_text machine.now;
-            reply = P.fits_reply machine.now;
-        })
-    }
+          state = P.fits_state machine.now;
+          args = P.fits_args machine.now;
+          text = P.fits_text machine.now;
+          reply = P.fits_reply machine.now;
+        }) }
 {
     agreement_law::<Message>();
     wire_law::<Message, Reply>();

@@ -5,9 +5,8 @@ use Rattle.book_law.proofs.Fits.{Laws as ProgramLaws}
 use Rattle.world_rules.specs.Frame.{AreSettings, Frame}
 use Rattle.world_rules.specs.Worlds.{home_of, singles_in}
 use Rattle.world_law.proofs.Grouping.{Laws as GroupSteps}
-use Rattle.world_law.proofs.Moments.{MoreLaws}
 use Rattle.world_course.proofs.Program.{program_of}
-use Rattle.world_book.proofs.Kept.{Laws as BookLaws, course_of, replayed, stands_for}
+use Rattle.world_book.proofs.Kept.{course_of, replayed, stands_for}
 use Rattle.node_rules.specs.Conditions.{Fitness}
 use Rattle.world_calls.proofs.Bursting.{burst_fits}
 use Rattle.world_calls.proofs.Beginning.{GroupLaws}
