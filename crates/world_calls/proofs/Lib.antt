@@ -1,5 +1,6 @@
 pub mod Going
 pub mod Fitting
+pub mod Calling
 pub mod Meeting
 pub mod Beginning
 pub mod Counting
