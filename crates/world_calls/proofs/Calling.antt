@@ -208,11 +208,19 @@ ask_fits f fitness single w c m place x v program k a reached later = record {
 
 -- ---- a process of the owner's own
 
-pub own_fits : (f : Frame) (fitness : Fitness) (single : Test) (w : World) (c : Course) (m i : ℕ) (r : Played) (call : Suspended) (v : NodeWork) → Program f fitness.state fitness.args fitness.text fitness.reply → Corresponds f single (at_work f m w v) c
-    → v.node.played i ≡ Some r → r.stage ≡ Acting (message_of call).action → call.process ≡ record { 0 = i } → call.call ≡ record { 0 = length r.replies } → singles_of f (known_by f v.node) call.object ≡ true → owner_in (known_by f v.node) call.object ≡ m
-    → MayPerform f fitness (moving i (Asking (message_of call).action) r v).node (message_of call)
-own_fits f fitness single w c m i r call v program g here acts process number is owner =
-    call_fits f fitness single w o.course m call (moving i (Asking (message_of call).action) r v) program (let k = o.corresponds in k.stands) (own_may f single w c m i r call v a alone.alone of o)
+-- the course in which it asks, where its member may take the call as the object's owner
+pub record MayOwn (f : Frame) (single : Test) (w : World) (c : Course) (m i : ℕ) (r : Played) (call : Suspended) (v : NodeWork) : Type 0 where
+  pub course : Course
+  pub stands : Stands f single (at_work f m w (moving i (Asking (message_of call).action) r v)) course
+  pub may : owner_in (known_by f v.node) call.object ≡ m → MayTake f single course m call (moving i (Asking (message_of call).action) r v)
+
+pub own_takes : (f : Frame) (single : Test) (w : World) (c : Course) (m i : ℕ) (r : Played) (call : Suspended) (v : NodeWork) → Corresponds f single (at_work f m w v) c
+    → v.node.played i ≡ Some r → r.stage ≡ Acting (message_of call).action → call.process ≡ record { 0 = i } → call.call ≡ record { 0 = length r.replies } → singles_of f (known_by f v.node) call.object ≡ true → MayOwn f single w c m i r call v
+own_takes f single w c m i r call v g here acts process number is = record {
+  course = o.course;
+  stands = let k = o.corresponds in k.stands;
+  may = λ owner. own_may f single w c m i r call v a alone.alone (subst (λ (k : ℕ). IsOf f c k call.object.process) owner of) o;
+}
   where
     a : IsActing f single w c m i r (message_of call).action v
     a = record { corresponds = g; here = here; acts = acts }
@@ -223,5 +231,12 @@ own_fits f fitness single w c m i r call v program g here acts process number is
     alone : IsAlone single v.node call.object
     alone = alone_known f single w c m v call.object g.stands is
 
-    of : IsOf f c m call.object.process
-    of = let st = g.stands in subst (λ (k : ℕ). IsOf f c k call.object.process) owner (owner_of f single c st.came m v.node (member_here f single w c m v st) call.object alone.maker)
+    of : IsOf f c (owner_in (known_by f v.node) call.object) call.object.process
+    of = let st = g.stands in owner_of f single c st.came m v.node (member_here f single w c m v st) call.object alone.maker
+
+pub own_fits : (f : Frame) (fitness : Fitness) (single : Test) (w : World) (c : Course) (m i : ℕ) (r : Played) (call : Suspended) (v : NodeWork) → Program f fitness.state fitness.args fitness.text fitness.reply → Corresponds f single (at_work f m w v) c
+    → v.node.played i ≡ Some r → r.stage ≡ Acting (message_of call).action → call.process ≡ record { 0 = i } → call.call ≡ record { 0 = length r.replies } → singles_of f (known_by f v.node) call.object ≡ true → owner_in (known_by f v.node) call.object ≡ m
+    → MayPerform f fitness (moving i (Asking (message_of call).action) r v).node (message_of call)
+own_fits f fitness single w c m i r call v program g here acts process number is owner =
+    let t = own_takes f single w c m i r call v g here acts process number is in
+    call_fits f fitness single w t.course m call (moving i (Asking (message_of call).action) r v) program t.stands (t.may owner)

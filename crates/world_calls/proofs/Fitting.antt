@@ -41,7 +41,7 @@ use Rattle.world_rules.specs.Played.Stage.{Computing, Acting, Submitted, Reading
 use Rattle.world_rules.specs.Processes.{Begun, begun_by, home_in, member_named, processes_in, singles_of}
 use Rattle.world_rules.specs.Worlds.{World}
 use Rattle.world_law.specs.Moments.{IsMoment}
-use Rattle.world_course.specs.Corresponds.{Corresponds, IsMember, Stands}
+use Rattle.world_course.specs.Corresponds.{Agrees, Corresponds, IsMember, Stands}
 use Rattle.world_course.specs.Errands.{WaitsOn}
 use Rattle.world_course.specs.Group.{IsAccepted}
 use Rattle.world_course.specs.Processes.{IsFreeAt, StageStands}
@@ -106,13 +106,13 @@ waiting_fits f fitness single w c m i r kind op object given v program k here re
 -- ---- the next entry
 
 -- the course with it
-pub listed_at : (f : Frame) (fitness : Fitness) (single : Test) (w : World) (c : Course) (m : ℕ) (x : Message) (v : NodeWork) → Known f fitness single w m → Corresponds f single (at_work f m w v) c → IsMoment f w m v → IsDue v.node x
-    → Listed f single (at_work f m w v) c m x
-listed_at f fitness single w c m x v known k moment due =
+pub listed_at : (f : Frame) (fitness : Fitness) (single : Test) (w : World) (c : Course) (m : ℕ) (x : Message) (v : NodeWork) → Known f fitness w m → Corresponds f single (at_work f m w v) c → IsMoment f w m v → IsDue v.node x
+    → Agrees f single (take (suc v.node.copies.applied) v.node.member.log) → Listed f single (at_work f m w v) c m x
+listed_at f fitness single w c m x v known k moment due agrees =
     let here : IsAccepted v.node v.node.copies.applied x = record { accepted = due.accepted; there = due.there } in
     listed f single fitness.state fitness.args fitness.text fitness.reply (at_work f m w v) c m x known.program k.stands k.reached (agreed_at f fitness single w m v known moment)
     (subst (λ (n : Node). IsAccepted n n.copies.applied x) (sym (node_at f m w v)) here)
-    (known.agrees (take (suc ((at_work f m w v).nodes m).copies.applied) ((at_work f m w v).nodes m).member.log))
+    (subst (λ (n : Node). Agrees f single (take (suc n.copies.applied) n.member.log)) (sym (node_at f m w v)) agrees)
 
 -- what it begins fits its text
 begun_fits : (fits_args : ArgsFit) (fits_text : TextFits) (kinds : Kinds) (nodes parent place : ℕ) (a : Action) (b : Begun) → begun_by nodes parent place a ≡ b ∷ [] → ActionFits fits_args fits_text kinds a → fits_text kinds b.text b.args
@@ -232,9 +232,9 @@ entry_replies f fitness single w d m x v program st next i y runs member =
     (hands.entry i y x runs (ap (λ (n : ℕ). slice_get d.list (d.applied n)) member ∙ next)))
 
 -- the next entry may be applied
-pub entry_fits : (f : Frame) (fitness : Fitness) (single : Test) (w : World) (c : Course) (m : ℕ) (x : Message) (v : NodeWork) → Known f fitness single w m → Corresponds f single (at_work f m w v) c → IsMoment f w m v → IsDue v.node x
-    → MayApply f fitness m v.node x
-entry_fits f fitness single w c m x v known k moment due = record {
+pub entry_fits : (f : Frame) (fitness : Fitness) (single : Test) (w : World) (c : Course) (m : ℕ) (x : Message) (v : NodeWork) → Known f fitness w m → Corresponds f single (at_work f m w v) c → IsMoment f w m v → IsDue v.node x
+    → Agrees f single (take (suc v.node.copies.applied) v.node.member.log) → MayApply f fitness m v.node x
+entry_fits f fitness single w c m x v known k moment due agrees = record {
   applies = mine.applies x l.next;
   lines = λ within. may_hand f fitness single w d m v (entry_lines f v.node x) l.stands
       (entry_replies f fitness single w d m x v program l.stands l.next)
@@ -250,7 +250,7 @@ entry_fits f fitness single w c m x v known k moment due = record {
     program = known.program
 
     l : Listed f single (at_work f m w v) c m x
-    l = listed_at f fitness single w c m x v known k moment due
+    l = listed_at f fitness single w c m x v known k moment due agrees
 
     d : Course
     d = l.course

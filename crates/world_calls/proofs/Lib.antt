@@ -1,4 +1,5 @@
 pub mod Going
+pub mod Each
 pub mod Fitting
 pub mod Calling
 pub mod Meeting

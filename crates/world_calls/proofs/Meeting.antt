@@ -21,7 +21,7 @@ use Rattle.book_law.proofs.InBook.{all_in_book}
 use Rattle.book_law.proofs.Replying.{answers_stand}
 use Rattle.world_rules.specs.Applying.{notes}
 use Rattle.world_rules.specs.Frame.{Frame, group}
-use Rattle.world_rules.specs.Mail.{Errand}
+use Rattle.world_rules.specs.Mail.{Errand, place_of}
 use Rattle.world_rules.specs.Mail.Errand.{Ask, Answer}
 use Rattle.world_rules.specs.Nodes.{NodeWork, entries_of, joins}
 use Rattle.world_rules.specs.Played.{Stage}
@@ -32,25 +32,16 @@ use Rattle.world_course.specs.Corresponds.{Stands}
 use Rattle.world_course.specs.Errands.{ErrandStands, IsAnswer, IsAsk}
 use Rattle.world_course.specs.Processes.{StageStands}
 use Rattle.world_course.specs.Works.{at_work}
+use Rattle.world_course.proofs.Carrying.{Carries}
 use Rattle.world_course.proofs.Lifting.{Starts}
 use Rattle.world_course.proofs.Program.{Program, fitting}
 use Rattle.node_rules.specs.Conditions.{AreSmall, Conditions, Fitness, MayTake}
 use Rattle.node_rules.specs.Handing.{MayHear}
 use Rattle.node_rules.specs.Moments.{Moment}
 use Rattle.world_calls.proofs.Fitting.{entry_fits, meets, starts_at, waiting_fits}
+use Rattle.world_calls.proofs.Calling.{ask_fits}
+use Rattle.world_calls.proofs.Each.{AtEach, notes_keep, own, self, with_next}
 use Rattle.world_calls.proofs.Going.{At, Known}
-
--- ---- a note
-
-notes_copies : (f : Frame) (m : ℕ) (v : NodeWork) → (notes f m v).node.copies ≡ v.node.copies
-notes_copies f m v = go (nat_lt v.node.member.applied v.node.copies.applied)
-  where
-    go : (b : Bool) → (if b then joins (note (group f) m v.node.copies.applied v.node.member) v else v).node.copies ≡ v.node.copies
-    go true = refl
-    go false = refl
-
-notes_keep : (f : Frame) (w : World) (m : ℕ) (v : NodeWork) → LeadsOn f w m v (notes f m v) → entries_of (notes f m v).node ≡ entries_of v.node
-notes_keep f w m v l = ap (λ (k : Copied). take k.applied (notes f m v).node.member.log) (notes_copies f m v) ∙ l.kept
 
 -- ---- an Answer
 
@@ -92,15 +83,17 @@ answer_fits f fitness single w c m place i call reply v program h a r act here a
 
 -- ---- at a moment
 
--- where no object is single, nobody asks for one
 errand_fits : (f : Frame) (fitness : Fitness) (single : Test) (w : World) (c : Course) (m : ℕ) (errand : Errand) (v : NodeWork) → Program f fitness.state fitness.args fitness.text fitness.reply
-    → Stands f single (at_work f m w v) c → ((o : ObjectId) → single o ≡ false) → ErrandStands f single c m errand → MayTake f fitness v.node errand
-errand_fits f fitness single w c m (Ask place x) v program h none stands =
-    λ later. let ask : IsAsk f single c m place x = stands in let e : true ≡ false = sym ask.alone ∙ none ask.call.object in absurd (cc e)
-errand_fits f fitness single w c m (Answer place i call reply) v program h none stands = answer_fits f fitness single w c m place i call reply v program h stands
+    → Carries f single w c m v → ErrandStands f single c m errand → place_of errand ≤ v.node.copies.applied → MayTake f fitness v.node errand
+errand_fits f fitness single w c m (Ask place x) v program k stands reached = λ later. ask_fits f fitness single w c m place x v program k stands reached later
+errand_fits f fitness single w c m (Answer place i call reply) v program k stands reached =
+    let g = k.corresponds in answer_fits f fitness single w c m place i call reply v program g.stands stands
 
-pub conditions : (f : Frame) (fitness : Fitness) (single : Test) (w : World) (m : ℕ) (u : Moment) → Known f fitness single w m → ((o : ObjectId) → single o ≡ false) → At f single w m u → AreSmall u.work.node → Conditions f fitness m u
-conditions f fitness single w m u known none a small =
+pub conditions : (f : Frame) (fitness : Fitness) (w : World) (m : ℕ) (u : Moment) → Known f fitness w m → AtEach f w m u → AreSmall u.work.node → Conditions f fitness m u
+conditions f fitness w m u known e small =
+    let single : Test = own f e.list in
+    let one = self f w m u e in
+    let a : At f single w m u = one.at in
     let k = a.carries in
     let g = k.corresponds in
     let p = known.group in
@@ -113,9 +106,13 @@ conditions f fitness single w m u known none a small =
       within = moment.below;
       small = small;
       kept = notes_keep f w m u.work (p.notes w m u.work known.lives moment);
-      due = λ x due. entry_fits f fitness single w a.course m x u.work known g moment due;
+      due = λ x due.
+          let t = with_next f fitness w m u x known e due in
+          let b = e.each t.single t.so_far in
+          let at : At f t.single w m u = b.at in
+          let carries = at.carries in
+          entry_fits f fitness t.single w at.course m x u.work known carries.corresponds at.moment due t.next;
       reads = λ i r kind op object given here reads. waiting_fits f fitness single w a.course m i r kind op object given u.work known.program k here reads;
       takes = λ errand errands hand reached.
-          errand_fits f fitness single w a.course m errand u.work known.program g.stands none
-          (a.hand errand (subst (In errand) (sym hand) (inl refl)));
+          errand_fits f fitness single w a.course m errand u.work known.program k (a.hand errand (subst (In errand) (sym hand) (inl refl))) reached;
     }

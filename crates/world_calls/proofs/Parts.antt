@@ -1,4 +1,4 @@
--- Each member's part of each possible event of a run in which no object is single.
+-- Each member's part of each possible event of a run that is going.
 use Rattle.std.proofs.Common.{◌≡◌, ◌<◌, ◌≤◌, ◌*◌, ◌+◌, ℕ, zero, suc, Bool, true, false, List, [], ◌∷◌, ◌++◌, length, nat_le, Option, None, Some, refl, sym, ap, ◌∙◌, subst, arith, if◌then◌else◌}
 use Rattle.std.specs.Prelude.{slice_get}
 use Rattle.std.proofs.lemmas.Bool.{and_parts, leb-false, lt-ltb}
@@ -11,7 +11,6 @@ use Rattle.group_rules.specs.World.{Event as GroupEvent}
 use Rattle.net_rules.specs.Flights.{ticked}
 use Rattle.book_law.specs.Book.{book}
 use Rattle.book_law.specs.Course.{Course}
-use Rattle.book_law.specs.Replicated.{all_replicated}
 use Rattle.world_rules.specs.declared.event.Event as world
 use Rattle.world_rules.specs.declared.event.Event.TheVariants as event
 use Rattle.world_rules.specs.declared.event.Step.{Step}
@@ -19,6 +18,7 @@ use Rattle.world_rules.specs.declared.standing.Standing.{Standing}
 use Rattle.world_rules.specs.declared.standing.Standing.TheVariants.{OutOfEvents, OutOfTurns, Going as IsGoing}
 use Rattle.orca_base.specs.declared.what.What.{What}
 use Rattle.orca_base.specs.declared.what.What.TheVariants as what
+use Rattle.world_calls.proofs.Each.{AtEach, FollowsEach, walks_each}
 use Rattle.world_rules.specs.Frame.{AreSettings, Frame}
 use Rattle.world_rules.specs.Mail.{Mail, receiver_of}
 use Rattle.world_rules.specs.Nodes.{Node, idle}
@@ -32,7 +32,7 @@ use Rattle.world_rules.specs.Steps.{AtWork, Known as Given, Leads, Next, Possibl
 use Rattle.world_rules.specs.Worlds.{Book, World, agreed, group_world, home_of, opening_world, played_in, singles_in}
 use Rattle.world_law.specs.Counts.{AfterSteps, AllCount, AllMomentsCount, Counted, MomentsCount, StepsCount}
 use Rattle.world_law.specs.Grouped.{Come, Grouped, MaySubmit, Submits}
-use Rattle.world_law.specs.Moments.{AllMoments, Lives}
+use Rattle.world_law.specs.Moments.{AllMoments, Lives, world_at}
 use Rattle.world_law.proofs.AtWork.{both_true}
 use Rattle.world_law.proofs.Events.{Going, going, going_below, on_home, with_flights}
 use Rattle.world_law.proofs.Travels.{fly_found, fly_ticked}
@@ -43,7 +43,7 @@ use Rattle.world_course.proofs.Parts.{stand_on}
 use Rattle.world_course.proofs.Program.{Program}
 use Rattle.world_course.proofs.Travelling.{ready_flies, ticked_fly}
 use Rattle.book_law.proofs.Courses.{at_other}
-use Rattle.world_book.proofs.Kept.{HasCourse, Kept, book_kept, course_of, kept_may, replayed, stands_for}
+use Rattle.world_book.proofs.Kept.{HasCourse, Kept, book_kept, course_of, kept_may, replayed, stands_for, list_kept}
 use Rattle.world_book.proofs.Kept.{Laws as BookLaws}
 use Rattle.world_book.proofs.Submitting.{run_of}
 use Rattle.node_rules.specs.Conditions.{Fitness}
@@ -52,10 +52,10 @@ use Rattle.node_rules.specs.Moments.{at_work as at_moment}
 use Rattle.node_rules.specs.Starts.{EventFits, Start, begun}
 use Rattle.node_rules.specs.Starts.Start.{Acts, Comes, Ticks, Suspects}
 use Rattle.node_rules.proofs.Walking.{parts_walk}
-use Rattle.world_calls.specs.Law.{ChoosesNone, PartsFit, ticking}
-use Rattle.world_calls.proofs.Beginning.{Begins, GroupLaws, MayStart, StartStands, begins, part_fits}
+use Rattle.world_calls.specs.Law.{PartsFit, ticking}
+use Rattle.world_calls.proofs.Beginning.{GroupLaws, MayStart, part_fits, AllStart, begins_each, idle_each}
 use Rattle.world_calls.proofs.Counting.{asked_by, begun_counted, weaker}
-use Rattle.world_calls.proofs.Going.{At, Known, walks}
+use Rattle.world_calls.proofs.Going.{At, Known}
 use Rattle.world_calls.proofs.Receiving.{FewReplies, few_received, waits_by}
 use Rattle.world_calls.proofs.Smallness.{Small, are_small, small_begun, small_walks}
 
@@ -68,22 +68,10 @@ pub record Laws (f : Frame) (fitness : Fitness) : Type 0 where
   pub counts : AllCount
   pub counting : AllMomentsCount
 
--- ---- no object is single
-
-pub plain : (f : Frame) → ChoosesNone f → (processes : List Begun) (o : ObjectId) → singles_of f processes o ≡ false
-plain f none processes o = go (slice_get processes o.process)
-  where
-    go : (b : Option Begun) → single_by f b o.number ≡ false
-    go None = refl
-    go (Some maker) = none maker.text o.number
-
-pub agrees_all : (f : Frame) → ChoosesNone f → (list : List Message) → Agrees f all_replicated list
-agrees_all f none list o lt = sym (plain f none (processes_in f list) o)
-
-known_at : (f : Frame) (fitness : Fitness) (w : World) (m : ℕ) → Laws f fitness → ChoosesNone f → Grouped f w → Lives f w m → Known f fitness all_replicated w m
-known_at f fitness w m laws none grouped lives =
+known_at : (f : Frame) (fitness : Fitness) (w : World) (m : ℕ) → Laws f fitness → Grouped f w → Lives f w m → Known f fitness w m
+known_at f fitness w m laws grouped lives =
     let b = laws.book in
-    record { program = laws.program; group = laws.moments f b.small; agrees = agrees_all f none; grouped = grouped; lives = lives }
+    record { program = laws.program; group = laws.moments f b.small; grouped = grouped; lives = lives }
 
 -- ---- where an event begins
 
@@ -103,14 +91,14 @@ asked_room (Comes mail) n lt = omega (arith, lt)
 asked_room Ticks n lt = omega (arith, lt)
 asked_room Suspects n lt = omega (arith, lt)
 
-fits_part : (f : Frame) (fitness : Fitness) (w : World) (m : ℕ) (c : Course) (s : Start) (n k : ℕ) → Laws f fitness → ChoosesNone f → Grouped f w → Lives f w m → Follows f all_replicated w c
-    → MayStart f w m s → StartStands all_replicated f c s → HasRoom f w m n k → EventFits f fitness m s (w.nodes m)
-fits_part f fitness w m c s n k laws none grouped lives h may stands room =
-    part_fits f fitness all_replicated w m c s laws.group b.small known (λ o. refl) (plain f none (known_by f (w.nodes m))) h may stands
+fits_part : (f : Frame) (fitness : Fitness) (w : World) (m : ℕ) (list : List Message) (s : Start) (n k : ℕ) → Laws f fitness → Grouped f w → Lives f w m → FollowsEach f w list
+    → MayStart f w m s → AllStart f w s → HasRoom f w m n k → EventFits f fitness m s (w.nodes m)
+fits_part f fitness w m list s n k laws grouped lives h may stands room =
+    part_fits f fitness w m list s laws.group b.small known h may stands
     (are_small f w m n k (at_moment (idle (w.nodes m))) counting set.few (omega (arith, some)) (omega (arith, rare)) (record { counted = counting.start w m n k room.counted; few = room.few }))
     (λ u walk. are_small f w m (n + asked_by s) (suc k) u counting set.few (asked_room s n some) (omega (arith, rare))
-    (small_walks f fitness all_replicated w m (n + asked_by s) (suc k) (at_moment (begun f m s (w.nodes m))) u counting known (λ o. refl) begin.at
-    (small_begun f w m (n + asked_by s) (suc k) s (plain f none (known_by f (w.nodes m))) (begun_counted f w m n k s counting lives may room.counted) room.few) walk))
+    (small_walks f fitness w m (n + asked_by s) (suc k) (at_moment (begun f m s (w.nodes m))) u counting known (begins_each f fitness w m list s laws.group b.small known h may stands)
+    (small_begun f fitness w m (n + asked_by s) (suc k) s known (idle_each f fitness w m list known h) (begun_counted f w m n k s counting lives may room.counted) room.few) walk))
   where
     b : BookLaws f
     b = laws.book
@@ -121,11 +109,8 @@ fits_part f fitness w m c s n k laws none grouped lives h may stands room =
     set : AreSettings f.settings
     set = let p = laws.program in p.settings
 
-    known : Known f fitness all_replicated w m
-    known = known_at f fitness w m laws none grouped lives
-
-    begin : Begins f all_replicated w m s
-    begin = begins f fitness all_replicated w m c s laws.group b.small known h may stands
+    known : Known f fitness w m
+    known = known_at f fitness w m laws grouped lives
 
     some : n < EVENTS
     some = room.some
@@ -135,26 +120,30 @@ fits_part f fitness w m c s n k laws none grouped lives h may stands room =
 
 -- ---- a tick
 
--- the world so far follows a course, one tick more of each member below was counted, and the others stand as they were
+-- the world so far follows a course by each test, one tick more of each member below was counted, and the others stand as they were
 pub record Ticking (f : Frame) (w : World) (s c n : ℕ) (u : AtWork) : Type 0 where
-  pub course : Course
-  pub follows : Follows f all_replicated u.world course
+  pub list : List Message
+  pub follows : FollowsEach f u.world list
   pub counted : Counted f (group_world u.world) s (c + n)
   pub left : (k : ℕ) → n ≤ k → u.world.nodes k ≡ w.nodes k
 
-ticks_one : (f : Frame) (fitness : Fitness) (w : World) (s c m : ℕ) (v : AtWork) → Laws f fitness → ChoosesNone f → Grouped f v.world → m < f.settings.nodes → FewReplies HISTORY_LINES (w.nodes m).played → Ticking f w s c m v
+ticks_one : (f : Frame) (fitness : Fitness) (w : World) (s c m : ℕ) (v : AtWork) → Laws f fitness → Grouped f v.world → m < f.settings.nodes → FewReplies HISTORY_LINES (w.nodes m).played → Ticking f w s c m v
     → (t : Bool) → v.world.lives m ≡ t → Ticking f w s c (suc m) (if t then does_part f m (ticks f m) v else v)
-ticks_one f fitness w s c m v laws none grouped low few before false lives = record {
-  course = before.course;
+ticks_one f fitness w s c m v laws grouped low few before false lives = record {
+  list = before.list;
   follows = before.follows;
   counted = weaker f (group_world v.world) s s (c + m) (c + suc m) (omega arith) (omega arith) before.counted;
   left = λ k le. before.left k (omega (arith, le));
 }
-ticks_one f fitness w s c m v laws none grouped low few before true lives = record {
-  course = a.course;
-  follows = let k = a.carries in record { corresponds = k.corresponds; errands = k.errands };
-  counted = counting.part v m s (c + suc m) (ticks f m node) (weaker f _ (s + 0) s (suc (c + m)) (c + suc m) (omega arith) (omega arith) all.counted);
-  left = λ k le. at_other v.world.nodes m (ticks f m node).node k (λ e. omega (arith, e, le)) ∙ before.left k (omega (arith, le));
+ticks_one f fitness w s c m v laws grouped low few before true lives = record {
+  list = e.list;
+  follows = λ single agrees.
+      let one = e.each single agrees in
+      let a : At f single v.world m (at_moment (ticks f m node)) = one.at in
+      let k = a.carries in
+      record { course = a.course; follows = record { corresponds = k.corresponds; errands = k.errands }; is = one.is };
+  counted = counting.part v m s (c + suc m) (ticks f m node) (weaker f (group_world (world_at f v.world m (ticks f m node))) (s + 0) s (suc (c + m)) (c + suc m) (omega arith) (omega arith) all.counted);
+  left = λ k le. at_other v.world.nodes m (ticks f m node).node k (λ is. omega (arith, is, le)) ∙ before.left k (omega (arith, le));
 }
   where
     node : Node
@@ -169,34 +158,34 @@ ticks_one f fitness w s c m v laws none grouped low few before true lives = reco
     on : Lives f v.world m
     on = both_true _ _ (lt-ltb _ _ low) lives
 
-    known : Known f fitness all_replicated v.world m
-    known = known_at f fitness v.world m laws none grouped on
+    known : Known f fitness v.world m
+    known = known_at f fitness v.world m laws grouped on
 
-    begin : Begins f all_replicated v.world m Ticks
-    begin = begins f fitness all_replicated v.world m before.course Ticks laws.group b.small known before.follows tt tt
+    start : AtEach f v.world m (at_moment (begun f m Ticks node))
+    start = begins_each f fitness v.world m before.list Ticks laws.group b.small known before.follows tt (λ single course h. tt)
 
     walk : Walks f m (at_moment (begun f m Ticks node)) (at_moment (ticks f m node))
     walk = parts_walk f m Ticks node
 
-    a : At f all_replicated v.world m (at_moment (ticks f m node))
-    a = walks f fitness all_replicated v.world m (at_moment (begun f m Ticks node)) (at_moment (ticks f m node)) known begin.at walk
+    e : AtEach f v.world m (at_moment (ticks f m node))
+    e = walks_each f fitness v.world m (at_moment (begun f m Ticks node)) (at_moment (ticks f m node)) known start walk
 
     all : Small f v.world m (s + 0) (suc (c + m)) (at_moment (ticks f m node))
-    all = small_walks f fitness all_replicated v.world m (s + 0) (suc (c + m)) (at_moment (begun f m Ticks node)) (at_moment (ticks f m node)) counting known (λ o. refl) begin.at
-        (small_begun f v.world m (s + 0) (suc (c + m)) Ticks (plain f none (known_by f node)) (begun_counted f v.world m s (c + m) Ticks counting on tt before.counted)
+    all = small_walks f fitness v.world m (s + 0) (suc (c + m)) (at_moment (begun f m Ticks node)) (at_moment (ticks f m node)) counting known start
+        (small_begun f fitness v.world m (s + 0) (suc (c + m)) Ticks known (idle_each f fitness v.world m before.list known before.follows) (begun_counted f v.world m s (c + m) Ticks counting on tt before.counted)
         (subst (λ (z : Node). FewReplies HISTORY_LINES z.played) (sym (before.left m (omega arith))) few)) walk
 
-ticks_all : (f : Frame) (fitness : Fitness) (b : List (GroupEvent Message)) (w : World) (s c n : ℕ) (u : AtWork) → Laws f fitness → ChoosesNone f → n ≤ f.settings.nodes → Going f b u → ((m : ℕ) → FewReplies HISTORY_LINES (w.nodes m).played) → Ticking f w s c 0 u
+ticks_all : (f : Frame) (fitness : Fitness) (b : List (GroupEvent Message)) (w : World) (s c n : ℕ) (u : AtWork) → Laws f fitness → n ≤ f.settings.nodes → Going f b u → ((m : ℕ) → FewReplies HISTORY_LINES (w.nodes m).played) → Ticking f w s c 0 u
     → Ticking f w s c n (ticks_below f n u)
-ticks_all f fitness b w s c zero u laws none low gone few h = h
-ticks_all f fitness b w s c (suc m) u laws none low gone few h =
+ticks_all f fitness b w s c zero u laws low gone few h = h
+ticks_all f fitness b w s c (suc m) u laws low gone few h =
     let v : AtWork = ticks_below f m u in
     let group = laws.group in
     let more = group.more in
     let book = laws.book in
     let k = going_below more.laws f m u book.small (omega (arith, low)) gone in
-    ticks_one f fitness w s c m v laws none k.grouped (omega (arith, low)) (few m)
-    (ticks_all f fitness b w s c m u laws none (omega (arith, low)) gone few h) (v.world.lives m) refl
+    ticks_one f fitness w s c m v laws k.grouped (omega (arith, low)) (few m)
+    (ticks_all f fitness b w s c m u laws (omega (arith, low)) gone few h) (v.world.lives m) refl
 
 -- ---- where a run is going
 
@@ -302,9 +291,15 @@ has_room f fitness w m laws is =
     let le = room f.settings.nodes w.steps EVENTS lt in
     record { counted = is.counted; some = lt; rare = omega (arith, le, some); few = replies_few f w laws.book is.kept is.going m }
 
-ticks_fit : (f : Frame) (fitness : Fitness) (w : World) → Laws f fitness → ChoosesNone f → IsWorld f w → (m : ℕ) → m < f.settings.nodes → (ticking f w m).world.lives m ≡ true → EventFits f fitness m Ticks ((ticking f w m).world.nodes m)
-ticks_fit f fitness w laws none is m low lives =
-    fits_part f fitness (ticking f w m).world m t.course Ticks w.steps (f.settings.nodes * w.steps + m) laws none grouped (both_true _ _ (lt-ltb _ _ low) lives) t.follows tt tt (record {
+-- it follows a course by each test that agrees with its list
+follows_each : (f : Frame) (w : World) → BookLaws f → Kept f w → FollowsEach f w (agreed f w)
+follows_each f w laws k = λ single agrees.
+    let h = k.courses single agrees in
+    record { course = h.course; follows = h.follows; is = sym (list_kept f single w laws k h) }
+
+ticks_fit : (f : Frame) (fitness : Fitness) (w : World) → Laws f fitness → IsWorld f w → (m : ℕ) → m < f.settings.nodes → (ticking f w m).world.lives m ≡ true → EventFits f fitness m Ticks ((ticking f w m).world.nodes m)
+ticks_fit f fitness w laws is m low lives =
+    fits_part f fitness (ticking f w m).world m t.list Ticks w.steps (f.settings.nodes * w.steps + m) laws grouped (both_true _ _ (lt-ltb _ _ low) lives) t.follows tt (λ single course h. tt) (record {
       counted = t.counted;
       some = has.some;
       rare = let le = room f.settings.nodes w.steps EVENTS has.some in omega (arith, le, low);
@@ -320,67 +315,64 @@ ticks_fit f fitness w laws none is m low lives =
     k : Kept f w
     k = is.kept
 
-    h : HasCourse f all_replicated w
-    h = k.courses all_replicated (agrees_all f none (agreed f w))
-
     start : Grouped f w
     start = k.grouped
 
     gone : Going f start.events u
     gone = going f u.world (with_flights f w (ticked w.flights) start (fly_ticked w.past.letters w.flights start.travels))
 
-    follows : Follows f all_replicated u.world h.course
-    follows =
+    follows : FollowsEach f u.world (agreed f w)
+    follows single agrees =
+        let h = follows_each f w laws.book k single agrees in
         let g = h.follows in
         let e = g.errands in
         record {
-          corresponds = same_world f all_replicated w u.world h.course refl refl refl g.corresponds;
-          errands = stand_on f all_replicated w u.world h.course (λ n. refl) e (ticked_fly (MailStands f all_replicated h.course) w.flights e.travels);
+          course = h.course;
+          follows = record {
+            corresponds = same_world f single w u.world h.course refl refl refl g.corresponds;
+            errands = stand_on f single w u.world h.course (λ n. refl) e (ticked_fly (MailStands f single h.course) w.flights e.travels);
+          };
+          is = h.is;
         }
 
     grouped : Grouped f (ticking f w m).world
     grouped = let g = laws.group in let more = g.more in let b = laws.book in let z = going_below more.laws f m u b.small (omega (arith, low)) gone in z.grouped
 
     t : Ticking f w w.steps (f.settings.nodes * w.steps) m (ticking f w m)
-    t = ticks_all f fitness start.events w w.steps (f.settings.nodes * w.steps) m u laws none (omega (arith, low)) gone (λ n. let r = has_room f fitness w n laws is in r.few)
+    t = ticks_all f fitness start.events w w.steps (f.settings.nodes * w.steps) m u laws (omega (arith, low)) gone (λ n. let r = has_room f fitness w n laws is in r.few)
         (record {
-          course = h.course;
+          list = agreed f w;
           follows = follows;
           counted = weaker f (group_world w) w.steps w.steps (f.settings.nodes * w.steps) (f.settings.nodes * w.steps + 0) (omega arith) (omega arith) is.counted;
           left = λ n le. refl;
         })
 
-fits_all : (f : Frame) (fitness : Fitness) (w : World) (e : world.Event) (given : Given e) → Laws f fitness → ChoosesNone f → IsWorld f w → Possible f w e given → PartsFit f fitness w e
-fits_all f fitness w (event.Act process) given laws none is possible =
+fits_all : (f : Frame) (fitness : Fitness) (w : World) (e : world.Event) (given : Given e) → Laws f fitness → IsWorld f w → Possible f w e given → PartsFit f fitness w e
+fits_all f fitness w (event.Act process) given laws is possible =
     let b = laws.book in
     let k = is.kept in
     let m : ℕ = home_of f w process.0 in
-    let h = k.courses all_replicated (agrees_all f none (agreed f w)) in
     let small = b.small in
     let lives : Lives f w m = on_home f w process.0 (omega (arith, small)) (and_parts (w.lives m) (may_act_as (played_in f w process.0)) possible).0 in
-    fits_part f fitness w m h.course (Acts process.0) w.steps (f.settings.nodes * w.steps) laws none k.grouped lives h.follows (λ r act here acts x of call. kept_may f w b k process.0 r act here acts x of call) tt
-    (has_room f fitness w m laws is)
-fits_all f fitness w (event.Deliver packet copy) given laws none is possible = λ flight found lives.
+    fits_part f fitness w m (agreed f w) (Acts process.0) w.steps (f.settings.nodes * w.steps) laws k.grouped lives (follows_each f w b k) (λ r act here acts x of call. kept_may f w b k process.0 r act here acts x of call)
+    (λ single course h. tt) (has_room f fitness w m laws is)
+fits_all f fitness w (event.Deliver packet copy) given laws is possible = λ flight found lives.
     let k = is.kept in
-    let h = k.courses all_replicated (agrees_all f none (agreed f w)) in
-    let g = h.follows in
-    let e = g.errands in
     let start = k.grouped in
-    fits_part f fitness w (receiver_of flight.packet.mail) h.course (Comes flight.packet.mail) w.steps (f.settings.nodes * w.steps) laws none k.grouped lives h.follows
+    fits_part f fitness w (receiver_of flight.packet.mail) (agreed f w) (Comes flight.packet.mail) w.steps (f.settings.nodes * w.steps) laws k.grouped lives (follows_each f w laws.book k)
     (may_come f w flight.packet.mail (fly_found w.past.letters _ w.flights flight found start.travels))
-    (ready_flies (MailStands f all_replicated h.course) packet copy w.flights flight e.travels found) (has_room f fitness w (receiver_of flight.packet.mail) laws is)
-fits_all f fitness w event.Tick given laws none is possible = ticks_fit f fitness w laws none is
-fits_all f fitness w (event.Suspect node) given laws none is possible =
+    (λ single course h. let e = h.errands in ready_flies (MailStands f single course) packet copy w.flights flight e.travels found) (has_room f fitness w (receiver_of flight.packet.mail) laws is)
+fits_all f fitness w event.Tick given laws is possible = ticks_fit f fitness w laws is
+fits_all f fitness w (event.Suspect node) given laws is possible =
     let k = is.kept in
-    let h = k.courses all_replicated (agrees_all f none (agreed f w)) in
-    fits_part f fitness w node h.course Suspects w.steps (f.settings.nodes * w.steps) laws none k.grouped possible h.follows tt tt (has_room f fitness w node laws is)
-fits_all f fitness w (event.Burst process place turns) given laws none is possible = tt
-fits_all f fitness w (event.Crash node) given laws none is possible = tt
-fits_all f fitness w event.Swap given laws none is possible = tt
+    fits_part f fitness w node (agreed f w) Suspects w.steps (f.settings.nodes * w.steps) laws k.grouped possible (follows_each f w laws.book k) tt (λ single course h. tt) (has_room f fitness w node laws is)
+fits_all f fitness w (event.Burst process place turns) given laws is possible = tt
+fits_all f fitness w (event.Crash node) given laws is possible = tt
+fits_all f fitness w event.Swap given laws is possible = tt
 
-pub parts_fit : (f : Frame) (fitness : Fitness) (steps : List Step) (w : World) (e : world.Event) (given : Given e) → Laws f fitness → ChoosesNone f → Replays f steps w → standing f w ≡ IsGoing → Possible f w e given → PartsFit f fitness w e
-parts_fit f fitness steps w e given laws none replays goes possible =
+pub parts_fit : (f : Frame) (fitness : Fitness) (steps : List Step) (w : World) (e : world.Event) (given : Given e) → Laws f fitness → Replays f steps w → standing f w ≡ IsGoing → Possible f w e given → PartsFit f fitness w e
+parts_fit f fitness steps w e given laws replays goes possible =
     let b = laws.book in
     let counts : StepsCount f = laws.counts f b.small in
-    fits_all f fitness w e given laws none
+    fits_all f fitness w e given laws
     (record { kept = replayed f steps w b replays; counted = counted_from f b counts [] steps (opening_world f) w refl replays counts.opening; going = goes }) possible

@@ -1,7 +1,7 @@
--- At each moment of a member's part all its numbers are small, where no object is single.
-use Rattle.std.proofs.Common.{◌≡◌, ◌≤◌, ◌*◌, ◌+◌, ◌⊎◌, inl, inr, ℕ, suc, ◌==◌, ◌||◌, Bool, true, false, nat_lt, List, [], ◌∷◌, length, Option, None, Some, refl, sym, ap, ◌∙◌, subst, arith, if◌then◌else◌}
+-- At each moment of a member's part all its numbers are small.
+use Rattle.std.proofs.Common.{◌<◌, ◌≡◌, ◌≤◌, ◌*◌, ◌+◌, ◌⊎◌, inl, inr, ℕ, suc, ◌==◌, ◌||◌, Bool, true, false, nat_lt, List, [], ◌∷◌, length, Option, None, Some, refl, sym, ap, ◌∙◌, subst, arith, if◌then◌else◌, take}
 use Rattle.std.specs.Prelude.{option_map}
-use Rattle.std.proofs.lemmas.Bool.{cases_eq}
+use Rattle.std.proofs.lemmas.Bool.{cases_eq, ltb-true, eqb-true}
 use Rattle.orca_base.specs.declared.ids.ObjectId.{ObjectId}
 use Rattle.orca_base.specs.declared.limits.TheConstants.{EVENTS, HISTORY_LINES, NODES}
 use Rattle.value_core.specs.declared.action.Action.{Action}
@@ -17,12 +17,21 @@ use Rattle.book_law.specs.Course.{Course}
 use Rattle.book_law.specs.Events.{In, lines_by}
 use Rattle.book_law.specs.Passes.{Test}
 use Rattle.world_rules.specs.Applying.{notes}
+use Rattle.object_manager.specs.Singles.{after_single, lines_single}
+use Rattle.book_law.specs.Singles.{lines_on}
+use Rattle.book_law.specs.Replies.{IsReplyTo}
+use Rattle.world_course.proofs.Acting.{moving}
+use Rattle.world_course.proofs.Asked.{ask_taken, member_here}
+use Rattle.world_course.proofs.Carrying.{Carries}
+use Rattle.world_course.proofs.Handing.{HandsOn, hands_on}
+use Rattle.world_course.proofs.Owning.{OwnLines, TakesHere, own_lines, takes_here}
+use Rattle.world_course.proofs.Program.{Program}
 use Rattle.world_rules.specs.Frame.{Frame, group}
-use Rattle.world_rules.specs.Mail.{Errand, Mail}
+use Rattle.world_rules.specs.Mail.{Errand, Mail, place_of}
 use Rattle.world_rules.specs.Mail.Errand.{Ask, Answer}
-use Rattle.world_rules.specs.Nodes.{Node, NodeWork, idle, joins, plays}
+use Rattle.world_rules.specs.Nodes.{Node, NodeWork, idle, joins, plays, Given, becomes}
 use Rattle.world_rules.specs.Nodes.{known as known_by}
-use Rattle.world_rules.specs.Owners.{arrives, holds, is_held, sends, takes}
+use Rattle.world_rules.specs.Owners.{arrives, holds, is_held, sends, takes, performs_call, takes_call, takes_asked, sends_given, waits_here}
 use Rattle.world_rules.specs.Parts.{acts_at, acts_by, acts_of, asks, asks_again_at, asks_again_by, asks_again_of, asks_owner, calls_as}
 use Rattle.world_rules.specs.Played.{Played, Stage, moves_to, newborn, next_call}
 use Rattle.world_rules.specs.Played.Stage.{Computing, Acting, Submitted, Reading, Asking, Over}
@@ -30,8 +39,8 @@ use Rattle.world_rules.specs.Processes.{Begun, home_in, owner_in, singles_of}
 use Rattle.world_rules.specs.Worlds.{World}
 use Rattle.world_law.specs.Counts.{CountedAt, HasSmallNumbers, MomentsCount}
 use Rattle.world_law.specs.Moments.{IsMoment}
-use Rattle.world_course.specs.Corresponds.{Corresponds}
-use Rattle.world_course.specs.Errands.{ErrandStands, IsAsk}
+use Rattle.world_course.specs.Corresponds.{Corresponds, Agrees, IsMember, Stands}
+use Rattle.world_course.specs.Errands.{ErrandStands, IsAsk, MayTake}
 use Rattle.world_course.specs.Works.{at_work}
 use Rattle.world_course.proofs.Applied.{Applied, AppliedNode, PlaysOn, received}
 use Rattle.world_course.proofs.Lifting.{Starts}
@@ -46,7 +55,9 @@ use Rattle.node_rules.specs.Starts.{Start, begun}
 use Rattle.node_rules.specs.Starts.Start.{Acts, Comes as CameIn, Ticks, Suspects}
 use Rattle.world_calls.proofs.Counting.{goes_counted, small_at}
 use Rattle.world_calls.proofs.Fitting.{entry_replies, listed_at, starts_at, waits_out}
-use Rattle.world_calls.proofs.Going.{At, Known, goes}
+use Rattle.world_calls.proofs.Calling.{MayOwn, own_takes}
+use Rattle.world_calls.proofs.Each.{AtEach, goes_each, own, self, with_next}
+use Rattle.world_calls.proofs.Going.{At, Known}
 use Rattle.world_calls.proofs.Receiving.{FewReplies, hears_few, lines_few, set_few, tries_read_few, waits_by}
 
 -- ---- an entry
@@ -59,9 +70,9 @@ waits_one (Reading a) act is = refl
 waits_one (Asking a) act is = refl
 waits_one (Over a) act is = absurd (cc is)
 
-entry_few : (f : Frame) (fitness : Fitness) (single : Test) (w : World) (c : Course) (m most : ℕ) (x : Message) (v : NodeWork) → Known f fitness single w m → Corresponds f single (at_work f m w v) c → IsMoment f w m v → IsDue v.node x
-    → FewReplies most v.node.played → FewReplies most (takes_entry f m x v).node.played
-entry_few f fitness single w c m most x v known k moment due h j r is = go (one_born f.settings.nodes (home_in (known_by f v.node) x.process.0) place x.action)
+entry_few : (f : Frame) (fitness : Fitness) (single : Test) (w : World) (c : Course) (m most : ℕ) (x : Message) (v : NodeWork) → Known f fitness w m → Corresponds f single (at_work f m w v) c → IsMoment f w m v → IsDue v.node x
+    → Agrees f single (take (suc v.node.copies.applied) v.node.member.log) → FewReplies most v.node.played → FewReplies most (takes_entry f m x v).node.played
+entry_few f fitness single w c m most x v known k moment due agrees h j r is = go (one_born f.settings.nodes (home_in (known_by f v.node) x.process.0) place x.action)
   where
     place : ℕ
     place = suc v.node.copies.applied
@@ -70,7 +81,7 @@ entry_few f fitness single w c m most x v known k moment due h j r is = go (one_
     lines = entry_lines f v.node x
 
     l : Listed f single (at_work f m w v) c m x
-    l = listed_at f fitness single w c m x v known k moment due
+    l = listed_at f fitness single w c m x v known k moment due agrees
 
     done : Applied f (at_work f m w v) (at_work f m w (takes_entry f m x v)) m x
     done = entry_applies f single w l.course m x v l.stands
@@ -106,6 +117,47 @@ entry_few f fitness single w c m most x v known k moment due h j r is = go (one_
             let e : Some (newborn b) ≡ Some r = sym (ap (takes_entry f m x v).node.played here ∙ plays_on.born_here b one home) ∙ is in
             let same : newborn b ≡ r = cc in
             subst (λ (z : Played). length z.replies + waits_by z.stage ≤ most) same (omega arith)
+
+-- ---- a call that is taken
+
+call_few : (f : Frame) (fitness : Fitness) (single : Test) (w : World) (c : Course) (m most : ℕ) (call : Suspended) (v : NodeWork) → Program f fitness.state fitness.args fitness.text fitness.reply → (h : Stands f single (at_work f m w v) c)
+    → MayTake f single c m call v → FewReplies most v.node.played → FewReplies most (performs_call f m (message_of call) v).node.played
+call_few f fitness single w c m most call v program h z few j r is = go (home_in (known_by f v.node) j == m) (sym (on.plays j) ∙ is)
+  where
+    lines : List Line
+    lines = lines_single f.performs v.node.copies (message_of call)
+
+    u : NodeWork
+    u = becomes (record v.node { copies = after_single f.performs v.node.copies (message_of call) }) v
+
+    n : ℕ
+    n = v.node.copies.applied
+
+    on : HandsOn f m n (known_by f v.node) lines u (performs_call f m (message_of call) v)
+    on = hands_on f m n (known_by f v.node) lines u refl refl
+
+    mine : IsMember f single c h.came m v.node
+    mine = member_here f single w c m v h
+
+    t : TakesHere f single c m call v
+    t = takes_here f single fitness.state fitness.args fitness.text fitness.reply w c m call v program h mine z
+
+    has : OwnLines f c (known_by f v.node) (lines_on f.performs t.copy call)
+    has = own_lines f single w c m call v h mine t
+
+    old : (o : Option Played) → v.node.played j ≡ o → option_map (received n (lines_by j lines)) o ≡ Some r → length r.replies + waits_by r.stage ≤ most
+    old None here e = absurd (cc e)
+    old (Some before) here e =
+        let s : Starts f single (at_work f m w v) c j m before = starts_at f single w c m j before v h here in
+        let same : received n (lines_by j lines) before ≡ r = cc in
+        subst (λ (p : Played). length p.replies + waits_by p.stage ≤ most) same
+        (lines_few most n before s.process.runner (lines_by j lines) (few j before here)
+        (subst (λ (ls : List Line). IsReplyTo s.process.runner (lines_by j ls)) (sym t.lines) (has.reply j s.process.runner s.process.runs))
+        (λ y out. waits_one before.stage y.action (waits_out f j s.process.runner before.stage y out s.is.stage)))
+
+    go : (b : Bool) → (if b then option_map (received n (lines_by j lines)) (v.node.played j) else v.node.played j) ≡ Some r → length r.replies + waits_by r.stage ≤ most
+    go true e = old (v.node.played j) refl e
+    go false e = few j r e
 
 -- ---- what leaves processes as they are
 
@@ -151,32 +203,88 @@ arrives_plays errand v = go (v.node.member.outside || is_held errand v.node.held
 
 -- ---- piece by piece
 
--- where no object is single, an Ask isn't taken
-takes_few : (f : Frame) (single : Test) (c : Course) (m most : ℕ) (errand : Errand) (v : NodeWork) → ((o : ObjectId) → single o ≡ false) → ErrandStands f single c m errand → FewReplies most v.node.played → FewReplies most (takes f m errand v).node.played
-takes_few f single c m most (Ask place x) v none stands h = let ask : IsAsk f single c m place x = stands in let e : true ≡ false = sym ask.alone ∙ none ask.call.object in absurd (cc e)
-takes_few f single c m most (Answer place i call reply) v none stands h = hears_few most place i.0 call reply (v.node.played i.0) v h refl
+ask_few : (f : Frame) (fitness : Fitness) (single : Test) (w : World) (c : Course) (m place most : ℕ) (x : Message) (v : NodeWork) → Program f fitness.state fitness.args fitness.text fitness.reply → Carries f single w c m v → IsAsk f single c m place x
+    → place ≤ v.node.copies.applied → FewReplies most v.node.played → (o : Option Given) → v.node.given x.process.0 ≡ o → FewReplies most (takes_asked f m x o v).node.played
+ask_few f fitness single w c m place most x v program k a reached h = by
+  where
+    st : Stands f single (at_work f m w v) c
+    st = let g = k.corresponds in g.stands
 
-goes_few : (f : Frame) (fitness : Fitness) (single : Test) (w : World) (m most : ℕ) (u v : Moment) → Known f fitness single w m → ((o : ObjectId) → single o ≡ false) → At f single w m u → Goes f m u v → FewReplies most u.work.node.played → FewReplies most v.work.node.played
-goes_few f fitness single w m most u v known none a (Takes_entry x due within is) h =
+    taken : ((g : Given) → v.node.given x.process.0 ≡ Some g → g.call.0 < x.call.0) → (b : Bool) → waits_here x v.node.copies.waits ≡ b → FewReplies most (if b then v else performs_call f m x v).node.played
+    taken lower true is = h
+    taken lower false idle =
+        subst (λ (y : Message). FewReplies most (performs_call f m y v).node.played) (sym a.is)
+        (call_few f fitness single w c m most a.call v program st (ask_taken f single fitness.state fitness.args fitness.text fitness.reply w c m place x v program k a reached idle lower) h)
+
+    by : (o : Option Given) → v.node.given x.process.0 ≡ o → FewReplies most (takes_asked f m x o v).node.played
+    by None is = taken (λ g there. let e : None ≡ Some g = sym is ∙ there in absurd (cc e)) (waits_here x v.node.copies.waits) refl
+    by (Some given) is = or (nat_lt given.call.0 x.call.0) refl
+      where
+        again : NodeWork
+        again = sends_given m (home_in (known_by f v.node) x.process.0) x.process given v
+
+        old : (b : Bool) → FewReplies most (if b then again else v).node.played
+        old true = h
+        old false = h
+
+        or : (b : Bool) → nat_lt given.call.0 x.call.0 ≡ b → FewReplies most (if b then takes_call f m x v else (if given.call.0 == x.call.0 then again else v)).node.played
+        or true less = taken
+            (λ g there. let e : Some given ≡ Some g = sym is ∙ there in let same : given ≡ g = cc in
+            subst (λ (z : Given). z.call.0 < x.call.0) same (ltb-true given.call.0 x.call.0 less))
+            (waits_here x v.node.copies.waits) refl
+        or false less = old (given.call.0 == x.call.0)
+
+takes_few : (f : Frame) (fitness : Fitness) (single : Test) (w : World) (c : Course) (m most : ℕ) (errand : Errand) (v : NodeWork) → Program f fitness.state fitness.args fitness.text fitness.reply → Carries f single w c m v → ErrandStands f single c m errand
+    → place_of errand ≤ v.node.copies.applied → FewReplies most v.node.played → FewReplies most (takes f m errand v).node.played
+takes_few f fitness single w c m most (Ask place x) v program k stands reached h = ask_few f fitness single w c m place most x v program k stands reached h (v.node.given x.process.0) refl
+takes_few f fitness single w c m most (Answer place i call reply) v program k stands reached h = hears_few most place i.0 call reply (v.node.played i.0) v h refl
+
+goes_few : (f : Frame) (fitness : Fitness) (w : World) (m most : ℕ) (u v : Moment) → Known f fitness w m → AtEach f w m u → Goes f m u v → FewReplies most u.work.node.played → FewReplies most v.work.node.played
+goes_few f fitness w m most u v known e (Takes_entry x due within is) h =
+    let t = with_next f fitness w m u x known e due in
+    let b = e.each t.single t.so_far in
+    let a : At f t.single w m u = b.at in
     let k = a.carries in
-    subst (λ (z : Moment). FewReplies most z.work.node.played) (sym is) (entry_few f fitness single w a.course m most x u.work known k.corresponds a.moment due h)
-goes_few f fitness single w m most u v known none a (Tries_read i is) h = subst (λ (z : Moment). FewReplies most z.work.node.played) (sym is) (tries_read_few f most i u.work h)
-goes_few f fitness single w m most u v known none a (Notes is) h = subst (λ (z : Moment). FewReplies most z.work.node.played) (sym is) (subst (FewReplies most) (sym (notes_plays f m u.work)) h)
-goes_few f fitness single w m most u v known none a (Opens empty inside is) h = subst (λ (z : Moment). FewReplies most z.work.node.played) (sym is) h
-goes_few f fitness single w m most u v known none a (Takes e es hand reached is) h =
-    subst (λ (z : Moment). FewReplies most z.work.node.played) (sym is) (takes_few f single a.course m most e u.work none (a.hand e (subst (In e) (sym hand) (inl refl))) h)
-goes_few f fitness single w m most u v known none a (Holds e es hand is) h = subst (λ (z : Moment). FewReplies most z.work.node.played) (sym is) h
-goes_few f fitness single w m most u v known none a (Asks_again i is) h =
+    subst (λ (z : Moment). FewReplies most z.work.node.played) (sym is) (entry_few f fitness t.single w a.course m most x u.work known k.corresponds a.moment due t.next h)
+goes_few f fitness w m most u v known e (Tries_read i is) h = subst (λ (z : Moment). FewReplies most z.work.node.played) (sym is) (tries_read_few f most i u.work h)
+goes_few f fitness w m most u v known e (Notes is) h = subst (λ (z : Moment). FewReplies most z.work.node.played) (sym is) (subst (FewReplies most) (sym (notes_plays f m u.work)) h)
+goes_few f fitness w m most u v known e (Opens empty inside is) h = subst (λ (z : Moment). FewReplies most z.work.node.played) (sym is) h
+goes_few f fitness w m most u v known e (Takes one es hand reached is) h =
+    let b = self f w m u e in
+    let a : At f (own f e.list) w m u = b.at in
+    subst (λ (z : Moment). FewReplies most z.work.node.played) (sym is)
+    (takes_few f fitness (own f e.list) w a.course m most one u.work known.program a.carries (a.hand one (subst (In one) (sym hand) (inl refl))) reached h)
+goes_few f fitness w m most u v known e (Holds one es hand is) h = subst (λ (z : Moment). FewReplies most z.work.node.played) (sym is) h
+goes_few f fitness w m most u v known e (Asks_again i is) h =
     subst (λ (z : Moment). FewReplies most z.work.node.played) (sym is) (subst (FewReplies most) (sym (again_plays f m i (u.work.node.played i) u.work)) h)
 
 -- ---- where a part begins
 
-act_few : (f : Frame) (m i most : ℕ) (r : Played) (act : Action) (v : NodeWork) → ((o : ObjectId) → singles_of f (known_by f v.node) o ≡ false) → length r.replies + 1 ≤ most → FewReplies most v.node.played → FewReplies most (acts_by f m i r act v).node.played
-act_few f m i most r (action.Make kind object) v plain le h = set_few most i (moves_to (Submitted (action.Make kind object)) r) v.node.played h le
-act_few f m i most r (action.Fork text given place_on) v plain le h = set_few most i (moves_to (Submitted (action.Fork text given place_on)) r) v.node.played h le
-act_few f m i most r action.Ended v plain le h = h
-act_few f m i most r (action.Faulted fault) v plain le h = h
-act_few f m i most r (action.Call kind op object given) v plain le h = go (singles_of f (known_by f v.node) object) (plain object)
+asks_few : (f : Frame) (fitness : Fitness) (single : Test) (w : World) (c : Course) (m i most : ℕ) (r : Played) (call : Suspended) (v : NodeWork) → Program f fitness.state fitness.args fitness.text fitness.reply → Corresponds f single (at_work f m w v) c
+    → v.node.played i ≡ Some r → r.stage ≡ Acting (message_of call).action → call.process ≡ record { 0 = i } → call.call ≡ record { 0 = length r.replies } → singles_of f (known_by f v.node) call.object ≡ true
+    → length r.replies + 1 ≤ most → FewReplies most v.node.played → FewReplies most (asks f m i r call v).node.played
+asks_few f fitness single w c m i most r call v program g here acts process number is le h = go (owner_in (known_by f v.node) call.object == m) refl
+  where
+    u : NodeWork
+    u = moving i (Asking (message_of call).action) r v
+
+    few : FewReplies most u.node.played
+    few = set_few most i (moves_to (Asking (message_of call).action) r) v.node.played h le
+
+    t : MayOwn f single w c m i r call v
+    t = own_takes f single w c m i r call v g here acts process number is
+
+    go : (b : Bool) → (owner_in (known_by f v.node) call.object == m) ≡ b → FewReplies most (if b then performs_call f m (message_of call) u else sends m (owner_in (known_by f v.node) call.object) (Ask r.place (message_of call)) u).node.played
+    go true owner = call_few f fitness single w t.course m most call u program t.stands (t.may (eqb-true (owner_in (known_by f v.node) call.object) m owner)) few
+    go false owner = few
+
+act_few : (f : Frame) (fitness : Fitness) (single : Test) (w : World) (c : Course) (m i most : ℕ) (r : Played) (act : Action) (v : NodeWork) → Program f fitness.state fitness.args fitness.text fitness.reply → Corresponds f single (at_work f m w v) c
+    → v.node.played i ≡ Some r → r.stage ≡ Acting act → length r.replies + 1 ≤ most → FewReplies most v.node.played → FewReplies most (acts_by f m i r act v).node.played
+act_few f fitness single w c m i most r (action.Make kind object) v program g here acts le h = set_few most i (moves_to (Submitted (action.Make kind object)) r) v.node.played h le
+act_few f fitness single w c m i most r (action.Fork text given place_on) v program g here acts le h = set_few most i (moves_to (Submitted (action.Fork text given place_on)) r) v.node.played h le
+act_few f fitness single w c m i most r action.Ended v program g here acts le h = h
+act_few f fitness single w c m i most r (action.Faulted fault) v program g here acts le h = h
+act_few f fitness single w c m i most r (action.Call kind op object given) v program g here acts le h = go (singles_of f (known_by f v.node) object) refl
   where
     call : Suspended
     call = record { process = record { 0 = i }; call = next_call r; kind = kind; op = op; object = object; args = given }
@@ -185,29 +293,34 @@ act_few f m i most r (action.Call kind op object given) v plain le h = go (singl
     by Reads = tries_read_few f most i (plays i (moves_to (Reading (action.Call kind op object given)) r) v) (set_few most i (moves_to (Reading (action.Call kind op object given)) r) v.node.played h le)
     by Writes = set_few most i (moves_to (Submitted (action.Call kind op object given)) r) v.node.played h le
 
-    go : (b : Bool) → b ≡ false → FewReplies most (if b then asks f m i r call v else calls_as f m i r call (f.performs.class_of kind op) v).node.played
-    go true is = absurd (cc is)
+    go : (b : Bool) → singles_of f (known_by f v.node) object ≡ b → FewReplies most (if b then asks f m i r call v else calls_as f m i r call (f.performs.class_of kind op) v).node.played
+    go true is = asks_few f fitness single w c m i most r call v program g here acts refl refl is le h
     go false is = by (f.performs.class_of kind op)
 
-stage_few : (f : Frame) (m i most : ℕ) (r : Played) (stage : Stage) (v : NodeWork) → ((o : ObjectId) → singles_of f (known_by f v.node) o ≡ false) → length r.replies + waits_by stage ≤ most → FewReplies most v.node.played
-    → FewReplies most (acts_at f m i r stage v).node.played
-stage_few f m i most r (Acting act) v plain le h = act_few f m i most r act v plain le h
-stage_few f m i most r Computing v plain le h = h
-stage_few f m i most r (Submitted act) v plain le h = h
-stage_few f m i most r (Reading act) v plain le h = h
-stage_few f m i most r (Asking act) v plain le h = h
-stage_few f m i most r (Over act) v plain le h = h
+stage_few : (f : Frame) (fitness : Fitness) (single : Test) (w : World) (c : Course) (m i most : ℕ) (r : Played) (stage : Stage) (v : NodeWork) → Program f fitness.state fitness.args fitness.text fitness.reply → Corresponds f single (at_work f m w v) c
+    → v.node.played i ≡ Some r → r.stage ≡ stage → length r.replies + waits_by stage ≤ most → FewReplies most v.node.played → FewReplies most (acts_at f m i r stage v).node.played
+stage_few f fitness single w c m i most r (Acting act) v program g here is le h = act_few f fitness single w c m i most r act v program g here is le h
+stage_few f fitness single w c m i most r Computing v program g here is le h = h
+stage_few f fitness single w c m i most r (Submitted act) v program g here is le h = h
+stage_few f fitness single w c m i most r (Reading act) v program g here is le h = h
+stage_few f fitness single w c m i most r (Asking act) v program g here is le h = h
+stage_few f fitness single w c m i most r (Over act) v program g here is le h = h
 
-acts_few : (f : Frame) (m i most : ℕ) (o : Option Played) (v : NodeWork) → ((o : ObjectId) → singles_of f (known_by f v.node) o ≡ false) → v.node.played i ≡ o → FewReplies most v.node.played → FewReplies most (acts_of f m i o v).node.played
-acts_few f m i most None v plain here h = h
-acts_few f m i most (Some r) v plain here h = stage_few f m i most r r.stage v plain (h i r here) h
+acts_few : (f : Frame) (fitness : Fitness) (single : Test) (w : World) (c : Course) (m i most : ℕ) (o : Option Played) (v : NodeWork) → Program f fitness.state fitness.args fitness.text fitness.reply → Corresponds f single (at_work f m w v) c
+    → v.node.played i ≡ o → FewReplies most v.node.played → FewReplies most (acts_of f m i o v).node.played
+acts_few f fitness single w c m i most None v program g here h = h
+acts_few f fitness single w c m i most (Some r) v program g here h = stage_few f fitness single w c m i most r r.stage v program g here refl (h i r here) h
 
-begun_few : (f : Frame) (m most : ℕ) (s : Start) (node : Node) → ((o : ObjectId) → singles_of f (known_by f node) o ≡ false) → FewReplies most node.played → FewReplies most (begun f m s node).node.played
-begun_few f m most (Acts i) node plain h = acts_few f m i most (node.played i) (idle node) plain refl h
-begun_few f m most (CameIn (Mail.Grouped letter)) node plain h = h
-begun_few f m most (CameIn (Mail.Sends incarnation from to errand)) node plain h = subst (FewReplies most) (sym (arrives_plays errand (idle node))) h
-begun_few f m most Ticks node plain h = h
-begun_few f m most Suspects node plain h = h
+begun_few : (f : Frame) (fitness : Fitness) (w : World) (m most : ℕ) (s : Start) → Known f fitness w m → AtEach f w m (record { work = idle (w.nodes m); hand = [] }) → FewReplies most (w.nodes m).played → FewReplies most (begun f m s (w.nodes m)).node.played
+begun_few f fitness w m most (Acts i) known e h =
+    let b = self f w m (record { work = idle (w.nodes m); hand = [] }) e in
+    let a : At f (own f e.list) w m (record { work = idle (w.nodes m); hand = [] }) = b.at in
+    let k = a.carries in
+    acts_few f fitness (own f e.list) w a.course m i most ((w.nodes m).played i) (idle (w.nodes m)) known.program k.corresponds refl h
+begun_few f fitness w m most (CameIn (Mail.Grouped letter)) known e h = h
+begun_few f fitness w m most (CameIn (Mail.Sends incarnation from to errand)) known e h = subst (FewReplies most) (sym (arrives_plays errand (idle (w.nodes m)))) h
+begun_few f fitness w m most Ticks known e h = h
+begun_few f fitness w m most Suspects known e h = h
 
 -- ---- all numbers
 
@@ -216,17 +329,19 @@ pub record Small (f : Frame) (w : World) (m s c : ℕ) (u : Moment) : Type 0 whe
   pub counted : CountedAt f w m u.work s c
   pub few : FewReplies HISTORY_LINES u.work.node.played
 
-pub small_begun : (f : Frame) (w : World) (m s c : ℕ) (start : Start) → ((o : ObjectId) → singles_of f (known_by f (w.nodes m)) o ≡ false) → CountedAt f w m (begun f m start (w.nodes m)) s c → FewReplies HISTORY_LINES (w.nodes m).played
-    → Small f w m s c (record { work = begun f m start (w.nodes m); hand = [] })
-small_begun f w m s c start plain counted few = record { counted = counted; few = begun_few f m HISTORY_LINES start (w.nodes m) plain few }
+pub small_begun : (f : Frame) (fitness : Fitness) (w : World) (m s c : ℕ) (start : Start) → Known f fitness w m → AtEach f w m (record { work = idle (w.nodes m); hand = [] }) → CountedAt f w m (begun f m start (w.nodes m)) s c
+    → FewReplies HISTORY_LINES (w.nodes m).played → Small f w m s c (record { work = begun f m start (w.nodes m); hand = [] })
+small_begun f fitness w m s c start known e counted few = record { counted = counted; few = begun_few f fitness w m HISTORY_LINES start known e few }
 
-pub small_walks : (f : Frame) (fitness : Fitness) (single : Test) (w : World) (m s c : ℕ) (u v : Moment) → MomentsCount f → Known f fitness single w m → ((o : ObjectId) → single o ≡ false) → At f single w m u → Small f w m s c u → Walks f m u v → Small f w m s c v
-small_walks f fitness single w m s c u v laws known none a h (Walks.Stays x) = h
-small_walks f fitness single w m s c u v laws known none a h (Walks.Then x y z go rest) =
-    small_walks f fitness single w m s c y v laws known none (goes f fitness single w m u y known a go)
+pub small_walks : (f : Frame) (fitness : Fitness) (w : World) (m s c : ℕ) (u v : Moment) → MomentsCount f → Known f fitness w m → AtEach f w m u → Small f w m s c u → Walks f m u v → Small f w m s c v
+small_walks f fitness w m s c u v laws known e h (Walks.Stays x) = h
+small_walks f fitness w m s c u v laws known e h (Walks.Then x y z go rest) =
+    let b = self f w m u e in
+    let a : At f (own f e.list) w m u = b.at in
+    small_walks f fitness w m s c y v laws known (goes_each f fitness w m u y known e go)
     (record {
       counted = goes_counted f w m s c u y laws known.lives a.moment go h.counted;
-      few = goes_few f fitness single w m HISTORY_LINES u y known none a go h.few;
+      few = goes_few f fitness w m HISTORY_LINES u y known e go h.few;
     }) rest
 
 pub are_small : (f : Frame) (w : World) (m s c : ℕ) (u : Moment) → MomentsCount f → f.settings.nodes ≤ NODES → s ≤ EVENTS → c ≤ f.settings.nodes * EVENTS → Small f w m s c u → AreSmall u.work.node

@@ -1,4 +1,4 @@
--- What is promised of the calls that members make in every run in which no object is single.
+-- What is promised of the calls that members make in every run.
 use Rattle.std.specs.Prelude.{◌≡◌, ◌<◌, ℕ, true, false, List, Some}
 use Rattle.orca_base.specs.declared.ids.ProcessNo.{ProcessNo}
 use Rattle.orca_base.specs.declared.ids.TextNo.{TextNo}
@@ -23,10 +23,6 @@ use Rattle.node_rules.specs.Conditions.{Fitness}
 use Rattle.node_rules.specs.Starts.{EventFits}
 use Rattle.node_rules.specs.Starts.Start.{Acts, Comes, Ticks, Suspects}
 
--- the settings choose no object to be single
-abbrev pub ChoosesNone : Frame → Type 0
-ChoosesNone f = (text : TextNo) (number : ℕ) → chooses_single f.settings.choices text number ≡ false
-
 -- the members below this one ticked
 abbrev pub ticking : Frame → World → ℕ → AtWork
 ticking f w m = ticks_below f m (untouched (record w { flights = ticked w.flights }))
@@ -47,12 +43,12 @@ PartsFit f fitness w (event.Crash node) = Unit {0}
 PartsFit f fitness w event.Swap = Unit {0}
 
 -- so it is of each possible event, while a run of a program with these meanings is going, by settings that a run may have
-abbrev pub PlainCallsFit : Performs → Computes → Fitness → Type 0
-PlainCallsFit p q fitness =
-    (f : Frame) → f.performs ≡ p → f.computes ≡ q → AreSettings f.settings → ChoosesNone f → (steps : List Step) (w : World) →
+abbrev pub AllPartsFit : Performs → Computes → Fitness → Type 0
+AllPartsFit p q fitness =
+    (f : Frame) → f.performs ≡ p → f.computes ≡ q → AreSettings f.settings → (steps : List Step) (w : World) →
     Replays f steps w → standing f w ≡ Going → (event : Event) (given : Known event) → Possible f w event given → PartsFit f fitness w event
 
--- ---- bursts, also where objects are single
+-- ---- bursts
 
 -- a view of the member's copies
 abbrev pub view_of : Node → Viewed

@@ -70,8 +70,8 @@ returns g c =
       counting = c.numbers_stay_small.ensures.moments;
     } in
     record {
-      plain = λ f same_p same_q settings none trail w replays going e given possible.
-          parts_fit f fitness trail w e given (laws f same_p same_q settings) none replays going possible;
+      parts = λ f same_p same_q settings trail w replays going e given possible.
+          parts_fit f fitness trail w e given (laws f same_p same_q settings) replays going possible;
       bursts = λ f same_p same_q settings trail w replays i r here computes some.
           let l = laws f same_p same_q settings in
           let h = course_of f w (replayed f trail w l.book replays) in
