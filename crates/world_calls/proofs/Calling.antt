@@ -1,14 +1,10 @@
 -- A call on a single object at its owner: it may be performed, whether an Ask brings it or a process of the owner's own calls it.
-use Rattle.std.proofs.Common.{◌≡◌, ◌≤◌, ◌<◌, ◌==◌, ◌+◌, ◌⊎◌, inl, inr, ℕ, zero, suc, Bool, true, false, List, [], ◌∷◌, ◌++◌, length, Option, None, Some, refl, sym, ap, ◌∙◌, subst, arith, if◌then◌else◌}
+use Rattle.std.proofs.Common.{◌≡◌, ◌≤◌, ◌<◌, ◌==◌, inl, inr, ℕ, zero, suc, Bool, true, false, List, [], ◌∷◌, length, Option, None, Some, refl, sym, ap, ◌∙◌, subst, arith, if◌then◌else◌}
 use Rattle.std.specs.Prelude.{slice_get, slice_index_or}
 use Rattle.std.proofs.lemmas.Bool.{eq-eqb, ltb-true}
-use Rattle.orca_base.specs.declared.ids.KindNo.{KindNo}
-use Rattle.orca_base.specs.declared.ids.OpNo.{OpNo}
 use Rattle.orca_base.specs.declared.ids.ObjectId.{ObjectId}
 use Rattle.orca_base.specs.declared.ids.ProcessNo.{ProcessNo}
-use Rattle.value_core.specs.Datum.{Data}
 use Rattle.value_core.specs.History.{object_at}
-use Rattle.value_core.specs.declared.action.Action.TheVariants as action
 use Rattle.value_core.specs.declared.action.Instance.{Instance}
 use Rattle.value_core.specs.declared.action.Line.{Line}
 use Rattle.value_core.specs.declared.message.Message.{Message}
@@ -23,9 +19,9 @@ use Rattle.book_law.specs.Conditions.{MemberMeets}
 use Rattle.book_law.specs.Course.{Came, Course, taking}
 use Rattle.book_law.specs.Course.Came.{Then}
 use Rattle.book_law.specs.Course.Next.{Takes_call}
-use Rattle.book_law.specs.Events.{In, Runner, lines_by}
+use Rattle.book_law.specs.Events.{In, lines_by}
 use Rattle.book_law.specs.Machines.{AllFit}
-use Rattle.book_law.specs.Members.{Holds, copies_of}
+use Rattle.book_law.specs.Members.{Holds}
 use Rattle.book_law.specs.Passes.{Test}
 use Rattle.book_law.specs.Performed.{placed}
 use Rattle.book_law.specs.Promise.{IsInBook}

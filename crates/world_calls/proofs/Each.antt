@@ -29,7 +29,7 @@ use Rattle.world_course.proofs.Entry.{agrees_take}
 use Rattle.world_course.proofs.Listing.{is_listed, within_list}
 use Rattle.world_course.proofs.Tries.{node_at}
 use Rattle.node_rules.specs.Conditions.{Fitness}
-use Rattle.node_rules.specs.Moments.{Goes, IsDue, Moment, Walks, takes_entry}
+use Rattle.node_rules.specs.Moments.{Goes, IsDue, Moment, Walks}
 use Rattle.node_rules.specs.Moments.Goes.{Takes_entry, Tries_read, Notes, Opens, Takes, Holds, Asks_again}
 use Rattle.world_calls.proofs.Going.{At, Gone, Known, agreed_at, entry_entries, entry_number, goes}
 

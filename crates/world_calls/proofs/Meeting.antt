@@ -1,15 +1,12 @@
 -- The conditions of the calls hold at each moment at which the world stands for a course, where its numbers are small.
-use Rattle.std.proofs.Common.{◌≡◌, ◌≤◌, ℕ, Bool, true, false, nat_lt, List, length, Some, inl, refl, sym, ap, ◌∙◌, subst, arith, take, if◌then◌else◌}
+use Rattle.std.proofs.Common.{◌≡◌, ◌≤◌, ℕ, List, length, Some, inl, refl, sym, ap, ◌∙◌, subst, arith}
 use Rattle.orca_base.specs.declared.ids.CallNo.{CallNo}
-use Rattle.orca_base.specs.declared.ids.ObjectId.{ObjectId}
 use Rattle.orca_base.specs.declared.ids.ProcessNo.{ProcessNo}
 use Rattle.value_core.specs.Lawful.{FitsAction}
 use Rattle.value_core.specs.declared.action.Action.{Action}
 use Rattle.value_core.specs.declared.action.Reply.{Reply}
 use Rattle.value_core.specs.declared.meaning.Doing.TheVariants as doing
 use Rattle.value_core.specs.declared.message.Message.{Message}
-use Rattle.object_manager.specs.After.{Copied}
-use Rattle.group_rules.specs.Steps.{note}
 use Rattle.book_law.specs.Conditions.{MemberMeets}
 use Rattle.book_law.specs.Course.{Course}
 use Rattle.book_law.specs.Events.{In, Runner}
@@ -19,17 +16,16 @@ use Rattle.book_law.specs.Promise.{IsInBook}
 use Rattle.book_law.specs.Replies.{AnswerOf, IsAnswerTo}
 use Rattle.book_law.proofs.InBook.{all_in_book}
 use Rattle.book_law.proofs.Replying.{answers_stand}
-use Rattle.world_rules.specs.Applying.{notes}
-use Rattle.world_rules.specs.Frame.{Frame, group}
+use Rattle.world_rules.specs.Frame.{Frame}
 use Rattle.world_rules.specs.Mail.{Errand, place_of}
 use Rattle.world_rules.specs.Mail.Errand.{Ask, Answer}
-use Rattle.world_rules.specs.Nodes.{NodeWork, entries_of, joins}
+use Rattle.world_rules.specs.Nodes.{NodeWork}
 use Rattle.world_rules.specs.Played.{Stage}
 use Rattle.world_rules.specs.Played.Stage.{Asking}
 use Rattle.world_rules.specs.Worlds.{World}
-use Rattle.world_law.specs.Moments.{IsMoment, LeadsOn}
+use Rattle.world_law.specs.Moments.{IsMoment}
 use Rattle.world_course.specs.Corresponds.{Stands}
-use Rattle.world_course.specs.Errands.{ErrandStands, IsAnswer, IsAsk}
+use Rattle.world_course.specs.Errands.{ErrandStands, IsAnswer}
 use Rattle.world_course.specs.Processes.{StageStands}
 use Rattle.world_course.specs.Works.{at_work}
 use Rattle.world_course.proofs.Carrying.{Carries}

@@ -1,8 +1,6 @@
 -- Each member's part of each possible event of a run that is going.
 use Rattle.std.proofs.Common.{◌≡◌, ◌<◌, ◌≤◌, ◌*◌, ◌+◌, ℕ, zero, suc, Bool, true, false, List, [], ◌∷◌, ◌++◌, length, nat_le, Option, None, Some, refl, sym, ap, ◌∙◌, subst, arith, if◌then◌else◌}
-use Rattle.std.specs.Prelude.{slice_get}
 use Rattle.std.proofs.lemmas.Bool.{and_parts, leb-false, lt-ltb}
-use Rattle.orca_base.specs.declared.ids.ObjectId.{ObjectId}
 use Rattle.orca_base.specs.declared.limits.TheConstants.{EVENTS, HISTORY_LINES}
 use Rattle.value_core.specs.declared.action.Line.{Line}
 use Rattle.value_core.specs.declared.action.Reply.{Reply}
@@ -10,7 +8,6 @@ use Rattle.value_core.specs.declared.message.Message.{Message}
 use Rattle.group_rules.specs.World.{Event as GroupEvent}
 use Rattle.net_rules.specs.Flights.{ticked}
 use Rattle.book_law.specs.Book.{book}
-use Rattle.book_law.specs.Course.{Course}
 use Rattle.world_rules.specs.declared.event.Event as world
 use Rattle.world_rules.specs.declared.event.Event.TheVariants as event
 use Rattle.world_rules.specs.declared.event.Step.{Step}
@@ -22,11 +19,9 @@ use Rattle.world_calls.proofs.Each.{AtEach, FollowsEach, walks_each}
 use Rattle.world_rules.specs.Frame.{AreSettings, Frame}
 use Rattle.world_rules.specs.Mail.{Mail, receiver_of}
 use Rattle.world_rules.specs.Nodes.{Node, idle}
-use Rattle.world_rules.specs.Nodes.{known as known_by}
 use Rattle.world_rules.specs.Parts.{ticks}
 use Rattle.world_rules.specs.Played.{Stage}
 use Rattle.world_rules.specs.Played.Stage.{Computing, Acting, Submitted, Reading, Asking, Over}
-use Rattle.world_rules.specs.Processes.{Begun, processes_in, single_by, singles_of}
 use Rattle.world_rules.specs.Standings.{after_limit, first_of, is_out_of_events, is_out_of_turns, limit, limit_below, lines_limit, standing}
 use Rattle.world_rules.specs.Steps.{AtWork, Known as Given, Leads, Next, Possible, Replays, does_part, may_act_as, ticks_below, untouched}
 use Rattle.world_rules.specs.Worlds.{Book, World, agreed, group_world, home_of, opening_world, played_in, singles_in}
@@ -36,8 +31,7 @@ use Rattle.world_law.specs.Moments.{AllMoments, Lives, world_at}
 use Rattle.world_law.proofs.AtWork.{both_true}
 use Rattle.world_law.proofs.Events.{Going, going, going_below, on_home, with_flights}
 use Rattle.world_law.proofs.Travels.{fly_found, fly_ticked}
-use Rattle.world_course.specs.Corresponds.{Agrees}
-use Rattle.world_course.specs.Errands.{Follows, MailStands}
+use Rattle.world_course.specs.Errands.{MailStands}
 use Rattle.world_course.proofs.Events.{same_world}
 use Rattle.world_course.proofs.Parts.{stand_on}
 use Rattle.world_course.proofs.Program.{Program}

@@ -1,7 +1,6 @@
 -- What is promised of the calls that members make in every run.
-use Rattle.std.specs.Prelude.{◌≡◌, ◌<◌, ℕ, true, false, List, Some}
+use Rattle.std.specs.Prelude.{◌≡◌, ◌<◌, ℕ, true, List, Some}
 use Rattle.orca_base.specs.declared.ids.ProcessNo.{ProcessNo}
-use Rattle.orca_base.specs.declared.ids.TextNo.{TextNo}
 use Rattle.value_core.specs.Meaning.{Computes, Performs}
 use Rattle.object_manager.specs.Viewed.{Viewed}
 use Rattle.net_rules.specs.declared.flight.Flight.{Flight}
@@ -9,7 +8,7 @@ use Rattle.net_rules.specs.Flights.{ready_copy, ticked}
 use Rattle.world_rules.specs.declared.event.Event.{Event}
 use Rattle.world_rules.specs.declared.event.Event.TheVariants as event
 use Rattle.world_rules.specs.declared.event.Step.{Step}
-use Rattle.world_rules.specs.Frame.{AreSettings, Frame, chooses_single}
+use Rattle.world_rules.specs.Frame.{AreSettings, Frame}
 use Rattle.world_rules.specs.Mail.{Carried, receiver_of}
 use Rattle.world_rules.specs.Nodes.{Node}
 use Rattle.world_rules.specs.Played.{Played}
