@@ -30,11 +30,12 @@ pub record MayReceive (fits_reply : ReplyFits) (r : Played) (act : Action) (repl
 abbrev pub MayHand : ReplyFits → Node → Line → Type 0
 MayHand fits_reply node l = (r : Played) → node.played l.process.0 ≡ Some r → MayReceive fits_reply r l.action l.reply
 
--- so it is with each of these lines, of which no two are of one process
+-- so it is with each of these lines, of which no two are of one process that began here
 pub record MayHandAll (fits_reply : ReplyFits) (node : Node) (lines : List Line) : Type 0 where
   pub each : (k : ℕ) (l : Line) → slice_get lines k ≡ Some l → MayHand fits_reply node l
   pub once :
-      (j k : ℕ) (a b : Line) → slice_get lines j ≡ Some a → slice_get lines k ≡ Some b → a.process.0 ≡ b.process.0 → j ≡ k
+      (j k : ℕ) (a b : Line) (r : Played) → slice_get lines j ≡ Some a → slice_get lines k ≡ Some b →
+      a.process.0 ≡ b.process.0 → node.played a.process.0 ≡ Some r → j ≡ k
 
 -- an Answer that is the reply to its process's next call has one that this can get
 abbrev pub MayHear : ReplyFits → Node → ProcessNo → CallNo → Reply → Type 0

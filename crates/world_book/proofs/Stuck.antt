@@ -111,7 +111,7 @@ stuck_at f w laws ends k m all = record {
 -- ---- single objects
 
 -- a call is among those on its object
-on_its_object : (call : Suspended) (queue : List Suspended) → In call queue → In call (calls_on call.object queue)
+pub on_its_object : (call : Suspended) (queue : List Suspended) → In call queue → In call (calls_on call.object queue)
 on_its_object call [] h = h
 on_its_object call (x ∷ queue) (inl e) = subst (λ (b : Bool). In call (cond b (x ∷ calls_on call.object queue) (calls_on call.object queue))) (sym here) (inl e)
   where

@@ -45,7 +45,7 @@ use Rattle.world_course.proofs.Placing.{born_at, born_there, placed_so}
 
 -- ---- an entry on copies
 
-same_passed : (one two : Test) (a : Action) → ((o : ObjectId) → Makes a o → one o ≡ two o) → is_passed one a ≡ is_passed two a
+pub same_passed : (one two : Test) (a : Action) → ((o : ObjectId) → Makes a o → one o ≡ two o) → is_passed one a ≡ is_passed two a
 same_passed one two (action.Make kind object) same = same object refl
 same_passed one two (action.Call kind op object args) same = refl
 same_passed one two (action.Fork text args place_on) same = refl
@@ -53,7 +53,7 @@ same_passed one two action.Ended same = refl
 same_passed one two (action.Faulted fault) same = refl
 
 -- what is kept beside changes nothing of an entry's lines
-acted_same : (p : Performs) (c d : Copied) (x : Message) → c ≡ record d { own = c.own; waits = c.waits } → acted p c x ≡ acted p d x
+pub acted_same : (p : Performs) (c d : Copied) (x : Message) → c ≡ record d { own = c.own; waits = c.waits } → acted p c x ≡ acted p d x
 acted_same p c d x same = ap (λ (e : Copied). acted p e x) same ∙ beside x.action
   where
     beside : (a : Action) → acted_by p (record d { own = c.own; waits = c.waits }) x a ≡ acted_by p d x a

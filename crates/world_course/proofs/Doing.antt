@@ -90,7 +90,7 @@ moving_carries f single w c d m i stage r v h corresponds later node = carry f s
 -- ---- it asks an owner
 
 -- what a member finds single is so
-alone_known : (f : Frame) (single : Test) (w : World) (c : Course) (m : ℕ) (v : NodeWork) (object : ObjectId) → Stands f single (at_work f m w v) c → singles_of f (known f v.node) object ≡ true → IsAlone single v.node object
+pub alone_known : (f : Frame) (single : Test) (w : World) (c : Course) (m : ℕ) (v : NodeWork) (object : ObjectId) → Stands f single (at_work f m w v) c → singles_of f (known f v.node) object ≡ true → IsAlone single v.node object
 alone_known f single w c m v object h is = record {
   alone = sym (known_agrees f single c.list v.node.copies.applied h.test object (let e : length (known f v.node) ≡ length (processes_in f (take v.node.copies.applied c.list)) = ap (λ (ps : List Begun). length ps) same in omega (arith, low, e)))
       ∙ ap (λ (ps : List Begun). singles_of f ps object) (sym same) ∙ is;

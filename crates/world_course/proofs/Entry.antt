@@ -138,12 +138,13 @@ one_more f m x v = record {
     reads : Stills (group f) m u (applies_one f m x v)
     reads = still_reads f (group f) m u.node.copies.processes u
 
-pub entry_lifts : (f : Frame) (single : Test) (fits_state : StateFits) (fits_args : ArgsFit) (fits_text : TextFits) (fits_reply : ReplyFits) (w : World) (c : Course) (m : ℕ) (x : Message) (v : NodeWork)
+-- the copies take the entry, its lines are answered, and its process begins
+pub taken_lifts : (f : Frame) (single : Test) (fits_state : StateFits) (fits_args : ArgsFit) (fits_text : TextFits) (fits_reply : ReplyFits) (w : World) (c : Course) (m : ℕ) (x : Message) (v : NodeWork)
     → Program f fits_state fits_args fits_text fits_reply → Corresponds f single (at_work f m w v) c → IsAgreed (at_work f m w v) → IsAccepted v.node v.node.copies.applied x
-    → Agrees f single (take (suc v.node.copies.applied) v.node.member.log) → Lifts f single c (at_work f m w (applies_one f m x v))
-entry_lifts f single fits_state fits_args fits_text fits_reply w c m x v program corresponds agreed here agrees =
-    lifts_on f single c d (at_work f m w (applies_one f m x v)) (leads_on single f.performs f.computes c l.course d l.leads (By l.course d d step (Stays d)))
-    (reads_lift f single fits_state fits_args fits_text fits_reply w d m u.node.copies.processes u program now)
+    → Agrees f single (take (suc v.node.copies.applied) v.node.member.log)
+    → Lifts f single c (at_work f m w (takes_entry f m (known f v.node) v.node.copies.processes (suc v.node.copies.applied) x v))
+taken_lifts f single fits_state fits_args fits_text fits_reply w c m x v program corresponds agreed here agrees =
+    (d, leads_on single f.performs f.computes c l.course d l.leads (By l.course d d step (Stays d)), now)
   where
     before : World
     before = at_work f m w v
@@ -192,3 +193,13 @@ entry_lifts f single fits_state fits_args fits_text fits_reply w c m x v program
       stands = applied f single fits_args fits_text fits_reply before (at_work f m w u) l.course m x l.stands (fitting f fits_state fits_args fits_text fits_reply program single l.course (let z = l.stands in z.came)) l.next there.there done;
       reached = reached l.long;
     }
+
+-- and then the reads that wait are tried
+pub entry_lifts : (f : Frame) (single : Test) (fits_state : StateFits) (fits_args : ArgsFit) (fits_text : TextFits) (fits_reply : ReplyFits) (w : World) (c : Course) (m : ℕ) (x : Message) (v : NodeWork)
+    → Program f fits_state fits_args fits_text fits_reply → Corresponds f single (at_work f m w v) c → IsAgreed (at_work f m w v) → IsAccepted v.node v.node.copies.applied x
+    → Agrees f single (take (suc v.node.copies.applied) v.node.member.log) → Lifts f single c (at_work f m w (applies_one f m x v))
+entry_lifts f single fits_state fits_args fits_text fits_reply w c m x v program corresponds agreed here agrees =
+    let u : NodeWork = takes_entry f m (known f v.node) v.node.copies.processes (suc v.node.copies.applied) x v in
+    let l = taken_lifts f single fits_state fits_args fits_text fits_reply w c m x v program corresponds agreed here agrees in
+    lifts_on f single c l.0 (at_work f m w (applies_one f m x v)) l.1
+    (reads_lift f single fits_state fits_args fits_text fits_reply w l.0 m u.node.copies.processes u program l.2)

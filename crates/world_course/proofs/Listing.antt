@@ -264,7 +264,7 @@ within_list f single w c h k =
     omega (arith, le, e)
 
 -- an entry that some member applied before is the list's
-is_listed : (f : Frame) (single : Test) (w : World) (c : Course) (m k : ℕ) (x : Message) → Stands f single w c → length c.list ≤ (w.nodes k).copies.applied → IsAgreed w → IsAccepted (w.nodes m) (w.nodes m).copies.applied x
+pub is_listed : (f : Frame) (single : Test) (w : World) (c : Course) (m k : ℕ) (x : Message) → Stands f single w c → length c.list ≤ (w.nodes k).copies.applied → IsAgreed w → IsAccepted (w.nodes m) (w.nodes m).copies.applied x
     → (w.nodes m).copies.applied < length c.list → slice_get c.list (c.applied m) ≡ Some x
 is_listed f single w c m k x h reached agreed here lt =
     let a : ℕ = (w.nodes m).copies.applied in

@@ -98,7 +98,7 @@ answer_carries f single w c m place i call reply v h a reached =
 
 -- ---- what waits for its place
 
-errand_taken : (f : Frame) (single : Test) (fits_state : StateFits) (fits_args : ArgsFit) (fits_text : TextFits) (fits_reply : ReplyFits) (w : World) (c : Course) (m : ℕ) (errand : Errand) (v : NodeWork)
+pub errand_taken : (f : Frame) (single : Test) (fits_state : StateFits) (fits_args : ArgsFit) (fits_text : TextFits) (fits_reply : ReplyFits) (w : World) (c : Course) (m : ℕ) (errand : Errand) (v : NodeWork)
     → Program f fits_state fits_args fits_text fits_reply → Carries f single w c m v → ErrandStands f single c m errand → place_of errand ≤ v.node.copies.applied → CarriesOn f single w c m (takes f m errand v)
 errand_taken f single fits_state fits_args fits_text fits_reply w c m (Ask place x) v program h stands reached =
     asked_carries f single fits_state fits_args fits_text fits_reply w c m place x (v.node.given x.process.0) v program h stands reached refl
@@ -237,7 +237,7 @@ again_at f single w c m i r (Submitted act) v h here is = h
 again_at f single w c m i r (Reading act) v h here is = h
 again_at f single w c m i r (Over act) v h here is = h
 
-again_of : (f : Frame) (single : Test) (w : World) (c : Course) (m i : ℕ) (o : Option Played) (v : NodeWork) → Carries f single w c m v → v.node.played i ≡ o → Carries f single w c m (asks_again_of f m i o v)
+pub again_of : (f : Frame) (single : Test) (w : World) (c : Course) (m i : ℕ) (o : Option Played) (v : NodeWork) → Carries f single w c m v → v.node.played i ≡ o → Carries f single w c m (asks_again_of f m i o v)
 again_of f single w c m i None v h here = h
 again_of f single w c m i (Some r) v h here = again_at f single w c m i r r.stage v h here refl
 

@@ -155,7 +155,7 @@ silent_begins m i (b ∷ bs) v = go (b.home == m)
     go true = silent_plays i (newborn b) v (λ waits. absurd waits)
     go false = silent v
 
-silent_entry : (f : Frame) (m : ℕ) (processes : List Begun) (count place : ℕ) (x : Message) (v : NodeWork) → Silent v (takes_entry f m processes count place x v)
+pub silent_entry : (f : Frame) (m : ℕ) (processes : List Begun) (count place : ℕ) (x : Message) (v : NodeWork) → Silent v (takes_entry f m processes count place x v)
 silent_entry f m processes count place x v =
     let lines : List Line = lines_after (singles_of f processes) f.performs v.node.copies x in
     let u : NodeWork = copies_take f m processes x v in
@@ -246,7 +246,7 @@ silent_joins work v = record {
   beside = λ r is. inl (subst (λ (l : List Placed). In r l) (acts_beside work.acts v.deeds) is);
 }
 
-silent_notes : (f : Frame) (m : ℕ) (v : NodeWork) → Silent v (notes f m v)
+pub silent_notes : (f : Frame) (m : ℕ) (v : NodeWork) → Silent v (notes f m v)
 silent_notes f m v = go (nat_lt v.node.member.applied v.node.copies.applied)
   where
     go : (b : Bool) → Silent v (if b then joins (note (group f) m v.node.copies.applied v.node.member) v else v)

@@ -132,7 +132,7 @@ still_hears : (g : Group Message) (m place i : ℕ) (call : CallNo) (reply : Rep
 still_hears g m place i call reply None v = still g m v
 still_hears g m place i call reply (Some r) v = still_hears_as g m place i call reply r r.stage v
 
-still_takes : (f : Frame) (g : Group Message) (m k : ℕ) (errand : Errand) (v : NodeWork) → Still g m v (takes f k errand v)
+pub still_takes : (f : Frame) (g : Group Message) (m k : ℕ) (errand : Errand) (v : NodeWork) → Still g m v (takes f k errand v)
 still_takes f g m k (Ask place x) v = still_asked f g m k x (v.node.given x.process.0) v
 still_takes f g m k (Answer place i call reply) v = still_hears g m place i.0 call reply (v.node.played i.0) v
 
@@ -188,7 +188,7 @@ still_again_at f g m k i r (Submitted act) v = still g m v
 still_again_at f g m k i r (Reading act) v = still g m v
 still_again_at f g m k i r (Over act) v = still g m v
 
-still_again_of : (f : Frame) (g : Group Message) (m k i : ℕ) (r : Option Played) (v : NodeWork) → Still g m v (asks_again_of f k i r v)
+pub still_again_of : (f : Frame) (g : Group Message) (m k i : ℕ) (r : Option Played) (v : NodeWork) → Still g m v (asks_again_of f k i r v)
 still_again_of f g m k i None v = still g m v
 still_again_of f g m k i (Some r) v = still_again_at f g m k i r r.stage v
 

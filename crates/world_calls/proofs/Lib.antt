@@ -1,0 +1,11 @@
+pub mod Going
+pub mod Each
+pub mod Fitting
+pub mod Calling
+pub mod Meeting
+pub mod Beginning
+pub mod Counting
+pub mod Receiving
+pub mod Smallness
+pub mod Parts
+pub mod Bursting
