@@ -1,6 +1,6 @@
 -- Each member's part of each possible event of a run that is going.
-use Rattle.std.proofs.Common.{◌≡◌, ◌<◌, ◌≤◌, ◌*◌, ◌+◌, ℕ, zero, suc, Bool, true, false, List, [], ◌∷◌, ◌++◌, length, nat_le, Option, None, Some, refl, sym, ap, ◌∙◌, subst, arith, if◌then◌else◌}
-use Rattle.std.proofs.lemmas.Bool.{and_parts, leb-false, lt-ltb}
+use Rattle.std.proofs.Common.{◌≡◌, ◌<◌, ◌≤◌, ◌*◌, ◌+◌, ℕ, zero, suc, Bool, true, false, List, [], ◌∷◌, ◌++◌, length, nat_le, Option, None, Some, refl, sym, ap, ◌∙◌, subst, arith, if◌then◌else◌, ◌||◌, ◌&&◌, ◌⊎◌, inl, inr}
+use Rattle.std.proofs.lemmas.Bool.{and_parts, leb-false, lt-ltb, cases_lt}
 use Rattle.orca_base.specs.declared.limits.TheConstants.{EVENTS, HISTORY_LINES}
 use Rattle.value_core.specs.declared.action.Line.{Line}
 use Rattle.value_core.specs.declared.action.Reply.{Reply}
@@ -16,13 +16,16 @@ use Rattle.world_rules.specs.declared.standing.Standing.TheVariants.{OutOfEvents
 use Rattle.orca_base.specs.declared.what.What.{What}
 use Rattle.orca_base.specs.declared.what.What.TheVariants as what
 use Rattle.world_calls.proofs.Each.{AtEach, FollowsEach, walks_each}
+use Rattle.world_rules.specs.Processes.{processes_in}
+use Rattle.world_course.specs.Corresponds.{IsOf, Stands}
+use Rattle.world_course.proofs.Listing.{got_less}
 use Rattle.world_rules.specs.Frame.{AreSettings, Frame}
 use Rattle.world_rules.specs.Mail.{Mail, receiver_of}
 use Rattle.world_rules.specs.Nodes.{Node, idle}
 use Rattle.world_rules.specs.Parts.{ticks}
-use Rattle.world_rules.specs.Played.{Stage}
+use Rattle.world_rules.specs.Played.{Played, Stage, is_computing}
 use Rattle.world_rules.specs.Played.Stage.{Computing, Acting, Submitted, Reading, Asking, Over}
-use Rattle.world_rules.specs.Standings.{after_limit, first_of, is_out_of_events, is_out_of_turns, limit, limit_below, lines_limit, standing}
+use Rattle.world_rules.specs.Standings.{after_limit, first_of, is_out_of_events, is_out_of_turns, limit, limit_below, lines_limit, standing, any_below, has_no_turns, process_count}
 use Rattle.world_rules.specs.Steps.{AtWork, Known as Given, Leads, Next, Possible, Replays, does_part, may_act_as, ticks_below, untouched}
 use Rattle.world_rules.specs.Worlds.{Book, World, agreed, group_world, home_of, opening_world, played_in, singles_in}
 use Rattle.world_law.specs.Counts.{AfterSteps, AllCount, AllMomentsCount, Counted, MomentsCount, StepsCount}
@@ -238,6 +241,55 @@ replies_few f w laws k going m i r here =
     let lt = lines_left f w going in
     let waits = waits_once r.stage in
     omega (arith, le, same, lines, lt, waits)
+
+-- ---- turns
+
+or_false : (a b : Bool) → (a || b) ≡ false → (a ≡ false) × (b ≡ false)
+or_false true b e = absurd (cc e)
+or_false false b e = (refl, e)
+
+none_below : (n : ℕ) (test : ℕ → Bool) → any_below n test ≡ false → (i : ℕ) → i < n → test i ≡ false
+none_below zero test e i lt = absurd (omega (arith, lt))
+none_below (suc n) test e i lt = by (λ less. none_below n test (or_false (any_below n test) (test n) e).0 i less) (cases_lt i n)
+  where
+    by : (i < n → test i ≡ false) → (i < n) ⊎ (n ≤ i) → test i ≡ false
+    by before (inl less) = before less
+    by before (inr le) = let same : i ≡ n = omega (arith, lt, le) in ap test same ∙ (or_false (any_below n test) (test n) e).1
+
+first_false : (a b : Bool) (x : Standing) → (if a then OutOfTurns else (if b then OutOfEvents else x)) ≡ IsGoing → a ≡ false
+first_false true b x e = absurd cc
+first_false false b x e = refl
+
+turns_left : (f : Frame) (w : World) (o : Option (What × ℕ)) → after_limit f w o ≡ IsGoing → is_out_of_turns f w ≡ false
+turns_left f w None e = first_false (is_out_of_turns f w) (is_out_of_events f w) _ e
+turns_left f w (Some passed) e = absurd cc
+
+-- a process that computes has turns left, while the run is going
+pub has_turns : (f : Frame) (w : World) → BookLaws f → Kept f w → standing f w ≡ IsGoing → (i : ℕ) (r : Played) → played_in f w i ≡ Some r → r.stage ≡ Computing → r.turns < f.settings.turns
+has_turns f w laws k going i r here computes =
+    leb-false f.settings.turns r.turns
+    (go (nat_le f.settings.turns r.turns)
+    (sym (ap (λ (o : Option Played). has_no_turns f o) here ∙ ap (λ (z : Stage). nat_le f.settings.turns r.turns && is_computing z) computes)
+    ∙ none_below (process_count f w) (λ j. has_no_turns f (played_in f w j)) (turns_left f w (limit f w) going) i low))
+  where
+    h : HasCourse f (singles_in f w) w
+    h = course_of f w k
+
+    st : Stands f (singles_in f w) w h.course
+    st = stands_for f (singles_in f w) w h
+
+    of : IsOf f h.course (home_of f w i) i
+    of = st.played (home_of f w i) i r here
+
+    low : i < process_count f w
+    low =
+        let lt = got_less (processes_in f h.course.list) i of.begun of.there in
+        let same : process_count f w ≡ length (processes_in f h.course.list) = ap (λ (l : List Message). length (processes_in f l)) (list_kept f (singles_in f w) w laws k h) in
+        omega (arith, lt, same)
+
+    go : (b : Bool) → (b && true) ≡ false → b ≡ false
+    go true e = absurd (cc e)
+    go false e = refl
 
 -- ---- steps are counted
 

@@ -53,13 +53,13 @@ AllPartsFit p q fitness =
 abbrev pub view_of : Node → Viewed
 view_of node = record { objects = node.copies.objects; place = node.copies.applied }
 
--- of each process that computes and has turns left, a burst on its member's copies has what it asks
+-- of each process that computes, a burst on its member's copies has what it asks
 abbrev pub BurstsFit : Frame → Fitness → World → Type 0
 BurstsFit f fitness w =
-    (i : ProcessNo) (r : Played) → played_in f w i.0 ≡ Some r → r.stage ≡ Computing → r.turns < f.settings.turns →
+    (i : ProcessNo) (r : Played) → played_in f w i.0 ≡ Some r → r.stage ≡ Computing →
     BurstFits f fitness i (view_of (w.nodes (home_of f w i.0))) r
 
 abbrev pub AllBurstsFit : Performs → Computes → Fitness → Type 0
 AllBurstsFit p q fitness =
     (f : Frame) → f.performs ≡ p → f.computes ≡ q → AreSettings f.settings → (steps : List Step) (w : World) →
-    Replays f steps w → BurstsFit f fitness w
+    Replays f steps w → standing f w ≡ Going → BurstsFit f fitness w

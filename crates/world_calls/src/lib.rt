@@ -22,7 +22,7 @@ use world_law::{group_steps, numbers_stay_small};
 /// - `parts`: while a run is going, `EventFits` of `node_rules` holds of each member's part of each possible event, by the machine's
 ///   predicates: of a process's action, of a letter that comes, of a suspicion, and at a tick of each living member, in the world that the
 ///   members below it leave.
-/// - `bursts`: `BurstFits` holds of each process that computes and has turns left, on its member's copies.
+/// - `bursts`: so does `BurstFits` of each process that computes, on its member's copies.
 pub fn calls_fit<P: Processor>(machine: &P)
     ensures parts { AllPartsFit (P.performs machine.now) (P.computes machine.now)
         (record {

@@ -10,7 +10,7 @@ use Rattle.world_book.proofs.Kept.{course_of, replayed, stands_for}
 use Rattle.node_rules.specs.Conditions.{Fitness}
 use Rattle.world_calls.proofs.Bursting.{burst_fits}
 use Rattle.world_calls.proofs.Beginning.{GroupLaws}
-use Rattle.world_calls.proofs.Parts.{Laws, parts_fit}
+use Rattle.world_calls.proofs.Parts.{Laws, has_turns, parts_fit}
 use Rattle.world_calls.proofs.calls_fit.Goals as goal
 
 pub returns : goal.returns
@@ -72,8 +72,9 @@ returns g c =
     record {
       parts = λ f same_p same_q settings trail w replays going e given possible.
           parts_fit f fitness trail w e given (laws f same_p same_q settings) replays going possible;
-      bursts = λ f same_p same_q settings trail w replays i r here computes some.
+      bursts = λ f same_p same_q settings trail w replays going i r here computes.
           let l = laws f same_p same_q settings in
-          let h = course_of f w (replayed f trail w l.book replays) in
-          burst_fits f fitness (singles_in f w) w h.course (home_of f w i.0) i r l.program (stands_for f (singles_in f w) w h) here computes some;
+          let k = replayed f trail w l.book replays in
+          let h = course_of f w k in
+          burst_fits f fitness (singles_in f w) w h.course (home_of f w i.0) i r l.program (stands_for f (singles_in f w) w h) here computes (has_turns f w l.book k going i.0 r here computes);
     }
