@@ -9,6 +9,7 @@ pub mod Reading
 pub mod Staying
 pub mod Rests
 pub mod Kept
+pub mod Told
 pub mod Sounding
 pub mod Stuck
 pub mod Over

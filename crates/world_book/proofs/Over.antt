@@ -21,7 +21,7 @@ use Rattle.world_rules.specs.Worlds.{Book, World, agreed, home_of, played_in, pr
 use Rattle.world_law.proofs.Homes.{home_low}
 use Rattle.world_course.specs.Corresponds.{IsOf}
 use Rattle.world_book.specs.Promise.{IsStuckAt, LivingAreStuck, OwnersWaitersAreStuck}
-use Rattle.world_book.proofs.Kept.{Kept, Laws, course_of, list_kept, stands_for}
+use Rattle.world_book.proofs.Kept.{Kept, Laws, course_of, stands_for}
 use Rattle.world_book.proofs.Stuck.{single_stuck, stuck_at}
 
 -- ---- tests
@@ -102,7 +102,7 @@ living_stuck f w some laws ends k over i r here lives unended = rests_stuck f w 
         let h = course_of f w k in
         let st = stands_for f (singles_in f w) w h in
         let of : IsOf f h.course m i.0 = st.played m i.0 r here in
-        low_in _ i.0 of.begun (ap (λ (l : List Message). slice_get (processes_in f l) i.0) (list_kept f (singles_in f w) w laws k h) ∙ of.there)
+        low_in _ i.0 of.begun (ap (λ (l : List Message). slice_get (processes_in f l) i.0) (sym h.list) ∙ of.there)
 
     -- not all have ended
     resting : all_rest f w ≡ true

@@ -36,7 +36,8 @@ use Rattle.world_course.specs.Corresponds.{Stands}
 use Rattle.world_course.specs.Errands.{NodeStands, WaitsOn}
 use Rattle.world_course.specs.Processes.{IsFreeAt, StageStands}
 use Rattle.world_book.specs.Promise.{IsStuckAt, OwnersWaitersAreStuck}
-use Rattle.world_book.proofs.Kept.{HasCourse, Kept, Laws, book_kept, course_of, list_kept, number_kept, stands_for}
+use Rattle.world_book.specs.Following.{HasCourse}
+use Rattle.world_book.proofs.Kept.{Kept, Laws, book_kept, course_of, number_kept, stands_for}
 use Rattle.world_book.proofs.Submitting.{IsRun, run_of}
 
 -- a read that is blocked did nothing
@@ -49,7 +50,7 @@ none_did Writes t is e = absurd (cc is)
 -- what is stuck in the course's book is so in the world's
 in_book : (f : Frame) (w : World) → Laws f → (k : Kept f w) → (i : ProcessNo) → IsStuck f.performs f.computes (book (singles_in f w) f.performs (course_of f w k).course.list (course_of f w k).course.aside) i
     → IsStuck f.performs f.computes (Book f w) i
-in_book f w laws k i h = subst (λ (lines : List Line). IsStuck f.performs f.computes lines i) (sym (book_kept f w laws k (course_of f w k))) h
+in_book f w laws k i h = subst (λ (lines : List Line). IsStuck f.performs f.computes lines i) (sym (book_kept f w (course_of f w k))) h
 
 pub stuck_at : (f : Frame) (w : World) → Laws f → EndsStuck f.performs f.computes → Kept f w → (m : ℕ) →
     (w.nodes m).member.applied ≡ length (agreed f w) → IsStuckAt f w m
@@ -80,7 +81,7 @@ stuck_at f w laws ends k m all = record {
 
     -- it applied the course's whole list
     number : c.applied m ≡ length c.list
-    number = sym (number_kept f (singles_in f w) w k h m) ∙ all ∙ ap (λ (l : List Message). length l) (list_kept f (singles_in f w) w laws k h)
+    number = sym (number_kept f (singles_in f w) w k h m) ∙ all ∙ ap (λ (l : List Message). length l) (sym h.list)
 
     queues : (w.nodes m).copies.queue ≡ (copies_at (singles_in f w) f.performs c.list (length c.list)).queue
     queues =

@@ -2,3 +2,4 @@ pub mod Promise
 pub mod Submitting
 pub mod Holding
 pub mod Sounding
+pub mod Following

@@ -3,10 +3,11 @@ use Rattle.value_core.specs.Meaning.{Computes, Performs}
 use Rattle.book_law.specs.Fitness.{EndsStuck}
 use Rattle.book_law.specs.Machines.{RunsFit, RunsSound}
 use Rattle.world_rules.specs.Frame.{AreSettings, Frame}
-use Rattle.world_book.proofs.Kept.{Laws, is_kept, kept_may, replayed}
+use Rattle.world_book.proofs.Kept.{Laws, kept_may, replayed}
 use Rattle.world_book.proofs.Over.{living_stuck}
 use Rattle.world_book.proofs.Sounding.{is_sound}
 use Rattle.world_book.proofs.Stuck.{single_stuck, stuck_at}
+use Rattle.world_book.proofs.Told.{is_kept}
 use Rattle.world_book.proofs.legal_book.Goals as goal
 
 pub returns : goal.returns
@@ -25,11 +26,18 @@ returns g c =
       gives = c.group_steps.ensures.gives;
       lists = c.group_steps.ensures.lists;
       courses = c.worlds_are_courses.ensures.courses f same_p same_q settings;
-      owners = λ single course came i x there. let all = fit single course came in all.owners i x there;
+      fits_args = g.P.Performer.fits_args m;
+      fits_text = g.P.Performer.fits_text m;
+      fits_reply = g.P.Performer.fits_reply m;
+      fit = fit;
     } in
     record {
       kept = λ f same_p same_q settings steps w replays.
           let l = laws f same_p same_q settings in is_kept f w l (replayed f steps w l replays);
+      follows = λ f same_p same_q settings steps w replays single agrees.
+          let l = laws f same_p same_q settings in
+          let k = replayed f steps w l replays in
+          k.courses single agrees;
       stuck = λ f same_p same_q settings steps w replays.
           let l = laws f same_p same_q settings in
           let ends : EndsStuck f.performs f.computes =
