@@ -34,6 +34,7 @@ use Rattle.world_course.proofs.Listing.{runs_below}
 use Rattle.world_book.specs.Promise.{HasCopies, IsKept, IsReceived, applied_book}
 use Rattle.world_book.proofs.Answered.{answered_asks}
 use Rattle.world_book.proofs.Submitting.{IsRun, run_of}
+use Rattle.world_book.proofs.Running.{of_books}
 use Rattle.std.proofs.lemmas.Bool.{cases_lt}
 use Rattle.value_core.specs.Meaning.{Performs, Computes}
 use Rattle.book_law.specs.Machines.{AllFit}
@@ -280,6 +281,7 @@ is_kept f w laws k =
           subst (λ (lines : List Line). AtMostOneMore r.replies (replies_of f.performs f.computes lines i)) (sym whole)
           (subst (λ (had : List Reply). AtMostOneMore had (replies_of f.performs f.computes (book (singles_in f w) f.performs h.course.list h.course.aside) i)) is.replies
           (promised.replies i one.runner one.runs));
+      processes = of_books f w k;
       copies = λ m. copies_kept f w laws k m;
       shared = λ m. shared_kept f w k m;
       views = λ m n le. viewed f (singles_in f w) w laws k h m n le;

@@ -1,3 +1,4 @@
+pub mod Processes
 pub mod Promise
 pub mod Submitting
 pub mod Holding

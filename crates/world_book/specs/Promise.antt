@@ -22,6 +22,7 @@ use Rattle.world_rules.specs.Standings.{is_over_run}
 use Rattle.world_rules.specs.Steps.{Replays, objects_after}
 use Rattle.world_rules.specs.Worlds.{Book, World, agreed, home_of, played_in, processes_of, singles_in}
 use Rattle.world_course.specs.Errands.{AsksFor}
+use Rattle.world_book.specs.Processes.{AreOfBook}
 
 -- the lines of the book up to this place
 abbrev pub book_up_to : Frame → World → ℕ → List Line
@@ -63,7 +64,8 @@ pub record HasCopies (f : Frame) (w : World) (m : ℕ) : Type 0 where
       ((o : ObjectId) → singles_in f w o ≡ false) → (w.nodes m).copies.objects ≡ objects_of f.performs f.computes (applied_book f w m)
 
 -- the book is a history of the program; a process's replies are the book's up to what its member applied, but for one that is on its
--- way, and the whole book has at most one more for it; and each member's copies are what the book leaves. `shared`, but for what it keeps
+-- way, and the whole book has at most one more for it; and each member's copies are what the book leaves. `processes`, its processes
+-- are the book's; `shared`, but for what it keeps
 -- alone, they are those of as many entries of the list as it applied, whole; `views`, what a burst sees at a place are the objects after
 -- so many entries; `view`, at the end they are the copies' own; `beside`, each line beside the list has a place in it and is in the book
 pub record IsKept (f : Frame) (w : World) : Type 0 where
@@ -74,6 +76,7 @@ pub record IsKept (f : Frame) (w : World) : Type 0 where
   pub one_short :
       (m i : ℕ) (r : Played) → (w.nodes m).played i ≡ Some r →
       AtMostOneMore r.replies (replies_of f.performs f.computes (Book f w) i)
+  pub processes : AreOfBook f w
   pub copies : (m : ℕ) → HasCopies f w m
   pub shared :
       (m : ℕ) →
