@@ -1,5 +1,5 @@
 -- Every replayed world follows a course that came, beside a run of the group: step by step.
-use Rattle.std.proofs.Common.{◌≡◌, ◌<◌, ◌*◌, ℕ, List, [], ◌∷◌, refl, sym, ap, ◌∙◌, subst}
+use Rattle.std.proofs.Common.{◌++◌, ◌≡◌, ◌<◌, ◌*◌, ℕ, List, [], ◌∷◌, refl, sym, ap, ◌∙◌, subst}
 use Rattle.value_core.specs.declared.message.Message.{Message}
 use Rattle.book_law.specs.Book.{book, up_to}
 use Rattle.book_law.specs.declared.placing.Placed.{Placed}
@@ -17,6 +17,7 @@ use Rattle.world_law.specs.Grouped.{Grouped, MaySubmit, Submits}
 use Rattle.world_law.specs.Holds.{AllHold, Holds, StepsHold}
 use Rattle.world_law.specs.Lists.{AllGrow, ListsGrow, OneList}
 use Rattle.world_law.proofs.Ages.{Fresh, opening_fresh, step_later}
+use Rattle.world_course.specs.Chain.{Leads as Chain}
 use Rattle.world_course.specs.Corresponds.{Agrees, Stands}
 use Rattle.world_course.specs.Errands.{Follows}
 use Rattle.world_course.specs.Law.{AreCourses}
@@ -62,7 +63,8 @@ course_of f w k = k.courses (singles_in f w) (λ o lt. refl)
 
 -- ---- steps
 
-has_course : (f : Frame) (single : Test) (w : World) (c : Course) → Follows f single w c → Grouped f w → OneList f w → HasCourse f single w
+-- whose list is the world's
+abbrev has_course : (f : Frame) (single : Test) (w : World) (c : Course) → Follows f single w c → Grouped f w → OneList f w → HasCourse f single w
 has_course f single w c follows grouped one = record {
   course = c;
   follows = follows;
@@ -102,22 +104,40 @@ submits f w (event.Crash node) may = tt
 submits f w (event.Suspect node) may = tt
 submits f w event.Swap may = tt
 
+-- what a step makes of a course
+pub record Lifted (f : Frame) (single : Test) (w v : World) : Type 0 where
+  pub more : List Message
+  pub grows : agreed f v ≡ agreed f w ++ more
+  pub before : HasCourse f single w
+  pub after : HasCourse f single v
+  pub leads : Chain single f.performs f.computes before.course after.course
+
+pub lifts : (f : Frame) (w v : World) (step : Step) → Laws f → Next f w step v → Kept f w → Holds f v → (single : Test) → Agrees f single (agreed f v) → Lifted f single w v
+lifts f w v step laws next k goes single agrees =
+    let may : Submits f w step.event = submits f w step.event (kept_may f w laws k) in
+    let lists : ListsGrow f = laws.lists f laws.small in
+    let grown = lists.grows w v step next may (grouped_of f w k) in
+    let courses = laws.courses in
+    let gives = laws.gives f laws.small w step.event next.given (grouped_of f w k) next.possible may in
+    let before = k.courses single (agrees_before f single (agreed f w) grown.0 (agreed f v) grown.1 agrees) in
+    let on = courses.steps single w v before.course step before.follows next (given f w step.event gives)
+    (agrees_all f single v goes.grouped (lists.one v goes.grouped) agrees) in
+    record {
+      more = grown.0;
+      grows = grown.1;
+      before = before;
+      after = has_course f single v on.0 on.2 goes.grouped (lists.one v goes.grouped);
+      leads = on.1;
+    }
+
 pub step_kept : (f : Frame) (w v : World) (step : Step) → Laws f → Next f w step v → Kept f w → Kept f v
 step_kept f w v step laws next k =
     let may : Submits f w step.event = submits f w step.event (kept_may f w laws k) in
     let steps : StepsHold f = laws.holds f laws.small in
-    let lists : ListsGrow f = laws.lists f laws.small in
     let goes : Holds f v = steps.step w v step next may k.holds in
-    let grown = lists.grows w v step next may (grouped_of f w k) in
     let gone = step_later f w v step next k.fresh in
-    let courses = laws.courses in
-    let gives = laws.gives f laws.small w step.event next.given (grouped_of f w k) next.possible may in
     record {
-      courses = λ single agrees.
-          let before = k.courses single (agrees_before f single (agreed f w) grown.0 (agreed f v) grown.1 agrees) in
-          let on = courses.steps single w v before.course step before.follows next (given f w step.event gives)
-          (agrees_all f single v goes.grouped (lists.one v goes.grouped) agrees) in
-          has_course f single v on.0 on.2 goes.grouped (lists.one v goes.grouped);
+      courses = λ single agrees. let lifted = lifts f w v step laws next k goes single agrees in lifted.after;
       holds = goes;
       homes = homes_stay f w v step next gone.later k.homes;
       fresh = gone.fresh;

@@ -12,6 +12,7 @@ pub mod Kept
 pub mod Texts
 pub mod Running
 pub mod Told
+pub mod Viewing
 pub mod Sounding
 pub mod Stuck
 pub mod Over

@@ -33,7 +33,8 @@ use world_law::{group_steps, letters_are_sound, replay_law, runs_hold};
 ///   runs.
 /// - `holds`: so all that the group's side says where what is submitted may be submitted, holds of each world of a run: packets are
 ///   numbered, numbers small, members caught up, processes at home, Asks and Answers true, and no place beyond what a member applied.
-/// - `goes`: and in each step of a run processes go on, at places that don't fall.
+/// - `goes`: and in each step of a run processes go on, at places that don't fall, and what a burst sees at a place that its member
+///   applied stays what it is.
 /// - `sound`: what was submitted, what a process is about to ask, what was performed beside the list, each line of the book, and
 ///   what travels, is sound.
 /// - `once`: a list of steps leads to one world at most.

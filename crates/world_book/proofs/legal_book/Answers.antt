@@ -8,6 +8,7 @@ use Rattle.world_book.proofs.Over.{living_stuck}
 use Rattle.world_book.proofs.Sounding.{is_sound}
 use Rattle.world_book.proofs.Stuck.{single_stuck, stuck_at}
 use Rattle.world_book.proofs.Told.{is_kept}
+use Rattle.world_book.proofs.Viewing.{views_stay}
 use Rattle.world_book.proofs.legal_book.Goals as goal
 
 pub returns : goal.returns
@@ -55,7 +56,11 @@ returns g c =
           let l = laws f same_p same_q settings in
           let k = replayed f steps w l replays in
           let on = l.holds f l.small in
-          record { later = on.later w v step next k.holds; rise = on.rise w v step next k.holds };
+          record {
+            later = on.later w v step next k.holds;
+            rise = on.rise w v step next k.holds;
+            views = λ m n le. views_stay f w v step l next k m n le;
+          };
       sound = λ f same_p same_q settings steps w replays.
           let l = laws f same_p same_q settings in
           let courses : RunsSound f.performs f.computes =
