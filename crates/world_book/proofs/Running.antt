@@ -1,6 +1,5 @@
 -- The processes of a replayed world are those of its book.
-use Rattle.std.proofs.Common.{◌≡◌, ◌≤◌, ◌<◌, ◌++◌, ◌+◌, ℕ, zero, suc, Bool, true, false, List, [], ◌∷◌, length, Option, Some, None, take, refl, sym, ap, ◌∙◌, arith, subst, append-nil}
-use Rattle.std.proofs.lemmas.List.{length-take-le}
+use Rattle.std.proofs.Common.{◌≡◌, ◌≤◌, ◌++◌, ◌+◌, ℕ, zero, suc, false, List, [], ◌∷◌, length, Option, Some, None, take, refl, sym, ap, ◌∙◌, arith, subst, append-nil}
 use Rattle.std.specs.Prelude.{slice_get}
 use Rattle.value_core.specs.History as history
 use Rattle.value_core.specs.History.{Process}
@@ -20,21 +19,19 @@ use Rattle.book_law.proofs.Courses.{came_sound}
 use Rattle.book_law.proofs.Entries.{follows_all}
 use Rattle.book_law.proofs.Kept.{Kept as KeptBook, Stands as RunnerStands, answer_lines, as_process}
 use Rattle.book_law.proofs.Running.{processes_run}
-use Rattle.book_law.proofs.Processes.{get_some}
 use Rattle.book_law.proofs.Stages.{stage_free}
 use Rattle.world_rules.specs.Frame.{Frame}
 use Rattle.world_rules.specs.Nodes.{known}
 use Rattle.world_rules.specs.Played.{Played, Stage}
 use Rattle.world_rules.specs.Played.Stage.{Computing, Acting, Submitted, Reading, Asking, Over}
 use Rattle.world_rules.specs.Processes.{Begun, home_or_first, processes_in}
-use Rattle.world_rules.specs.Standings.{process_count}
-use Rattle.world_rules.specs.Worlds.{Book, World, agreed, home_of, played_in, processes_of, singles_in}
+use Rattle.world_rules.specs.Worlds.{World, processes_of, singles_in}
 use Rattle.world_course.specs.Corresponds.{IsMember, Stands}
 use Rattle.world_course.specs.Processes.{IsProcess, IsRunner, StageStands, StandsHere}
 use Rattle.world_course.proofs.Begun.{whole_same}
 use Rattle.world_course.proofs.Listing.{count_in, got_less}
 use Rattle.world_book.specs.Following.{HasCourse}
-use Rattle.world_book.specs.Processes.{AreOfBook, IsKnownAs, IsOfBook, IsPlayedAs, has_out}
+use Rattle.world_book.specs.Processes.{AreOfBook, IsKnownAs, IsOfBook, has_out}
 use Rattle.world_book.proofs.Kept.{Kept, book_kept, course_of, stands_for}
 use Rattle.world_book.proofs.Texts.{texts_stand, within_places}
 

@@ -242,11 +242,11 @@ view_kept f w laws k m =
 
 beside_kept : (f : Frame) (w : World) (h : HasCourse f (singles_in f w) w) (r : Placed) → In r w.aside → (r.place ≤ length (agreed f w)) × In r.line (Book f w)
 beside_kept f w h r is = (
-    subst (λ (l : List Message). r.place ≤ length l) h.list (⊎_elim
-    (λ (lt : length c.list < r.place). absurd (subst (λ (lines : List Line). In r.line lines) (sound.held r.place lt) (in_aside r c.aside among)))
-    (λ le. le)
-    (cases_lt (length c.list) r.place)),
-    subst (λ (lines : List Line). In r.line lines) (sym (book_kept f w h)) (inside.beside r among),
+  subst (λ (l : List Message). r.place ≤ length l) h.list (⊎_elim
+      (λ (lt : length c.list < r.place). absurd (subst (λ (lines : List Line). In r.line lines) (sound.held r.place lt) (in_aside r c.aside among)))
+      (λ le. le)
+      (cases_lt (length c.list) r.place)),
+  subst (λ (lines : List Line). In r.line lines) (sym (book_kept f w h)) (inside.beside r among),
 )
   where
     c : Course

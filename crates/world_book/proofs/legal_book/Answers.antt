@@ -45,7 +45,7 @@ returns g c =
           subst (λ (p : Performs). EndsStuck p f.computes) (sym same_p)
           (subst (λ (q : Computes). EndsStuck (g.P.Performer.performs m) q) (sym same_q) c.stuck_law.ensures) in
           let k = replayed f steps w l replays in
-          record { waiters = λ n all. stuck_at f w l ends k n all; singles = single_stuck f w l ends k; living = living_stuck f w settings.some l ends k };
+          record { waiters = λ n all. stuck_at f w ends k n all; singles = single_stuck f w ends k; living = living_stuck f w settings.some ends k };
       may = λ f same_p same_q settings steps w replays i.
           let l = laws f same_p same_q settings in kept_may f w l (replayed f steps w l replays) i;
       holds = λ f same_p same_q settings steps w replays.
