@@ -39,8 +39,8 @@ pub record IsReceived (f : Frame) (w : World) (r : Played) (replies : List Reply
   pub few : length more ≤ 1
   pub asks : (more ≡ []) ⊎ ((o : ObjectId) × AsksFor r.stage o × (singles_in f w o ≡ true))
 
--- the object is single, its maker's member is this one, and the whole book left it so; `made`, so did what this member applied, which has its
--- make
+-- the object is single, its maker's member is this one, and the whole book left it so; `made`, so did the book up to what this member
+-- applied, which has its make
 pub record IsOwned (f : Frame) (w : World) (m : ℕ) (o : ObjectId) (kept : Instance) : Type 0 where
   pub single : singles_in f w o ≡ true
   pub owner : owner_in (processes_of f w) o ≡ m
@@ -64,10 +64,10 @@ pub record HasCopies (f : Frame) (w : World) (m : ℕ) : Type 0 where
       ((o : ObjectId) → singles_in f w o ≡ false) → (w.nodes m).copies.objects ≡ objects_of f.performs f.computes (applied_book f w m)
 
 -- the book is a history of the program; a process's replies are the book's up to what its member applied, but for one that is on its
--- way, and the whole book has at most one more for it; and each member's copies are what the book leaves. `processes`, its processes
--- are the book's; `shared`, but for what it keeps
--- alone, they are those of as many entries of the list as it applied, whole; `views`, what a burst sees at a place are the objects after
--- so many entries; `view`, at the end they are the copies' own; `beside`, each line beside the list has a place in it and is in the book
+-- way, and the whole book has at most one more for it; the processes that exist are the book's; and each member's copies are what the
+-- book leaves. `shared`, but for the single objects that it keeps they are, whole, those after as many entries of the list as it applied;
+-- `views`, what a burst sees at a place are the objects after so many entries; `view`, at the last place these are the copies' own;
+-- `beside`, what stands beside the list has a place in it, and is in the book
 pub record IsKept (f : Frame) (w : World) : Type 0 where
   pub legal : Legal f.performs f.computes (Book f w)
   pub received :
