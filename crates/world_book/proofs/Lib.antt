@@ -9,6 +9,10 @@ pub mod Reading
 pub mod Staying
 pub mod Rests
 pub mod Kept
+pub mod Texts
+pub mod Running
+pub mod Told
+pub mod Viewing
 pub mod Sounding
 pub mod Stuck
 pub mod Over

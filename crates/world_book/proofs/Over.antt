@@ -21,7 +21,7 @@ use Rattle.world_rules.specs.Worlds.{Book, World, agreed, home_of, played_in, pr
 use Rattle.world_law.proofs.Homes.{home_low}
 use Rattle.world_course.specs.Corresponds.{IsOf}
 use Rattle.world_book.specs.Promise.{IsStuckAt, LivingAreStuck, OwnersWaitersAreStuck}
-use Rattle.world_book.proofs.Kept.{Kept, Laws, course_of, list_kept, stands_for}
+use Rattle.world_book.proofs.Kept.{Kept, course_of, stands_for}
 use Rattle.world_book.proofs.Stuck.{single_stuck, stuck_at}
 
 -- ---- tests
@@ -91,8 +91,8 @@ rests_stuck f w singles i r Computing here is stuck unended rest = absurd (cc re
 rests_stuck f w singles i r (Acting act) here is stuck unended rest = absurd (cc rest)
 rests_stuck f w singles i r (Over act) here is stuck unended rest = absurd (cc unended)
 
-pub living_stuck : (f : Frame) (w : World) → 0 < f.settings.nodes → Laws f → EndsStuck f.performs f.computes → Kept f w → LivingAreStuck f w
-living_stuck f w some laws ends k over i r here lives unended = rests_stuck f w (single_stuck f w laws ends k) i r r.stage here refl (stuck_at f w laws ends k m applied) unended rest
+pub living_stuck : (f : Frame) (w : World) → 0 < f.settings.nodes → EndsStuck f.performs f.computes → Kept f w → LivingAreStuck f w
+living_stuck f w some ends k over i r here lives unended = rests_stuck f w (single_stuck f w ends k) i r r.stage here refl (stuck_at f w ends k m applied) unended rest
   where
     m : ℕ
     m = home_of f w i.0
@@ -102,7 +102,7 @@ living_stuck f w some laws ends k over i r here lives unended = rests_stuck f w 
         let h = course_of f w k in
         let st = stands_for f (singles_in f w) w h in
         let of : IsOf f h.course m i.0 = st.played m i.0 r here in
-        low_in _ i.0 of.begun (ap (λ (l : List Message). slice_get (processes_in f l) i.0) (list_kept f (singles_in f w) w laws k h) ∙ of.there)
+        low_in _ i.0 of.begun (ap (λ (l : List Message). slice_get (processes_in f l) i.0) (sym h.list) ∙ of.there)
 
     -- not all have ended
     resting : all_rest f w ≡ true

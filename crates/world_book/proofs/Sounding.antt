@@ -10,6 +10,7 @@ use Rattle.value_core.specs.Performable.{is_performable}
 use Rattle.value_core.specs.Sound.{IsSoundMessage}
 use Rattle.value_core.specs.declared.action.Action.{Action}
 use Rattle.value_core.specs.declared.meaning.Doing.TheVariants as doing
+use Rattle.value_core.specs.declared.action.Line.{Line}
 use Rattle.value_core.specs.declared.message.Message.{Message}
 use Rattle.group_rules.specs.Sets.{In as IsIn}
 use Rattle.group_law.specs.Messages.{Messages}
@@ -33,7 +34,7 @@ use Rattle.world_law.specs.SoundPackets.{AllLettersSound, FlySound, LettersSound
 use Rattle.world_course.specs.Corresponds.{Stands}
 use Rattle.world_course.specs.Processes.{IsFreeAt, IsOut, IsRunner, StageStands}
 use Rattle.world_book.specs.Sounding.{IsSound}
-use Rattle.world_book.proofs.Kept.{Kept, Laws, course_of, grouped_of, kept_may, opening_kept, stands_for, step_kept, submits}
+use Rattle.world_book.proofs.Kept.{Kept, Laws, book_kept, course_of, grouped_of, kept_may, opening_kept, stands_for, step_kept, submits}
 use Rattle.world_book.proofs.Submitting.{IsRun, run_of}
 
 -- what this stands on, beside the other laws
@@ -155,4 +156,11 @@ all_fly f w (step ∷ steps) v laws more (u, next, leads) k fly =
 pub is_sound : (f : Frame) (steps : List Step) (w : World) → Laws f → SoundLaws f → Replays f steps w → IsSound f w
 is_sound f steps w laws more replays =
     let all = all_fly f (opening_world f) steps w laws more replays (opening_kept f laws) tt in
-    record { said = said_sound f w laws more all.0; next = next_sound f w more all.0; flies = all.1 }
+    record {
+      said = said_sound f w laws more all.0;
+      next = next_sound f w more all.0;
+      lines = λ line is.
+          let sound = course_sound f w more all.0 in
+          sound.lines line (subst (λ (lines : List Line). In line lines) (book_kept f w (course_of f w all.0)) is);
+      flies = all.1;
+    }

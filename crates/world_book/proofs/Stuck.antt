@@ -36,7 +36,8 @@ use Rattle.world_course.specs.Corresponds.{Stands}
 use Rattle.world_course.specs.Errands.{NodeStands, WaitsOn}
 use Rattle.world_course.specs.Processes.{IsFreeAt, StageStands}
 use Rattle.world_book.specs.Promise.{IsStuckAt, OwnersWaitersAreStuck}
-use Rattle.world_book.proofs.Kept.{HasCourse, Kept, Laws, book_kept, course_of, list_kept, number_kept, stands_for}
+use Rattle.world_book.specs.Following.{HasCourse}
+use Rattle.world_book.proofs.Kept.{Kept, book_kept, course_of, number_kept, stands_for}
 use Rattle.world_book.proofs.Submitting.{IsRun, run_of}
 
 -- a read that is blocked did nothing
@@ -47,20 +48,20 @@ none_did Reads (tried.Broke guard fault) is e = absurd (cc e)
 none_did Writes t is e = absurd (cc is)
 
 -- what is stuck in the course's book is so in the world's
-in_book : (f : Frame) (w : World) → Laws f → (k : Kept f w) → (i : ProcessNo) → IsStuck f.performs f.computes (book (singles_in f w) f.performs (course_of f w k).course.list (course_of f w k).course.aside) i
+in_book : (f : Frame) (w : World) (k : Kept f w) → (i : ProcessNo) → IsStuck f.performs f.computes (book (singles_in f w) f.performs (course_of f w k).course.list (course_of f w k).course.aside) i
     → IsStuck f.performs f.computes (Book f w) i
-in_book f w laws k i h = subst (λ (lines : List Line). IsStuck f.performs f.computes lines i) (sym (book_kept f w laws k (course_of f w k))) h
+in_book f w k i h = subst (λ (lines : List Line). IsStuck f.performs f.computes lines i) (sym (book_kept f w (course_of f w k))) h
 
-pub stuck_at : (f : Frame) (w : World) → Laws f → EndsStuck f.performs f.computes → Kept f w → (m : ℕ) →
+pub stuck_at : (f : Frame) (w : World) → EndsStuck f.performs f.computes → Kept f w → (m : ℕ) →
     (w.nodes m).member.applied ≡ length (agreed f w) → IsStuckAt f w m
-stuck_at f w laws ends k m all = record {
-  suspended = λ call h. in_book f w laws k call.process (stuck.shared call (subst (λ (queue : List Suspended). In call queue) queues h));
+stuck_at f w ends k m all = record {
+  suspended = λ call h. in_book f w k call.process (stuck.shared call (subst (λ (queue : List Suspended). In call queue) queues h));
   reads = λ i r act here reading.
       let one : IsRun f c m i.0 r = run_of f (singles_in f w) w c m i.0 r st here in
       let is = one.is in
       let free : StageStands f.computes i.0 one.runner (Reading act) = subst (λ (s : Stage). StageStands f.computes i.0 one.runner s) reading is.stage in
       let blocked = k.reads m i.0 r here act reading in
-      in_book f w laws k i (by i one.runner act one.runs free blocked (λ o calls. node.shares i.0 r o here (subst (λ (s : Stage). WaitsOn s o) (sym reading) calls)));
+      in_book f w k i (by i one.runner act one.runs free blocked (λ o calls. node.shares i.0 r o here (subst (λ (s : Stage). WaitsOn s o) (sym reading) calls)));
 }
   where
     h : HasCourse f (singles_in f w) w
@@ -80,7 +81,7 @@ stuck_at f w laws ends k m all = record {
 
     -- it applied the course's whole list
     number : c.applied m ≡ length c.list
-    number = sym (number_kept f (singles_in f w) w k h m) ∙ all ∙ ap (λ (l : List Message). length l) (list_kept f (singles_in f w) w laws k h)
+    number = sym (number_kept f (singles_in f w) w k h m) ∙ all ∙ ap (λ (l : List Message). length l) (sym h.list)
 
     queues : (w.nodes m).copies.queue ≡ (copies_at (singles_in f w) f.performs c.list (length c.list)).queue
     queues =
@@ -124,8 +125,8 @@ on_its_object call (x ∷ queue) (inr h) = go (is_at (object_cmp call.object) x.
     go false among = among
 
 -- whose call is suspended on a single object is stuck
-pub single_stuck : (f : Frame) (w : World) → Laws f → EndsStuck f.performs f.computes → Kept f w → OwnersWaitersAreStuck f w
-single_stuck f w laws ends k m call h = go (object_at copies.own call.object) refl
+pub single_stuck : (f : Frame) (w : World) → EndsStuck f.performs f.computes → Kept f w → OwnersWaitersAreStuck f w
+single_stuck f w ends k m call h = go (object_at copies.own call.object) refl
   where
     course : HasCourse f (singles_in f w) w
     course = course_of f w k
@@ -153,5 +154,5 @@ single_stuck f w laws ends k m call h = go (object_at copies.own call.object) re
     go (Some kept) some =
         let x = holds.only call.object kept some in
         let keeps = holds.keeps x.0 x.1 x.2 x.4 in
-        in_book f w laws k call.process (stuck.singles x.0 x.1 call x.2
+        in_book f w k call.process (stuck.singles x.0 x.1 call x.2
         (subst (λ (q : List Suspended). In call q) (ap (λ (o : ObjectId). calls_on o copies.waits) (sym x.3) ∙ keeps.queue) among))

@@ -9,7 +9,8 @@ use Rattle.value_core.specs.declared.action.Line.{Line}
 use Rattle.value_core.specs.declared.action.Reply.{Reply}
 use Rattle.value_core.specs.declared.action.Action.{Action}
 use Rattle.guard_queue.specs.declared.queue.Suspended.{Suspended}
-use Rattle.book_law.specs.Book.{up_to}
+use Rattle.book_law.specs.Book.{copies_at, up_to}
+use Rattle.book_law.specs.declared.placing.Placed.{Placed}
 use Rattle.book_law.specs.Events.{In}
 use Rattle.book_law.specs.Promise.{AtMostOneMore}
 use Rattle.world_rules.specs.declared.event.Step.{Step}
@@ -18,9 +19,10 @@ use Rattle.world_rules.specs.Played.{Played, is_over}
 use Rattle.world_rules.specs.Played.Stage.{Reading}
 use Rattle.world_rules.specs.Processes.{owner_in}
 use Rattle.world_rules.specs.Standings.{is_over_run}
-use Rattle.world_rules.specs.Steps.{Replays}
+use Rattle.world_rules.specs.Steps.{Replays, objects_after}
 use Rattle.world_rules.specs.Worlds.{Book, World, agreed, home_of, played_in, processes_of, singles_in}
 use Rattle.world_course.specs.Errands.{AsksFor}
+use Rattle.world_book.specs.Processes.{AreOfBook}
 
 -- the lines of the book up to this place
 abbrev pub book_up_to : Frame → World → ℕ → List Line
@@ -37,11 +39,13 @@ pub record IsReceived (f : Frame) (w : World) (r : Played) (replies : List Reply
   pub few : length more ≤ 1
   pub asks : (more ≡ []) ⊎ ((o : ObjectId) × AsksFor r.stage o × (singles_in f w o ≡ true))
 
--- the object is single, its maker's member is this one, and the whole book left it so
+-- the object is single, its maker's member is this one, and the whole book left it so; `made`, so did the book up to what this member
+-- applied, which has its make
 pub record IsOwned (f : Frame) (w : World) (m : ℕ) (o : ObjectId) (kept : Instance) : Type 0 where
   pub single : singles_in f w o ≡ true
   pub owner : owner_in (processes_of f w) o ≡ m
   pub left : object_at (objects_of f.performs f.computes (Book f w)) o ≡ Some kept
+  pub made : object_at (objects_of f.performs f.computes (applied_book f w m)) o ≡ Some kept
 
 -- a member's copies of replicated objects are what the book up to what it applied left of them, and it has none of single ones; beside
 -- them it keeps, of each single object that it owns and whose make it applied, what the whole book left of it, and nothing else. `whole`,
@@ -60,7 +64,10 @@ pub record HasCopies (f : Frame) (w : World) (m : ℕ) : Type 0 where
       ((o : ObjectId) → singles_in f w o ≡ false) → (w.nodes m).copies.objects ≡ objects_of f.performs f.computes (applied_book f w m)
 
 -- the book is a history of the program; a process's replies are the book's up to what its member applied, but for one that is on its
--- way, and the whole book has at most one more for it; and each member's copies are what the book leaves
+-- way, and the whole book has at most one more for it; the processes that exist are the book's; and each member's copies are what the
+-- book leaves. `shared`, but for the single objects that it keeps they are, whole, those after as many entries of the list as it applied;
+-- `views`, what a burst sees at a place are the objects after so many entries; `view`, at the last place these are the copies' own;
+-- `beside`, what stands beside the list has a place in it, and is in the book
 pub record IsKept (f : Frame) (w : World) : Type 0 where
   pub legal : Legal f.performs f.computes (Book f w)
   pub received :
@@ -69,7 +76,19 @@ pub record IsKept (f : Frame) (w : World) : Type 0 where
   pub one_short :
       (m i : ℕ) (r : Played) → (w.nodes m).played i ≡ Some r →
       AtMostOneMore r.replies (replies_of f.performs f.computes (Book f w) i)
+  pub processes : AreOfBook f w
   pub copies : (m : ℕ) → HasCopies f w m
+  pub shared :
+      (m : ℕ) →
+      (w.nodes m).copies ≡ record (copies_at (singles_in f w) f.performs (agreed f w) (w.nodes m).member.applied) {
+        own = (w.nodes m).copies.own;
+        waits = (w.nodes m).copies.waits;
+      }
+  pub views :
+      (m n : ℕ) → n ≤ (w.nodes m).member.applied →
+      objects_after f (w.nodes m) n ≡ (copies_at (singles_in f w) f.performs (agreed f w) n).objects
+  pub view : (m : ℕ) → objects_after f (w.nodes m) (w.nodes m).copies.applied ≡ (w.nodes m).copies.objects
+  pub beside : (r : Placed) → In r w.aside → (r.place ≤ length (agreed f w)) × In r.line (Book f w)
 
 -- where member m applied the whole list: a process whose call is suspended on its copies is stuck, and so is one here that waits with a
 -- read

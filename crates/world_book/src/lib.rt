@@ -6,6 +6,7 @@
 //! theirs. Nothing is said here of whether a run ends.
 #![tactic(auto)]
 
+ghost use Rattle.world_book.specs.Following.{RunsFollow};
 ghost use Rattle.world_book.specs.Holding.{RunsGoOn, RunsHold};
 ghost use Rattle.world_book.specs.Promise.{ReplaysAreOne, RunsAreKept, RunsEndStuck};
 ghost use Rattle.world_book.specs.Sounding.{RunsSound};
@@ -21,7 +22,10 @@ use world_law::{group_steps, letters_are_sound, replay_law, runs_hold};
 ///
 /// - `kept`: the kept book is a history of the program; each process's replies are the book's up to what its member applied, but for one
 ///   of a call on a single object that is on its way, and the whole book has one more at most; and each member's copies of replicated
-///   objects are what the book up to there leaves of them, and of each single object that it owns it keeps what the whole book leaves.
+///   objects are what the book up to there leaves of them, and of each single object that it owns and whose make it applied it keeps
+///   what the whole book leaves. Whole copies, with their queues, are those of the list, and so are the objects at each earlier place.
+/// - `follows`: each world follows a course of the book's law, whose list is the world's, by each test that agrees with its choices of
+///   single objects.
 /// - `stuck`: where a member applied the whole list, a process whose call is suspended on its copies is stuck in the book, and so is
 ///   one here that waits with a read; whose call is suspended on a single object is stuck at any moment. So where the run is over, each
 ///   process of a living member is stuck that hasn't ended or faulted.
@@ -29,11 +33,14 @@ use world_law::{group_steps, letters_are_sound, replay_law, runs_hold};
 ///   runs.
 /// - `holds`: so all that the group's side says where what is submitted may be submitted, holds of each world of a run: packets are
 ///   numbered, numbers small, members caught up, processes at home, Asks and Answers true, and no place beyond what a member applied.
-/// - `goes`: and in each step of a run processes go on, at places that don't fall.
-/// - `sound`: what was submitted, what a process is about to ask, what was performed beside the list, and what travels, is sound.
+/// - `goes`: and in each step of a run processes go on, at places that don't fall, and what a burst sees at a place that its member
+///   applied stays what it is.
+/// - `sound`: what was submitted, what a process is about to ask, what was performed beside the list, each line of the book, and
+///   what travels, is sound.
 /// - `once`: a list of steps leads to one world at most.
 pub fn legal_book<P: Processor>(machine: &P)
     ensures kept { RunsAreKept (P.performs machine.now) (P.computes machine.now) }
+    ensures follows { RunsFollow (P.performs machine.now) (P.computes machine.now) }
     ensures stuck { RunsEndStuck (P.performs machine.now) (P.computes machine.now) }
     ensures may { ProcessesMaySubmit (P.performs machine.now) (P.computes machine.now) }
     ensures holds { RunsHold (P.performs machine.now) (P.computes machine.now) }

@@ -3,10 +3,12 @@ use Rattle.value_core.specs.Meaning.{Computes, Performs}
 use Rattle.book_law.specs.Fitness.{EndsStuck}
 use Rattle.book_law.specs.Machines.{RunsFit, RunsSound}
 use Rattle.world_rules.specs.Frame.{AreSettings, Frame}
-use Rattle.world_book.proofs.Kept.{Laws, is_kept, kept_may, replayed}
+use Rattle.world_book.proofs.Kept.{Laws, kept_may, replayed}
 use Rattle.world_book.proofs.Over.{living_stuck}
 use Rattle.world_book.proofs.Sounding.{is_sound}
 use Rattle.world_book.proofs.Stuck.{single_stuck, stuck_at}
+use Rattle.world_book.proofs.Told.{is_kept}
+use Rattle.world_book.proofs.Viewing.{views_stay}
 use Rattle.world_book.proofs.legal_book.Goals as goal
 
 pub returns : goal.returns
@@ -25,18 +27,25 @@ returns g c =
       gives = c.group_steps.ensures.gives;
       lists = c.group_steps.ensures.lists;
       courses = c.worlds_are_courses.ensures.courses f same_p same_q settings;
-      owners = λ single course came i x there. let all = fit single course came in all.owners i x there;
+      fits_args = g.P.Performer.fits_args m;
+      fits_text = g.P.Performer.fits_text m;
+      fits_reply = g.P.Performer.fits_reply m;
+      fit = fit;
     } in
     record {
       kept = λ f same_p same_q settings steps w replays.
           let l = laws f same_p same_q settings in is_kept f w l (replayed f steps w l replays);
+      follows = λ f same_p same_q settings steps w replays single agrees.
+          let l = laws f same_p same_q settings in
+          let k = replayed f steps w l replays in
+          k.courses single agrees;
       stuck = λ f same_p same_q settings steps w replays.
           let l = laws f same_p same_q settings in
           let ends : EndsStuck f.performs f.computes =
           subst (λ (p : Performs). EndsStuck p f.computes) (sym same_p)
           (subst (λ (q : Computes). EndsStuck (g.P.Performer.performs m) q) (sym same_q) c.stuck_law.ensures) in
           let k = replayed f steps w l replays in
-          record { waiters = λ n all. stuck_at f w l ends k n all; singles = single_stuck f w l ends k; living = living_stuck f w settings.some l ends k };
+          record { waiters = λ n all. stuck_at f w ends k n all; singles = single_stuck f w ends k; living = living_stuck f w settings.some ends k };
       may = λ f same_p same_q settings steps w replays i.
           let l = laws f same_p same_q settings in kept_may f w l (replayed f steps w l replays) i;
       holds = λ f same_p same_q settings steps w replays.
@@ -47,7 +56,11 @@ returns g c =
           let l = laws f same_p same_q settings in
           let k = replayed f steps w l replays in
           let on = l.holds f l.small in
-          record { later = on.later w v step next k.holds; rise = on.rise w v step next k.holds };
+          record {
+            later = on.later w v step next k.holds;
+            rise = on.rise w v step next k.holds;
+            views = λ m n le. views_stay f w v step l next k m n le;
+          };
       sound = λ f same_p same_q settings steps w replays.
           let l = laws f same_p same_q settings in
           let courses : RunsSound f.performs f.computes =
