@@ -63,7 +63,7 @@ line_placed n l [] h = h
 line_placed n l (a ∷ lines) (inl e) = inl (ap (λ (z : Line). record { place = n; line = z }) e)
 line_placed n l (a ∷ lines) (inr h) = inr (line_placed n l lines h)
 
-pub call_fits : (f : Frame) (fitness : Fitness) (single : Test) (w : World) (c : Course) (m : ℕ) (call : Suspended) (v : NodeWork) → Program f fitness.state fitness.args fitness.text fitness.reply → (h : Stands f single (at_work f m w v) c)
+call_fits : (f : Frame) (fitness : Fitness) (single : Test) (w : World) (c : Course) (m : ℕ) (call : Suspended) (v : NodeWork) → Program f fitness.state fitness.args fitness.text fitness.reply → (h : Stands f single (at_work f m w v) c)
     → MayTake f single c m call v → MayPerform f fitness v.node (message_of call)
 call_fits f fitness single w c m call v program h z = record {
   call = meet.takes t.at t.copy t.runner call t.takes t.owner;

@@ -74,7 +74,7 @@ next_grows single p q c d (Takes_call i x r call takes is) = ([], ap (λ (z : Co
 next_grows single p q c d (Hears_answer j x r here has reached is) = ([], ap (λ (z : Course). z.list) is ∙ sym (append-nil c.list))
 
 -- a list only grows
-pub leads_grow : (single : Test) (p : Performs) (q : Computes) (c d : Course) → Leads single p q c d → (more : List Message) × (d.list ≡ c.list ++ more)
+leads_grow : (single : Test) (p : Performs) (q : Computes) (c d : Course) → Leads single p q c d → (more : List Message) × (d.list ≡ c.list ++ more)
 leads_grow single p q c d (Stays e) = ([], sym (append-nil c.list))
 leads_grow single p q c d (By e g h next rest) =
     let one = next_grows single p q c g next in
@@ -139,7 +139,7 @@ entry_entries f m x v =
     only : OnlyPlays (copies_take f m (known_by f v.node) x v) (takes_entry f m x v)
     only = entry_only f m (known_by f v.node) v.node.copies.processes (suc v.node.copies.applied) x v
 
-pub still_moment : (f : Frame) (w : World) (m : ℕ) (v u : NodeWork) → MomentsHold f → IsMoment f w m v → Still (group f) m v u → IsMoment f w m u
+still_moment : (f : Frame) (w : World) (m : ℕ) (v u : NodeWork) → MomentsHold f → IsMoment f w m v → Still (group f) m v u → IsMoment f w m u
 still_moment f w m v u group h s = let l = group.stays w m v u h s.member (s.past w.past) s.applied (s.others h.others) in l.moment
 
 -- ---- piece by piece
