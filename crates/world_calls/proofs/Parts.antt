@@ -40,7 +40,8 @@ use Rattle.world_course.proofs.Parts.{stand_on}
 use Rattle.world_course.proofs.Program.{Program}
 use Rattle.world_course.proofs.Travelling.{ready_flies, ticked_fly}
 use Rattle.book_law.proofs.Courses.{at_other}
-use Rattle.world_book.proofs.Kept.{HasCourse, Kept, book_kept, course_of, kept_may, replayed, stands_for, list_kept}
+use Rattle.world_book.specs.Following.{HasCourse}
+use Rattle.world_book.proofs.Kept.{Kept, book_kept, course_of, grouped_of, kept_may, replayed, stands_for}
 use Rattle.world_book.proofs.Kept.{Laws as BookLaws}
 use Rattle.world_book.proofs.Submitting.{run_of}
 use Rattle.node_rules.specs.Conditions.{Fitness}
@@ -57,7 +58,7 @@ use Rattle.world_calls.proofs.Receiving.{FewReplies, few_received, waits_by}
 use Rattle.world_calls.proofs.Smallness.{Small, are_small, small_begun, small_walks}
 
 -- the laws that this stands on
-pub record Laws (f : Frame) (fitness : Fitness) : Type 0 where
+pub record Laws (f : Frame) (fitness : Fitness) : Type 1 where
   pub book : BookLaws f
   pub program : Program f fitness.state fitness.args fitness.text fitness.reply
   pub group : GroupLaws
@@ -237,7 +238,7 @@ replies_few f w laws k going m i r here =
     let is = one.is in
     let le = few_received (singles_in f w) f.performs f.computes h.course i one.runner st.came one.runs in
     let same : length one.runner.replies ≡ length r.replies = ap (λ (l : List Reply). length l) is.replies in
-    let lines : length (Book f w) ≡ length (book (singles_in f w) f.performs h.course.list h.course.aside) = ap (λ (l : List Line). length l) (book_kept f w laws k h) in
+    let lines : length (Book f w) ≡ length (book (singles_in f w) f.performs h.course.list h.course.aside) = ap (λ (l : List Line). length l) (book_kept f w h) in
     let lt = lines_left f w going in
     let waits = waits_once r.stage in
     omega (arith, le, same, lines, lt, waits)
@@ -284,7 +285,7 @@ has_turns f w laws k going i r here computes =
     low : i < process_count f w
     low =
         let lt = got_less (processes_in f h.course.list) i of.begun of.there in
-        let same : process_count f w ≡ length (processes_in f h.course.list) = ap (λ (l : List Message). length (processes_in f l)) (list_kept f (singles_in f w) w laws k h) in
+        let same : process_count f w ≡ length (processes_in f h.course.list) = ap (λ (l : List Message). length (processes_in f l)) (sym h.list) in
         omega (arith, lt, same)
 
     go : (b : Bool) → (b && true) ≡ false → b ≡ false
@@ -311,7 +312,7 @@ counted_from f laws counts before [] w v replays leads h = subst (λ (z : World)
 counted_from f laws counts before (step ∷ steps) w v replays (u, next, leads) h =
     let k = replayed f before w laws replays in
     counted_from f laws counts (before ++ step ∷ []) steps u v (one_more f (opening_world f) w u before step replays next) leads
-    (counts.step w u step next (submits_all f w step.event (kept_may f w laws k)) k.grouped h)
+    (counts.step w u step next (submits_all f w step.event (kept_may f w laws k)) (grouped_of f w k) h)
 
 -- ---- each event
 
@@ -341,7 +342,7 @@ has_room f fitness w m laws is =
 follows_each : (f : Frame) (w : World) → BookLaws f → Kept f w → FollowsEach f w (agreed f w)
 follows_each f w laws k = λ single agrees.
     let h = k.courses single agrees in
-    record { course = h.course; follows = h.follows; is = sym (list_kept f single w laws k h) }
+    record { course = h.course; follows = h.follows; is = h.list }
 
 ticks_fit : (f : Frame) (fitness : Fitness) (w : World) → Laws f fitness → IsWorld f w → (m : ℕ) → m < f.settings.nodes → (ticking f w m).world.lives m ≡ true → EventFits f fitness m Ticks ((ticking f w m).world.nodes m)
 ticks_fit f fitness w laws is m low lives =
@@ -362,7 +363,7 @@ ticks_fit f fitness w laws is m low lives =
     k = is.kept
 
     start : Grouped f w
-    start = k.grouped
+    start = grouped_of f w k
 
     gone : Going f start.events u
     gone = going f u.world (with_flights f w (ticked w.flights) start (fly_ticked w.past.letters w.flights start.travels))
@@ -400,18 +401,18 @@ fits_all f fitness w (event.Act process) given laws is possible =
     let m : ℕ = home_of f w process.0 in
     let small = b.small in
     let lives : Lives f w m = on_home f w process.0 (omega (arith, small)) (and_parts (w.lives m) (may_act_as (played_in f w process.0)) possible).0 in
-    fits_part f fitness w m (agreed f w) (Acts process.0) w.steps (f.settings.nodes * w.steps) laws k.grouped lives (follows_each f w b k) (λ r act here acts x of call. kept_may f w b k process.0 r act here acts x of call)
+    fits_part f fitness w m (agreed f w) (Acts process.0) w.steps (f.settings.nodes * w.steps) laws (grouped_of f w k) lives (follows_each f w b k) (λ r act here acts x of call. kept_may f w b k process.0 r act here acts x of call)
     (λ single course h. tt) (has_room f fitness w m laws is)
 fits_all f fitness w (event.Deliver packet copy) given laws is possible = λ flight found lives.
     let k = is.kept in
-    let start = k.grouped in
-    fits_part f fitness w (receiver_of flight.packet.mail) (agreed f w) (Comes flight.packet.mail) w.steps (f.settings.nodes * w.steps) laws k.grouped lives (follows_each f w laws.book k)
+    let start = grouped_of f w k in
+    fits_part f fitness w (receiver_of flight.packet.mail) (agreed f w) (Comes flight.packet.mail) w.steps (f.settings.nodes * w.steps) laws (grouped_of f w k) lives (follows_each f w laws.book k)
     (may_come f w flight.packet.mail (fly_found w.past.letters _ w.flights flight found start.travels))
     (λ single course h. let e = h.errands in ready_flies (MailStands f single course) packet copy w.flights flight e.travels found) (has_room f fitness w (receiver_of flight.packet.mail) laws is)
 fits_all f fitness w event.Tick given laws is possible = ticks_fit f fitness w laws is
 fits_all f fitness w (event.Suspect node) given laws is possible =
     let k = is.kept in
-    fits_part f fitness w node (agreed f w) Suspects w.steps (f.settings.nodes * w.steps) laws k.grouped possible (follows_each f w laws.book k) tt (λ single course h. tt) (has_room f fitness w node laws is)
+    fits_part f fitness w node (agreed f w) Suspects w.steps (f.settings.nodes * w.steps) laws (grouped_of f w k) possible (follows_each f w laws.book k) tt (λ single course h. tt) (has_room f fitness w node laws is)
 fits_all f fitness w (event.Burst process place turns) given laws is possible = tt
 fits_all f fitness w (event.Crash node) given laws is possible = tt
 fits_all f fitness w event.Swap given laws is possible = tt

@@ -14,7 +14,7 @@ use group_law::agreement_law;
 use group_rules::wire_law;
 use value_core::{Message, Processor, Reply};
 use world_course::worlds_are_courses;
-use world_law::{group_steps, numbers_stay_small};
+use world_law::{group_steps, numbers_stay_small, runs_hold};
 
 /// The calls of members in every run of a lawful program, for every setting that a run may have and every list of steps. A call of this
 /// function does nothing.
@@ -43,6 +43,7 @@ pub fn calls_fit<P: Processor>(machine: &P)
     wire_law::<Message, Reply>();
     group_steps();
     numbers_stay_small();
+    runs_hold();
     worlds_are_courses(machine);
     every_call_fits(machine);
 }

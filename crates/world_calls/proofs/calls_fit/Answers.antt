@@ -57,11 +57,14 @@ returns g c =
       book = record {
         small = settings.resilience;
         messages = c.agreement_law.ensures.messages;
-        grouped = c.group_steps.ensures.events;
+        holds = c.runs_hold.ensures;
         gives = c.group_steps.ensures.gives;
         lists = c.group_steps.ensures.lists;
         courses = c.worlds_are_courses.ensures.courses f same_p same_q settings;
-        owners = λ single course came i x there. let all = fit single course came in all.owners i x there;
+        fits_args = g.P.Performer.fits_args m;
+        fits_text = g.P.Performer.fits_text m;
+        fits_reply = g.P.Performer.fits_reply m;
+        fit = fit;
       };
       program = program_of f (g.P.Performer.performs m) (g.P.Processor.computes m) fitness.state fitness.args fitness.text fitness.reply program (g.met.P.Processor.settled m) same_p same_q settings;
       group = group;
