@@ -28,9 +28,9 @@ ghost use Rattle.group_law.specs.WrongPurge.{OwnPurgeBreaksTheLaw};
 /// - `choice`: the rules take an answer exactly where it has the greatest installed incarnation, then the greatest length, then
 ///   the lowest member.
 /// - `kept`: each answer that a member keeps was sent, and each message that it keeps was submitted.
-/// - `members`: who gathers keeps its own answer, and fewer than it takes; where a sequencer has room, no message waits; where
-///   no member may be lost, each knows its whole log to be accepted.
-/// - `waited`: in any state, a note lets a member know more to be accepted only by a message that waited.
+/// - `members`: who gathers keeps its own answer, and fewer than it takes; where an active sequencer has room, no message waits;
+///   where no member may be lost, each knows its whole log to be accepted.
+/// - `waited`: in any state, where a note lets a member know more to be accepted, fewer messages wait at it then.
 /// - `messages`: what a process submitted is, at its home, pending or applied, and never both. Each member applies the
 ///   messages of a process in their order, with none left out.
 /// - `forward`: incarnations, accepted and applied numbers of a member never fall, who is outside or crashed stays so, and
@@ -38,9 +38,10 @@ ghost use Rattle.group_law.specs.WrongPurge.{OwnPurgeBreaksTheLaw};
 /// - `steps`: a note alone changes what a member applied, one that isn't possible changes nothing, and no event changes an
 ///   entry that a member applied.
 /// - `agreed`: what members know to be accepted is one list, and so is what they applied. Both only grow at their end.
-/// - `told`: applied and stable numbers that are told are true.
+/// - `told`: an applied number that is told is at most its sender's, and a stable one at most what each member applied that answered
+///   for the incarnation.
 /// - `purges`: no purge goes beyond the kept answer's base and what a member that answered for the incarnation has applied,
-///   nor, once the sequencer heard of a member that didn't answer, beyond that base and what it heard.
+///   nor does a sequencer purge, once it heard of another member, beyond that base and what it heard.
 /// - `stays`: a member is put outside only by a base beyond what it applied, and in its own incarnation beyond its log.
 /// - `numbers`: entry numbers are at most the number of submissions, incarnations at most 2 N for each tick or coordination.
 /// - `few_events`: so all of them are below 2^62 in a group of at most 256 members and a run of at most 4,000,000 steps, each

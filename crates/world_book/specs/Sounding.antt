@@ -1,5 +1,5 @@
--- What is said in a run can be spelled in bytes: what was submitted, what processes are about to ask, what was performed beside the list,
--- each line of the book, and what travels.
+-- What is said in a run is sound, so that bytes spell it where its numbers fit their fields: what was submitted, what processes are about
+-- to ask, what was performed beside the list, each line of the book, and what travels.
 use Rattle.std.specs.Prelude.{◌≡◌, List}
 use Rattle.value_core.specs.declared.action.Line.{Line}
 use Rattle.value_core.specs.Meaning.{Computes, Performs}

@@ -1,9 +1,8 @@
 //! The book of every run is legal (docs/RUNTIME.md, The world of a run).
 //!
 //! It joins the two sides of the law of the world: what the group gives in each event (`world_law`), and that each step is a chain of
-//! events of the book's law (`world_course`). Beside both it carries that each process submits at its home, and that who waits with a
-//! read is blocked; and it shows that a process at an action may submit it. It has no code: its function is a law, whose body calls
-//! theirs. Nothing is said here of whether a run ends.
+//! events of the book's law (`world_course`). It shows that a process at an action may submit it. It has no code: its function is a
+//! law, whose body calls theirs. Nothing is said here of whether a run ends.
 #![tactic(auto)]
 
 ghost use Rattle.world_book.specs.Following.{RunsFollow};
@@ -23,7 +22,8 @@ use world_law::{group_steps, letters_are_sound, replay_law, runs_hold};
 /// - `kept`: the kept book is a history of the program; each process's replies are the book's up to what its member applied, but for one
 ///   of a call on a single object that is on its way, and the whole book has one more at most; and each member's copies of replicated
 ///   objects are what the book up to there leaves of them, and of each single object that it owns and whose make it applied it keeps
-///   what the whole book leaves. Whole copies, with their queues, are those of the list, and so are the objects at each earlier place.
+///   what the whole book leaves. But for its single objects its copies, with their queue, are those of the list, and so are the objects
+///   at each earlier place.
 /// - `follows`: each world follows a course of the book's law, whose list is the world's, by each test that agrees with its choices of
 ///   single objects.
 /// - `stuck`: where a member applied the whole list, a process whose call is suspended on its copies is stuck in the book, and so is
