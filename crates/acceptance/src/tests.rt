@@ -266,11 +266,16 @@ fn a_failed_write_leaves_the_run_whole(rt: HostRuntime) -> Result<(), Fail> {
 fn refusals(rt: HostRuntime) -> Result<(), Fail> {
     let alloc = rt.alloc();
     let empty_main = b"process OrcaMain(); begin end;\n".as_slice();
-    let lines: [(&[&str], u8, &str); 8] = [
+    let lines: [(&[&str], u8, &str); 9] = [
         (&[], 2, USAGE),
         (&["run"], 2, USAGE),
-        (&["run", "e.orca", "e.orca"], 2, USAGE),
-        (&["check", "e.orca"], 2, USAGE),
+        (&["check"], 2, USAGE),
+        (
+            &["run", "e.orca", "e.orca"],
+            1,
+            "orca: e.orca:1:1: Main defined twice\n",
+        ),
+        (&["check", "e.orca"], 0, "ok\n"),
         (&["run", "gone.orca"], 9, "orca: no file gone.orca\n"),
         (&["run", "--nodes"], 2, USAGE),
         (&["run", ""], 9, "orca: no file \n"),
@@ -301,7 +306,7 @@ fn texts_at_their_limit(rt: HostRuntime) -> Result<(), Fail> {
     Ok(())
 }
 
-// Texts of a million equal bytes: each is refused at its first token, or is a unit without declarations.
+// Texts of a million equal bytes: each is refused at its first token, or is a unit without declarations, and so without `OrcaMain`.
 #[test]
 fn texts_of_one_byte(rt: HostRuntime) -> Result<(), Fail> {
     let alloc = rt.alloc();
@@ -309,8 +314,8 @@ fn texts_of_one_byte(rt: HostRuntime) -> Result<(), Fail> {
         (b'(', 1, "orca: l.orca:1:1: unexpected '('\n"),
         (b'0', 1, "orca: l.orca:1:1: unexpected '"),
         (b'@', 1, "orca: l.orca:1:1: stray character\n"),
-        (b'\n', 15, "orca: l.orca: not yet\n"),
-        (b'#', 15, "orca: l.orca: not yet\n"),
+        (b'\n', 1, "orca: no OrcaMain\n"),
+        (b'#', 1, "orca: no OrcaMain\n"),
         (0xc3, 1, "orca: l.orca:1:2: not UTF-8\n"),
     ];
     for (byte, status, front) in lines {
@@ -398,7 +403,7 @@ fn nesting_ends_at_64_levels(rt: HostRuntime) -> Result<(), Fail> {
     Ok(())
 }
 
-// One text that uses every alternative of the grammar, and is no small program.
+// One text that uses every alternative of the grammar: it is read, and its first import is of no module.
 const WHOLE: &str = "module M; import A; import B;
 const low = 1; const high = -5; const same = low;
 type R = record a: integer; b: boolean; end;
@@ -430,7 +435,104 @@ process OrcaMain(); begin end;
 fn every_alternative_is_read(rt: HostRuntime) -> Result<(), Fail> {
     let alloc = rt.alloc();
     let (status, printed) = outcome(alloc, &["run", "w.orca"], "w.orca", WHOLE.as_bytes())?;
-    assert_eq!(rt; status, 15);
-    assert_eq!(rt; printed.as_str(), "orca: w.orca: not yet\n");
+    assert_eq!(rt; status, 1);
+    assert_eq!(rt; printed.as_str(), "orca: w.orca:1:18: unknown module A\n");
+    Ok(())
+}
+
+// What `check` prints for these files, and its status.
+fn checked(alloc: Global, files: &[(&str, &str)]) -> Result<(u8, String), Fail> {
+    let mut words = Vec::new(alloc);
+    words.push(String::from_str(alloc, "check")?)?;
+    let mut told = Vec::new(alloc);
+    for (file, text) in files {
+        words.push(String::from_str(alloc, file)?)?;
+        told.push((
+            String::from_str(alloc, file)?,
+            Vec::from_slice(alloc, text.as_bytes())?,
+        ))?;
+    }
+    let mut shelf = MemoryShelf::new(told, Vec::new(alloc));
+    let mut out = MemorySink::new(alloc, Vec::new(alloc));
+    let ended = orca_main(alloc, &words, &mut shelf, &mut out);
+    let printed = String::from_utf8(Vec::from_slice(alloc, out.bytes())?)?;
+    Ok((ended.status, printed))
+}
+
+// A guard that calls an operation, and modules that import each other; and a program of two modules.
+#[test]
+fn programs_of_several_files(rt: HostRuntime) -> Result<(), Fail> {
+    let alloc = rt.alloc();
+    let guard = "object specification G;
+  operation W();
+end;
+object implementation G;
+  operation W();
+  begin guard X$V() = 1 do od; end;
+end;
+process OrcaMain(); begin end;
+";
+    let rows: [(&[(&str, &str)], u8, &str); 4] = [
+        (&[("one.orca", ONE)], 0, "ok\n"),
+        (
+            &[("g.orca", guard)],
+            1,
+            "orca: g.orca:6:15: type rule 1\n",
+        ),
+        (
+            &[
+                ("a.orca", "module A;\nimport B;\n"),
+                ("b.orca", "module B;\nimport A;\n"),
+            ],
+            1,
+            "orca: a.orca:2:8: import cycle through B\n",
+        ),
+        (
+            &[
+                ("m.orca", "import A;\nprocess OrcaMain(); begin WriteLine(Most); end;\n"),
+                ("a.orca", "module A;\nconst Most = 7;\n"),
+            ],
+            0,
+            "ok\n",
+        ),
+    ];
+    for (files, status, text) in rows {
+        let (got, printed) = checked(alloc, files)?;
+        assert_eq!(rt; got, status);
+        assert_eq!(rt; printed.as_str(), text);
+    }
+    Ok(())
+}
+
+// The first file can't be read, and the second isn't there: the first is told.
+#[test]
+fn the_first_file_that_fails_is_told(rt: HostRuntime) -> Result<(), Fail> {
+    let alloc = rt.alloc();
+    let mut words = Vec::new(alloc);
+    for word in ["check", "one.orca", "gone.orca"] {
+        words.push(String::from_str(alloc, word)?)?;
+    }
+    let mut shelf = MemoryShelf::new(
+        files(alloc, "one.orca", ONE.as_bytes())?,
+        [1].to_vec(alloc)?,
+    );
+    let mut out = MemorySink::new(alloc, Vec::new(alloc));
+    let ended = orca_main(alloc, &words, &mut shelf, &mut out);
+    assert_eq!(rt; ended.status, 8);
+    assert_eq!(rt; out.bytes(), b"orca: cannot read one.orca\n");
+    Ok(())
+}
+
+// No file is read where there are more than a program may have modules.
+#[test]
+fn more_files_than_modules(rt: HostRuntime) -> Result<(), Fail> {
+    let alloc = rt.alloc();
+    let mut files = Vec::new(alloc);
+    for _ in 0..65 {
+        files.push(("gone.orca", ""))?;
+    }
+    let (status, printed) = checked(alloc, &files)?;
+    assert_eq!(rt; status, 11);
+    assert_eq!(rt; printed.as_str(), "orca: limit of modules: 64\n");
     Ok(())
 }

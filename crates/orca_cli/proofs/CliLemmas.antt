@@ -1,33 +1,54 @@
 -- What was printed, one put on; and how the program ends where it runs nothing.
-use Rattle.std.proofs.Common.{◌≡◌, ℕ, suc, ◌+◌, ◌<◌, ◌≤◌, true, List, [], ◌∷◌, ◌++◌, length, get_or, take, drop, add-one, drop-cons, Option, Some, None, refl, sym, ap, ◌∙◌, subst, inl, inr, arith, append_assoc, take-append-drop}
+use Rattle.std.proofs.Common.{◌≡◌, ◌≢◌, ℕ, suc, ◌+◌, ◌*◌, ◌^◌, ◌<◌, ◌≤◌, true, List, [], ◌∷◌, ◌++◌, length, get_or, take, drop, add-one, drop-cons, Option, Some, None, refl, sym, ap, ◌∙◌, subst, inl, inr, arith, append_assoc, take-append-drop}
 use Rattle.std.specs.List.{All}
-use Rattle.std.specs.Prelude.{◌==◌, Result, Ok, Err, IfNone, IfOk, IfSome, MatchOption, OnErr, option_map}
+use Rattle.std.proofs.Math.Seq.{take-suc}
+use Rattle.std.specs.Borrow.{Bor}
+use Rattle.std.specs.Prelude.{◌==◌, Result, Ok, Err, IfNone, IfOk, IfSome, MatchOption, OnErr, map, option_and_then, option_map}
 use Rattle.std.proofs.lemmas.Bool.Decides.{nat_tests}
-use Rattle.std.proofs.lemmas.List.{append-nil}
-use Rattle.std.proofs.lemmas.List.Elements.{All-cons, All-nil}
+use Rattle.std.proofs.lemmas.List.{append-nil, length-map, map-append, take_all}
+use Rattle.std.proofs.lemmas.List.Elements.{All-head, All-nil, All-push}
 use Rattle.command_line.specs.declared.request.RunOptions.{RunOptions}
-use Rattle.orca_base.specs.declared.limits.TheConstants.{SOURCE_BYTES}
-use Rattle.orca_base.specs.declared.place.Place.{Place}
+use Rattle.orca_base.specs.declared.limits.TheConstants.{MODULES, SOURCE_BYTES}
+use Rattle.orca_base.specs.declared.refusal.Refusal.{Refusal}
+use Rattle.orca_base.specs.declared.refusal.Refusal.TheVariants.{Because, NoMemory}
+use Rattle.orca_base.specs.Refusal.{IfBecause}
+use Rattle.orca_lexer.specs.declared.token.Token.{Token}
+use Rattle.orca_grammar.specs.Forms.{spelled}
+use Rattle.orca_grammar.specs.Grammar.{IsText}
+use Rattle.orca_grammar.proofs.Placed.{text_kinds}
+use Rattle.orca_tree.specs.declared.tree.Unit.{Unit as UnitTree}
+use Rattle.orca_tree.specs.Marks.{unit as unit_marks}
+use Rattle.orca_syntax.specs.Shown.{syntax_of}
+use Rattle.orca_syntax.specs.TextSyntax.{HasSyntax}
+use Rattle.orca_syntax.proofs.MarksOfDeclarations.{unit_shown}
+use Rattle.link_rules.specs.declared.named_unit.NamedUnit.{NamedUnit}
+use Rattle.link_rules.specs.Units.{Source, source}
+use Rattle.orca_front.specs.declared.fault.FrontFault.{FrontFault}
+use Rattle.orca_front.specs.declared.fault.FrontFault.TheVariants as fronts
+use Rattle.orca_front.specs.declared.source.SourceFile.{SourceFile}
+use Rattle.orca_front.specs.Sources.{AreUnits, IsUnit, file_of}
+use Rattle.orca_front.specs.Sources as units_of
 use Rattle.orca_io.specs.declared.sink.SinkFault.{SinkFault}
 use Rattle.orca_io.specs.declared.sink.SinkFault.TheVariants as faults
 use Rattle.orca_io.specs.Files.{File, content_of}
 use Rattle.orca_io.specs.Sinks.{Puts}
 use Rattle.small_program.specs.declared.tree.SmallProgram.{SmallProgram}
+use Rattle.small_program.specs.Least.{least_bytes}
+use Rattle.small_program.proofs.Sizes.{tokens_long}
 use Rattle.value_core.specs.History.{output_by, output_of}
 use Rattle.value_core.specs.declared.action.Line.{Line}
 use Rattle.orca_cli.specs.declared.job.Job.{Job}
 use Rattle.orca_cli.specs.declared.kept.Kept.{Kept}
-use Rattle.orca_cli.specs.declared.statuses.TheConstants.{NO_MEMORY, WRITE_FAULT}
+use Rattle.orca_cli.specs.declared.load_fault.LoadFault.{LoadFault}
+use Rattle.orca_cli.specs.declared.load_fault.LoadFault.TheVariants as loads
+use Rattle.orca_cli.specs.declared.statuses.TheConstants.{NO_MEMORY, READ_FAULT, WRITE_FAULT}
 use Rattle.orca_cli.specs.Endings.{IsAnswer, IsEnding}
-use Rattle.orca_cli.specs.Endings as because
-use Rattle.orca_cli.specs.Front.{IsFaulty, IsTooDeep}
 use Rattle.orca_cli.specs.Headline.{IsNamed}
-use Rattle.orca_cli.specs.Job.{Word, deed_in, deed_of, runs}
-use Rattle.orca_cli.specs.Lines.{refused_line}
-use Rattle.orca_cli.specs.Loaded.{Loads}
+use Rattle.orca_cli.specs.Job.{Word, checks, deed_in, deed_of, files_in, files_of, runs}
+use Rattle.orca_cli.specs.Loaded.{IsAbsent, IsFailed, IsLoaded, IsLoadFault, IsThere, IsTooLong, Reads, front_status, load_status}
 use Rattle.orca_cli.specs.Printed.{Grew, WroteOf, Ends, EndsAs}
-use Rattle.orca_cli.specs.Sources.{HasSources, IsProgram, IsRead, IsRefused, IsUnit, NestTooDeep, Reaches, StopsAt}
-use Rattle.orca_cli.specs.Sources as sources
+use Rattle.orca_cli.specs.Small.{AreSmall, TakesRoom}
+use Rattle.orca_cli.specs.Sources.{AreRead, IsRead, StopsAt}
 
 -- ---- what was printed
 
@@ -123,54 +144,6 @@ pub if_none : {T : Type 0} (o : Option T) (P : Type 0) → P → IfNone o P
 if_none None P p = p
 if_none (Some x) P p = tt
 
--- ---- one file
-
--- reading stopped at the one file, or it was read
-pub stops_first : (words : List Word) (told : Option (List File)) (options : RunOptions) (script : Option Word) (file : Word) → deed_in words ≡ Some (runs options script (file ∷ [])) → StopsAt words told file
-stops_first words told options script file asked = record {
-  deed = runs options script (file ∷ []);
-  before = [];
-  after = [];
-  asked = asked;
-  files = refl;
-  read = All-nil (IsRead told SOURCE_BYTES);
-}
-
-read_one : (told : Option (List File)) (file text : List ℕ) → IsRead told SOURCE_BYTES (file, text) → All (IsRead told SOURCE_BYTES) ((file, text) ∷ [])
-read_one told file text read = All-cons (IsRead told SOURCE_BYTES) (file, text) [] read (All-nil (IsRead told SOURCE_BYTES))
-
-pub has_one : (words : List Word) (told : Option (List File)) (options : RunOptions) (script : Option Word) (file text : List ℕ) → deed_in words ≡ Some (runs options script (file ∷ [])) → IsRead told SOURCE_BYTES (file, text) → HasSources words told ((file, text) ∷ [])
-has_one words told options script file text asked read = record {
-  deed = runs options script (file ∷ []);
-  asked = asked;
-  files = refl;
-  read = read_one told file text read;
-}
-
-reaches_first : (source : File) → Reaches (source ∷ []) source
-reaches_first source = record { before = []; after = []; splits = refl; units = All-nil IsUnit }
-
-pub refused_one : (file text : List ℕ) (at : Place) (said : List ℕ) → IsFaulty text at said → (IsTooDeep text → ⊥) → IsRefused ((file, text) ∷ []) (refused_line file at said)
-refused_one file text at said faulty shallow = sources.faulty (file, text) at said (reaches_first (file, text)) shallow faulty
-
-pub nested_one : (file text : List ℕ) → IsTooDeep text → NestTooDeep ((file, text) ∷ [])
-nested_one file text deep = record { source = (file, text); first = reaches_first (file, text); deep = deep }
-
--- the program in a file that was read is the named one
-pub named : (words : List Word) (told : Option (List File)) (options : RunOptions) (script : Option Word) (file : Word) (p : SmallProgram) → deed_in words ≡ Some (runs options script (file ∷ [])) → Loads told file (Ok p) → IsNamed words told p
-named words told options script file p asked loads = record {
-  options = options;
-  script = script;
-  sources = (file, loads.0) ∷ [];
-  asked = asked;
-  read = read_one told file loads.0 loads.1;
-  program = record { source = (file, loads.0); alone = refl; shallow = loads.2.1; small = loads.2.0 };
-}
-
-pub kept_named : (words : List Word) (told : Option (List File)) (p q : SmallProgram) (kept : Option Kept) (Q : Type 0) (R S : SmallProgram → Kept → Type 0) → IsNamed words told p → q ≡ p → MatchOption kept Q (λ k. R q k × S q k) → IfSome kept (λ k. (x : SmallProgram) × IsNamed words told x × R x k × S x k)
-kept_named words told p q None Q R S is same h = tt
-kept_named words told p q (Some k) Q R S is same h = (q, subst (IsNamed words told) (sym same) is, h.0, h.1)
-
 -- ---- the words
 
 pub deed_is : (words : List Word) (found : Option Job) (job is : Job) → option_map deed_of found ≡ deed_in words → found ≡ Some job → job ≡ is → deed_in words ≡ Some (deed_of is)
@@ -179,25 +152,123 @@ deed_is words found job is says some same = sym says ∙ ap (option_map deed_of)
 pub deed_none : (words : List Word) (found : Option Job) → option_map deed_of found ≡ deed_in words → found ≡ None → deed_in words ≡ None
 deed_none words found says none = sym says ∙ ap (option_map deed_of) none
 
--- ---- what was loaded
+-- ---- files
 
 -- a file that was read
 pub read_is : (told : Option (List File)) (file text : List ℕ) → IfSome told (λ files. (content_of files file ≡ Some text) × (length text ≤ SOURCE_BYTES)) → length text ≤ SOURCE_BYTES → IsRead told SOURCE_BYTES (file, text)
 read_is None file text h bytes = record { content = tt; bytes = bytes }
 read_is (Some files) file text h bytes = record { content = h.0; bytes = bytes }
 
--- an ending that is no read fault is one whatever the shelf's faults did
-ending_anyway : (words : List Word) (told : Option (List File)) (rose : Type 0) (status : ℕ) (line : List ℕ) → IsEnding words told ⊥ status line → IsEnding words told rose status line
-ending_anyway words told rose status line (because.said text a) = because.said text a
-ending_anyway words told rose status line (because.usage a) = because.usage a
-ending_anyway words told rose status line (because.unread file a there fault) = absurd fault
-ending_anyway words told rose status line (because.absent file a b) = because.absent file a b
-ending_anyway words told rose status line (because.too_long file a b) = because.too_long file a b
-ending_anyway words told rose status line (because.too_nested files a b) = because.too_nested files a b
-ending_anyway words told rose status line (because.refused files said a b) = because.refused files said a b
-ending_anyway words told rose status line (because.not_yet source a b d) = because.not_yet source a b d
+-- the names of the first files, and what was read of them
+pub record ReadSoFar (told : Option (List File)) (files : List (Bor Word)) (i : ℕ) (sources : List SourceFile) : Type 0 where
+  pub names : map (λ (f : Bor Word). f.now) (take i files) ≡ map (λ (s : File). s.0) (map file_of sources)
+  pub read : All (IsRead told SOURCE_BYTES) (map file_of sources)
 
--- an answer that is no read fault is one whatever the shelf's faults did
-pub answer_anyway : (words : List Word) (told : Option (List File)) (rose : Type 0) (old new : Option (List ℕ)) (status : ℕ) → IsAnswer words told ⊥ old new status → IsAnswer words told rose old new status
-answer_anyway words told rose old new status (inl a) = inl (a.0, a.1, ending_anyway words told rose a.0 a.1 a.2, a.3, a.4)
-answer_anyway words told rose old new status (inr lacking) = inr lacking
+pub none_read : (told : Option (List File)) (files : List (Bor Word)) → ReadSoFar told files 0 []
+none_read told files = record { names = refl; read = All-nil (IsRead told SOURCE_BYTES) }
+
+one_more : (xs : List (Bor Word)) (i : ℕ) (x : Bor Word) → i < length xs → x ≡ get_or xs i x → take (i + 1) xs ≡ take i xs ++ x ∷ []
+one_more xs i x lt is =
+    let next : i + 1 ≡ suc i = omega arith in
+    ap (λ (k : ℕ). take k xs) next ∙ take-suc xs i x lt ∙ ap (λ (y : Bor Word). take i xs ++ y ∷ []) (sym is)
+
+-- one file more
+pub reads_more : (told : Option (List File)) (files : List (Bor Word)) (i : ℕ) (file : Bor Word) (sources new : List SourceFile) (s : SourceFile) → i < length files → file ≡ get_or files i file → new ≡ sources ++ s ∷ [] → ReadSoFar told files i sources →
+    s.name.now ≡ file.now → IsRead told SOURCE_BYTES (file_of s) → ReadSoFar told files (i + 1) new
+reads_more told files i file sources new s lt is pushed so_far named read =
+    let news = ap (map file_of) pushed ∙ map-append file_of sources (s ∷ []) in
+    record {
+      names =
+        ap (map (λ (f : Bor Word). f.now)) (one_more files i file lt is) ∙ map-append (λ (f : Bor Word). f.now) (take i files) (file ∷ [])
+        ∙ ap (λ (l : List Word). l ++ file.now ∷ []) so_far.names ∙ ap (λ (w : Word). map (λ (s : File). s.0) (map file_of sources) ++ w ∷ []) (sym named)
+        ∙ sym (ap (map (λ (s : File). s.0)) news ∙ map-append (λ (s : File). s.0) (map file_of sources) (file_of s ∷ []));
+      read = subst (All (IsRead told SOURCE_BYTES)) (sym news) (All-push (IsRead told SOURCE_BYTES) (map file_of sources) (file_of s) so_far.read read);
+    }
+
+-- where reading stops at the next file
+pub stops_next : (told : Option (List File)) (files : List (Bor Word)) (i : ℕ) (file : Bor Word) (sources : List SourceFile) → length files ≤ MODULES → i < length files → file ≡ get_or files i file → ReadSoFar told files i sources →
+    StopsAt told (map (λ (f : Bor Word). f.now) files) file.now
+stops_next told files i file sources few lt is so_far = record {
+  few = subst (λ (n : ℕ). n ≤ MODULES) (sym (length-map files (λ (f : Bor Word). f.now))) few;
+  before = map file_of sources;
+  after = map (λ (f : Bor Word). f.now) (drop (suc i) files);
+  splits =
+    ap (map (λ (f : Bor Word). f.now)) (sym (take-append-drop i files) ∙ ap (λ (r : List (Bor Word)). take i files ++ r) (drop-cons files i file lt ∙ ap (λ (y : Bor Word). y ∷ drop (suc i) files) (sym is)))
+    ∙ map-append (λ (f : Bor Word). f.now) (take i files) (file ∷ drop (suc i) files)
+    ∙ ap (λ (l : List Word). l ++ file.now ∷ map (λ (f : Bor Word). f.now) (drop (suc i) files)) so_far.names;
+  read = so_far.read;
+}
+
+-- why reading stopped there
+pub fault_next : {T : Type 0} (told : Option (List File)) (rose : Type 0) (files : List Word) (name : Word) (r : Refusal LoadFault) → StopsAt told files name → Reads told rose name (Err r) → IfBecause {T = T} (Err r) (IsLoadFault told rose files)
+fault_next {T} told rose files name (Because (loads.Absent file)) stops h = (subst (StopsAt told files) (sym h.0) stops, subst (IsAbsent told) (sym h.0) h.1)
+fault_next {T} told rose files name (Because (loads.TooLong file)) stops h = (subst (StopsAt told files) (sym h.0) stops, subst (IsTooLong told SOURCE_BYTES) (sym h.0) h.1)
+fault_next {T} told rose files name (Because (loads.Failed file)) stops h = (subst (StopsAt told files) (sym h.0) stops, subst (IsThere told) (sym h.0) h.1, h.2)
+fault_next {T} told rose files name (Because loads.TooMany) stops h = absurd h
+fault_next {T} told rose files name NoMemory stops h = tt
+
+-- all files were read
+pub all_read : (told : Option (List File)) (files : List (Bor Word)) (i : ℕ) (sources : List SourceFile) → length files ≤ MODULES → length files ≤ i → ReadSoFar told files i sources → AreRead told (map (λ (f : Bor Word). f.now) files) (map file_of sources)
+all_read told files i sources few end so_far = record {
+  few = subst (λ (n : ℕ). n ≤ MODULES) (sym (length-map files (λ (f : Bor Word). f.now))) few;
+  names = ap (map (λ (f : Bor Word). f.now)) (sym (take_all i files end)) ∙ so_far.names;
+  read = so_far.read;
+}
+
+-- ---- what the words ask for
+
+pub files_checked : (words files : List Word) → deed_in words ≡ Some (checks files) → files_in words ≡ Some files
+files_checked words files asked = ap (option_and_then files_of) asked
+
+pub files_run : (words files : List Word) (options : RunOptions) (script : Option Word) → deed_in words ≡ Some (runs options script files) → files_in words ≡ Some files
+files_run words files options script asked = ap (option_and_then files_of) asked
+
+-- neither files that weren't read nor texts that are no program end with the status of a write fault
+pub unread_status : (fault : LoadFault) → load_status fault ≢ WRITE_FAULT
+unread_status loads.TooMany h = absurd cc
+unread_status (loads.Absent file) h = absurd cc
+unread_status (loads.TooLong file) h = absurd cc
+unread_status (loads.Failed file) h = absurd cc
+
+pub refused_status : (fault : FrontFault) → front_status fault ≢ WRITE_FAULT
+refused_status (fronts.Faulty file at said) h = absurd cc
+refused_status fronts.TooNested h = absurd cc
+refused_status (fronts.Unlinked error) h = absurd cc
+refused_status (fronts.Mistyped error) h = absurd cc
+
+pub failed_status : (fault : LoadFault) → IsFailed fault → load_status fault ≡ READ_FAULT
+failed_status loads.TooMany h = absurd h
+failed_status (loads.Absent file) h = absurd h
+failed_status (loads.TooLong file) h = absurd h
+failed_status (loads.Failed file) h = refl
+
+-- the program in files is the named one
+pub named : (words : List Word) (told : Option (List File)) (options : RunOptions) (script : Option Word) (files : List Word) (units : List Source) (p : SmallProgram) → deed_in words ≡ Some (runs options script files) → IsLoaded told files units → AreSmall units p →
+    IsNamed words told p
+named words told options script files units p asked loaded small = record { options = options; script = script; files = files; units = units; asked = asked; loaded = loaded; small = small }
+
+pub kept_named : (words : List Word) (told : Option (List File)) (p q : SmallProgram) (kept : Option Kept) (Q : Type 0) (R S : SmallProgram → Kept → Type 0) → IsNamed words told p → q ≡ p → MatchOption kept Q (λ k. R q k × S q k) → IfSome kept (λ k. (x : SmallProgram) × IsNamed words told x × R x k × S x k)
+kept_named words told p q None Q R S is same h = tt
+kept_named words told p q (Some k) Q R S is same h = (q, subst (IsNamed words told) (sym same) is, h.0, h.1)
+
+-- ---- how much room small programs take
+
+-- a text is as long as the words of its unit at least
+long_enough : (text : List ℕ) (u : UnitTree) (n : ℕ) → HasSyntax text (syntax_of u) → n ≤ least_bytes (spelled (unit_marks u)) → n ≤ length text
+long_enough text u n has long =
+    let parsed = subst (λ ms. IsText ms has.tokens) (sym (unit_shown u)) has.derived in
+    let words : least_bytes (map (λ (t : Token). t.kind) has.tokens) ≡ least_bytes (spelled (unit_marks u)) = ap least_bytes (text_kinds (unit_marks u) has.tokens parsed) in
+    let room = tokens_long text has.tokens has.are in
+    omega arith
+
+room_of : (told : Option (List File)) (file : File) (u : NamedUnit) (p : SmallProgram) → IsUnit file (source u) → IsRead told SOURCE_BYTES file → TakesRoom (u ∷ []) p → (length p.operations < 2 ^ 16) × (length p.fields < 2 ^ 32)
+room_of told file u p unit read room =
+    let operations = long_enough file.1 u.unit (35 * length p.operations) unit.has room.0 in
+    let fields = long_enough file.1 u.unit (4 * length p.fields) unit.has room.1 in
+    (omega (arith, read.bytes, operations), omega (arith, read.bytes, fields))
+
+-- so its operations and fields are few
+pub few_enough : (told : Option (List File)) (sources : List File) (units : List NamedUnit) (p : SmallProgram) → AreUnits sources (map source units) → All (IsRead told SOURCE_BYTES) sources → TakesRoom units p →
+    (length p.operations < 2 ^ 16) × (length p.fields < 2 ^ 32)
+few_enough told sources [] p are read room = absurd room
+few_enough told _ (u ∷ units) p (units_of.one file files v vs unit more) read room = room_of told file u p unit (All-head (IsRead told SOURCE_BYTES) file files read) room

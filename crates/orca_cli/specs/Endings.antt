@@ -1,32 +1,35 @@
 -- How the program ends where it runs nothing: with which status and line, and when (docs/FORMATS.md, Statuses).
-use Rattle.std.specs.Prelude.{◌≡◌, ◌⊎◌, ℕ, List, [], ◌∷◌, Option, Some, None, codes}
-use Rattle.orca_base.specs.declared.limits.TheConstants.{NESTING, SOURCE_BYTES}
+use Rattle.std.specs.Prelude.{◌≡◌, ◌⊎◌, ℕ, List, [], ◌∷◌, ◌++◌, Option, Some, None, codes, slice_index_or}
+use Rattle.command_line.specs.declared.request.RunOptions.{RunOptions}
 use Rattle.orca_io.specs.Files.{File}
-use Rattle.orca_cli.specs.declared.statuses.TheConstants.{ABSENT, FINISHED, LIMIT, NOT_YET, NO_MEMORY, READ_FAULT, REFUSED, USAGE}
-use Rattle.orca_cli.specs.Job.{Word, deed_in, says}
-use Rattle.orca_cli.specs.Lines.{usage_line, absent_line, unread_line, not_yet_line, limit_line}
-use Rattle.orca_cli.specs.Front.{IsNotSmall, IsTooDeep}
-use Rattle.orca_cli.specs.Loaded.{IsAbsent, IsThere, IsTooLong}
+use Rattle.link_rules.specs.Units.{Source}
+use Rattle.orca_front.specs.declared.fault.FrontFault.{FrontFault}
+use Rattle.orca_front.specs.Lines.{fault_line}
+use Rattle.orca_front.specs.Sources.{IsFault}
+use Rattle.orca_cli.specs.declared.load_fault.LoadFault.{LoadFault}
+use Rattle.orca_cli.specs.declared.statuses.TheConstants.{FINISHED, NOT_YET, NO_MEMORY, USAGE}
+use Rattle.orca_cli.specs.Job.{Word, checks, deed_in, files_in, runs, says}
+use Rattle.orca_cli.specs.Lines.{usage_line, ok_line, not_yet_line}
+use Rattle.orca_cli.specs.Loaded.{IsLoadFault, IsLoaded, front_status, load_line, load_status}
 use Rattle.orca_cli.specs.Printed.{Grew, Ends, EndsAs}
-use Rattle.orca_cli.specs.Sources.{HasSources, IsRefused, NestTooDeep, StopsAt}
+use Rattle.orca_cli.specs.Small.{IsNotSmall}
+use Rattle.orca_cli.specs.Sources.{AreRead}
 
--- The words ask for help or for the version; they are no command, or ask for what isn't built. The file at which reading stopped is there
--- and can't be read, which comes only where the shelf's count of faults rose; it is not there; or it is longer than SOURCE_BYTES. All were
--- read, and the first text that is no unit nests beyond NESTING levels, or has no tokens or is none for another fault, which the line
--- names; or they can't be run yet
+-- The words ask for help or for the version; they are no command, or ask for what isn't built. They ask for something of the program in
+-- files, and these weren't read, or their texts are no program that is accepted. They ask for a check of one that is. They ask for a run of
+-- one that can't be run yet, whose first file is named
 pub data IsEnding (words : List Word) (told : Option (List File)) (rose : Type 0) : ℕ → List ℕ → Type 0 where
   said : (text : List ℕ) → deed_in words ≡ Some (says text) → IsEnding words told rose FINISHED text
   usage : deed_in words ≡ None → IsEnding words told rose USAGE usage_line
-  unread : (file : Word) → StopsAt words told file → IsThere told file → rose → IsEnding words told rose READ_FAULT (unread_line file)
-  absent : (file : Word) → StopsAt words told file → IsAbsent told file → IsEnding words told rose ABSENT (absent_line file)
-  too_long : (file : Word) → StopsAt words told file → IsTooLong told SOURCE_BYTES file →
-      IsEnding words told rose LIMIT (limit_line (codes "source bytes") SOURCE_BYTES)
-  too_nested : (sources : List File) → HasSources words told sources → NestTooDeep sources →
-      IsEnding words told rose LIMIT (limit_line (codes "nesting") NESTING)
-  refused : (sources : List File) (line : List ℕ) → HasSources words told sources → IsRefused sources line →
-      IsEnding words told rose REFUSED line
-  not_yet : (source : File) → HasSources words told (source ∷ []) → IsNotSmall source.1 → (IsTooDeep source.1 → ⊥) →
-      IsEnding words told rose NOT_YET (not_yet_line source.0)
+  unread : (files : List Word) (fault : LoadFault) → files_in words ≡ Some files → IsLoadFault told rose files fault →
+      IsEnding words told rose (load_status fault) (load_line fault)
+  refused : (files : List Word) (sources : List File) (fault : FrontFault) → files_in words ≡ Some files → AreRead told files sources →
+      IsFault sources fault → IsEnding words told rose (front_status fault) (fault_line fault)
+  accepted : (files : List Word) (units : List Source) → deed_in words ≡ Some (checks files) → IsLoaded told files units →
+      IsEnding words told rose FINISHED ok_line
+  not_yet : (options : RunOptions) (script : Option Word) (files : List Word) (units : List Source) →
+      deed_in words ≡ Some (runs options script files) → IsLoaded told files units → IsNotSmall units →
+      IsEnding words told rose NOT_YET (not_yet_line (slice_index_or files 0 []))
 
 -- the answer where nothing was run: an ending whose line was printed, or a front of the line where the write failed or
 -- memory lacked; or nothing at all, for want of memory

@@ -1,10 +1,9 @@
 -- The headline: what a run keeps and prints, over the meanings of its program.
-use Rattle.std.specs.Prelude.{◌≡◌, ◌≢◌, ◌⊎◌, ℕ, List, [], ◌∷◌, ◌++◌, map, MatchOption, None, Option, Some, slice_get}
-use Rattle.std.specs.List.{All}
+use Rattle.std.specs.Prelude.{◌≡◌, ◌≢◌, ◌⊎◌, ℕ, List, [], ◌∷◌, ◌++◌, MatchOption, None, Option, Some, slice_get}
 use Rattle.command_line.specs.declared.request.RunOptions.{RunOptions}
 use Rattle.orca_base.specs.declared.ids.ProcessNo.{ProcessNo}
-use Rattle.orca_base.specs.declared.limits.TheConstants.{SOURCE_BYTES}
 use Rattle.orca_io.specs.Files.{File}
+use Rattle.link_rules.specs.Units.{Source}
 use Rattle.small_program.specs.declared.tree.SmallProgram.{SmallProgram}
 use Rattle.value_core.specs.History.{Legal, Process, most_turns, output_of, processes_of, replies_of}
 use Rattle.value_core.specs.Meaning.{Computes, Performs}
@@ -21,16 +20,18 @@ use Rattle.orca_cli.specs.declared.kept.ProcessStanding.TheVariants as standings
 use Rattle.orca_cli.specs.declared.statuses.TheConstants.{FINISHED, WRITE_FAULT}
 use Rattle.orca_cli.specs.Job.{Word, deed_in, runs}
 use Rattle.orca_cli.specs.Printed.{Grew, Ends, EndsAs}
-use Rattle.orca_cli.specs.Sources.{IsProgram, IsRead}
+use Rattle.orca_cli.specs.Loaded.{IsLoaded}
+use Rattle.orca_cli.specs.Small.{AreSmall}
 
 -- the words ask for the run of the program in files, all of which were read, and this is the program in them
 pub record IsNamed (words : List Word) (told : Option (List File)) (p : SmallProgram) : Type 0 where
   pub options : RunOptions
   pub script : Option Word
-  pub sources : List File
-  pub asked : deed_in words ≡ Some (runs options script (map (λ s. s.0) sources))
-  pub read : All (IsRead told SOURCE_BYTES) sources
-  pub program : IsProgram sources p
+  pub files : List Word
+  pub units : List Source
+  pub asked : deed_in words ≡ Some (runs options script files)
+  pub loaded : IsLoaded told files units
+  pub small : AreSmall units p
 
 -- where a process stands that has come to an action
 abbrev pub standing_at : Action → ProcessStanding

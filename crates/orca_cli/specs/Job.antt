@@ -1,5 +1,5 @@
 -- What the program does for its words (docs/FORMATS.md, The program).
-use Rattle.std.specs.Prelude.{ℕ, ◌==◌, List, [], ◌∷◌, length, Option, Some, None, option_and_then, option_map, if◌then◌else◌}
+use Rattle.std.specs.Prelude.{ℕ, ◌+◌, ◌==◌, List, length, map, Option, Some, None, option_and_then, option_map, if◌then◌else◌}
 use Rattle.command_line.specs.declared.request.RunOptions.{RunOptions}
 use Rattle.command_line.specs.Asked.{Asked}
 use Rattle.command_line.specs.Asked as ask
@@ -12,32 +12,39 @@ use Rattle.orca_cli.specs.declared.job.Job.TheVariants as jobs
 abbrev pub Word : Type 0
 Word = List ℕ
 
--- it says a text, or runs the program in files, with these options and this file of a script
+-- it says a text, checks the program in files, or runs the program in files, with these options and this file of a script
 pub data Deed : Type 0 where
   says : List ℕ → Deed
+  checks : List Word → Deed
   runs : RunOptions → Option Word → List Word → Deed
 
 abbrev pub deed_of : Job → Deed
 deed_of (jobs.Says text) = says text.now
-deed_of (jobs.Runs options script file) = runs options (option_map (λ s. s.now) script) (file.now ∷ [])
+deed_of (jobs.Checks files) = checks (map (λ s. s.now) files.items)
+deed_of (jobs.Runs options script files) = runs options (option_map (λ s. s.now) script) (map (λ s. s.now) files.items)
 
--- the files with the text of its program, in order
-abbrev pub sources_of : Deed → List Word
-sources_of (says text) = []
-sources_of (runs options script files) = files
+-- the files with the texts of its program, in order, where it is of a program
+abbrev pub files_of : Deed → Option (List Word)
+files_of (says text) = None
+files_of (checks files) = Some files
+files_of (runs options script files) = Some files
 
--- so far a run has one file, and the words have nothing beside the command and its name
+-- so far a run has nothing beside the command and its files
 abbrev pub run_built : List Word → RunOptions → Option Word → List Word → Option Deed
-run_built words options script (file ∷ []) = if length words == 2 then Some (runs options script (file ∷ [])) else None
-run_built words options script _ = None
+run_built words options script files = if length words == length files + 1 then Some (runs options script files) else None
 
 -- what is done for what words ask for, as far as it is built: this is the one place that says so
 abbrev pub built : List Word → Asked → Option Deed
 built words (ask.help of) = Some (says (help_of of))
 built words ask.version = Some (says version_line)
+built words (ask.check files) = Some (checks files)
 built words (ask.run options script files) = run_built words options script files
 built words _ = None
 
 -- what is done for the words: nothing where they are no command, or ask for what isn't built
 abbrev pub deed_in : List Word → Option Deed
 deed_in words = option_and_then (built words) (Command words)
+
+-- the files of the program of which something is done for the words
+abbrev pub files_in : List Word → Option (List Word)
+files_in words = option_and_then files_of (deed_in words)

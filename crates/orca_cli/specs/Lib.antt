@@ -1,7 +1,7 @@
 pub mod Job
 pub mod Lines
 pub mod Printed
-pub mod Front
+pub mod Small
 pub mod Sources
 pub mod Loaded
 pub mod Endings

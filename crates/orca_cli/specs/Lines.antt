@@ -1,7 +1,5 @@
 -- The lines that the program says where it ends, and the line that an action writes (docs/FORMATS.md, The program).
 use Rattle.std.specs.Prelude.{ℕ, List, [], ◌∷◌, ◌++◌, codes}
-use Rattle.std.specs.Fmt.{decimal}
-use Rattle.orca_base.specs.declared.place.Place.{Place}
 use Rattle.value_core.specs.Datum.{Data}
 use Rattle.value_core.specs.History.{string_first}
 
@@ -15,17 +13,12 @@ absent_line file = codes "orca: no file " ++ file ++ 10 ∷ []
 abbrev pub unread_line : List ℕ → List ℕ
 unread_line file = codes "orca: cannot read " ++ file ++ 10 ∷ []
 
+-- the program in the files is accepted
+abbrev pub ok_line : List ℕ
+ok_line = codes "ok" ++ 10 ∷ []
+
 abbrev pub not_yet_line : List ℕ → List ℕ
 not_yet_line file = codes "orca: " ++ file ++ (codes ": not yet" ++ 10 ∷ [])
-
--- a text that is refused, at this place, for what is said of it
-abbrev pub refused_line : List ℕ → Place → List ℕ → List ℕ
-refused_line file at text =
-    codes "orca: " ++ file ++ (codes ":" ++ decimal at.line ++ (codes ":" ++ decimal at.column ++ (codes ": " ++ (text ++ 10 ∷ []))))
-
--- there is more of this than the number
-abbrev pub limit_line : List ℕ → ℕ → List ℕ
-limit_line what number = codes "orca: limit of " ++ what ++ (codes ": " ++ decimal number ++ 10 ∷ [])
 
 -- the string that is the first argument, and a line feed
 abbrev pub line_with : Data → List ℕ

@@ -1,19 +1,19 @@
 //! The top call: what the program does for its words.
 //!
-//! Its clauses are the product's: what each status means, which line each prints, and that a kept run is a history of the
-//! program in the file (`IsRun` of specs/Headline.antt). It stands on the words of the command line, the shelf and the
-//! sink, the reader of small programs and their meaning, and knows no real file. What of the commands is built, `built` of specs/Job.antt
-//! alone says.
+//! Its clauses are the product's: what each status means, which line each prints, and that a kept run is a history of the program in the
+//! files (`IsRun` of specs/Headline.antt). It stands on the words of the command line, the shelf and the sink, the front end, the reader of
+//! small programs and their meaning, and knows no real file. What of the commands is built, `built` of specs/Job.antt alone says.
 #![tactic(auto)]
 
 mod ending;
-mod front;
 mod job;
 mod kept;
 mod lines;
-mod load;
+mod load_fault;
 mod room;
 mod run;
+mod small;
+mod sources;
 mod statuses;
 mod top;
 

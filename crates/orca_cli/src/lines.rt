@@ -3,7 +3,7 @@
 ghost use Rattle.std.specs.Prelude.{◌≡◌, IfOk};
 ghost use Rattle.orca_cli.specs.Lines as lines;
 
-use orca_base::{NoMemory, Place};
+use orca_base::NoMemory;
 use std::alloc::Global;
 
 /// The bytes of a text.
@@ -39,28 +39,17 @@ pub fn unread_line(alloc: Global, file: &str) -> Result<Vec<u8>, NoMemory>
     Ok(line.into_bytes())
 }
 
-/// The file's text can't be run yet.
+/// The program in the files is accepted.
+pub fn ok_line(alloc: Global) -> Result<Vec<u8>, NoMemory>
+    ensures { IfOk result (λ line. line.items ≡ lines.ok_line) }
+{
+    Ok(Vec::from_slice(alloc, b"ok\n")?)
+}
+
+/// The program in files, of which this is the first, can't be run yet.
 pub fn not_yet_line(alloc: Global, file: &str) -> Result<Vec<u8>, NoMemory>
     ensures { IfOk result (λ line. line.items ≡ lines.not_yet_line file.now) }
 {
     let line = format!(in alloc; "orca: {file}: not yet\n")?;
     Ok(line.into_bytes())
-}
-
-/// There is more of this than the number.
-pub fn limit_line(alloc: Global, what: &str, number: u32) -> Result<Vec<u8>, NoMemory>
-    ensures { IfOk result (λ line. line.items ≡ lines.limit_line what.now number) }
-{
-    let line = format!(in alloc; "orca: limit of {what}: {number}\n")?;
-    Ok(line.into_bytes())
-}
-
-/// The file's text is refused, at this place, for what is said.
-pub fn refused_line(alloc: Global, file: &str, at: Place, said: &[u8]) -> Result<Vec<u8>, NoMemory>
-    ensures { IfOk result (λ line. line.items ≡ lines.refused_line file.now at said.now) }
-{
-    let mut line = format!(in alloc; "orca: {file}:{}:{}: ", at.line, at.column)?.into_bytes();
-    line.extend_from_slice(said)?;
-    line.push(b'\n')?;
-    Ok(line)
 }

@@ -1,15 +1,15 @@
 //! The statuses with which the program ends.
 
-/// The program ran to its end, or said what it was asked for.
+/// The program ran to its end, is accepted, or said what it was asked for.
 pub const FINISHED: u8 = 0;
 
-/// The text has no tokens, or is no unit.
+/// A text has no tokens, or is no unit; or the units do not link, or break a rule of typing.
 pub const REFUSED: u8 = 1;
 
 /// The words are no command, or ask for what is not built yet.
 pub const USAGE: u8 = 2;
 
-/// A file can't be read.
+/// A file is there, and can't be read.
 pub const READ_FAULT: u8 = 8;
 
 /// There is no such file.
@@ -18,11 +18,11 @@ pub const ABSENT: u8 = 9;
 /// A write failed.
 pub const WRITE_FAULT: u8 = 10;
 
-/// The text is longer, or nests deeper, than a text may.
+/// A text is longer, or nests deeper, than a text may; or there are more files than a program may have modules.
 pub const LIMIT: u8 = 11;
 
 /// There was no memory.
 pub const NO_MEMORY: u8 = 12;
 
-/// The text can't be run yet.
+/// The program is accepted, and can't be run yet.
 pub const NOT_YET: u8 = 15;

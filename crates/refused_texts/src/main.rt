@@ -1,7 +1,7 @@
 //! Runs each text of data/texts.txt by the top call, and compares what it prints with the line in front of the text.
 //!
 //! The lines were worked out by hand from docs/LANGUAGE.md: the first bad token of each production and the end of the text in
-//! mid-production, and units that use every alternative. It is a program and not a test, since the gate lays files where a program
+//! mid-production, and units that use every alternative, of which linking says the first mistake. It is a program and not a test, since the gate lays files where a program
 //! runs. It prints each text that is answered otherwise, and how many there are.
 #![tactic(auto)]
 

@@ -19,12 +19,10 @@ use Rattle.orca_tree.specs.declared.tree.Unit.{Unit as UnitTree}
 use Rattle.orca_tree.specs.Marks.{unit as unit_marks}
 use Rattle.parse_units.specs.declared.parse_error.ParseError.TheVariants.{Syntax, TooNested}
 use Rattle.parse_units.specs.declared.parse_error.Found.TheVariants.{Token as OfToken, End}
-use Rattle.small_program.specs.Least.{least_bytes}
-use Rattle.small_program.proofs.Sizes.{tokens_long}
-use Rattle.orca_cli.specs.declared.front.FrontFault.{FrontFault}
-use Rattle.orca_cli.specs.declared.front.FrontFault.TheVariants as faults
-use Rattle.orca_cli.specs.Front as front
-use Rattle.orca_cli.specs.Front.{FitsText, IsSyntactic}
+use Rattle.orca_front.specs.declared.reading.TextFault.{TextFault}
+use Rattle.orca_front.specs.declared.reading.TextFault.TheVariants as faults
+use Rattle.orca_front.specs.Texts as front
+use Rattle.orca_front.specs.Texts.{FitsText, IsSyntactic}
 
 -- ---- slices
 
@@ -55,9 +53,9 @@ unit_shallow text tokens ms has parsed fits d =
 -- ---- refusals
 
 -- a refusal whose words were written, or for which there was no memory
-pub said_reads : (text words : List ℕ) (at : Place) (m : Result (Vec ℕ Global) NoMemory) (r : Refusal FrontFault) → front.IsFaulty text at words → (front.IsTooDeep text → ⊥) → IfOk m (λ v. v.items ≡ words) → IfOk m (λ v. r ≡ Because (faults.Refused at v)) → OnErr m (r ≡ Without) → FitsText text (Err r)
-said_reads text words at (Ok v) r refused shallow is said lacking = subst (λ (f : Refusal FrontFault). FitsText text (Err f)) (sym said) (subst (front.IsFaulty text at) (sym is) refused, shallow)
-said_reads text words at (Err e) r refused shallow is said lacking = subst (λ (f : Refusal FrontFault). FitsText text (Err f)) (sym lacking) tt
+pub said_reads : (text words : List ℕ) (at : Place) (m : Result (Vec ℕ Global) NoMemory) (r : Refusal TextFault) → front.IsFaulty text at words → (front.IsTooDeep text → ⊥) → IfOk m (λ v. v.items ≡ words) → IfOk m (λ v. r ≡ Because (faults.Faulty at v)) → OnErr m (r ≡ Without) → FitsText text (Err r)
+said_reads text words at (Ok v) r refused shallow is said lacking = subst (λ (f : Refusal TextFault). FitsText text (Err f)) (sym said) (subst (front.IsFaulty text at) (sym is) refused, shallow)
+said_reads text words at (Err e) r refused shallow is said lacking = subst (λ (f : Refusal TextFault). FitsText text (Err f)) (sym lacking) tt
 
 pub of_token : (text : List ℕ) (at : Place) (t : Token) → IsSyntactic text (Syntax at (OfToken t)) → front.IsFaulty text at (codes "unexpected '" ++ (slice_range text t.start t.end ++ codes "'"))
 of_token text at t s =
@@ -80,15 +78,6 @@ of_deep text at s = let r = s.refused in record { tokens = s.tokens; front = r.0
 
 pub lexical_shallow : (text : List ℕ) (error : LexError) → IsLexical text error → front.IsTooDeep text → ⊥
 lexical_shallow text error h d = refusal_none text error d.tokens h d.has
-
--- ---- lengths
-
--- a text is as long as the words of its unit at least
-pub long_enough : (text : List ℕ) (tokens : List Token) (u : UnitTree) (n : ℕ) → Tokens text tokens → IsText (unit_marks u) tokens → n ≤ least_bytes (spelled (unit_marks u)) → n ≤ length text
-long_enough text tokens u n has parsed long =
-    let words : least_bytes (map (λ (t : Token). t.kind) tokens) ≡ least_bytes (spelled (unit_marks u)) = ap least_bytes (text_kinds (unit_marks u) tokens parsed) in
-    let room = tokens_long text tokens has in
-    omega arith
 
 -- a message that was written is the rule's
 pub message_is : (m : Result (Vec ℕ Global) NoMemory) (x y : List ℕ) → IfOk m (λ v. v.items ≡ x) → x ≡ y → IfOk m (λ v. v.items ≡ y)

@@ -1,5 +1,6 @@
--- What the front end says of a text: the small program that it is, or why it is none (docs/FORMATS.md, Refusals).
-use Rattle.std.specs.Prelude.{ℕ, List, [], ◌∷◌, ◌++◌, Result, Ok, Err, slice_range, codes}
+-- What is said of one text: that it is a unit, or why it is none (docs/FORMATS.md, Statuses).
+use Rattle.std.specs.Prelude.{◌≡◌, ℕ, List, [], ◌∷◌, ◌++◌, None, Result, Ok, Err, slice_range, codes}
+use Rattle.orca_base.specs.declared.limits.TheConstants.{NESTING}
 use Rattle.orca_base.specs.declared.place.Place.{Place}
 use Rattle.orca_base.specs.declared.refusal.Refusal.{Refusal}
 use Rattle.orca_base.specs.declared.refusal.Refusal.TheVariants.{Because, NoMemory}
@@ -8,21 +9,16 @@ use Rattle.orca_lexer.specs.declared.token.Token.{Token}
 use Rattle.orca_lexer.specs.Refusal as lexer
 use Rattle.orca_lexer.specs.Rules.{message_of}
 use Rattle.orca_lexer.specs.Tokens.{Tokens}
+use Rattle.orca_grammar.specs.Forms.{first_deep}
 use Rattle.orca_grammar.specs.Grammar.{IsUnexpected, IsTooNested}
-use Rattle.orca_syntax.specs.Syntax.{Syntax}
+use Rattle.orca_tree.specs.declared.tree.Unit.{Unit as UnitTree}
+use Rattle.orca_tree.specs.Marks.{unit as unit_marks}
+use Rattle.orca_syntax.specs.Shown.{syntax_of}
 use Rattle.orca_syntax.specs.TextSyntax.{HasSyntax}
 use Rattle.parse_units.specs.declared.parse_error.ParseError.{ParseError}
 use Rattle.parse_units.specs.Refused.{end_of_text, IsRefusal}
-use Rattle.small_program.specs.declared.tree.SmallProgram.{SmallProgram}
-use Rattle.small_program.specs.Scope.{IsSmallSyntax}
-use Rattle.orca_cli.specs.declared.front.FrontFault.{FrontFault}
-use Rattle.orca_cli.specs.declared.front.FrontFault.TheVariants.{Refused, TooNested, NotYet}
-
--- the text is that of this small program: the text has a syntax, which is one alone, and that is the program's
-pub record IsSmallText (text : List ℕ) (p : SmallProgram) : Type 0 where
-  pub syntax : Syntax
-  pub has : HasSyntax text syntax
-  pub small : IsSmallSyntax syntax p
+use Rattle.orca_front.specs.declared.reading.TextFault.{TextFault}
+use Rattle.orca_front.specs.declared.reading.TextFault.TheVariants.{Faulty, TooNested}
 
 -- why a text is no unit, the place, and what is said of it
 pub data IsFaulty (text : List ℕ) : Place → List ℕ → Type 0 where
@@ -44,18 +40,17 @@ pub record IsTooDeep (text : List ℕ) : Type 0 where
   pub has : Tokens text tokens
   pub nested : IsTooNested tokens front token rest
 
--- the text has a syntax, and that is no small program's
-pub record IsNotSmall (text : List ℕ) : Type 0 where
-  pub syntax : Syntax
-  pub has : HasSyntax text syntax
-  pub none : (p : SmallProgram) → IsSmallSyntax syntax p → ⊥
+-- the text is this unit, which nests no deeper than a text may
+pub record IsUnitOf (text : List ℕ) (u : UnitTree) : Type 0 where
+  pub has : HasSyntax text (syntax_of u)
+  pub nests : first_deep (unit_marks u) NESTING ≡ None
+  pub shallow : IsTooDeep text → ⊥
 
--- the answer fits the text: the program that it is, or why it is none
-abbrev pub FitsText : List ℕ → Result SmallProgram (Refusal FrontFault) → Type 0
-FitsText text (Ok p) = IsSmallText text p × (IsTooDeep text → ⊥)
-FitsText text (Err (Because (Refused at words))) = IsFaulty text at words.items × (IsTooDeep text → ⊥)
+-- the answer fits the text: the unit that it is, or why it is none
+abbrev pub FitsText : List ℕ → Result UnitTree (Refusal TextFault) → Type 0
+FitsText text (Ok u) = IsUnitOf text u
+FitsText text (Err (Because (Faulty at words))) = IsFaulty text at words.items × (IsTooDeep text → ⊥)
 FitsText text (Err (Because TooNested)) = IsTooDeep text
-FitsText text (Err (Because NotYet)) = IsNotSmall text × (IsTooDeep text → ⊥)
 FitsText text (Err NoMemory) = Unit {0}
 
 -- the text has tokens, and they are no unit for this reason

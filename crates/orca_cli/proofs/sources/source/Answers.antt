@@ -1,0 +1,13 @@
+use Rattle.std.proofs.Common.{arith, inl, refl}
+use Rattle.orca_cli.proofs.CliLemmas.{read_is}
+use Rattle.orca_cli.proofs.sources.source.Goals as goal
+
+pub returns-in-Ok : goal.returns-in-Ok
+returns-in-Ok g c =
+    let read = c.in-Ok.ensures {u = tt} in
+    record {
+      reads = (refl, read_is (g.F.Shelf.told c.args.shelf.now) c.args.name.now c.in-Ok.text.items read.reads (omega (arith, read.within)));
+      same = c.read_all.ensures.same;
+      later = c.read_all.ensures.later;
+      quiet = inl (c.read_all.ensures.quiet (λ h. absurd (rw c.in-Ok.is at h)));
+    }
