@@ -152,7 +152,7 @@ legal_at single p q w n came =
 own_within : (single : Test) (p : Performs) (q : Computes) (w : Course) (n : ℕ) → Came single p q w → OwnWithin q n (after_lines p (opening q) (up_to single p w.list w.aside n))
 own_within single p q w zero came =
     neutral_lines p q (opening q) (aside_at 0 w.aside ++ []) 0 (legal_at single p q w 0 came) (both_neutral (aside_at 0 w.aside) [] (aside_neutral 0 w.aside (all_beside single p q w came)) (λ l u. absurd u)) (opening_within q)
-own_within single p q w (suc n) came = go (slice_get w.list n) refl
+own_within single p q w (suc n) came = go (own_within single p q w n came) (slice_get w.list n) refl
   where
     copies : Copied
     copies = copies_at single p w.list n
@@ -163,9 +163,9 @@ own_within single p q w (suc n) came = go (slice_get w.list n) refl
     c : Configuration
     c = after_lines p (opening q) before
 
-    go : (x : Option Message) → slice_get w.list n ≡ x → OwnWithin q (suc n) (after_lines p (opening q) (up_to single p w.list w.aside (suc n)))
-    go None is = subst (λ (ms : List Message). OwnWithin q (suc n) (after_lines p (opening q) (book single p ms w.aside))) (sym (take_none w.list n is)) (more_within q n c (own_within single p q w n came))
-    go (Some y) is = subst (λ (ls : List Line). OwnWithin q (suc n) (after_lines p (opening q) ls)) (sym whole) (subst (λ (d : Configuration). OwnWithin q (suc n) d) (sym after) last)
+    go : OwnWithin q n c → (x : Option Message) → slice_get w.list n ≡ x → OwnWithin q (suc n) (after_lines p (opening q) (up_to single p w.list w.aside (suc n)))
+    go ih None is = subst (λ (ms : List Message). OwnWithin q (suc n) (after_lines p (opening q) (book single p ms w.aside))) (sym (take_none w.list n is)) (more_within q n c ih)
+    go ih (Some y) is = subst (λ (ls : List Line). OwnWithin q (suc n) (after_lines p (opening q) ls)) (sym whole) (subst (λ (d : Configuration). OwnWithin q (suc n) d) (sym after) last)
       where
         lines : List Line
         lines = lines_after single p copies y
@@ -184,7 +184,7 @@ own_within single p q w (suc n) came = go (slice_get w.list n) refl
         after = after_lines-append p (opening q) before (lines ++ (beside ++ [])) ∙ after_lines-append p c lines (beside ++ [])
 
         entered : OwnWithin q (suc n) (after_lines p c lines)
-        entered = entry_within single p q c copies y.process y.call y.action y.performable n (legal_left p q c lines (beside ++ []) legal) (own_within single p q w n came)
+        entered = entry_within single p q c copies y.process y.call y.action y.performable n (legal_left p q c lines (beside ++ []) legal) ih
 
         last : OwnWithin q (suc n) (after_lines p (after_lines p c lines) (beside ++ []))
         last = neutral_lines p q (after_lines p c lines) (beside ++ []) (suc n) (legal_right p q c lines (beside ++ []) legal) (both_neutral beside [] (aside_neutral (copies.applied + 1) w.aside (all_beside single p q w came)) (λ l u. absurd u)) entered

@@ -1,5 +1,6 @@
 -- What processes hold, what they submit, and what was performed, fits, in every run of a lawful program. So by the laws of the two
--- traits it is sound; a machine may be started, and given a reply. And who makes an object is the process that its id names.
+-- traits it is sound where the ids of objects have numbers that fit; a machine may be started, and given a reply. And who makes an object
+-- is the process that its id names.
 use Rattle.std.specs.Prelude.{◌≡◌, ◌+◌, ◌<◌, ◌≤◌, ℕ, Some, length, slice_get}
 use Rattle.std.specs.List.{Contains}
 use Rattle.orca_base.specs.declared.ids.KindNo.{KindNo}
