@@ -250,7 +250,7 @@ module _ (us : List Source) where
       where
         of_definition : (d : Definition) → IsSoundDefinition d → All (All IsCode) (map (λ n. n.text) (values_of d))
         of_definition (syn.Enumeration at ns) sound = All-from_recursion (All IsCode) (map (λ n. n.text) ns) (all_map (All IsCode) (λ n. n.text) ns
-            (all_both IsSoundName (λ n. Unit {0}) (λ n. All IsCode n.text) ns (λ n s unit. word_codes n.text s.0) sound (units ns)))
+            (all_both IsSoundName (λ n. Unit {0}) (λ n. All IsCode n.text) ns (λ n s unit. word_codes n.text s.0) sound.0 (units ns)))
         of_definition (syn.Record at fields) sound = All-nil (All IsCode)
         of_definition (syn.Alias k) sound = All-nil (All IsCode)
 
