@@ -1,5 +1,5 @@
 -- The ids of the objects that entries made: of processes that the list has, and with numbers up to how many entries it has.
-use Rattle.std.proofs.Common.{◌≡◌, ℕ, zero, suc, ◌+◌, ◌≤◌, ◌<◌, ◌⊎◌, inl, inr, ⊎_elim, Bool, true, false, Option, Some, None, List, [], ◌∷◌, ◌++◌, length, take, refl, sym, ap, ◌∙◌, arith, subst, append_assoc, if◌then◌else◌}
+use Rattle.std.proofs.Common.{◌≡◌, ℕ, zero, suc, ◌+◌, ◌≤◌, ◌⊎◌, inl, inr, ⊎_elim, Bool, true, false, Option, Some, None, List, [], ◌∷◌, ◌++◌, length, take, refl, sym, ap, ◌∙◌, arith, subst, append_assoc, if◌then◌else◌}
 use Rattle.std.specs.Prelude.{IsTrue, slice_get}
 use Rattle.std.specs.List.{Contains}
 use Rattle.std.proofs.lemmas.List.{length-append}
@@ -22,12 +22,12 @@ use Rattle.value_core.specs.declared.meaning.Doing.{Doing}
 use Rattle.value_core.specs.declared.meaning.Doing.TheVariants as doing
 use Rattle.value_core.specs.declared.message.Message.{Message}
 use Rattle.value_core.specs.Meaning.{Performs, Computes}
-use Rattle.value_core.specs.History.{Configuration, IsStep, LegalFrom, Process, after_line, after_lines, forked, object_at, opening, output_object}
+use Rattle.value_core.specs.History.{Configuration, IsStep, LegalFrom, Process, after_line, after_lines, forked, object_at, opening}
 use Rattle.guard_queue.specs.Fitting.{kinds_of}
 use Rattle.guard_queue.specs.Settles.{settle_up_to}
-use Rattle.object_manager.specs.After.{Copied, acted, after as after_applied, lines_after as lines_applied, making_reply, line_of, opening_copies}
+use Rattle.object_manager.specs.After.{Copied, acted, lines_after as lines_applied, making_reply, line_of}
 use Rattle.object_manager.specs.Singles.{kinds_at}
-use Rattle.book_law.specs.Passes.{Test, after_all, lines_after}
+use Rattle.book_law.specs.Passes.{Test, lines_after}
 use Rattle.book_law.specs.Singles.{Single}
 use Rattle.book_law.specs.Book.{aside_at, behind, book, copies_at, up_to}
 use Rattle.book_law.specs.Course.{Came, Course}
@@ -35,7 +35,7 @@ use Rattle.book_law.specs.Events.{In}
 use Rattle.book_law.specs.Fitness.{ArgsFit, ReplyFits, StateFits, TextFits}
 use Rattle.book_law.specs.Machines.{IsNumbered}
 use Rattle.book_law.proofs.Apart.{singles_apart}
-use Rattle.book_law.proofs.Books.{book-append, copies_more, copies_push, cut, take_at, up_to_all}
+use Rattle.book_law.proofs.Books.{book-append, copies_more, cut, take_at, up_to_all}
 use Rattle.book_law.proofs.Calls.{came_output, fits_at}
 use Rattle.book_law.proofs.Counting.{AllNeutral, Neutral, all_beside, applied_neutral, aside_neutral, both_neutral, made, settled_neutral, take_none}
 use Rattle.book_law.proofs.Courses.{came_sound}
