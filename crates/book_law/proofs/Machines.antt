@@ -260,7 +260,7 @@ lines_fit p q fits_state fits_args fits_text fits_reply more c (k ∷ lines) l l
     let lawful = lawful_at p q fits_state fits_args fits_text fits_reply c k.process s.process k.action laws f s.exists s.next in
     let did = acts p q fits_state fits_args fits_text fits_reply c k.process s.process k.action k.guard k.reply laws f s.exists lawful s.performed in
     let now : ExtendsKinds (kinds_of c.objects) more = λ entry u. covers entry (kind_contained (after_lines p c (k ∷ lines)).objects entry.0 entry.1
-        (kind_stays p q fits_state fits_args fits_text fits_reply c (k ∷ lines) entry.0 entry.1 laws legal f (kind_found c.objects entry.0 entry.1 f.order u))) in
+    (kind_stays p q fits_state fits_args fits_text fits_reply c (k ∷ lines) entry.0 entry.1 laws legal f (kind_found c.objects entry.0 entry.1 f.order u))) in
     subst (λ (z : Line). ActionFits fits_args fits_text more z.action × FitsAction fits_reply (doing.At z.action) z.reply) (sym e)
     (acts_fit q fits_args fits_text (kinds_of c.objects) more s.process.text k.process s.process.args s.process.replies k.action (knows_more q fits_text fits_reply c more k.process s.process now (f.processes k.process s.process s.exists)) lawful, did.replied)
 lines_fit p q fits_state fits_args fits_text fits_reply more c (k ∷ lines) l laws legal f covers (inr h) =
