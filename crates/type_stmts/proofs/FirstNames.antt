@@ -1,7 +1,6 @@
 -- The names of a body and the fields of its object, by what a name is first; and what the variable of a loop breaks by its name.
-use Rattle.std.proofs.Common.{◌≡◌, ℕ, Bool, true, false, not, ◌&&◌, ◌||◌, cond, List, [], ◌∷◌, ◌++◌, map, Option, Some, None, refl, sym, ap, ◌∙◌, true≢false}
+use Rattle.std.proofs.Common.{◌≡◌, ℕ, Bool, true, false, not, ◌&&◌, ◌||◌, cond, List, [], ◌∷◌, ◌++◌, map, Option, Some, refl, sym, ap, ◌∙◌, true≢false}
 use Rattle.std.specs.Prelude.{bytes_eq, filter, find, IsTrue}
-use Rattle.std.specs.List.{list_all, list_any}
 use Rattle.std.specs.declared.cmp.Ordering.{Ordering}
 use Rattle.std.specs.Ordering.{is_lt, nat_cmp, ordering_then}
 use Rattle.std.proofs.lemmas.Cmp.{nat_cmp_total, tied_itself}
@@ -56,8 +55,6 @@ fields_are : (ls : List Local) (n : List ℕ) → all_fields ls ≡ true → is_
 fields_are [] n e = refl
 fields_are (l ∷ ls) n e = by_both (is_field l.role) (bytes_eq l.name n) refl refl e (λ h. fields_are ls n h)
   where
-    rest : Bool
-    rest = is_among (names (fields ls)) n
     by_both : (f t : Bool) → is_field l.role ≡ f → bytes_eq l.name n ≡ t → (f && all_fields ls) ≡ true →
         (all_fields ls ≡ true → is_among (names (fields ls)) n ≡ is_field_local (named ls n)) →
         is_among (names (cond f (l ∷ fields ls) (fields ls))) n ≡ is_field_local (cond t (Some l) (named ls n))
@@ -94,22 +91,6 @@ field_is (l ∷ ls) n e o = by_both (is_field l.role) (bytes_eq l.name n) refl r
     by_both false true is same e o ih = absurd (true≢false (sym (ap not is) ∙ o))
     by_both false false is same e o ih = ih e o
 
--- names of a body, and fields behind them
-pub behind_own : (ls ms : List Local) → list_all (λ l. not (is_field l.role)) ls ≡ true → all_fields ms ≡ true → fields_last (ls ++ ms) ≡ true
-behind_own [] [] e f = refl
-behind_own [] (m ∷ ms) e f = by_role (is_field m.role) f
-  where
-    by_role : (t : Bool) → (t && all_fields ms) ≡ true → cond t (all_fields ms) (fields_last ms) ≡ true
-    by_role true f = f
-    by_role false f = absurd (true≢false (sym f))
-behind_own (l ∷ ls) ms e f = by_role (is_field l.role) e (λ h. behind_own ls ms h f)
-  where
-    by_role : (t : Bool) → (not t && list_all (λ (m : Local). not (is_field m.role)) ls) ≡ true →
-        (list_all (λ (m : Local). not (is_field m.role)) ls ≡ true → fields_last (ls ++ ms) ≡ true) →
-        cond t (all_fields (ls ++ ms)) (fields_last (ls ++ ms)) ≡ true
-    by_role true e ih = absurd (true≢false (sym e))
-    by_role false e ih = ih e
-
 -- ---- at one place the lower rule is told
 
 abbrev broken : ℕ → Place → Breach
@@ -132,10 +113,13 @@ counts_found v n x y q last e f g = by_test (is_own_local (local v n.text)) refl
   where
     seen : Bool
     seen = not (sees v.program v.home n.text)
+
     here : Bool
     here = seen && not (is_field_local (local v n.text))
+
     there : Bool
     there = seen && not (is_among (field_names v) n.text)
+
     by_test : (o : Bool) → is_own_local (local v n.text) ≡ o → FirstOf q (counts v n)
     by_test true is =
         e

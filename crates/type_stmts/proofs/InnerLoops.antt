@@ -1,5 +1,5 @@
 -- One more open loop.
-use Rattle.std.proofs.Common.{◌≡◌, ℕ, Bool, true, false, ◌||◌, cond, List, [], ◌∷◌, ◌++◌, Option, Some, None, refl, sym, ap, ◌∙◌}
+use Rattle.std.proofs.Common.{◌≡◌, ℕ, Bool, true, false, ◌||◌, cond, List, [], ◌∷◌, ◌++◌, Option, Some, refl, sym, ap, ◌∙◌}
 use Rattle.std.specs.Prelude.{bytes_eq, option_map}
 use Rattle.std.specs.Borrow.{Bor}
 use Rattle.std.proofs.lemmas.Slice.Eq.{bytes_eq-Decides}
@@ -45,9 +45,9 @@ in_loop b w n ls is more = record {
     home = is.scope.home;
     counter = is.scope.counter;
     locals = λ m.
-      ap (λ (t : Bool). cond t (Some (local_as m b.scope.counter.now)) (option_map (local_as m) (entry b.scope.names.now m))) (more m)
-      ∙ in_front (counts b.scope.loops.now m) (bytes_eq n.text m) _ _ (Some (counter n.text)) (local w m) (is.scope.locals m)
-      (λ same. ap (λ (l : Local). Some l) (is.scope.counter m ∙ ap counter (sym ((bytes_eq-Decides n.text m).0 same))));
+        ap (λ (t : Bool). cond t (Some (local_as m b.scope.counter.now)) (option_map (local_as m) (entry b.scope.names.now m))) (more m)
+        ∙ in_front (counts b.scope.loops.now m) (bytes_eq n.text m) _ _ (Some (counter n.text)) (local w m) (is.scope.locals m)
+        (λ same. ap (λ (l : Local). Some l) (is.scope.counter m ∙ ap counter (sym ((bytes_eq-Decides n.text m).0 same))));
     owner = is.scope.owner;
     in_guard = is.scope.in_guard;
   };

@@ -25,7 +25,7 @@ pub struct BodyScope<'a, 'p> {
 }
 
 impl<'a, 'p> BodyScope<'a, 'p> {
-    // The same among these open loops, which are one more than here.
+    /// The same in one more loop, among these variables of the open loops.
     pub fn in_loops(self, loops: &'a [&'p str]) -> BodyScope<'a, 'p>
         ensures { (w : scopes.Scope) → IsBody self.entry w → (n : NameTree) →
             ((m : List ℕ) → counts_in loops.now m ≡ (counts_in self.entry.scope.loops.now m || bytes_eq n.text m)) →
@@ -40,7 +40,7 @@ impl<'a, 'p> BodyScope<'a, 'p> {
         }
     }
 
-    // The same in a guard, or behind one.
+    /// The same in a guard, or behind one.
     pub fn guarded(self, in_guard: bool) -> BodyScope<'a, 'p>
         ensures { result ≡ guarding self.entry in_guard }
     {

@@ -65,7 +65,9 @@ fn stmt_breach<'p>(
             ..
         } => for_breach(alloc, body, name, range, inside),
         Statement::Repeat {
-            body: inside, test, ..
+            body: inside,
+            test,
+            ..
         } => repeat_breach(alloc, body, inside, test),
         Statement::Fork {
             at,

@@ -21,7 +21,7 @@ returns c = λ w s.
     let inside = arguments w fs es in
     let again = roots_differ fs es in
     subst (λ (d : Forked). FirstOf c.lesser-3.result
-        (here ++ (fork_rules n es d ++ (arguments w (forked_signature d).formals es ++ (roots_differ (forked_signature d).formals es ++ member)))))
+    (here ++ (fork_rules n es d ++ (arguments w (forked_signature d).formals es ++ (roots_differ (forked_signature d).formals es ++ member)))))
     (c.forked-is.ensures w s)
     (first_of_three c.forks.result c.fork_rules-own.result c.lesser-behind.result c.lesser-2.result c.lesser-3.result here (fork_rules n es is)
     (inside ++ (again ++ member)) c.lesser-2.ensures c.lesser-3.ensures (c.forks.ensures w s) c.fork_rules-own.ensures

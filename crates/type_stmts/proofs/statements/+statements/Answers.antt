@@ -51,9 +51,9 @@ counted-returns t c = λ w s.
     let n = c.args.name.now in
     (c.in_ok-first.ensures {u = tt}) (with_loop w n)
     (c.in_loops.ensures w s n (λ m.
-        ap (λ (l : List (Bor (List ℕ))). counts_in l m) c.deref.ensures.value
-        ∙ (c.in_ok-loops.ensures {u = tt}) m
-        ∙ ap (λ (k : List ℕ). counts_in c.args.body.scope.loops.now m || bytes_eq k m) c.as_str.ensures))
+    ap (λ (l : List (Bor (List ℕ))). counts_in l m) c.deref.ensures.value
+    ∙ (c.in_ok-loops.ensures {u = tt}) m
+    ∙ ap (λ (k : List ℕ). counts_in c.args.body.scope.loops.now m || bytes_eq k m) c.as_str.ensures))
 
 pub stmt_breach-returns-in-If : goal.stmt_breach-returns-in-If
 stmt_breach-returns-in-If t c = λ w s.
