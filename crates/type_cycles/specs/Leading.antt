@@ -22,5 +22,5 @@ abbrev pub is_marked : List Bool → ℕ → Bool
 is_marked marks i = or_false (slice_get marks i)
 
 -- the table tells of each type whether it holds itself
-abbrev pub HoldThemselves : List Source → List Bool → Type 0
-HoldThemselves us on_cycle = (i : ℕ) → is_marked on_cycle i ≡ holds_itself us i
+abbrev pub AreRound : List Source → List Bool → Type 0
+AreRound us on_cycle = (i : ℕ) → is_marked on_cycle i ≡ holds_itself us i

@@ -3,7 +3,7 @@
 ghost use Rattle.std.specs.Prelude.{◌≡◌, ℕ, List, IfOk};
 ghost use Rattle.link_rules.specs.Units.{Source};
 ghost use Rattle.type_forms.specs.Parts.{AreParts};
-ghost use Rattle.type_cycles.specs.Leading.{HoldThemselves, is_marked};
+ghost use Rattle.type_cycles.specs.Leading.{AreRound, is_marked};
 ghost use Rattle.type_cycles.specs.Components.{on_cycle_at};
 
 use crate::components::{Membership, are_right, is_on_cycle};
@@ -29,7 +29,7 @@ fn by_rank(
 
 /// Of each name of the top level whether it declares a type that holds itself, by its number; the types that each names are given.
 pub fn holds_themselves(alloc: Global, parts: &[Items<usize>]) -> Result<Vec<bool>, NoMemory>
-    ensures { (us : List Source) → AreParts us parts.now → IfOk result (λ v. HoldThemselves us v.items) }
+    ensures { (us : List Source) → AreParts us parts.now → IfOk result (λ v. AreRound us v.items) }
 {
     let members = components_of(alloc, parts)?;
     if are_right(parts, &members) {

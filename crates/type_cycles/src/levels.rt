@@ -5,7 +5,7 @@ ghost use Rattle.std.specs.List.{list_any};
 ghost use Rattle.link_rules.specs.Units.{Source};
 ghost use Rattle.type_rules.specs.TypePhrases.{holds_itself, leads_to};
 ghost use Rattle.type_forms.specs.Parts.{AreParts, parts_in};
-ghost use Rattle.type_cycles.specs.Leading.{HoldThemselves, is_marked};
+ghost use Rattle.type_cycles.specs.Leading.{AreRound, is_marked};
 
 use crate::components::parts_at;
 use orca_base::{Items, NoMemory};
@@ -93,7 +93,7 @@ fn is_on_cycle_from(alloc: Global, parts: &[Items<usize>], number: usize) -> Res
 
 /// Of each type whether it holds itself, from one type after the other.
 pub fn by_levels(alloc: Global, parts: &[Items<usize>]) -> Result<Vec<bool>, NoMemory>
-    ensures { (us : List Source) → AreParts us parts.now → IfOk result (λ v. HoldThemselves us v.items) }
+    ensures { (us : List Source) → AreParts us parts.now → IfOk result (λ v. AreRound us v.items) }
 {
     let mut on_cycle = Vec::new(alloc);
     'numbers: for number in 0..parts.len() {

@@ -1,7 +1,7 @@
 //! Which declared types hold themselves.
 //!
 //! The floor above uses `holds_themselves`: of each name of the top level whether it declares a type that holds itself, by its number, as
-//! type_rules says (`HoldThemselves` of specs/). The table of the types that each names is given (`parts_of` of type_forms).
+//! type_rules says (`AreRound` of specs/). The table of the types that each names is given (`parts_of` of type_forms).
 //!
 //! Types that lead to one another are a component. A search gives each type a membership in one (`Membership`). Nothing is proved of it:
 //! one look at each type and its parts tells whether the memberships are right, and where they are, a type holds itself exactly where a
