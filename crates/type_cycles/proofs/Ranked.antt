@@ -8,12 +8,11 @@ use Rattle.link_rules.specs.Units.{Source}
 use Rattle.link_rules.proofs.Truth.{and_first, and_second, or_left, or_right}
 use Rattle.type_rules.specs.TypePhrases.{holds_itself}
 use Rattle.type_forms.specs.Parts.{AreParts, listed_at, parts_in}
-use Rattle.type_forms.specs.Settled.{or_false}
 use Rattle.type_cycles.specs.declared.components.Membership.{Membership}
-use Rattle.type_cycles.specs.Leading.{IsOnCycle, Leads, itself, by_part, is_in, is_marked}
-use Rattle.type_cycles.specs.Components.{AreRight, led_from_root, falls_to, leads_to_root, is_nearer_from, is_nearer_to, is_this, membership, right_at, on_cycle_at}
+use Rattle.type_cycles.specs.Leading.{IsOnCycle, Leads, itself, by_part, is_in}
+use Rattle.type_cycles.specs.Components.{AreRight, led_from_root, falls_to, leads_to_root, is_nearer_from, is_nearer_to, is_this, membership, on_cycle_at}
 use Rattle.type_cycles.proofs.Members.{all_in, any_in, some_in}
-use Rattle.type_cycles.proofs.Ways.{holds_none, holds_cycle, cycle_holds}
+use Rattle.type_cycles.proofs.Ways.{holds_cycle, cycle_holds}
 
 -- ---- ways put together
 

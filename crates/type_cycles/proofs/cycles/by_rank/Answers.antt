@@ -1,4 +1,4 @@
-use Rattle.std.proofs.Common.{◌≡◌, ℕ, ◌<◌, ◌≤◌, length, arith}
+use Rattle.std.proofs.Common.{ℕ, arith}
 use Rattle.type_cycles.specs.Components.{on_cycle_at}
 use Rattle.type_cycles.proofs.Marked.{everywhere}
 use Rattle.type_cycles.proofs.Ranked.{no_cycle}

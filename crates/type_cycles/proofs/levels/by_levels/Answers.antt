@@ -1,4 +1,4 @@
-use Rattle.std.proofs.Common.{◌≡◌, ℕ, ◌<◌, ◌≤◌, length, arith}
+use Rattle.std.proofs.Common.{ℕ, arith}
 use Rattle.type_rules.specs.TypePhrases.{holds_itself}
 use Rattle.type_cycles.proofs.Marked.{everywhere}
 use Rattle.type_cycles.proofs.Ways.{holds_none}
