@@ -20,7 +20,10 @@ fn types_that_lead_back_to_themselves_are_told(rt: HostRuntime) -> Result<(), Fa
     let parts: [&[usize]; 6] = [&[5, 0, 0], &[2, 3], &[1, 5], &[2], &[0, 1], &[]];
     let table = table_of(rt.alloc(), &parts)?;
     let told = holds_themselves(rt.alloc(), &table)?;
-    assert_eq!(rt; told.as_slice(), [true, true, true, true, false, false].as_slice());
+    assert_eq!(rt;
+        told.as_slice(),
+        [true, true, true, true, false, false].as_slice()
+    );
     Ok(())
 }
 

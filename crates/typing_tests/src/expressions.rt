@@ -116,9 +116,7 @@ fn told(alloc: Global, found: &Found<DataType>) -> Result<String, NoMemory> {
     if let Some(breach) = found.first {
         return Ok(format!(in alloc;
             "rule {} at {}:{}",
-            breach.rule,
-            breach.at.line,
-            breach.at.column
+            breach.rule, breach.at.line, breach.at.column
         )?);
     }
     match &found.is {

@@ -47,7 +47,11 @@ fn names_are_numbered_in_text_order(rt: HostRuntime) -> Result<(), Fail> {
         ("Main", "deletenode", 100),
         ("Main", "Graph", 200),
     ] {
-        assert_eq!(rt; number_of(index.stands_for(home, name)), wanted, "{name} in {home}");
+        assert_eq!(rt;
+            number_of(index.stands_for(home, name)),
+            wanted,
+            "{name} in {home}"
+        );
     }
     Ok(())
 }

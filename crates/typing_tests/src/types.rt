@@ -1,13 +1,13 @@
 //! Types with their sizes and nesting, and the first breach of a type phrase.
 
 use crate::reading::units_of;
-use orca_base::Place;
+use orca_base::{NoMemory, Place};
 use orca_tree::Definition;
 use std::alloc::{AllocError, Global};
 use std::collections::BTreeMap;
 use std::test::Fail;
 use type_cycles::holds_themselves;
-use type_forms::{Forms, Index, View, What, chains_of, kind_found, parts_of, types_of};
+use type_forms::{Forms, Index, Top, View, What, chains_of, kind_found, parts_of, types_of};
 use type_rules::{Breach, Measured};
 
 // Declared types: of each kind, at the limit of sizes and just above it, one that holds itself, and one that names that.
@@ -70,6 +70,28 @@ fn declared_types_have_sizes_and_nesting(rt: HostRuntime) -> Result<(), Fail> {
     Ok(())
 }
 
+// The first breach of what a name stands for, where it is another name of a type.
+fn first_breach(
+    alloc: Global,
+    forms: Forms<'_, '_>,
+    top: &Top<'_>,
+) -> Result<Option<Breach>, NoMemory> {
+    let names = BTreeMap::new(alloc);
+    let view = View {
+        home: top.by,
+        names: &names,
+    };
+    match top.what {
+        What::TypeName {
+            definition: Definition::Alias { of },
+        } => {
+            let found = kind_found(alloc, forms, view, of)?;
+            Ok(found.first)
+        }
+        _ => Ok(None),
+    }
+}
+
 #[test]
 fn an_array_that_is_too_large_is_told(rt: HostRuntime) -> Result<(), Fail> {
     let units = units_of(rt.alloc(), &TEXTS)?;
@@ -82,11 +104,6 @@ fn an_array_that_is_too_large_is_told(rt: HostRuntime) -> Result<(), Fail> {
         chains: &chains,
         types: &types,
     };
-    let names = BTreeMap::new(rt.alloc());
-    let view = View {
-        home: "Main",
-        names: &names,
-    };
     let wide = Breach {
         at: Place {
             line: 8,
@@ -95,14 +112,9 @@ fn an_array_that_is_too_large_is_told(rt: HostRuntime) -> Result<(), Fail> {
         rule: 10,
     };
     for top in index.tops() {
-        if let What::TypeName {
-            definition: Definition::Alias { of },
-        } = top.what
-        {
-            let found = kind_found(rt.alloc(), forms, view, of)?;
-            let wanted = if top.name == "Wide" { Some(wide) } else { None };
-            assert_eq!(rt; found.first, wanted, "{}", top.name);
-        }
+        let wanted = if top.name == "Wide" { Some(wide) } else { None };
+        let found = first_breach(rt.alloc(), forms, top)?;
+        assert_eq!(rt; found, wanted, "{}", top.name);
     }
     Ok(())
 }
