@@ -1,0 +1,5 @@
+use Rattle.accepted_law.proofs.Accepted.{accepted, phrases_are_known, types_are_known}
+use Rattle.accepted_law.proofs.law.accepted_law.Goals as goal
+
+pub returns : goal.returns
+returns c = record { types = types_are_known; phrases = phrases_are_known; accepted = accepted }
