@@ -44,14 +44,14 @@ use Rattle.accepted_law.proofs.Operations.{made_from}
 
 -- ---- how many tokens a forest has
 
-abbrev tokens : Forest → ℕ
+abbrev pub tokens : Forest → ℕ
 tokens f = length (spelled (flat f))
 
-grouped : (g f : Forest) (b : _) → tokens (group b g f) ≡ tokens g + tokens f
+pub grouped : (g f : Forest) (b : _) → tokens (group b g f) ≡ tokens g + tokens f
 grouped g f b = ap length (spelled_append (flat g) (End b ∷ flat f)) ∙ length-append (spelled (flat g)) (spelled (flat f))
 
 -- a phrase takes no token from what stands behind it
-abbrev Grows : {X : Type 0} → (X → Forest → Forest) → Type 0
+abbrev pub Grows : {X : Type 0} → (X → Forest → Forest) → Type 0
 Grows {X = X} put = (x : X) (f : Forest) → tokens f ≤ tokens (put x f)
 
 grown : (a b c : ℕ) → a ≤ b → b ≤ c → a ≤ c
@@ -60,31 +60,31 @@ grown a b c one two = omega (arith, one, two)
 longer : (a b : ℕ) → a ≤ b → a ≤ suc b
 longer a b le = omega (arith, le)
 
-behind_group : (b : _) (g f : Forest) → tokens f ≤ tokens (group b g f)
+pub behind_group : (b : _) (g f : Forest) → tokens f ≤ tokens (group b g f)
 behind_group b g f = let e = grouped g f b in omega (arith, e)
 
-each_grows : {X : Type 0} (put : X → Forest → Forest) → Grows put → (xs : List X) (f : Forest) → tokens f ≤ tokens (der.each put xs f)
+pub each_grows : {X : Type 0} (put : X → Forest → Forest) → Grows put → (xs : List X) (f : Forest) → tokens f ≤ tokens (der.each put xs f)
 each_grows put grows [] f = omega arith
 each_grows put grows (x ∷ xs) f = grown (tokens f) (tokens (der.each put xs f)) (tokens (put x (der.each put xs f))) (each_grows put grows xs f) (grows x (der.each put xs f))
 
-separated_grows : {X : Type 0} (k : TokenKind) (put : X → Forest → Forest) → Grows put → (xs : List X) (f : Forest) → tokens f ≤ tokens (der.separated k put xs f)
+pub separated_grows : {X : Type 0} (k : TokenKind) (put : X → Forest → Forest) → Grows put → (xs : List X) (f : Forest) → tokens f ≤ tokens (der.separated k put xs f)
 separated_grows k put grows [] f = omega arith
 separated_grows {X} k put grows (x ∷ xs) f =
     let led : X → Forest → Forest = λ y g. der.word k (put y g) in
     grown (tokens f) (tokens (der.each led xs f)) (tokens (put x (der.each led xs f)))
     (each_grows led (λ y g. longer (tokens g) (tokens (put y g)) (grows y g)) xs f) (grows x (der.each led xs f))
 
-any_grows : {X : Type 0} (put : X → Forest → Forest) → Grows put → (o : Option X) (f : Forest) → tokens f ≤ tokens (der.if_any put o f)
+pub any_grows : {X : Type 0} (put : X → Forest → Forest) → Grows put → (o : Option X) (f : Forest) → tokens f ≤ tokens (der.if_any put o f)
 any_grows put grows None f = omega arith
 any_grows put grows (Some x) f = grows x f
 
 name_grows : Grows der.name
 name_grows n f = omega arith
 
-type_grows : Grows der.type_phrase
+pub type_grows : Grows der.type_phrase
 type_grows k f = behind_group _ (der.type_inside k) f
 
-stmts_grow : (ss : Stmts) (f : Forest) → tokens f ≤ tokens (der.stmts ss f)
+pub stmts_grow : (ss : Stmts) (f : Forest) → tokens f ≤ tokens (der.stmts ss f)
 stmts_grow syn.no_stmt f = omega arith
 stmts_grow (syn.stmt s ss) f =
     let rest = stmts_grow ss f in
@@ -94,20 +94,20 @@ stmts_grow (syn.stmt s ss) f =
 names_grow : Grows der.names
 names_grow ns f = separated_grows (Sign Comma) der.name name_grows ns f
 
-variables_grow : Grows der.variables
+pub variables_grow : Grows der.variables
 variables_grow v f =
     let last = der.type_phrase v.kind (der.word (Sign Semicolon) f) in
     let one = type_grows v.kind (der.word (Sign Semicolon) f) in
     let two = names_grow v.names (der.word (Sign Colon) last) in
     omega (arith, one, two)
 
-typed_name_grows : Grows der.typed_name
+pub typed_name_grows : Grows der.typed_name
 typed_name_grows t f = let one = type_grows t.kind f in omega (arith, one)
 
-field_grows : Grows der.field
+pub field_grows : Grows der.field
 field_grows t f = let one = typed_name_grows t (der.word (Sign Semicolon) f) in omega (arith, one)
 
-result_grows : Grows der.result
+pub result_grows : Grows der.result
 result_grows k f = let one = type_grows k f in omega (arith, one)
 
 mode_grows : (m : Mode) (f : Forest) → tokens f ≤ tokens (der.mode m f)
@@ -115,7 +115,7 @@ mode_grows modes.Value f = omega arith
 mode_grows modes.Shared f = omega arith
 mode_grows modes.Out f = omega arith
 
-parameter_grows : Grows der.parameter
+pub parameter_grows : Grows der.parameter
 parameter_grows p f =
     let one = type_grows p.kind f in
     let two = mode_grows p.mode (der.type_phrase p.kind f) in
@@ -128,16 +128,16 @@ head_grows h f =
     let two = separated_grows (Sign Semicolon) der.typed_name typed_name_grows h.parameters (der.word (Sign Closes) last) in
     omega (arith, one, two)
 
-head_line_grows : Grows der.head_line
+pub head_line_grows : Grows der.head_line
 head_line_grows h f = let one = head_grows h (der.word (Sign Semicolon) f) in omega (arith, one)
 
-block_grows : Grows der.block
+pub block_grows : Grows der.block
 block_grows b f =
     let one = stmts_grow b.statements (der.ended f) in
     let two = each_grows der.variables variables_grow b.variables (der.word (Key KeyBegin) (der.stmts b.statements (der.ended f))) in
     omega (arith, one, two)
 
-guard_grows : Grows der.guard
+pub guard_grows : Grows der.guard
 guard_grows g f =
     let last = der.word (Key KeyOd) (der.word (Sign Semicolon) f) in
     let one = stmts_grow g.body last in
@@ -151,7 +151,7 @@ body_grows (syn.Guarded g gs) f =
     omega (arith, one, two)
 body_grows (syn.Plain ss) f = stmts_grow ss f
 
-operation_grows : Grows der.operation
+pub operation_grows : Grows der.operation
 operation_grows o f =
     let last = der.word (Key KeyBegin) (der.body o.body (der.ended f)) in
     let one = body_grows o.body (der.ended f) in
@@ -159,20 +159,20 @@ operation_grows o f =
     let three = head_line_grows o.head (der.each der.variables o.variables last) in
     omega (arith, one, two, three)
 
-opening_grows : Grows der.opening
+pub opening_grows : Grows der.opening
 opening_grows ss f = let one = stmts_grow ss f in omega (arith, one)
 
-bound_grows : Grows der.bound
+pub bound_grows : Grows der.bound
 bound_grows (bounds.Number at value) f = omega arith
 bound_grows (bounds.Negative at value) f = omega arith
 bound_grows (bounds.Named n) f = omega arith
 
-definition_grows : Grows der.definition
+pub definition_grows : Grows der.definition
 definition_grows (syn.Record at ts) f = let one = each_grows der.field field_grows ts (der.word (Key KeyEnd) f) in omega (arith, one)
 definition_grows (syn.Enumeration at ns) f = let one = names_grow ns (der.word (Sign Closes) f) in omega (arith, one)
 definition_grows (syn.Alias k) f = type_grows k f
 
-decl_grows : Grows der.decl
+pub decl_grows : Grows der.decl
 decl_grows (syn.Constant at n b) f = let one = bound_grows b (der.word (Sign Semicolon) f) in omega (arith, one)
 decl_grows (syn.Declares at n d) f = let one = definition_grows d (der.word (Sign Semicolon) f) in omega (arith, one)
 decl_grows (syn.Specification at n hs) f = let one = each_grows der.head_line head_line_grows hs (der.ended f) in omega (arith, one)
@@ -335,7 +335,7 @@ module _ (K : ℕ) where
 
 -- ---- within the limits
 
-each_word : (us : List Source) → AllByRecursion (λ u. words_in u ≤ sum_by words_in us) us
+pub each_word : (us : List Source) → AllByRecursion (λ u. words_in u ≤ sum_by words_in us) us
 each_word [] = tt
 each_word (u ∷ us) =
     let sum = sum_by-cons words_in u us in
@@ -350,7 +350,7 @@ few_names us limits o =
     let l = limits.words in
     omega (arith, few, l)
 
-locals_count : (role : LocalRole) (find : Kind → Found Measured) (vs : List Variables) → length (flat_map (locals_of role find) vs) ≡ length (variable_names vs)
+pub locals_count : (role : LocalRole) (find : Kind → Found Measured) (vs : List Variables) → length (flat_map (locals_of role find) vs) ≡ length (variable_names vs)
 locals_count role find [] = refl
 locals_count role find (v ∷ vs) =
     let one = length-append (locals_of role find v) (flat_map (locals_of role find) vs) in

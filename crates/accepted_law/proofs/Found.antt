@@ -234,10 +234,12 @@ module _ (us : List Source) (linked : IsLinked us) (fine : AllByRecursion (IsFin
         let all = unless_none (field.breaches ++ rest.breaches) _ none in
         let one = data_phrase_found f.kind (all_left IsThere (names_of f.kind) names there) (left_none field.breaches rest.breaches all) in
         let more = fields_found i fs (all_right IsThere (names_of f.kind) names there) (right_none field.breaches rest.breaches all) in
+        let whole : (record_of D Here i (f ∷ fs)).is ≡ with_field field.is rest.is = is_of (field.breaches ++ rest.breaches) (with_field field.is rest.is) none in
+        let known = both field.is rest.is one.0 more.size more.depth one.1 more.is in
         record {
           size = one.0.size + more.size;
           depth = max (1 + one.0.nesting) more.depth;
-          is = is_of (field.breaches ++ rest.breaches) _ none ∙ both field.is rest.is one.0 more.size more.depth one.1 more.is;
+          is = whole ∙ known;
           fields =
               subst (λ o. AreFields us (o ∷ types_of_fields fs) (one.0.size + more.size) (max (1 + one.0.nesting) more.depth)) (sym (ap (option_map (λ m. m.kind)) one.1))
               (more_fields us one.0 one.2 (types_of_fields fs) more.size more.depth more.fields);

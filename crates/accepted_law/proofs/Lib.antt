@@ -12,3 +12,6 @@ pub mod Texts
 pub mod Operations
 pub mod Counted
 pub mod Accepted
+pub mod Starting
+pub mod Numbers
+pub mod Meeting

@@ -6,7 +6,8 @@ use Rattle.std.specs.Prelude.{◌≡◌, ℕ, ℤ, zero, suc, pos, max, ◌-ℤ�
 use Rattle.std.specs.List.{AllByRecursion}
 use Rattle.std.specs.List.Sorted.{IsSorted, IsStrictlySortedBy}
 use Rattle.std.proofs.lemmas.List.{length-replicate}
-use Rattle.std.proofs.lemmas.List.Elements.{recursion_from_All}
+use Rattle.std.proofs.lemmas.Int.{ints}
+use Rattle.std.proofs.lemmas.List.Elements.{All-nil, recursion_from_All}
 use Rattle.orca_base.specs.declared.limits.TheConstants.{VALUE_NESTING, VALUE_SIZE}
 use Rattle.link_rules.specs.Units.{Source}
 use Rattle.type_rules.specs.declared.types.Base.{Base}
@@ -26,7 +27,6 @@ use Rattle.value_core.specs.Sound.{nesting, nesting_of_all}
 use Rattle.value_paths.specs.declared.step.Step.{Step as ValueStep}
 use Rattle.value_paths.specs.declared.step.Step.TheVariants.{Field, Index, Node}
 use Rattle.graph_values.specs.Graphs.{IsGraph, IsNode, empty_graph, name_in, nodes_in}
-use Rattle.graph_values.proofs.Told.{empty_is_graph}
 use Rattle.meaning_rules.specs.Openings.{field_types, layers_opening, opening, record_opening, type_opening}
 use Rattle.meaning_rules.specs.Fitting.{IsArray, IsBag, IsRecord, IsSet, IsOf, AllOf, AreOf, NodesOf, ValuesOf, Fits}
 use Rattle.meaning_rules.specs.PathsFit.{Leads}
@@ -38,6 +38,10 @@ none_rises = tt
 
 none_sorted : IsSorted datum_cmp []
 none_sorted k d low less = absurd (omega (arith, less))
+
+empty_is_graph : IsGraph empty_graph
+unfolding IsStrictlySortedBy
+empty_is_graph = record { form = refl; named = record { nodes = All-nil IsNode; rising = tt }; given = All-nil _; next = omega (arith, ints) }
 
 sizes : (n : ℕ) (x : Datum) → size_of_all (data_of (replicate n x)) ≡ n * size_of x
 sizes zero x = let e : 0 ≡ 0 * size_of x = omega arith in e

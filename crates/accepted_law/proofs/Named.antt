@@ -133,7 +133,8 @@ module _ (us : List Source) (linked : IsLinked us) where
       let place = kept_place is_text (top_names us) first.0 x there.1 in
       let same : place.0.0 ≡ k = one_place us linked place.0.0 k x t place.0.1 at ((bytes_eq-Decides x.defined.name.text n).0 there.2) (other_apart x.defined.role t.defined.role (text_role x place.0 place.1) role) in
       let one : x ≡ t = same_some x t (sym place.0.1 ∙ (ap (slice_get (top_names us)) same ∙ at)) in
-      ap (λ o. slice_get (process_texts us) (unwrap_or o 0)) first.1 ∙ (there.1 ∙ ap (λ y. Some y) one)
+      let held : slice_get (process_texts us) first.0 ≡ Some t = subst (λ y. slice_get (process_texts us) first.0 ≡ Some y) one there.1 in
+      subst (λ o. slice_get (process_texts us) (unwrap_or o 0) ≡ Some t) (sym first.1) held
     where
       other_apart : (r s : Role) → r ≡ Other → s ≡ Other → may_share r s ≡ false
       other_apart r s e f = ap (λ x. may_share x s) e ∙ ap (may_share Other) f
