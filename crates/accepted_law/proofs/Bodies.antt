@@ -1,12 +1,10 @@
 -- The names of bodies, parameters and results have types, and of data where these are no object types: of functions, processes, fields and
 -- operations.
 use Rattle.std.proofs.Common.{refl, sym, ap, ◌∙◌, subst}
-use Rattle.std.specs.Prelude.{◌≡◌, ◌&&◌, ℕ, zero, suc, Bool, true, false, if◌then◌else◌, bytes_eq, List, [], ◌∷◌, ◌++◌, map, flat_map, filter, filter_map, slice_get, Option, Some, None, option_map, option_and_then}
+use Rattle.std.specs.Prelude.{◌≡◌, ◌&&◌, ℕ, zero, Bool, true, false, if◌then◌else◌, bytes_eq, List, [], ◌∷◌, ◌++◌, map, flat_map, filter_map, slice_get, Option, Some, None, option_map}
 use Rattle.std.specs.List.{AllByRecursion, list_any}
 use Rattle.std.specs.Option.{option_map_or}
 use Rattle.std.proofs.lemmas.Slice.Eq.{bytes_eq-Decides}
-use Rattle.orca_base.specs.declared.ids.KindNo.{KindNo}
-use Rattle.orca_base.specs.declared.place.Place.{Place}
 use Rattle.orca_tree.specs.declared.tree.Mode.{Mode}
 use Rattle.orca_tree.specs.declared.tree.Mode.TheVariants as mode
 use Rattle.orca_tree.specs.declared.tree.Name.{Name}
@@ -29,17 +27,17 @@ use Rattle.type_rules.specs.TopLevel.{What, TopName, top_names}
 use Rattle.type_rules.specs.Rules.{Found, are_new, asks, fits}
 use Rattle.type_rules.specs.Scopes.{Local, formal, is_name, locals_of, own_names, parameter_found, parameter_local, passed, role_of, shared_found, signature, specification, texts, type_of, value_local, view_of}
 use Rattle.type_rules.specs.Statements.{stmts_breaches}
-use Rattle.type_rules.specs.TypePhrases.{data_found, data_phrase, declared_type, definition, distinct_fields, kind_found, record_of, whole_module, within_limits}
-use Rattle.type_rules.specs.Declarations.{are_free, block_breaches, block_scope, body_breaches, field_locals, field_names, fields_view, function_breaches, heads_match, heads_of, implementation_breaches, implementation_scope, is_specified_in, no_main, opening_breaches, operation_breaches, operation_locals, operation_names, operation_view, owner_of, is_shared, parameters_breaches, process_breaches, result_breaches, result_of, values_breaches, variables_breaches}
+use Rattle.type_rules.specs.TypePhrases.{data_found, data_phrase, declared_type, distinct_fields, kind_found, record_of, whole_module}
+use Rattle.type_rules.specs.Declarations.{are_free, block_breaches, block_scope, field_locals, field_names, fields_view, function_breaches, heads_match, heads_of, implementation_breaches, implementation_scope, is_specified_in, no_main, opening_breaches, operation_breaches, operation_names, operation_view, owner_of, is_shared, parameters_breaches, process_breaches, result_breaches, result_of, values_breaches, variables_breaches}
 use Rattle.meaning_rules.specs.Openings.{field_types, fields_in, fields_of_what, types_in}
-use Rattle.meaning_rules.specs.Programs.{ObjectType, begin_scope, function_owner, function_scope, implementation, implements, is_process, object_type, operation_scope, operation_variables, process_scope, process_texts, specifications, specified, type_at}
+use Rattle.meaning_rules.specs.Programs.{ObjectType, begin_scope, function_scope, implementation, implements, is_process, process_scope, process_texts}
 use Rattle.meaning_rules.specs.Accepted.{HoldsData, IsData, IsFunction, IsKnown, IsKnownFormal, IsKnownResult, IsOfData, IsOpening, IsOperationBody, IsPlain}
 use Rattle.meaning_rules.proofs.Judged.{all_at, asked, left_none, right_none, unless_is, unless_none}
 use Rattle.meaning_rules.proofs.Orderly.{all_append, all_both, all_filter, all_filter_map, all_flat, all_map, each_none, units}
-use Rattle.accepted_law.proofs.Declared.{IsType, no_breach_in}
+use Rattle.accepted_law.proofs.Declared.{no_breach_in}
 use Rattle.accepted_law.proofs.Found.{IsTypeFound, data_of_kind, kind_is_found}
 use Rattle.accepted_law.proofs.Lists.{same_some}
-use Rattle.accepted_law.proofs.Measures.{IsMeasured, is_data}
+use Rattle.accepted_law.proofs.Measures.{is_data}
 use Rattle.accepted_law.proofs.Tops.{IsFine, IsFineDecl, IsFineTop}
 
 -- a type is known, and of data where it is no object type
@@ -56,12 +54,11 @@ pub record IsFineType (us : List Source) (name : List ℕ) (t : ObjectType) : Ty
 module _ (us : List Source) (linked : IsLinked us) (fine : AllByRecursion (IsFineTop us) (top_names us)) where
   type_good : (f : Found Measured) → IsTypeFound us linked fine f → IsGood us (type_of f)
   type_good f h =
-      let is : type_of f ≡ Some h.0.kind = ap (option_map (λ m. m.kind)) h.1 in
-      (
+      let is : type_of f ≡ Some h.0.kind = ap (option_map (λ m. m.kind)) h.1 in (
         (h.0.kind, is),
         λ t e simple.
-          let same : h.0.kind ≡ t = same_some h.0.kind t (sym is ∙ e) in
-          subst (IsData us) same (is_data us h.0 (h.2 (subst (λ u. is_object u ≡ false) (sym same) simple))),
+            let same : h.0.kind ≡ t = same_some h.0.kind t (sym is ∙ e) in
+            subst (IsData us) same (is_data us h.0 (h.2 (subst (λ u. is_object u ≡ false) (sym same) simple))),
       )
 
   data_good : (o : Option DataType) → IsOfData us o → IsGood us o

@@ -1,6 +1,6 @@
 -- A bound without a breach is a number: each constant's chain ends at a number, or goes round.
-use Rattle.std.proofs.Common.{refl, sym, ap, ◌∙◌, subst}
-use Rattle.std.specs.Prelude.{◌≡◌, ℕ, ℤ, zero, suc, neg_ℤ, Bool, true, false, if◌then◌else◌, List, [], ◌∷◌, length, slice_get, Option, Some, None}
+use Rattle.std.proofs.Common.{refl, sym, ap, subst}
+use Rattle.std.specs.Prelude.{◌≡◌, ℕ, zero, suc, neg_ℤ, Bool, true, false, if◌then◌else◌, List, [], length, slice_get, Option, Some}
 use Rattle.std.specs.List.{AllByRecursion}
 use Rattle.orca_tree.specs.declared.tree.Name.{Name}
 use Rattle.orca_tree.specs.declared.tree.Bound.{Bound}

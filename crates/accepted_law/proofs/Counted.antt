@@ -1,12 +1,10 @@
 -- What the limit of tokens and declared names says of an enumeration's names and of an object type's fields.
-use Rattle.std.proofs.Common.{◌≤◌, ◌<◌, ◌+◌, ◌*◌, ◌^◌, refl, sym, ap, ◌∙◌, subst, arith, length-append}
-use Rattle.std.specs.Prelude.{◌≡◌, ℕ, zero, suc, Bool, true, false, if◌then◌else◌, bytes_eq, List, [], ◌∷◌, ◌++◌, length, map, flat_map, slice_get, Option, Some, None}
+use Rattle.std.proofs.Common.{◌≤◌, ◌<◌, ◌+◌, ◌*◌, ◌^◌, refl, ap, ◌∙◌, subst, arith, length-append}
+use Rattle.std.specs.Prelude.{◌≡◌, ℕ, zero, suc, Bool, true, false, if◌then◌else◌, bytes_eq, List, [], ◌∷◌, length, flat_map, slice_get, Option, Some, None}
 use Rattle.std.specs.List.{AllByRecursion, sum_by}
 use Rattle.std.specs.Option.{option_map_or}
 use Rattle.std.proofs.lemmas.List.{length-map}
 use Rattle.std.proofs.lemmas.List.Sums.{sum_by-cons}
-use Rattle.orca_base.specs.declared.limits.TheConstants.{CODE_LENGTH}
-use Rattle.orca_base.specs.declared.place.Place.{Place as TextPlace}
 use Rattle.orca_lexer.specs.declared.token.Keyword.TheVariants.{KeyBegin, KeyDo, KeyEnd, KeyOd}
 use Rattle.orca_lexer.specs.declared.token.Symbol.TheVariants.{Closes, Comma, Colon, Semicolon}
 use Rattle.orca_lexer.specs.declared.token.TokenKind.{TokenKind}
@@ -18,10 +16,10 @@ use Rattle.orca_tree.specs.declared.tree.Mode.{Mode}
 use Rattle.orca_tree.specs.declared.tree.Mode.TheVariants as modes
 use Rattle.orca_tree.specs.declared.tree.Name.{Name}
 use Rattle.orca_syntax.specs.Derivation as der
-use Rattle.orca_syntax.specs.Forest.{Forest, none, token, group, flat}
+use Rattle.orca_syntax.specs.Forest.{Forest, none, group, flat}
 use Rattle.orca_syntax.specs.Syntax as syn
 use Rattle.orca_syntax.specs.Syntax.{Kind, Stmts, Parameter, Variables, TypedName, Head, Guard, Body, Operation, Block, Definition, Decl, Syntax}
-use Rattle.link_rules.specs.Declarations.{Declared, declarations, declarations_of}
+use Rattle.link_rules.specs.Declarations.{declarations, declarations_of}
 use Rattle.link_rules.specs.Units.{Source, module_name, values_of}
 use Rattle.type_rules.specs.declared.names.LocalRole.{LocalRole}
 use Rattle.type_rules.specs.declared.types.Base.TheVariants as base
@@ -30,7 +28,6 @@ use Rattle.type_rules.specs.declared.types.Measured.{Measured}
 use Rattle.type_rules.specs.Types as types
 use Rattle.type_rules.specs.Types.{Outside}
 use Rattle.type_rules.specs.Rules.{Found}
-use Rattle.type_rules.specs.TopLevel as top
 use Rattle.type_rules.specs.TopLevel.{What, TopName, name_in, names_in, top_names, unit_names, values_at, values_in, what_in}
 use Rattle.type_rules.specs.Scopes.{Local, locals_of, type_of, variable_names}
 use Rattle.meaning_rules.specs.Programs.{ObjectType, implementation, implements}
@@ -231,12 +228,11 @@ decls_count (d ∷ ds) =
     let rest = der.each der.decl ds none in
     let own = values_count d rest in
     let more = decl_grows d rest in
-    let sum = sum_by-cons names_declared d ds in
-    (
+    let sum = sum_by-cons names_declared d ds in (
       (own, omega (arith, sum)),
       all_both (λ e. (length (values_in e) ≤ tokens rest) × (names_declared e ≤ sum_by names_declared ds)) (λ e. Unit {0})
-      (λ e. (length (values_in e) ≤ tokens (der.decl d rest)) × (names_declared e ≤ sum_by names_declared (d ∷ ds))) ds
-      (λ e h unit. let a = h.0 in let b = h.1 in (omega (arith, a, more), omega (arith, b, sum))) (decls_count ds) (units ds),
+          (λ e. (length (values_in e) ≤ tokens (der.decl d rest)) × (names_declared e ≤ sum_by names_declared (d ∷ ds))) ds
+          (λ e h unit. let a = h.0 in let b = h.1 in (omega (arith, a, more), omega (arith, b, sum))) (decls_count ds) (units ds),
     )
 
 -- ---- within so many words
@@ -338,8 +334,7 @@ module _ (K : ℕ) where
 pub each_word : (us : List Source) → AllByRecursion (λ u. words_in u ≤ sum_by words_in us) us
 each_word [] = tt
 each_word (u ∷ us) =
-    let sum = sum_by-cons words_in u us in
-    (
+    let sum = sum_by-cons words_in u us in (
       omega (arith, sum),
       all_both (λ v. words_in v ≤ sum_by words_in us) (λ v. Unit {0}) (λ v. words_in v ≤ sum_by words_in (u ∷ us)) us (λ v l unit. omega (arith, l, sum)) (each_word us) (units us),
     )

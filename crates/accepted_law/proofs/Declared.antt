@@ -1,6 +1,6 @@
 -- A declared type is known, in a program without a breach: none holds itself, so a way from one to another comes by each once.
 use Rattle.std.proofs.Common.{◌≤◌, ◌<◌, ◌+◌, ◌⊎◌, inl, inr, refl, sym, ap, ◌∙◌, subst, arith, eqb-true}
-use Rattle.std.specs.Prelude.{◌≡◌, ◌==◌, ◌||◌, not, ℕ, zero, suc, Bool, true, false, if◌then◌else◌, List, [], ◌∷◌, ◌++◌, length, flat_map, filter_map, slice_get, get_or, Option, Some, None}
+use Rattle.std.specs.Prelude.{◌≡◌, ◌==◌, ◌||◌, not, ℕ, zero, suc, Bool, true, false, List, [], ◌∷◌, length, filter_map, slice_get, get_or, Option, Some, None}
 use Rattle.std.specs.List.{All, AllByRecursion, Contains, cons_option, list_any}
 use Rattle.std.proofs.lemmas.Bool.{true≢false, eqb-false}
 use Rattle.std.proofs.lemmas.List.Elements.{All-contains, All-contains_itself, All-from_recursion, recursion_from_All}
@@ -8,7 +8,6 @@ use Rattle.std.proofs.lemmas.List.Folds.{Any-from_list_any, list_any-from_Any}
 use Rattle.std.proofs.lemmas.Option.{slice_get_within}
 use Rattle.orca_tree.specs.declared.tree.Name.{Name}
 use Rattle.orca_syntax.specs.Syntax.{Definition}
-use Rattle.link_rules.specs.declared.role.Role.TheVariants.{Other}
 use Rattle.link_rules.specs.Units.{Source}
 use Rattle.link_rules.specs.Linked.{IsLinked}
 use Rattle.link_rules.proofs.Elements.{cons_cases, here, there}
@@ -16,13 +15,13 @@ use Rattle.link_rules.proofs.Truth.{or_left, or_right}
 use Rattle.type_rules.specs.declared.types.Measured.{Measured}
 use Rattle.type_rules.specs.TopLevel as top
 use Rattle.type_rules.specs.TopLevel.{What, TopName, StandsFor, number_of, stands_for, top_names}
-use Rattle.type_rules.specs.Constants.{View, OfAll, sense}
+use Rattle.type_rules.specs.Constants.{View}
 use Rattle.type_rules.specs.Scopes.{view_of}
 use Rattle.type_rules.specs.TypePhrases.{declared_number, declared_top, declared_type, declared_what, declared_within, definition, holds_itself, leads_to, names_within, parts_of, type_number, types_at, types_within, whole_module}
 use Rattle.type_rules.specs.Declarations.{holds_no_self, number_or_none}
 use Rattle.meaning_rules.proofs.Called.{top_at}
 use Rattle.meaning_rules.proofs.Judged.{all_at, asked, not_true}
-use Rattle.meaning_rules.proofs.Orderly.{all_both, all_filter_map, units}
+use Rattle.meaning_rules.proofs.Orderly.{all_filter_map}
 use Rattle.accepted_law.proofs.Bounds.{Known}
 use Rattle.accepted_law.proofs.Lists.{order}
 use Rattle.accepted_law.proofs.Names.{own_number}
@@ -244,8 +243,8 @@ module _ (us : List Source) (linked : IsLinked us) (fine : AllByRecursion (IsFin
   by_parts Q step (suc k) ps i t way apart less are =
       let few = few_below N (i ∷ ps) apart less in
       let part : (h : ℕ) → Contains (parts_of us i) h → Q k h = λ h in_.
-          let is : IsType h = All-contains IsType (parts_of us i) h (parts_are_types i t) in_ in
-          by_parts Q step k (i ∷ ps) h is (in_, way) (apart_from h (i ∷ ps) (not_on_way (i ∷ ps) h is (in_, way) few), apart) (slice_get_within (top_names us) h is.named is.at, less) (omega (arith, are)) in
+      let is : IsType h = All-contains IsType (parts_of us i) h (parts_are_types i t) in_ in
+      by_parts Q step k (i ∷ ps) h is (in_, way) (apart_from h (i ∷ ps) (not_on_way (i ∷ ps) h is (in_, way) few), apart) (slice_get_within (top_names us) h is.named is.at, less) (omega (arith, are)) in
       step k i t (omega (arith, are)) (recursion_from_All (Q k) (parts_of us i) (λ n d l. part (get_or (parts_of us i) n d) (All-contains_itself (parts_of us i) n d l)))
 
   abbrev Parts : (ℕ → Type 0) → (i : ℕ) → IsType i → Type 0

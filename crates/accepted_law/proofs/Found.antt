@@ -1,6 +1,6 @@
 -- What a type phrase without a breach is: a type, and where that is no object type, one of data.
 use Rattle.std.proofs.Common.{◌≤◌, ◌<◌, ◌+◌, refl, sym, ap, ◌∙◌, subst, arith, leb-true}
-use Rattle.std.specs.Prelude.{◌≡◌, ◌≢◌, ◌&&◌, not, nat_le, ℕ, ℤ, zero, suc, pos, max, Bool, true, false, if◌then◌else◌, List, [], ◌∷◌, ◌++◌, length, map, flat_map, slice_get, Option, Some, None, option_map}
+use Rattle.std.specs.Prelude.{◌≡◌, ◌≢◌, not, nat_le, ℕ, ℤ, max, Bool, true, false, if◌then◌else◌, List, [], ◌∷◌, ◌++◌, length, map, flat_map, Option, Some, option_map}
 use Rattle.std.specs.List.{AllByRecursion}
 use Rattle.std.specs.Option.{option_map_or}
 use Rattle.orca_base.specs.declared.limits.TheConstants.{VALUE_NESTING, VALUE_SIZE}
@@ -23,16 +23,16 @@ use Rattle.type_rules.specs.Types as types
 use Rattle.type_rules.specs.Types.{is_object, plain}
 use Rattle.type_rules.specs.TopLevel as top
 use Rattle.type_rules.specs.TopLevel.{What, TopName, StandsFor, stands_for, top_names}
-use Rattle.type_rules.specs.Rules.{Found, are_new, asks, fits, found, unless}
+use Rattle.type_rules.specs.Rules.{Found, are_new, asks, fits, unless}
 use Rattle.type_rules.specs.Constants.{View, Sense, OfBody, OfAll, bound, sense}
 use Rattle.type_rules.specs.Scopes.{type_of}
 use Rattle.type_rules.specs.TypePhrases.{array_found, array_of, array_phrase, at_most, bag_of, data_found, data_phrase, declared_number, declared_type, definition, distinct_fields, gathering_phrase, graph_of, graph_phrase, is_graph_bound, is_number_one, is_small, kind_found, names_of, names_within, named_type, of_data, phrase, predeclared_type, ranged_phrase, record_of, set_of, single, top_type, whole_module, with_field, within_limits}
 use Rattle.meaning_rules.specs.Openings.{field_types, fields_of_what, types_in}
 use Rattle.meaning_rules.specs.Statements as named
 use Rattle.meaning_rules.specs.Statements.{names_at}
-use Rattle.meaning_rules.specs.Accepted.{IsData, IsOfData}
+use Rattle.meaning_rules.specs.Accepted.{IsOfData}
 use Rattle.meaning_rules.proofs.Judged.{asked, both_left, both_right, left_none, not_true, right_none, unless_is, unless_none}
-use Rattle.accepted_law.proofs.Bounds.{Known, bound_known, sense_top}
+use Rattle.accepted_law.proofs.Bounds.{bound_known, sense_top}
 use Rattle.accepted_law.proofs.Declared.{IsType, declared_is, fine_at, no_breach_in, part_is_type, types_hold}
 use Rattle.accepted_law.proofs.Measures.{AreFields, IsMeasured, array_measured, bag_measured, graph_measured, is_data, more_fields, no_fields, record_measured, set_measured, single_measured}
 use Rattle.accepted_law.proofs.Phrases.{all_left, all_right, number_in}
@@ -168,8 +168,7 @@ module _ (us : List Source) (linked : IsLinked us) (fine : AllByRecursion (IsFin
             let behind = right_none first.breaches _ all in
             let m = known (right_none test element.breaches (right_none last.breaches _ behind)) in
             let l = bound_known us fine home hidden low (left_none first.breaches _ all) in
-            let h = bound_known us fine home hidden high (left_none last.breaches _ behind) in
-            (
+            let h = bound_known us fine home hidden high (left_none last.breaches _ behind) in (
               array_of l.0 h.0 m.0,
               is_of _ (array_found first.is last.is element.is) clean ∙ array_is first.is last.is element.is l.0 h.0 m.0 l.1 h.1 m.1,
               λ few flat. array_measured us m.0 m.2 l.0 h.0 few flat,
@@ -274,20 +273,18 @@ module _ (us : List Source) (linked : IsLinked us) (fine : AllByRecursion (IsFin
           let r = record_of D v i fs in
           let inner = distinct_fields fs r in
           let found = within_found at inner none (λ one.
-              let f = fields_found t.named.defined.by [] i fs there (left_none r.breaches _ (unless_none (r.breaches ++ are_new (map (λ f. f.name) fs)) r.is one)) in
-              (
-                record { kind = plain (base.Record i); size = f.size; nesting = f.depth },
-                is_of (r.breaches ++ are_new (map (λ f. f.name) fs)) r.is one ∙ f.is,
-                λ few flat. record_measured us i f.size f.depth (subst (λ ts. AreFields us ts f.size f.depth) (types_are at fs what) f.fields) few flat,
-              )) in
+          let f = fields_found t.named.defined.by [] i fs there (left_none r.breaches _ (unless_none (r.breaches ++ are_new (map (λ f. f.name) fs)) r.is one)) in (
+            record { kind = plain (base.Record i); size = f.size; nesting = f.depth },
+            is_of (r.breaches ++ are_new (map (λ f. f.name) fs)) r.is one ∙ f.is,
+            λ few flat. record_measured us i f.size f.depth (subst (λ ts. AreFields us ts f.size f.depth) (types_are at fs what) f.fields) few flat,
+          )) in
           (found.0, same ∙ found.1, found.2)
-      by (syn.Enumeration at ns) what there none same sound =
-          (
-            single (base.Enumeration i),
-            same,
-            single_measured us (base.Enumeration i) (λ P G h. h) refl
+      by (syn.Enumeration at ns) what there none same sound = (
+        single (base.Enumeration i),
+        same,
+        single_measured us (base.Enumeration i) (λ P G h. h) refl
             (λ kinds k le. subst (λ xs. 0 < length xs) (sym (names_are at ns what)) (some_name ns sound.1)) (λ k le. refl),
-          )
+      )
       by (syn.Alias k) what there none same sound =
           let found = data_phrase_found t.named.defined.by [] k there none in
           (found.0, same ∙ found.1, found.2)

@@ -18,8 +18,8 @@ pub place_is : {X : Type 0} (p : X → Bool) (xs : List X) (i : ℕ) (x : X) →
 place_is p xs i x at passes earlier =
     let less = slice_get_within xs i x at in
     let is : position_or_len p xs ≡ i =
-        position_or_len_is p xs i x (omega (arith, less)) (λ k l. earlier k (get_or xs k x) l (slice_get-get_or xs k x (omega (arith, l, less))))
-        (λ l. ap p (get_or_from_slice_get xs i x x at) ∙ passes) in
+    position_or_len_is p xs i x (omega (arith, less)) (λ k l. earlier k (get_or xs k x) l (slice_get-get_or xs k x (omega (arith, l, less))))
+    (λ l. ap p (get_or_from_slice_get xs i x x at) ∙ passes) in
     ap (λ n. cond (nat_lt n (length xs)) (Some n) None) is ∙ ap (λ b. cond b (Some i) None) (lt-ltb i (length xs) less)
 
 -- none passes
@@ -28,7 +28,7 @@ place_none p [] none = refl
 place_none p (x ∷ xs) none =
     let n : ℕ = length (x ∷ xs) in
     let is : position_or_len p (x ∷ xs) ≡ n =
-        position_or_len_is p (x ∷ xs) n x (omega arith) (λ k l. none k (get_or (x ∷ xs) k x) (slice_get-get_or (x ∷ xs) k x l)) (λ l. absurd (omega (arith, l))) in
+    position_or_len_is p (x ∷ xs) n x (omega arith) (λ k l. none k (get_or (x ∷ xs) k x) (slice_get-get_or (x ∷ xs) k x l)) (λ l. absurd (omega (arith, l))) in
     ap (λ m. cond (nat_lt m n) (Some m) None) is ∙ ap (λ b. cond b (Some n) None) (le-ltb n n (omega arith))
 
 pub given : {X : Type 0} → X → Option X → X

@@ -1,8 +1,8 @@
 -- How values of a type open and nest: of a type without parts, of arrays, sets, bags and graphs over another, and of records over their
 -- fields.
 use native.Mathlib.Nat.{suc-mul}
-use Rattle.std.proofs.Common.{◌≤◌, ◌<◌, ◌+◌, ◌*◌, refl, sym, ap, ◌∙◌, subst, arith}
-use Rattle.std.specs.Prelude.{◌≡◌, ℕ, ℤ, zero, suc, pos, max, ◌-ℤ◌, nat_abs, Bool, true, false, is_some, List, [], ◌∷◌, length, map, replicate, slice_get, Option, Some, None}
+use Rattle.std.proofs.Common.{◌≤◌, ◌+◌, ◌*◌, refl, sym, ap, ◌∙◌, subst, arith}
+use Rattle.std.specs.Prelude.{◌≡◌, ℕ, ℤ, zero, suc, max, ◌-ℤ◌, nat_abs, false, is_some, List, [], ◌∷◌, length, map, replicate, slice_get, Option, Some}
 use Rattle.std.specs.List.{AllByRecursion}
 use Rattle.std.specs.List.Sorted.{IsSorted, IsStrictlySortedBy}
 use Rattle.std.proofs.lemmas.List.{length-replicate}
@@ -13,7 +13,6 @@ use Rattle.link_rules.specs.Units.{Source}
 use Rattle.type_rules.specs.declared.types.Base.{Base}
 use Rattle.type_rules.specs.declared.types.Base.TheVariants as base
 use Rattle.type_rules.specs.declared.types.DataType.{DataType}
-use Rattle.type_rules.specs.declared.types.Layer.TheVariants as layer
 use Rattle.type_rules.specs.declared.types.Measured.{Measured}
 use Rattle.type_rules.specs.Types as types
 use Rattle.type_rules.specs.Types.{is_object, object_in, outside_of, inside_of, plain}
@@ -26,9 +25,9 @@ use Rattle.value_core.specs.Size.{size_of, size_of_all}
 use Rattle.value_core.specs.Sound.{nesting, nesting_of_all}
 use Rattle.value_paths.specs.declared.step.Step.{Step as ValueStep}
 use Rattle.value_paths.specs.declared.step.Step.TheVariants.{Field, Index, Node}
-use Rattle.graph_values.specs.Graphs.{IsGraph, IsNode, empty_graph, name_in, nodes_in}
+use Rattle.graph_values.specs.Graphs.{IsGraph, IsNode, empty_graph}
 use Rattle.meaning_rules.specs.Openings.{field_types, layers_opening, opening, record_opening, type_opening}
-use Rattle.meaning_rules.specs.Fitting.{IsArray, IsBag, IsRecord, IsSet, IsOf, AllOf, AreOf, NodesOf, ValuesOf, Fits}
+use Rattle.meaning_rules.specs.Fitting.{IsRecord, IsOf, AllOf, AreOf, NodesOf, ValuesOf, Fits}
 use Rattle.meaning_rules.specs.PathsFit.{Leads}
 use Rattle.meaning_rules.specs.Accepted.{Holds, Inside, IsData, ToField, TypeStep}
 
@@ -176,8 +175,7 @@ module _ (us : List Source) where
 
           opens : Opens A
           opens kinds k le =
-              let x = opening_within k m.kind in
-              (
+              let x = opening_within k m.kind in (
                 ap length (list_of-data_of (replicate n x)) ∙ length-replicate n x,
                 all_replicated kinds n x m.kind (h.opens kinds k (omega (arith, le))),
               )

@@ -1,12 +1,11 @@
 -- Typing and meaning find the same by a name.
-use Rattle.std.proofs.Common.{refl, sym, ap, ◌∙◌, subst}
-use Rattle.std.specs.Prelude.{◌≡◌, ℕ, Bool, true, false, cond, if◌then◌else◌, bytes_eq, List, [], ◌∷◌, length, map, find, position, slice_get, unwrap_or, Option, Some, None, option_map, option_and_then}
+use Rattle.std.proofs.Common.{refl, sym, ap, ◌∙◌}
+use Rattle.std.specs.Prelude.{◌≡◌, ℕ, Bool, true, false, cond, if◌then◌else◌, bytes_eq, List, [], length, map, find, position, slice_get, unwrap_or, Option, Some, None, option_map}
 use Rattle.std.specs.List.{position_or_len}
 use Rattle.std.specs.Option.{option_map_or}
 use Rattle.std.proofs.lemmas.Bool.{lt-ltb}
 use Rattle.std.proofs.lemmas.List.Folds.{find_at}
 use Rattle.std.proofs.lemmas.Option.{slice_get-map, slice_get_within}
-use Rattle.orca_base.specs.declared.place.Place.{Place}
 use Rattle.orca_tree.specs.declared.tree.Name.{Name}
 use Rattle.orca_syntax.specs.Syntax as syn
 use Rattle.orca_syntax.specs.Syntax.{TypedName, Definition}
@@ -23,24 +22,22 @@ use Rattle.type_rules.specs.Types.{object_in, outside_of}
 use Rattle.type_rules.specs.TopLevel as top
 use Rattle.type_rules.specs.TopLevel.{What, TopName, StandsFor, stands_for, top_names}
 use Rattle.type_rules.specs.TypePhrases.{data_found, whole_module}
-use Rattle.type_rules.specs.Scopes.{Local, Scope, local, may_be_object, operation_of, signature, type_of}
+use Rattle.type_rules.specs.Scopes.{Local, Scope, local, may_be_object, operation_of, type_of}
 use Rattle.type_rules.specs.Expressions as typing
 use Rattle.type_rules.specs.Expressions.{Called, Invoked, called, field_at, field_in, field_of, field_of_what, function_of, invoked, of_local, of_object, of_operation, of_type, outer_function, outer_object, predeclared_function, top_function}
 use Rattle.type_rules.specs.Statements as statements
 use Rattle.type_rules.specs.Statements.{Forked, forked, outer_process, process_of, top_process}
 use Rattle.value_core.specs.Datum.{Datum}
 use Rattle.value_core.specs.Fits.{Kinds}
-use Rattle.meaning_rules.specs.Calls as calls
-use Rattle.meaning_rules.specs.Calls.{callee, function_in, function_named, object_number}
+use Rattle.meaning_rules.specs.Calls.{function_in, function_named, object_number}
 use Rattle.meaning_rules.specs.Designators.{root_type, slot}
-use Rattle.meaning_rules.specs.Fitting.{AreFitting, Fits}
-use Rattle.meaning_rules.specs.Openings.{field_number, field_types, fields_of_what, record_fields, types_in}
+use Rattle.meaning_rules.specs.Fitting.{AreFitting}
+use Rattle.meaning_rules.specs.Openings.{field_number, field_types, fields_of_what, types_in}
 use Rattle.meaning_rules.specs.Programs.{process_texts, text_of}
 use Rattle.meaning_rules.proofs.Called.{top_at}
 use Rattle.meaning_rules.proofs.Judged.{local_at}
 use Rattle.meaning_rules.proofs.Preserving.{frame_at}
 use Rattle.accepted_law.specs.Meets.{IsFunctionCalled, IsHeld, IsProcessForked, Meets}
-use Rattle.accepted_law.proofs.Lists.{same_some}
 use Rattle.accepted_law.proofs.Named.{own_text}
 use Rattle.accepted_law.proofs.Texts.{stands_bears}
 

@@ -1,7 +1,7 @@
 -- A value goes by its enumeration; a process by its own text, and `OrcaMain` is one without parameters.
-use Rattle.std.proofs.Common.{◌≤◌, ◌<◌, ◌+◌, refl, sym, ap, ◌∙◌, subst, arith}
-use Rattle.std.specs.Prelude.{◌≡◌, ◌≢◌, ◌||◌, not, ℕ, zero, suc, Bool, true, false, if◌then◌else◌, bytes_eq, codes, List, [], ◌∷◌, ◌++◌, length, map, flat_map, filter, position, slice_get, unwrap_or, Option, Some, None}
-use Rattle.std.specs.List.{AllByRecursion, Contains}
+use Rattle.std.proofs.Common.{◌<◌, ◌+◌, refl, sym, ap, ◌∙◌, subst, arith}
+use Rattle.std.specs.Prelude.{◌≡◌, ◌≢◌, ◌||◌, not, ℕ, zero, suc, Bool, true, false, codes, List, [], ◌∷◌, ◌++◌, length, map, flat_map, slice_get, unwrap_or, Some}
+use Rattle.std.specs.List.{AllByRecursion}
 use Rattle.std.specs.Option.{option_map_or}
 use Rattle.std.proofs.lemmas.Bool.{true≢false}
 use Rattle.std.proofs.lemmas.List.{length-map}
@@ -12,23 +12,19 @@ use Rattle.orca_syntax.specs.Syntax as syn
 use Rattle.orca_syntax.specs.Syntax.{Kind, Parameter, Block, Definition, Decl}
 use Rattle.link_rules.specs.Linked.{IsLinked, may_share}
 use Rattle.link_rules.specs.Rules.{is_role}
-use Rattle.link_rules.specs.Units.{Source, Defined, definitions, module_name, values_of}
+use Rattle.link_rules.specs.Units.{Source, Defined, definitions, module_name}
 use Rattle.link_rules.specs.declared.role.Role.{Role}
 use Rattle.link_rules.specs.declared.role.Role.TheVariants.{Module, Specification, Implementation, Other}
-use Rattle.link_rules.proofs.Breaches.{role_is}
-use Rattle.link_rules.proofs.Elements.{from_map}
-use Rattle.link_rules.proofs.Truth.{and_second, not_true}
 use Rattle.type_rules.specs.declared.types.Base.TheVariants as base
 use Rattle.type_rules.specs.Types as types
 use Rattle.type_rules.specs.Rules.{asks}
 use Rattle.type_rules.specs.TopLevel as top
 use Rattle.type_rules.specs.TopLevel.{What, TopName, StandsFor, at_number, bears, everywhere, is_as, name_in, names_in, number_as, number_of, numbered, or_else, predeclared, sees, stands_for, top_at, top_names, unit_names, values_at, what_in}
-use Rattle.type_rules.specs.Declarations.{is_empty, is_main, is_not_out, no_main, process_form}
+use Rattle.type_rules.specs.Declarations.{is_empty, is_main, no_main, process_form}
 use Rattle.meaning_rules.specs.Programs.{is_process, main_text, process_texts, text_of}
 use Rattle.meaning_rules.specs.Statements as named
 use Rattle.meaning_rules.specs.Statements.{names_at}
 use Rattle.meaning_rules.proofs.Judged.{all_at, asked, left_none}
-use Rattle.meaning_rules.proofs.Orderly.{all_both, units}
 use Rattle.accepted_law.proofs.Lists.{Place, found_at, kept_place, place_kept, place_left, place_of, place_right, same_some, some_place}
 use Rattle.accepted_law.proofs.Names.{defined_tops, is_top, one_place, own_number}
 use Rattle.accepted_law.proofs.Tops.{HasRole, IsFine, IsFineTop, role_of, top_roles}
@@ -109,8 +105,7 @@ module _ (us : List Source) (linked : IsLinked us) where
       (j : ℕ) × (number_of us of ≡ Some j) × (number < length (names_at us (types.Bare (base.Enumeration j))))
   all_values i t of number at what =
       let h = subst (HasEnumeration (top_names us)) what (all_at (λ x. HasEnumeration (top_names us) x.what) (top_names us) i t (tops_closed us) at) in
-      let j = h.stands.0 in
-      (
+      let j = h.stands.0 in (
         j,
         ap (number_of us) (sym h.bears_it) ∙ own_number us linked j h.enumeration h.stands.1 h.role,
         subst (λ o. number < length (option_map_or (λ x. named.names_in x.what) o [])) (sym h.stands.1) h.within,

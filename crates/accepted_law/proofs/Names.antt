@@ -1,6 +1,6 @@
 -- In a program that links each name of the top level has its own place, by which it goes.
-use Rattle.std.proofs.Common.{◌≡◌, ℕ, ◌<◌, Bool, true, false, ◌&&◌, cond, List, [], ◌∷◌, ◌++◌, length, map, Option, Some, None, ◌⊎◌, inl, inr, zero, suc, refl, sym, ap, ◌∙◌, subst, arith}
-use Rattle.std.specs.Prelude.{not, filter, flat_map, slice_get, position, get_or, bytes_eq, option_map}
+use Rattle.std.proofs.Common.{◌≡◌, ℕ, ◌<◌, Bool, true, false, List, [], ◌∷◌, ◌++◌, map, Some, None, ◌⊎◌, inl, inr, zero, suc, refl, sym, ap, ◌∙◌, subst, arith}
+use Rattle.std.specs.Prelude.{not, filter, flat_map, slice_get, get_or, option_map}
 use Rattle.std.specs.List.{AllPairs}
 use Rattle.std.proofs.lemmas.Bool.{true≢false}
 use Rattle.std.proofs.lemmas.List.Elements.{filter-append}
@@ -19,8 +19,7 @@ use Rattle.link_rules.specs.Linked.{IsLinked, may_share}
 use Rattle.link_rules.proofs.Breaches.{role_is}
 use Rattle.link_rules.proofs.Seeing.{either_way}
 use Rattle.link_rules.proofs.Truth.{and_first, and_second, both_true, not_true}
-use Rattle.type_rules.specs.TopLevel as top
-use Rattle.type_rules.specs.TopLevel.{TopName, top_names, unit_names, names_in, name_in, role_in, values_at, values_in, is_as, bears, number_as, number_of, or_else}
+use Rattle.type_rules.specs.TopLevel.{TopName, top_names, unit_names, names_in, values_at, is_as, bears, number_as, number_of, or_else}
 use Rattle.accepted_law.proofs.Lists.{order, place_is, place_none, same_some}
 
 -- ---- the names of the top level are the definitions but modules
@@ -97,20 +96,20 @@ module _ (us : List Source) (linked : IsLinked us) where
   number_is i t at alone =
       place_is (is_as t.defined.role t.defined.name.text) (top_names us) i t at
       (both_true (is_role t.defined.role t.defined.role) (bears t.defined.name.text t) (own_role t.defined.role) ((bytes_eq-Decides t.defined.name.text t.defined.name.text).1 refl))
-      (λ k u less at_u. not_true (is_as t.defined.role t.defined.name.text u) (λ is. 
-        let h = named_as t.defined.role t.defined.name.text u is in
-        let same : k ≡ i = one_place k i u t at_u at h.1 (ap (λ r. may_share r t.defined.role) h.0 ∙ alone) in
-        omega (arith, less, same)))
+      (λ k u less at_u. not_true (is_as t.defined.role t.defined.name.text u) (λ is.
+      let h = named_as t.defined.role t.defined.name.text u is in
+      let same : k ≡ i = one_place k i u t at_u at h.1 (ap (λ r. may_share r t.defined.role) h.0 ∙ alone) in
+      omega (arith, less, same)))
 
   pub number_none : (role : Role) (i : ℕ) (t : TopName) → slice_get (top_names us) i ≡ Some t → may_share role t.defined.role ≡ false → is_role role t.defined.role ≡ false →
       number_as us role t.defined.name.text ≡ None
   number_none role i t at apart differs =
       place_none (is_as role t.defined.name.text) (top_names us)
       (λ k u at_u. not_true (is_as role t.defined.name.text u) (λ is.
-        let h = named_as role t.defined.name.text u is in
-        let same : k ≡ i = one_place k i u t at_u at h.1 (ap (λ r. may_share r t.defined.role) h.0 ∙ apart) in
-        let one : u ≡ t = same_some u t (sym at_u ∙ ap (slice_get (top_names us)) same ∙ at) in
-        true≢false (sym (own_role role) ∙ ap (is_role role) (sym h.0 ∙ ap (λ x. x.defined.role) one) ∙ differs)))
+      let h = named_as role t.defined.name.text u is in
+      let same : k ≡ i = one_place k i u t at_u at h.1 (ap (λ r. may_share r t.defined.role) h.0 ∙ apart) in
+      let one : u ≡ t = same_some u t (sym at_u ∙ ap (slice_get (top_names us)) same ∙ at) in
+      true≢false (sym (own_role role) ∙ ap (is_role role) (sym h.0 ∙ ap (λ x. x.defined.role) one) ∙ differs)))
 
   -- what is neither half of an object type goes by its own place
   pub own_number : (i : ℕ) (t : TopName) → slice_get (top_names us) i ≡ Some t → t.defined.role ≡ Other → number_of us t.defined.name.text ≡ Some i

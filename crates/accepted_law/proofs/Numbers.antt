@@ -1,6 +1,6 @@
 -- Within the limits a program's numbers fit their types.
-use Rattle.std.proofs.Common.{◌≤◌, ◌<◌, ◌+◌, ◌*◌, ◌^◌, refl, sym, ap, ◌∙◌, subst, arith, length-append}
-use Rattle.std.specs.Prelude.{◌≡◌, ℕ, zero, suc, Bool, true, false, cond, if◌then◌else◌, bytes_eq, List, [], ◌∷◌, ◌++◌, length, map, flat_map, filter, position, take, slice_get, unwrap_or, Option, Some, None, option_and_then}
+use Rattle.std.proofs.Common.{◌≤◌, ◌<◌, ◌+◌, ◌*◌, ◌^◌, refl, ap, ◌∙◌, subst, arith, length-append}
+use Rattle.std.specs.Prelude.{◌≡◌, ℕ, zero, suc, Bool, true, false, cond, if◌then◌else◌, bytes_eq, List, [], ◌∷◌, length, map, flat_map, filter, position, take, slice_get, unwrap_or, Option, Some, None, option_and_then}
 use Rattle.std.specs.List.{AllByRecursion, sum_by}
 use Rattle.std.specs.Option.{option_map_or}
 use Rattle.std.proofs.lemmas.List.{length-map}
@@ -18,20 +18,20 @@ use Rattle.orca_syntax.specs.Forest.{Forest, none}
 use Rattle.orca_syntax.specs.Syntax as syn
 use Rattle.orca_syntax.specs.Syntax.{Kind, Stmts, Parameter, Variables, Head, Guard, Body, Operation, Block, Definition, Decl}
 use Rattle.link_rules.specs.Declarations.{declarations, declarations_of}
-use Rattle.link_rules.specs.Units.{Source, module_name, values_of}
+use Rattle.link_rules.specs.Units.{Source, module_name}
 use Rattle.link_rules.specs.declared.role.Role.TheVariants.{Other}
 use Rattle.type_rules.specs.declared.names.LocalRole.TheVariants.{Variable}
 use Rattle.type_rules.specs.TopLevel as top
 use Rattle.type_rules.specs.TopLevel.{What, TopName, bears, name_in, names_in, role_in, top_at, top_names, unit_names, values_at, values_in, what_in}
 use Rattle.type_rules.specs.TypePhrases.{kind_found}
-use Rattle.type_rules.specs.Scopes.{Heads, heads_in, locals_of, own_names, parameter_local, specification_at, specification_of, variable_names, view_of}
+use Rattle.type_rules.specs.Scopes.{heads_in, locals_of, own_names, parameter_local, specification_of, variable_names, view_of}
 use Rattle.meaning_rules.specs.Openings.{fields_in, fields_of_what, record_fields}
 use Rattle.meaning_rules.specs.Programs.{ObjectType, implementation, implements, is_process, is_specification, kind_of, object_type, op_in, op_of, process_scope, process_texts, specifications, specified, text_of, type_at}
 use Rattle.meaning_rules.proofs.Judged.{all_at}
 use Rattle.meaning_rules.proofs.Orderly.{all_both, all_filter, all_flat, all_map, units}
 use Rattle.accepted_law.specs.Limits.{IsWithinLimits, declared_count, names_declared, names_in_head, words_in}
 use Rattle.accepted_law.specs.Numbers.{AreNumbers, guards_in}
-use Rattle.accepted_law.proofs.Counted.{any_grows, behind_group, block_grows, bound_grows, definition_grows, parameter_grows, result_grows, separated_grows, type_grows, typed_name_grows, decl_grows, each_grows, each_word, field_grows, guard_grows, head_line_grows, locals_count, opening_grows, operation_grows, stmts_grow, tokens, variables_grow}
+use Rattle.accepted_law.proofs.Counted.{any_grows, behind_group, block_grows, bound_grows, definition_grows, parameter_grows, result_grows, separated_grows, type_grows, typed_name_grows, decl_grows, each_grows, each_word, head_line_grows, locals_count, opening_grows, operation_grows, stmts_grow, tokens, variables_grow}
 use Rattle.accepted_law.proofs.Lists.{found_at, same_some}
 use Rattle.accepted_law.proofs.Operations.{made_from}
 
@@ -71,11 +71,10 @@ operations_guards : (os : List Operation) (f : Forest) → AllByRecursion (λ o.
 operations_guards [] f = tt
 operations_guards (o ∷ os) f =
     let own = operation_guards o (der.each der.operation os f) in
-    let more = operation_grows o (der.each der.operation os f) in
-    (
+    let more = operation_grows o (der.each der.operation os f) in (
       own,
       all_both (λ p. 4 * guards_in p.body ≤ tokens (der.each der.operation os f)) (λ p. Unit {0}) (λ p. 4 * guards_in p.body ≤ tokens (der.each der.operation (o ∷ os) f)) os
-      (λ p h unit. omega (arith, h, more)) (operations_guards os f) (units os),
+          (λ p h unit. omega (arith, h, more)) (operations_guards os f) (units os),
     )
 
 decl_one : (d : Decl) (f : Forest) → suc (tokens f) ≤ tokens (der.decl d f)
@@ -207,11 +206,10 @@ decls_within (d ∷ ds) =
     let rest = der.each der.decl ds none in
     let more = decl_grows d rest in
     let sum = sum_by-cons names_declared d ds in
-    let bigger : sum_by names_declared ds ≤ sum_by names_declared (d ∷ ds) = omega (arith, sum) in
-    (
+    let bigger : sum_by names_declared ds ≤ sum_by names_declared (d ∷ ds) = omega (arith, sum) in (
       record { heads = heads_tokens d rest; fields = fields_tokens d rest; guards = guards_tokens d rest; names = omega (arith, sum) },
       all_both (IsWithin (tokens rest) (sum_by names_declared ds)) (λ e. Unit {0}) (IsWithin (tokens (der.decl d rest)) (sum_by names_declared (d ∷ ds))) ds
-      (λ e h unit. more_within (tokens rest) (tokens (der.decl d rest)) (sum_by names_declared ds) (sum_by names_declared (d ∷ ds)) more bigger e h) (decls_within ds) (units ds),
+          (λ e h unit. more_within (tokens rest) (tokens (der.decl d rest)) (sum_by names_declared ds) (sum_by names_declared (d ∷ ds)) more bigger e h) (decls_within ds) (units ds),
     )
 
 decls_many : (ds : List Decl) → length ds ≤ sum_by names_declared ds
@@ -312,8 +310,7 @@ module _ (us : List Source) (limits : IsWithinLimits us) where
       let b = heads_declared d in
       let e = h.fields in
       let f = fields_declared d in
-      let g = h.names in
-      (
+      let g = h.names in (
         omega (arith, a, b, c, g, less),
         omega (arith, e, f, c, g, less),
         all_both (λ o. 4 * guards_in o.body ≤ T) (λ o. Unit {0}) (λ o. 4 * guards_in o.body ≤ K) (operations_of_decl d) (λ o i unit2. omega (arith, i, c, less)) h.guards (units (operations_of_decl d)),

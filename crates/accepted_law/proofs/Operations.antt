@@ -1,15 +1,12 @@
 -- An operation that is called by its specification has an implementation of its number, whose parameters and result are of the same types.
-use Rattle.std.proofs.Common.{◌≤◌, ◌<◌, ◌+◌, ◌⊎◌, inl, inr, refl, sym, ap, ◌∙◌, subst, arith, leb-true}
-use Rattle.std.specs.Prelude.{◌≡◌, ◌&&◌, nat_le, ℕ, zero, suc, Bool, true, false, cond, if◌then◌else◌, bytes_eq, List, [], ◌∷◌, ◌++◌, length, map, flat_map, filter, filter_map, find, position, take, drop, slice_get, get_or, unwrap_or, Option, Some, None, option_map, option_and_then}
+use Rattle.std.proofs.Common.{◌≤◌, ◌<◌, ◌⊎◌, inl, inr, refl, sym, ap, ◌∙◌, subst, arith, leb-true}
+use Rattle.std.specs.Prelude.{◌≡◌, ◌&&◌, nat_le, ℕ, zero, suc, Bool, true, false, cond, if◌then◌else◌, bytes_eq, List, [], ◌∷◌, ◌++◌, length, map, flat_map, filter, filter_map, find, position, take, drop, slice_get, unwrap_or, Option, Some, None, option_map, option_and_then}
 use Rattle.std.specs.List.{AllByRecursion, Contains, cons_option, list_all, position_or_len}
 use Rattle.std.proofs.lemmas.Bool.{lt-ltb, true≢false}
-use Rattle.std.proofs.lemmas.List.{length-map}
 use Rattle.std.proofs.lemmas.List.Folds.{find_at}
-use Rattle.std.proofs.lemmas.Option.{get_or_from_slice_get, slice_get-get_or, slice_get-map, slice_get_within}
+use Rattle.std.proofs.lemmas.Option.{get_or_from_slice_get, slice_get-map, slice_get_within}
 use Rattle.std.proofs.lemmas.Slice.Eq.{bytes_eq-Decides}
-use Rattle.orca_base.specs.declared.ids.KindNo.{KindNo}
-use Rattle.orca_base.specs.declared.ids.OpNo.{OpNo}
-use Rattle.orca_base.specs.declared.limits.TheConstants.{PARAMETERS, VALUE_SIZE}
+use Rattle.orca_base.specs.declared.limits.TheConstants.{PARAMETERS}
 use Rattle.orca_tree.specs.declared.tree.Name.{Name}
 use Rattle.orca_syntax.specs.Syntax as syn
 use Rattle.orca_syntax.specs.Syntax.{Kind, TypedName, Variables, Head, Operation, Definition, Decl}
@@ -23,13 +20,11 @@ use Rattle.link_rules.proofs.Declaring.{comes_from}
 use Rattle.link_rules.proofs.Elements.{cons_cases, from_map}
 use Rattle.link_rules.proofs.Truth.{and_first, and_second}
 use Rattle.type_rules.specs.declared.breach.Breach.{Breach}
-use Rattle.type_rules.specs.declared.signature.Formal.{Formal}
 use Rattle.type_rules.specs.declared.signature.Formal.TheVariants.{ByValue}
 use Rattle.type_rules.specs.declared.signature.Signature.{Signature}
 use Rattle.type_rules.specs.declared.types.DataType.{DataType}
 use Rattle.type_rules.specs.Constants.{View}
 use Rattle.type_rules.specs.Rules.{agree, are_new, asks}
-use Rattle.type_rules.specs.Types.{same_type}
 use Rattle.type_rules.specs.TopLevel as top
 use Rattle.type_rules.specs.TopLevel.{What, TopName, name_in, names_in, number_as, role_in, top_at, top_names, unit_names, what_in}
 use Rattle.type_rules.specs.Scopes.{Heads, head_view, heads_in, operation_in, operation_of, operation_signature, specification, specification_at, specification_of, texts, type_of, value_local}
@@ -38,16 +33,14 @@ use Rattle.type_rules.specs.Declarations.{are_free, field_names, heads_match, he
 use Rattle.type_rules.proofs.Alike.{one_type}
 use Rattle.value_core.specs.Datum.{Datum, data_of, list_of, list_of-data_of}
 use Rattle.value_core.specs.Fits.{Kinds}
-use Rattle.value_core.specs.Size.{size_of_all}
-use Rattle.value_core.specs.declared.action.Reply.{Reply}
 use Rattle.meaning_rules.specs.Fitting.{AreFitting, Fits, FitsArgs, FitsOperation, FitsParameters, FitsReply, FitsReplyOf, FitsResult, FitsResultOf}
-use Rattle.meaning_rules.specs.Programs.{ObjectType, implementation, implements, is_specification, kind_of, object_type, op_in, op_of, result_in, specifications, specified}
+use Rattle.meaning_rules.specs.Programs.{ObjectType, implementation, implements, is_specification, kind_of, object_type, op_in, op_of, specified}
 use Rattle.meaning_rules.specs.Accepted.{AreTaken, IsKnown, IsOfData, IsOperation, TakesValue}
 use Rattle.meaning_rules.proofs.Judged.{all_at, asked, left_none, right_none}
 use Rattle.meaning_rules.proofs.Orderly.{each_none}
 use Rattle.accepted_law.specs.Limits.{has_few_parameters}
 use Rattle.accepted_law.proofs.Bodies.{IsFineType, result_known, type_is_fine, values_data}
-use Rattle.accepted_law.proofs.Lists.{Place, found_at, kept_place, place_left, place_of, place_right, same_some}
+use Rattle.accepted_law.proofs.Lists.{Place, kept_place, place_left, place_of, place_right, same_some}
 use Rattle.accepted_law.proofs.Names.{defined_tops, is_top, number_is}
 use Rattle.accepted_law.proofs.Tops.{HasRole, IsFine, IsFineDecl, IsFineTop, role_of, top_roles}
 
@@ -175,8 +168,7 @@ made_of m file name (syn.Function at n ps r b) t is = absurd cc
 made_of m file name (syn.Process at n ps b) t is = absurd cc
 
 module _ (us : List Source) (linked : IsLinked us) (fine : AllByRecursion (IsFineTop us) (top_names us)) (decls : AllByRecursion (λ x. IsFineDecl us x.by x.decl) (declarations us))
-  (few : list_all (λ t. has_few_parameters t.what) (top_names us) ≡ true) where
-
+    (few : list_all (λ t. has_few_parameters t.what) (top_names us) ≡ true) where
   -- ---- each specification has its implementation
 
   implemented_by : (name : List ℕ) (x : Declared) → Place (declarations us) x → (d : Defined) → Contains (defined_by x.by x.file x.decl) d → d.role ≡ Implementation → d.name.text ≡ name → IsImplementation us name

@@ -1,6 +1,6 @@
 -- In an accepted program bodies begin in variables that fit.
-use Rattle.std.proofs.Common.{◌≤◌, ◌<◌, refl, sym, ap, ◌∙◌, subst, arith, length-append}
-use Rattle.std.specs.Prelude.{◌≡◌, ℕ, zero, suc, ◌+◌, Bool, true, false, is_some, List, [], ◌∷◌, ◌++◌, length, map, flat_map, take, drop, slice_get, Option, Some, None, option_and_then}
+use Rattle.std.proofs.Common.{refl, sym, ap, ◌∙◌, subst, arith}
+use Rattle.std.specs.Prelude.{◌≡◌, ℕ, zero, suc, ◌+◌, false, is_some, List, [], ◌∷◌, ◌++◌, length, map, flat_map, take, drop, slice_get, Option, Some, None, option_and_then}
 use Rattle.std.specs.List.{AllByRecursion, Contains}
 use Rattle.std.proofs.lemmas.List.{length-map}
 use Rattle.orca_base.specs.declared.ids.KindNo.{KindNo}
@@ -12,7 +12,6 @@ use Rattle.orca_syntax.specs.Syntax.{Kind, Parameter, Operation, Block}
 use Rattle.link_rules.specs.Units.{Source}
 use Rattle.type_rules.specs.declared.names.LocalRole.TheVariants.{Variable, LoopVariable}
 use Rattle.type_rules.specs.declared.types.Base.TheVariants as base
-use Rattle.type_rules.specs.declared.types.DataType.{DataType}
 use Rattle.type_rules.specs.Constants.{View}
 use Rattle.type_rules.specs.Types as types
 use Rattle.type_rules.specs.Types.{is_object, object_in, outside_of, plain}
@@ -25,7 +24,6 @@ use Rattle.type_rules.specs.Declarations.{field_locals, operation_view}
 use Rattle.value_core.specs.Datum.{Datum, Data, list_of}
 use Rattle.value_core.specs.Datum as datum
 use Rattle.value_core.specs.Fits.{Kinds, ExtendsKinds}
-use Rattle.value_core.specs.declared.action.Action.{Action}
 use Rattle.value_core.specs.declared.action.Action.TheVariants as action
 use Rattle.meaning_rules.specs.Accepted.{IsAccepted, IsData, IsOpening, IsPlain}
 use Rattle.meaning_rules.specs.Calls.{Passed}
@@ -72,7 +70,7 @@ module _ (us : List Source) (facts : IsAccepted us) where
   object_fits kinds number count l i opens is there =
       let t = opens.known.0 in
       let outside : outside_of t ≡ types.Bare (base.Object i) =
-          object_outside (outside_of t) i (ap (λ o. option_and_then (λ u. object_in (outside_of u)) o) (sym opens.known.1) ∙ is) in
+      object_outside (outside_of t) i (ap (λ o. option_and_then (λ u. object_in (outside_of u)) o) (sym opens.known.1) ∙ is) in
       subst (λ o. Fits us kinds (datum.object number.0 count) o) (sym opens.known.1)
       (subst (λ o. IsObject us kinds o number.0 count) (sym outside) there, omega arith)
 
@@ -131,7 +129,7 @@ module _ (us : List Source) (facts : IsAccepted us) where
       let count : length params ≡ length ps = length-map ps (parameter_local w) in
       let own = subst (λ x. FitsWhat us kinds args t x) what (subst (FitsTop us kinds args) at fits) in
       let first : AreFitting us kinds (list_of args) params =
-          subst (λ ls. AreFitting us kinds (list_of args) ls) (ap (λ n. take n (params ++ vars)) (sym count) ∙ taken_length params vars) own.0 in
+      subst (λ ls. AreFitting us kinds (list_of args) ls) (ap (λ n. take n (params ++ vars)) (sym count) ∙ taken_length params vars) own.0 in
       let many : length (list_of args) ≡ length params = fitting_length us kinds (list_of args) params first in
       let rest : drop (length (list_of args)) (params ++ vars) ≡ vars = ap (λ n. drop n (params ++ vars)) many ∙ dropped_length params vars in
       let open_all = all_behind (IsOpening us) params vars (facts.texts text.0 t ps b at what).names in

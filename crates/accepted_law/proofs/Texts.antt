@@ -1,13 +1,13 @@
 -- A process is started with arguments that fit, where values are at hand for its parameters.
-use Rattle.std.proofs.Common.{◌≤◌, ◌<◌, ◌+◌, refl, sym, ap, ◌∙◌, subst, arith, leb-true}
-use Rattle.std.specs.Prelude.{◌≡◌, nat_le, ℕ, zero, suc, Bool, true, false, if◌then◌else◌, bytes_eq, List, [], ◌∷◌, ◌++◌, length, map, flat_map, take, slice_get, unwrap_or, Option, Some, None}
+use Rattle.std.proofs.Common.{◌≤◌, refl, sym, ap, ◌∙◌, subst, arith, leb-true}
+use Rattle.std.specs.Prelude.{◌≡◌, ℕ, zero, suc, Bool, true, false, if◌then◌else◌, List, [], ◌∷◌, ◌++◌, length, map, flat_map, take, slice_get, Option, Some, None}
 use Rattle.std.specs.List.{AllByRecursion, list_all}
 use Rattle.std.proofs.lemmas.List.{length-map}
 use Rattle.std.proofs.lemmas.Slice.Eq.{bytes_eq-Decides}
 use Rattle.orca_base.specs.declared.limits.TheConstants.{PARAMETERS, VALUE_SIZE}
 use Rattle.orca_tree.specs.declared.tree.Mode.{Mode}
 use Rattle.orca_tree.specs.declared.tree.Mode.TheVariants as mode
-use Rattle.orca_syntax.specs.Syntax.{Kind, Parameter, Block}
+use Rattle.orca_syntax.specs.Syntax.{Parameter, Block}
 use Rattle.link_rules.specs.Linked.{IsLinked}
 use Rattle.link_rules.specs.Units.{Source}
 use Rattle.link_rules.specs.declared.role.Role.TheVariants.{Specification, Implementation, Other}
@@ -20,20 +20,20 @@ use Rattle.type_rules.specs.declared.types.DataType.{DataType}
 use Rattle.type_rules.specs.Constants.{View}
 use Rattle.type_rules.specs.TopLevel as top
 use Rattle.type_rules.specs.TopLevel.{What, TopName, at_number, bears, everywhere, is_as, number_as, number_of, numbered, or_else, predeclared, sees, stands_for, top_names}
-use Rattle.type_rules.specs.Scopes.{Local, formal, locals_of, own_names, parameter_found, parameter_local, passed, role_of, signature, texts, type_of, view_of}
+use Rattle.type_rules.specs.Scopes.{formal, locals_of, own_names, parameter_found, parameter_local, passed, signature, texts, type_of, view_of}
 use Rattle.type_rules.specs.TypePhrases.{kind_found}
 use Rattle.type_rules.specs.Declarations.{parameters_breaches, process_breaches}
 use Rattle.value_core.specs.Datum.{Datum, data_of, list_of, list_of-data_of}
 use Rattle.value_core.specs.Fits.{Kinds}
 use Rattle.value_core.specs.Size.{size_of_all}
-use Rattle.meaning_rules.specs.Fitting.{AreArguments, AreFitting, Fits, FitsText, FitsTop, FitsWhat}
+use Rattle.meaning_rules.specs.Fitting.{AreFitting, Fits, FitsText, FitsTop, FitsWhat}
 use Rattle.meaning_rules.specs.Programs.{process_scope, process_texts, text_of}
 use Rattle.meaning_rules.specs.Accepted.{AreTaken, IsKnown, IsProcess, TakesValue}
 use Rattle.meaning_rules.proofs.Called.{top_at}
 use Rattle.meaning_rules.proofs.Judged.{all_at}
 use Rattle.meaning_rules.proofs.Orderly.{all_map}
 use Rattle.accepted_law.specs.Limits.{has_few_parameters}
-use Rattle.accepted_law.proofs.Bodies.{Here, block_fine, each_parameter, hidden, parameter_good}
+use Rattle.accepted_law.proofs.Bodies.{block_fine, each_parameter, parameter_good}
 use Rattle.accepted_law.proofs.Lists.{found_at, same_some}
 use Rattle.accepted_law.proofs.Named.{own_text}
 use Rattle.accepted_law.proofs.Tops.{IsFine, IsFineTop}
@@ -173,6 +173,6 @@ module _ (us : List Source) (linked : IsLinked us) (fine : AllByRecursion (IsFin
           let h = fitting v kinds ps xs taken in
           let same = list_of-data_of xs in
           let first : AreFitting us kinds (list_of (data_of xs)) (take (length ps) (process_scope us m ps b).locals) =
-              subst (λ ls. AreFitting us kinds (list_of (data_of xs)) ls) (sym locals) (subst (λ ys. AreFitting us kinds ys (map (parameter_local v) ps)) (sym same) h.0) in
+          subst (λ ls. AreFitting us kinds (list_of (data_of xs)) ls) (sym locals) (subst (λ ys. AreFitting us kinds ys (map (parameter_local v) ps)) (sym same) h.0) in
           let count : length (list_of (data_of xs)) ≤ PARAMETERS = let e = ap (λ ys. length ys) same in let g = h.1 in let l = limited in omega (arith, e, g, l) in
           subst (FitsTop us kinds (data_of xs)) (sym text) (subst (λ w. FitsWhat us kinds (data_of xs) t w) (sym what) (first, small, count))

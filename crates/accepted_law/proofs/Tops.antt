@@ -16,7 +16,7 @@ use Rattle.type_rules.specs.TopLevel as top
 use Rattle.type_rules.specs.TopLevel.{What, TopName, top_names, unit_names, names_in, name_in, number_of, role_in, what_in, values_at, values_in}
 use Rattle.type_rules.specs.TypePhrases.{declared_type, definition}
 use Rattle.type_rules.specs.Scopes.{view_of}
-use Rattle.type_rules.specs.Declarations.{decl_breaches, function_breaches, holds_no_self, implementation_breaches, no_main, number_or_none, process_breaches, process_form, specification_breaches}
+use Rattle.type_rules.specs.Declarations.{decl_breaches, function_breaches, holds_no_self, no_main, number_or_none, process_breaches, process_form, specification_breaches}
 use Rattle.meaning_rules.proofs.Judged.{left_none, right_none}
 use Rattle.meaning_rules.proofs.Orderly.{all_both, all_flat, all_map, each_none, map_none, order_none, units}
 
