@@ -127,7 +127,7 @@ pub unmade : (q : Computes) (c : Configuration) (number : ProcessNo) (x : Proces
 unmade q c number x object made here by is = go (object_at c.objects object) refl
   where
     absent : IsMade q c object → ⊥
-    absent (inl z) = absurd (omega arith)
+    absent (inl z) = let number = ap (λ (y : ObjectId). y.number) z in absurd (omega (arith, number, is))
     absent (inr m) =
         let e : Some m.0 ≡ Some x = sym m.1 ∙ ap (slice_get c.processes) by ∙ here in
         let f : m.0 ≡ x = cc in
@@ -331,7 +331,7 @@ opening_fits p q fits_state fits_args fits_text fits_reply laws = record {
     first o kept (inr u) h = absurd (let g : None ≡ Some kept = sym u ∙ h in cc g)
 
     made : (o : ObjectId) (kept : Instance) → ((o ≡ output_object) × (object_at begin o ≡ Some (record { kind = output_kind; state = datum.none }))) ⊎ (object_at begin o ≡ None) → object_at begin o ≡ Some kept → IsMade q (opening q) o
-    made o kept (inl u) h = inl (ap (λ (y : ObjectId). y.number) u.0)
+    made o kept (inl u) h = inl u.0
     made o kept (inr u) h = absurd (let g : None ≡ Some kept = sym u ∙ h in cc g)
 
     process : (n : ProcessNo) (x : Process) (k : ℕ) → n.0 ≡ k → slice_get (opening q).processes k ≡ Some x → ProcessFits q fits_text fits_reply begin n x

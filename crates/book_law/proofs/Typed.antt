@@ -9,7 +9,6 @@ use Rattle.std.specs.Cmp.{tied_itself}
 use Rattle.std.specs.BTreeMap.{is_at}
 use Rattle.std.specs.FinMap.Entries.{below_all, is_sorted}
 use Rattle.orca_base.specs.declared.ids.KindNo.{KindNo}
-use Rattle.orca_base.specs.declared.ids.OpNo.{OpNo}
 use Rattle.orca_base.specs.declared.ids.TextNo.{TextNo}
 use Rattle.orca_base.specs.declared.ids.ProcessNo.{ProcessNo}
 use Rattle.orca_base.specs.declared.ids.ObjectId.{ObjectId}
