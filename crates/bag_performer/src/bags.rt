@@ -125,7 +125,7 @@ impl Performer for Bags {
 
     ghost args_sound = { λ m kinds. arguments_sound };
 
-    ghost text_sound = { λ m kinds text args fits. fits };
+    ghost text_sound = { λ m kinds text args numbered fits. fits };
 
     ghost reply_sound = { λ m. replies_sound };
 

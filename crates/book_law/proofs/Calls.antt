@@ -68,7 +68,7 @@ lawful_at p q fits_state fits_args fits_text fits_reply c number x a laws f here
     subst (λ (d : Doing). IsLawfulDoing q fits_args fits_text (kinds_of c.objects) x.text number x.args x.replies d) next (laws.lawful (kinds_of c.objects) x.text number x.args x.replies g.text g.replies)
 
 -- an object keeps its type
-kind_stays : (p : Performs) (q : Computes) (fits_state : StateFits) (fits_args : ArgsFit) (fits_text : TextFits) (fits_reply : ReplyFits) (c : Configuration) (lines : List Line) (o : ObjectId) (kind : KindNo) → Laws p q fits_state fits_args fits_text fits_reply
+pub kind_stays : (p : Performs) (q : Computes) (fits_state : StateFits) (fits_args : ArgsFit) (fits_text : TextFits) (fits_reply : ReplyFits) (c : Configuration) (lines : List Line) (o : ObjectId) (kind : KindNo) → Laws p q fits_state fits_args fits_text fits_reply
     → LegalFrom p q c lines → Fit q fits_state fits_text fits_reply c → kind_at c.objects o ≡ Some kind → kind_at (after_lines p c lines).objects o ≡ Some kind
 kind_stays p q fits_state fits_args fits_text fits_reply c [] o kind laws legal f is = is
 kind_stays p q fits_state fits_args fits_text fits_reply c (l ∷ lines) o kind laws legal f is =

@@ -79,7 +79,7 @@ Neutral (action.Fork text args place_on) = Unit {0}
 Neutral action.Ended = Unit {0}
 Neutral (action.Faulted fault) = Unit {0}
 
-abbrev AllNeutral : List Line → Type 0
+abbrev pub AllNeutral : List Line → Type 0
 AllNeutral lines = (l : Line) → In l lines → Neutral l.action
 
 ordered_after : (p : Performs) (objects : Objects) (a : Action) → Rises objects → Rises (objects_after p objects a)
@@ -123,7 +123,7 @@ stepped_neutral : (p : Performs) (s : Settling) (o : Option ℕ) → AllNeutral 
 stepped_neutral p s None all = all
 stepped_neutral p s (Some at) all = performed_neutral p s at (slice_get s.queue at) all
 
-settled_neutral : (p : Performs) (n : ℕ) (s : Settling) → AllNeutral s.lines → AllNeutral (settle_up_to p n s).lines
+pub settled_neutral : (p : Performs) (n : ℕ) (s : Settling) → AllNeutral s.lines → AllNeutral (settle_up_to p n s).lines
 settled_neutral p zero s all = all
 settled_neutral p (suc n) s all = settled_neutral p n (stepped p s (next_ready p s.objects s.queue)) (stepped_neutral p s (next_ready p s.objects s.queue) all)
 
@@ -150,7 +150,7 @@ length_called c call tried.Blocked h = refl
 length_called c call (tried.Did guard state reply) h = length_if c.objects call (tried.Did guard state reply) (object_at c.objects call.object) h refl
 length_called c call (tried.Broke guard fault) h = length_if c.objects call (tried.Broke guard fault) (object_at c.objects call.object) h refl
 
-abbrev made : ProcessNo → CallNo → (a : Action) → IsTrue (is_performable a) → Message
+abbrev pub made : ProcessNo → CallNo → (a : Action) → IsTrue (is_performable a) → Message
 made process call a ok = record { process = process; call = call; action = a; performable = ok }
 
 -- what an action does that makes nothing
@@ -168,11 +168,11 @@ length_acted p c x (action.Fork text args place_on) n h = refl
 length_acted p c x action.Ended n h = refl
 length_acted p c x (action.Faulted fault) n h = refl
 
-both_neutral : (xs ys : List Line) → AllNeutral xs → AllNeutral ys → AllNeutral (xs ++ ys)
+pub both_neutral : (xs ys : List Line) → AllNeutral xs → AllNeutral ys → AllNeutral (xs ++ ys)
 both_neutral xs ys one two l h = ⊎_elim (λ u. one l u) (λ u. two l u) (in_append l xs ys h)
 
 -- the lines of an entry, or of a call on a single copy, that makes nothing
-applied_neutral : (p : Performs) (c : Copied) (x : Message) → Neutral x.action → AllNeutral (lines_applied p c x)
+pub applied_neutral : (p : Performs) (c : Copied) (x : Message) → Neutral x.action → AllNeutral (lines_applied p c x)
 applied_neutral p c x n =
     let s = acted p c x in
     both_neutral s.lines (settle_up_to p (length s.queue) (record { objects = s.objects; queue = s.queue; lines = [] })).lines (acted_neutral p c x.process x.call x.action x.performable n)
@@ -292,7 +292,7 @@ at_from n l (r ∷ aside) h = go (r.place == n) (at_from n l aside) h
     go true ih (inr u) = let v = ih u in (v.0, inr v.1, v.2)
     go false ih u = let v = ih u in (v.0, inr v.1, v.2)
 
-aside_neutral : (n : ℕ) (aside : List Placed) → AllBeside aside → AllNeutral (aside_at n aside)
+pub aside_neutral : (n : ℕ) (aside : List Placed) → AllBeside aside → AllNeutral (aside_at n aside)
 aside_neutral n aside all l h = let u = at_from n l aside h in subst (λ (k : Line). Neutral k.action) u.2 (all u.0 u.1)
 
 next_beside : (single : Test) (p : Performs) (q : Computes) (w v : Course) → Next single p q w v → AllBeside w.aside → AllBeside v.aside
@@ -310,7 +310,7 @@ next_beside single p q w v (Takes_call i x r call t e) all = subst (λ (u : Cour
     (in_append s w.aside (at_place (w.applied x.owner) (lines_on p x call)) inside))
 next_beside single p q w v (Hears_answer j x r here has le e) all = subst (λ (u : Course). AllBeside u.aside) (sym e) all
 
-all_beside : (single : Test) (p : Performs) (q : Computes) (w : Course) → Came single p q w → AllBeside w.aside
+pub all_beside : (single : Test) (p : Performs) (q : Computes) (w : Course) → Came single p q w → AllBeside w.aside
 all_beside single p q w (Opens member shared) = λ r h. absurd h
 all_beside single p q w (Then u v came next) = next_beside single p q u v next (all_beside single p q u came)
 
@@ -340,7 +340,7 @@ meets_at single p q w n y (action.Fork text args place_on) e came is = tt
 meets_at single p q w n y action.Ended e came is = tt
 meets_at single p q w n y (action.Faulted fault) e came is = tt
 
-take_none : {A : Type 0} (xs : List A) (m : ℕ) → slice_get xs m ≡ None → take (suc m) xs ≡ take m xs
+pub take_none : {A : Type 0} (xs : List A) (m : ℕ) → slice_get xs m ≡ None → take (suc m) xs ≡ take m xs
 take_none [] zero none = refl
 take_none [] (suc m) none = refl
 take_none (x ∷ xs) zero none = absurd (cc none)

@@ -46,9 +46,9 @@ pub record ProcessFits (q : Computes) (fits_text : TextFits) (fits_reply : Reply
   pub replies : RepliesFit q fits_reply x.text number x.args x.replies
   pub own : (object : ObjectId) (kind : KindNo) → Contains (own_objects q x.text number x.args x.replies) (object, kind) → kind_at objects object ≡ Some kind
 
--- an object was made by the process that its id names, as one of those that it made so far; the output object has number 0
+-- it is the output object, or was made by the process that its id names, as one of those that it made so far
 abbrev pub IsMade : Computes → Configuration → ObjectId → Type 0
-IsMade q c object = (object.number ≡ 0) ⊎ ((x : Process) × (slice_get c.processes object.process ≡ Some x) × (object.number ≤ length (own_objects q x.text (record { 0 = object.process }) x.args x.replies)))
+IsMade q c object = (object ≡ output_object) ⊎ ((x : Process) × (slice_get c.processes object.process ≡ Some x) × (object.number ≤ length (own_objects q x.text (record { 0 = object.process }) x.args x.replies)))
 
 -- all fits in a configuration
 pub record Fit (q : Computes) (fits_state : StateFits) (fits_text : TextFits) (fits_reply : ReplyFits) (c : Configuration) : Type 0 where

@@ -13,7 +13,7 @@ use Rattle.orca_base.specs.declared.ids.ObjectId.{ObjectId}
 use Rattle.value_core.specs.Datum.{Data}
 use Rattle.value_core.specs.Datum as datum
 use Rattle.value_core.specs.Fits.{ExtendsKinds, IfMade, KeepsState, Kinds, RepliesWell}
-use Rattle.value_core.specs.Lawful.{FitsAction, IsKnownObject, IsLawfulDoing, KnowsIn, RepliesFit, made_by, own_objects}
+use Rattle.value_core.specs.Lawful.{FitsAction, IsKnownObject, IsLawfulDoing, KnowsIn, RepliesFit, made_by, own_objects, replied_fit}
 use Rattle.value_core.specs.Lawful.IsKnownObject.{output, own, argument}
 use Rattle.value_core.specs.declared.action.Instance.{Instance}
 use Rattle.value_core.specs.declared.action.Line.{Line}
@@ -37,7 +37,7 @@ use Rattle.book_law.proofs.Fits.{Fit, IsMade, Laws, ProcessFits, ReplyFits, Text
 use Rattle.book_law.specs.Events.{In}
 use Rattle.book_law.proofs.Ordered.{ordered_with}
 use Rattle.book_law.proofs.Processes.{after_cases, after_other, after_own, forked_fresh, with_reply}
-use Rattle.book_law.proofs.Typed.{at_itself, at_with, kind_contained, kind_found, own-push, replies_fit-push}
+use Rattle.book_law.proofs.Typed.{at_itself, at_with, kind_contained, kind_found, own-push}
 
 some_kept : (o : Option Instance) (x y : Instance) → o ≡ Some x → o ≡ Some y → x ≡ y
 some_kept o x y e f = let g : Some x ≡ Some y = sym e ∙ f in cc
@@ -127,7 +127,7 @@ pub unmade : (q : Computes) (c : Configuration) (number : ProcessNo) (x : Proces
 unmade q c number x object made here by is = go (object_at c.objects object) refl
   where
     absent : IsMade q c object → ⊥
-    absent (inl z) = absurd (omega arith)
+    absent (inl z) = let number = ap (λ (y : ObjectId). y.number) z in absurd (omega (arith, number, is))
     absent (inr m) =
         let e : Some m.0 ≡ Some x = sym m.1 ∙ ap (slice_get c.processes) by ∙ here in
         let f : m.0 ≡ x = cc in
@@ -267,7 +267,7 @@ step_fits p q fits_state fits_args fits_text fits_reply c line laws f s = record
     mine : ProcessFits q fits_text fits_reply after line.process (with_reply s.process line.reply)
     mine = record {
       text = laws.text_stays_fit (kinds_of c.objects) (kinds_of after) s.process.text s.process.args a.grown.extends fits.text;
-      replies = replies_fit-push q fits_reply s.process.text line.process s.process.args [] s.process.replies line.reply fits.replies (subst (λ (d : Doing). FitsAction fits_reply d line.reply) (sym s.next) a.replied);
+      replies = replied_fit q fits_reply s.process.text line.process s.process.args s.process.replies line.reply fits.replies (subst (λ (d : Doing). FitsAction fits_reply d line.reply) (sym s.next) a.replied);
       own = λ o kind h. ⊎_elim (λ u. a.grown.stays o kind (fits.own o kind u)) (λ u. a.grown.there o kind u) (Contains-append_cases had added (o, kind) (subst (λ (ks : Kinds). Contains ks (o, kind)) grew h));
     }
 
@@ -331,7 +331,7 @@ opening_fits p q fits_state fits_args fits_text fits_reply laws = record {
     first o kept (inr u) h = absurd (let g : None ≡ Some kept = sym u ∙ h in cc g)
 
     made : (o : ObjectId) (kept : Instance) → ((o ≡ output_object) × (object_at begin o ≡ Some (record { kind = output_kind; state = datum.none }))) ⊎ (object_at begin o ≡ None) → object_at begin o ≡ Some kept → IsMade q (opening q) o
-    made o kept (inl u) h = inl (ap (λ (y : ObjectId). y.number) u.0)
+    made o kept (inl u) h = inl u.0
     made o kept (inr u) h = absurd (let g : None ≡ Some kept = sym u ∙ h in cc g)
 
     process : (n : ProcessNo) (x : Process) (k : ℕ) → n.0 ≡ k → slice_get (opening q).processes k ≡ Some x → ProcessFits q fits_text fits_reply begin n x

@@ -26,6 +26,7 @@ pub mod Corollaries
 pub mod Replicated
 pub mod Example
 pub mod Resting
+pub mod Numbered
 pub mod Machines
 pub mod Following
 pub mod Received

@@ -33,8 +33,8 @@ use Rattle.book_law.specs.Fitness.{ArgsFit, ReplyFits, StateFits, TextFits}
 use Rattle.book_law.specs.Machines.{ActionFits, AllFit, MachineFits}
 use Rattle.book_law.proofs.Kept.{AnswerStands, Kept, Stands, answer_at, answer_lines, as_process}
 use Rattle.book_law.proofs.Asked.{entered_asked}
-use Rattle.book_law.proofs.Books.{applied_all, behind_all, behind_cut, copies_applied, copies_more, cut, none_later}
-use Rattle.book_law.proofs.Calls.{covers, fits_at, lawful_at}
+use Rattle.book_law.proofs.Books.{applied_all, behind_all, behind_cut, copies_applied, copies_keep, copies_more, cut, none_later, up_to_all}
+use Rattle.book_law.proofs.Calls.{covers, fits_at, kind_stays, lawful_at}
 use Rattle.book_law.proofs.Courses.{came_sound}
 use Rattle.book_law.proofs.Entries.{as_received}
 use Rattle.book_law.proofs.Fits.{Fit, Laws, ProcessFits as Fitted, kinds_at}
@@ -42,9 +42,10 @@ use Rattle.book_law.proofs.Fitting.{acts, history_fits, knows, opening_fits, ste
 use Rattle.book_law.proofs.Law.{entries_only}
 use Rattle.book_law.proofs.Lists.{append_none_left, append_none_right, in_at, lines_by-append}
 use Rattle.book_law.proofs.Makers.{copies_made}
+use Rattle.book_law.proofs.Numbered.{numbered}
 use Rattle.book_law.proofs.Processes.{after_lines-append, get_some, replies_after}
 use Rattle.book_law.proofs.Stages.{stage_free, stage_told}
-use Rattle.book_law.proofs.Typed.{kind_contained}
+use Rattle.book_law.proofs.Typed.{kind_contained, kind_found}
 
 -- ---- the first replies
 
@@ -228,13 +229,19 @@ machine_fits single p q fits_state fits_args fits_text fits_reply list aside own
 
 -- ---- actions
 
-acts_fit : (q : Computes) (fits_args : ArgsFit) (fits_text : TextFits) (kinds : Kinds) (text : TextNo) (number : ProcessNo) (args : Data) (replies : List Reply) (a : Action) → KnowsIn q kinds text number args replies kinds → IsLawfulDoing q fits_args fits_text kinds text number args replies (doing.At a)
-    → ActionFits fits_args fits_text kinds a
-acts_fit q fits_args fits_text kinds text number args replies (action.Make kind object) in_kinds lawful = tt
-acts_fit q fits_args fits_text kinds text number args replies (action.Call kind op object given) in_kinds lawful = lawful.1 kinds in_kinds
-acts_fit q fits_args fits_text kinds text number args replies (action.Fork process given place_on) in_kinds lawful = lawful.1 kinds in_kinds
-acts_fit q fits_args fits_text kinds text number args replies action.Ended in_kinds lawful = tt
-acts_fit q fits_args fits_text kinds text number args replies (action.Faulted fault) in_kinds lawful = tt
+acts_fit : (q : Computes) (fits_args : ArgsFit) (fits_text : TextFits) (kinds more : Kinds) (text : TextNo) (number : ProcessNo) (args : Data) (replies : List Reply) (a : Action) → KnowsIn q kinds text number args replies more → IsLawfulDoing q fits_args fits_text kinds text number args replies (doing.At a)
+    → ActionFits fits_args fits_text more a
+acts_fit q fits_args fits_text kinds more text number args replies (action.Make kind object) in_more lawful = tt
+acts_fit q fits_args fits_text kinds more text number args replies (action.Call kind op object given) in_more lawful = lawful.1 more in_more
+acts_fit q fits_args fits_text kinds more text number args replies (action.Fork process given place_on) in_more lawful = lawful.1 more in_more
+acts_fit q fits_args fits_text kinds more text number args replies action.Ended in_more lawful = tt
+acts_fit q fits_args fits_text kinds more text number args replies (action.Faulted fault) in_more lawful = tt
+
+-- what a process knows is among more types
+knows_more : (q : Computes) (fits_text : TextFits) (fits_reply : ReplyFits) (c : Configuration) (more : Kinds) (number : ProcessNo) (x : Process) → ExtendsKinds (kinds_of c.objects) more → Fitted q fits_text fits_reply c.objects number x → KnowsIn q (kinds_of c.objects) x.text number x.args x.replies more
+knows_more q fits_text fits_reply c more number x covers g =
+    let own = knows q fits_text fits_reply c.objects number x g in
+    (covers, λ entry h. covers entry (own.1 entry h))
 
 makes_own : (q : Computes) (fits_args : ArgsFit) (fits_text : TextFits) (kinds : Kinds) (text : TextNo) (number : ProcessNo) (args : Data) (replies : List Reply) (a : Action) (o : ObjectId) → IsLawfulDoing q fits_args fits_text kinds text number args replies (doing.At a) → Makes a o
     → (o.process ≡ number.0) × (o.number ≡ length (own_objects q text number args replies) + 1)
@@ -244,33 +251,54 @@ makes_own q fits_args fits_text kinds text number args replies (action.Fork proc
 makes_own q fits_args fits_text kinds text number args replies action.Ended o lawful is = absurd is
 makes_own q fits_args fits_text kinds text number args replies (action.Faulted fault) o lawful is = absurd is
 
--- each line of a history fits
-lines_fit : (p : Performs) (q : Computes) (fits_state : StateFits) (fits_args : ArgsFit) (fits_text : TextFits) (fits_reply : ReplyFits) (c : Configuration) (lines : List Line) (l : Line) → Laws p q fits_state fits_args fits_text fits_reply → LegalFrom p q c lines → Fit q fits_state fits_text fits_reply c → In l lines
-    → (kinds : Kinds) × ActionFits fits_args fits_text kinds l.action × FitsAction fits_reply (doing.At l.action) l.reply
-lines_fit p q fits_state fits_args fits_text fits_reply c [] l laws legal f h = absurd h
-lines_fit p q fits_state fits_args fits_text fits_reply c (k ∷ lines) l laws legal f (inl e) =
+-- each line of a history fits, over types that have those of its end
+lines_fit : (p : Performs) (q : Computes) (fits_state : StateFits) (fits_args : ArgsFit) (fits_text : TextFits) (fits_reply : ReplyFits) (more : Kinds) (c : Configuration) (lines : List Line) (l : Line) → Laws p q fits_state fits_args fits_text fits_reply → LegalFrom p q c lines → Fit q fits_state fits_text fits_reply c
+    → ExtendsKinds (kinds_of (after_lines p c lines).objects) more → In l lines → ActionFits fits_args fits_text more l.action × FitsAction fits_reply (doing.At l.action) l.reply
+lines_fit p q fits_state fits_args fits_text fits_reply more c [] l laws legal f covers h = absurd h
+lines_fit p q fits_state fits_args fits_text fits_reply more c (k ∷ lines) l laws legal f covers (inl e) =
     let s = legal.0 in
     let lawful = lawful_at p q fits_state fits_args fits_text fits_reply c k.process s.process k.action laws f s.exists s.next in
     let did = acts p q fits_state fits_args fits_text fits_reply c k.process s.process k.action k.guard k.reply laws f s.exists lawful s.performed in
-    let g = f.processes k.process s.process s.exists in
-    subst (λ (z : Line). (kinds : Kinds) × ActionFits fits_args fits_text kinds z.action × FitsAction fits_reply (doing.At z.action) z.reply) (sym e)
-    (kinds_of c.objects, acts_fit q fits_args fits_text (kinds_of c.objects) s.process.text k.process s.process.args s.process.replies k.action (knows q fits_text fits_reply c.objects k.process s.process g) lawful, did.replied)
-lines_fit p q fits_state fits_args fits_text fits_reply c (k ∷ lines) l laws legal f (inr h) =
-    lines_fit p q fits_state fits_args fits_text fits_reply (after_line p c k) lines l laws legal.1 (step_fits p q fits_state fits_args fits_text fits_reply c k laws f legal.0) h
+    let now : ExtendsKinds (kinds_of c.objects) more = λ entry u. covers entry (kind_contained (after_lines p c (k ∷ lines)).objects entry.0 entry.1
+    (kind_stays p q fits_state fits_args fits_text fits_reply c (k ∷ lines) entry.0 entry.1 laws legal f (kind_found c.objects entry.0 entry.1 f.order u))) in
+    subst (λ (z : Line). ActionFits fits_args fits_text more z.action × FitsAction fits_reply (doing.At z.action) z.reply) (sym e)
+    (acts_fit q fits_args fits_text (kinds_of c.objects) more s.process.text k.process s.process.args s.process.replies k.action (knows_more q fits_text fits_reply c more k.process s.process now (f.processes k.process s.process s.exists)) lawful, did.replied)
+lines_fit p q fits_state fits_args fits_text fits_reply more c (k ∷ lines) l laws legal f covers (inr h) =
+    lines_fit p q fits_state fits_args fits_text fits_reply more (after_line p c k) lines l laws legal.1 (step_fits p q fits_state fits_args fits_text fits_reply c k laws f legal.0) covers h
+
+-- the types after the whole book are among those after all entries
+book_covers : (single : Test) (p : Performs) (q : Computes) (fits_state : StateFits) (fits_args : ArgsFit) (fits_text : TextFits) (fits_reply : ReplyFits) (list : List Message) (aside : List Placed) (owned : List Single) (seen : List Message) (applied : ℕ → ℕ) (runners : ℕ → Option Runner) → Laws p q fits_state fits_args fits_text fits_reply
+    → Kept single p q list aside owned seen applied runners → ExtendsKinds (kinds_of (after_lines p (opening q) (book single p list aside)).objects) (kinds_at single p list (length list))
+book_covers single p q fits_state fits_args fits_text fits_reply list aside owned seen applied runners laws k =
+    subst (λ (ls : List Line). ExtendsKinds (kinds_of (after_lines p (opening q) ls).objects) (kinds_at single p list (length list))) (up_to_all single p list aside (length list) (omega arith))
+    (covers single p q fits_state fits_args fits_text fits_reply list aside owned seen applied runners (length list) laws k)
 
 -- ---- messages
 
-record AskedFits (fits_args : ArgsFit) (fits_text : TextFits) (m : Message) : Type 0 where
-  kinds : Kinds
-  fits : ActionFits fits_args fits_text kinds m.action
+record AskedFits (single : Test) (p : Performs) (fits_args : ArgsFit) (fits_text : TextFits) (list : List Message) (m : Message) : Type 0 where
+  place : ℕ
+  within : place ≤ length list
+  fits : ActionFits fits_args fits_text (kinds_at single p list place) m.action
   makes : (o : ObjectId) → Makes m.action o → o.process ≡ m.process.0
 
-abbrev AllAsked : ArgsFit → TextFits → List Message → Type 0
-AllAsked fits_args fits_text asked = (m : Message) → In m asked → AskedFits fits_args fits_text m
+abbrev AllAsked : Test → Performs → ArgsFit → TextFits → Course → Type 0
+AllAsked single p fits_args fits_text w = (m : Message) → In m w.asked → AskedFits single p fits_args fits_text w.list m
 
-next_asked : (single : Test) (p : Performs) (q : Computes) (fits_state : StateFits) (fits_args : ArgsFit) (fits_text : TextFits) (fits_reply : ReplyFits) (w v : Course) → Laws p q fits_state fits_args fits_text fits_reply → Next single p q w v → Came single p q w → AllAsked fits_args fits_text w.asked → AllAsked fits_args fits_text v.asked
-next_asked single p q fits_state fits_args fits_text fits_reply w v laws (Submits j x m here free asks e) came all = subst (λ (u : Course). AllAsked fits_args fits_text u.asked) (sym e)
-    (λ n h. ⊎_elim (λ u. subst (λ (z : Message). AskedFits fits_args fits_text z) (sym u) new) (λ u. all n u) h)
+-- so it stays where the list grows
+asked_push : (single : Test) (p : Performs) (fits_args : ArgsFit) (fits_text : TextFits) (list : List Message) (x m : Message) → AskedFits single p fits_args fits_text list m → AskedFits single p fits_args fits_text (list ++ x ∷ []) m
+asked_push single p fits_args fits_text list x m h =
+    let within = h.within in
+    let long = length-append list (x ∷ []) in
+    record {
+      place = h.place;
+      within = omega (arith, within, long);
+      fits = subst (λ (c : Copied). ActionFits fits_args fits_text (kinds_of c.objects ++ c.singles) m.action) (sym (copies_keep single p list x h.place h.within)) h.fits;
+      makes = h.makes;
+    }
+
+next_asked : (single : Test) (p : Performs) (q : Computes) (fits_state : StateFits) (fits_args : ArgsFit) (fits_text : TextFits) (fits_reply : ReplyFits) (w v : Course) → Laws p q fits_state fits_args fits_text fits_reply → Next single p q w v → Came single p q w → AllAsked single p fits_args fits_text w → AllAsked single p fits_args fits_text v
+next_asked single p q fits_state fits_args fits_text fits_reply w v laws (Submits j x m here free asks e) came all = subst (λ (u : Course). AllAsked single p fits_args fits_text u) (sym e)
+    (λ n h. ⊎_elim (λ u. subst (λ (z : Message). AskedFits single p fits_args fits_text w.list z) (sym u) new) (λ u. all n u) h)
   where
     k : Kept single p q w.list w.aside w.owned w.entered w.applied w.runners
     k = let sound = came_sound single p q w came in sound.kept
@@ -293,20 +321,25 @@ next_asked single p q fits_state fits_args fits_text fits_reply w v laws (Submit
     lawful : IsLawfulDoing q fits_args fits_text (kinds_of c.objects) x.text m.process x.args x.replies (doing.At m.action)
     lawful = lawful_at p q fits_state fits_args fits_text fits_reply c m.process now m.action laws f at asks.next
 
-    new : AskedFits fits_args fits_text m
+    more : Kinds
+    more = kinds_at single p w.list (length w.list)
+
+    new : AskedFits single p fits_args fits_text w.list m
     new = record {
-      kinds = kinds_of c.objects;
-      fits = acts_fit q fits_args fits_text (kinds_of c.objects) x.text m.process x.args x.replies m.action (knows q fits_text fits_reply c.objects m.process now (f.processes m.process now at)) lawful;
+      place = length w.list;
+      within = omega arith;
+      fits = acts_fit q fits_args fits_text (kinds_of c.objects) more x.text m.process x.args x.replies m.action
+          (knows_more q fits_text fits_reply c more m.process now (book_covers single p q fits_state fits_args fits_text fits_reply w.list w.aside w.owned w.entered w.applied w.runners laws k) (f.processes m.process now at)) lawful;
       makes = λ o is. (makes_own q fits_args fits_text (kinds_of c.objects) x.text m.process x.args x.replies m.action o lawful is).0;
     }
-next_asked single p q fits_state fits_args fits_text fits_reply w v laws (Orders x r here was new may plain e) came all = subst (λ (u : Course). AllAsked fits_args fits_text u.asked) (sym e) all
-next_asked single p q fits_state fits_args fits_text fits_reply w v laws (Forks x born member was new forks e) came all = subst (λ (u : Course). AllAsked fits_args fits_text u.asked) (sym e) all
-next_asked single p q fits_state fits_args fits_text fits_reply w v laws (Applies m y is e) came all = subst (λ (u : Course). AllAsked fits_args fits_text u.asked) (sym e) all
-next_asked single p q fits_state fits_args fits_text fits_reply w v laws (Reads_at j x n line here h e) came all = subst (λ (u : Course). AllAsked fits_args fits_text u.asked) (sym e) all
-next_asked single p q fits_state fits_args fits_text fits_reply w v laws (Takes_call i x r call t e) came all = subst (λ (u : Course). AllAsked fits_args fits_text u.asked) (sym e) all
-next_asked single p q fits_state fits_args fits_text fits_reply w v laws (Hears_answer j x r here has le e) came all = subst (λ (u : Course). AllAsked fits_args fits_text u.asked) (sym e) all
+next_asked single p q fits_state fits_args fits_text fits_reply w v laws (Orders x r here was new may plain e) came all = subst (λ (u : Course). AllAsked single p fits_args fits_text u) (sym e) (λ m h. asked_push single p fits_args fits_text w.list x m (all m h))
+next_asked single p q fits_state fits_args fits_text fits_reply w v laws (Forks x born member was new forks e) came all = subst (λ (u : Course). AllAsked single p fits_args fits_text u) (sym e) (λ m h. asked_push single p fits_args fits_text w.list x m (all m h))
+next_asked single p q fits_state fits_args fits_text fits_reply w v laws (Applies m y is e) came all = subst (λ (u : Course). AllAsked single p fits_args fits_text u) (sym e) all
+next_asked single p q fits_state fits_args fits_text fits_reply w v laws (Reads_at j x n line here h e) came all = subst (λ (u : Course). AllAsked single p fits_args fits_text u) (sym e) all
+next_asked single p q fits_state fits_args fits_text fits_reply w v laws (Takes_call i x r call t e) came all = subst (λ (u : Course). AllAsked single p fits_args fits_text u) (sym e) all
+next_asked single p q fits_state fits_args fits_text fits_reply w v laws (Hears_answer j x r here has le e) came all = subst (λ (u : Course). AllAsked single p fits_args fits_text u) (sym e) all
 
-all_asked : (single : Test) (p : Performs) (q : Computes) (fits_state : StateFits) (fits_args : ArgsFit) (fits_text : TextFits) (fits_reply : ReplyFits) (w : Course) → Laws p q fits_state fits_args fits_text fits_reply → Came single p q w → AllAsked fits_args fits_text w.asked
+all_asked : (single : Test) (p : Performs) (q : Computes) (fits_state : StateFits) (fits_args : ArgsFit) (fits_text : TextFits) (fits_reply : ReplyFits) (w : Course) → Laws p q fits_state fits_args fits_text fits_reply → Came single p q w → AllAsked single p fits_args fits_text w
 all_asked single p q fits_state fits_args fits_text fits_reply w laws (Opens member shared) = λ m h. absurd h
 all_asked single p q fits_state fits_args fits_text fits_reply w laws (Then u v came next) = next_asked single p q fits_state fits_args fits_text fits_reply u v laws next came (all_asked single p q fits_state fits_args fits_text fits_reply u laws came)
 
@@ -315,8 +348,12 @@ all_asked single p q fits_state fits_args fits_text fits_reply w laws (Then u v 
 pub all_fit : (single : Test) (p : Performs) (q : Computes) (fits_state : StateFits) (fits_args : ArgsFit) (fits_text : TextFits) (fits_reply : ReplyFits) (w : Course) → Laws p q fits_state fits_args fits_text fits_reply → Came single p q w → AllFit single p q fits_args fits_text fits_reply w
 all_fit single p q fits_state fits_args fits_text fits_reply w laws came = record {
   processes = machines;
-  asked = λ m h. let u = asks m h in (u.kinds, u.fits);
-  performed = λ l h. lines_fit p q fits_state fits_args fits_text fits_reply (opening q) (book single p w.list w.aside) l laws k.legal (opening_fits p q fits_state fits_args fits_text fits_reply laws) h;
+  asked = λ m h. let u = asks m h in (u.place, u.within, u.fits);
+  performed = λ l h.
+      let more = kinds_at single p w.list (length w.list) in
+      let covered = book_covers single p q fits_state fits_args fits_text fits_reply w.list w.aside w.owned w.entered w.applied w.runners laws k in
+      let u = lines_fit p q fits_state fits_args fits_text fits_reply more (opening q) (book single p w.list w.aside) l laws k.legal (opening_fits p q fits_state fits_args fits_text fits_reply laws) covered h in
+      (length w.list, omega arith, u.0, u.1);
   makes = λ m o h is. let u = asks m h in u.makes o is;
   numbers = λ number x m o here out is.
       let s = k.stands number.0 x here in
@@ -327,6 +364,7 @@ all_fit single p q fits_state fits_args fits_text fits_reply w laws came = recor
       let next : q.doing x.text number x.args x.replies most_turns ≡ doing.At m.action = ap (λ (n : ProcessNo). q.doing x.text n x.args x.replies most_turns) (sym same) ∙ a.next in
       let lawful = subst (λ (d : Doing). IsLawfulDoing q fits_args fits_text kinds x.text number x.args x.replies d) next (laws.lawful kinds x.text number x.args x.replies g.text g.replies) in
       (makes_own q fits_args fits_text kinds x.text number x.args x.replies m.action o lawful is).1;
+  objects = numbered single p q fits_state fits_args fits_text fits_reply w laws came;
   owners = λ i s there.
       let h = copies_made single p q w came i s there in
       let were = entered_asked single p q w came in
@@ -341,5 +379,5 @@ all_fit single p q fits_state fits_args fits_text fits_reply w laws came = recor
     machines : (number : ProcessNo) (x : Runner) (n : ℕ) → w.runners number.0 ≡ Some x → x.place ≤ n → MachineFits q fits_text fits_reply (kinds_at single p w.list n) number x
     machines number x n here le = machine_fits single p q fits_state fits_args fits_text fits_reply w.list w.aside w.owned w.entered w.applied w.runners number x n (w.applied x.member) laws k (k.stands number.0 x here) le
 
-    asks : (m : Message) → In m w.asked → AskedFits fits_args fits_text m
+    asks : (m : Message) → In m w.asked → AskedFits single p fits_args fits_text w.list m
     asks m h = all_asked single p q fits_state fits_args fits_text fits_reply w laws came m h

@@ -1,12 +1,12 @@
 -- What fits is sound: each message that was ever submitted, and each line of the book.
-use Rattle.std.proofs.Common.{inl, inr, List, [], ◌∷◌, refl, sym, subst}
+use Rattle.std.proofs.Common.{◌≤◌, inl, inr, List, [], ◌∷◌, length, refl, sym, subst}
 use Rattle.std.specs.Prelude.{IsTrue, ℕ}
 use Rattle.orca_base.specs.declared.ids.KindNo.{KindNo}
 use Rattle.orca_base.specs.declared.ids.OpNo.{OpNo}
 use Rattle.orca_base.specs.declared.ids.TextNo.{TextNo}
 use Rattle.orca_base.specs.declared.ids.ObjectId.{ObjectId}
 use Rattle.value_core.specs.Datum.{Data}
-use Rattle.value_core.specs.Fits.{Kinds}
+use Rattle.value_core.specs.Fits.{AreNumbered, Kinds}
 use Rattle.value_core.specs.Lawful.{FitsAction}
 use Rattle.value_core.specs.Performable.{is_performable}
 use Rattle.value_core.specs.Sound.{AreSoundArguments, IsGuardOf, IsSoundAction, IsSoundReply}
@@ -19,7 +19,8 @@ use Rattle.value_core.specs.declared.meaning.Doing.TheVariants as doing
 use Rattle.value_core.specs.Meaning.{Performs, Computes}
 use Rattle.value_core.specs.History.{Configuration, LegalFrom, Objects, Performed, after_line, opening}
 use Rattle.book_law.specs.Passes.{Test}
-use Rattle.book_law.specs.Book.{book}
+use Rattle.object_manager.specs.Singles.{kinds_at}
+use Rattle.book_law.specs.Book.{book, copies_at}
 use Rattle.book_law.specs.Course.{Came, Course}
 use Rattle.book_law.specs.Events.{In}
 use Rattle.book_law.specs.Fitness.{ArgsFit, ReplyFits, StateFits, TextFits}
@@ -31,15 +32,15 @@ use Rattle.book_law.proofs.Machines.{all_fit}
 -- the laws of soundness of a performer
 pub record SoundLaws (fits_args : ArgsFit) (fits_text : TextFits) (fits_reply : ReplyFits) : Type 0 where
   pub args_sound : (kinds : Kinds) (kind : KindNo) (op : OpNo) (args : Data) → fits_args kinds kind op args → AreSoundArguments args
-  pub text_sound : (kinds : Kinds) (text : TextNo) (args : Data) → fits_text kinds text args → AreSoundArguments args
+  pub text_sound : (kinds : Kinds) (text : TextNo) (args : Data) → AreNumbered kinds → fits_text kinds text args → AreSoundArguments args
   pub reply_sound : (kind : KindNo) (op : OpNo) (reply : Reply) → fits_reply kind op reply → IsSoundReply reply
 
-action_sound : (fits_args : ArgsFit) (fits_text : TextFits) (fits_reply : ReplyFits) (kinds : Kinds) (a : Action) → SoundLaws fits_args fits_text fits_reply → ActionFits fits_args fits_text kinds a → IsSoundAction a
-action_sound fits_args fits_text fits_reply kinds (action.Make kind object) laws h = tt
-action_sound fits_args fits_text fits_reply kinds (action.Call kind op object args) laws h = laws.args_sound kinds kind op args h
-action_sound fits_args fits_text fits_reply kinds (action.Fork text args place_on) laws h = laws.text_sound kinds text args h
-action_sound fits_args fits_text fits_reply kinds action.Ended laws h = tt
-action_sound fits_args fits_text fits_reply kinds (action.Faulted fault) laws h = tt
+action_sound : (fits_args : ArgsFit) (fits_text : TextFits) (fits_reply : ReplyFits) (kinds : Kinds) (a : Action) → SoundLaws fits_args fits_text fits_reply → AreNumbered kinds → ActionFits fits_args fits_text kinds a → IsSoundAction a
+action_sound fits_args fits_text fits_reply kinds (action.Make kind object) laws numbered h = tt
+action_sound fits_args fits_text fits_reply kinds (action.Call kind op object args) laws numbered h = laws.args_sound kinds kind op args h
+action_sound fits_args fits_text fits_reply kinds (action.Fork text args place_on) laws numbered h = laws.text_sound kinds text args numbered h
+action_sound fits_args fits_text fits_reply kinds action.Ended laws numbered h = tt
+action_sound fits_args fits_text fits_reply kinds (action.Faulted fault) laws numbered h = tt
 
 made_sound : (fits_reply : ReplyFits) (kind : KindNo) (object : ObjectId) (reply : Reply) → FitsAction fits_reply (doing.At (action.Make kind object)) reply → IsSoundReply reply
 made_sound fits_reply kind object answer.Done h = tt
@@ -68,15 +69,16 @@ line_guarded p q c (k ∷ lines) l legal (inl e) =
     subst (λ (z : Line). IsTrue (is_performable z.action) × IsGuardOf z.action z.guard) (sym e) (guarded p c.objects k.action k.guard k.reply s.performed)
 line_guarded p q c (k ∷ lines) l legal (inr h) = line_guarded p q (after_line p c k) lines l legal.1 h
 
-pub all_sound : (single : Test) (p : Performs) (q : Computes) (fits_state : StateFits) (fits_args : ArgsFit) (fits_text : TextFits) (fits_reply : ReplyFits) (w : Course) → Laws p q fits_state fits_args fits_text fits_reply → SoundLaws fits_args fits_text fits_reply → Came single p q w → AllSound single p w
-all_sound single p q fits_state fits_args fits_text fits_reply w laws sounds came =
+pub all_sound : (single : Test) (p : Performs) (q : Computes) (fits_state : StateFits) (fits_args : ArgsFit) (fits_text : TextFits) (fits_reply : ReplyFits) (w : Course) → Laws p q fits_state fits_args fits_text fits_reply → SoundLaws fits_args fits_text fits_reply → Came single p q w
+    → ((n : ℕ) → n ≤ length w.list → AreNumbered (kinds_at (copies_at single p w.list n))) → AllSound single p w
+all_sound single p q fits_state fits_args fits_text fits_reply w laws sounds came numbered =
     let f = all_fit single p q fits_state fits_args fits_text fits_reply w laws came in
     let s = came_sound single p q w came in
     let k = s.kept in
     record {
-      messages = λ m h. let u = f.asked m h in record { action = action_sound fits_args fits_text fits_reply u.0 m.action sounds u.1; performable = m.performable };
+      messages = λ m h. let u = f.asked m h in record { action = action_sound fits_args fits_text fits_reply (kinds_at (copies_at single p w.list u.0)) m.action sounds (numbered u.0 u.1) u.2; performable = m.performable };
       lines = λ l h.
           let u = f.performed l h in
           let g = line_guarded p q (opening q) (book single p w.list w.aside) l k.legal h in
-          record { action = action_sound fits_args fits_text fits_reply u.0 l.action sounds u.1; performable = g.0; guard = g.1; reply = replied_sound fits_args fits_text fits_reply l.action l.reply sounds u.2 };
+          record { action = action_sound fits_args fits_text fits_reply (kinds_at (copies_at single p w.list u.0)) l.action sounds (numbered u.0 u.1) u.2; performable = g.0; guard = g.1; reply = replied_sound fits_args fits_text fits_reply l.action l.reply sounds u.3 };
     }

@@ -9,13 +9,12 @@ use Rattle.std.specs.Cmp.{tied_itself}
 use Rattle.std.specs.BTreeMap.{is_at}
 use Rattle.std.specs.FinMap.Entries.{below_all, is_sorted}
 use Rattle.orca_base.specs.declared.ids.KindNo.{KindNo}
-use Rattle.orca_base.specs.declared.ids.OpNo.{OpNo}
 use Rattle.orca_base.specs.declared.ids.TextNo.{TextNo}
 use Rattle.orca_base.specs.declared.ids.ProcessNo.{ProcessNo}
 use Rattle.orca_base.specs.declared.ids.ObjectId.{ObjectId}
 use Rattle.value_core.specs.Datum.{Data}
 use Rattle.value_core.specs.Fits.{Kinds}
-use Rattle.value_core.specs.Lawful.{FitsAction, RepliesFitFrom, made_by, next_of, own_from}
+use Rattle.value_core.specs.Lawful.{made_by, next_of, own_from}
 use Rattle.value_core.specs.declared.action.Instance.{Instance}
 use Rattle.value_core.specs.declared.action.Reply.{Reply}
 use Rattle.value_core.specs.Meaning.{Computes}
@@ -26,13 +25,7 @@ use Rattle.guard_queue.proofs.Lookups.{exact_objects, object_at-with_object, obj
 use Rattle.guard_queue.specs.Shown.{Rises}
 use Rattle.book_law.proofs.Ordered.{is_less, left, right}
 
--- ---- replies
-
-pub replies_fit-push : (q : Computes) (fits_reply : KindNo → OpNo → Reply → Type 0) (text : TextNo) (number : ProcessNo) (args : Data) (before replies : List Reply) (reply : Reply) → RepliesFitFrom q fits_reply text number args before replies
-    → FitsAction fits_reply (next_of q text number args (before ++ replies)) reply → RepliesFitFrom q fits_reply text number args before (replies ++ reply ∷ [])
-replies_fit-push q fits_reply text number args before [] reply fits last = (subst (λ (rs : List Reply). FitsAction fits_reply (next_of q text number args rs) reply) (append-nil before) last, tt)
-replies_fit-push q fits_reply text number args before (r ∷ replies) reply fits last =
-    (fits.0, replies_fit-push q fits_reply text number args (before ++ r ∷ []) replies reply fits.1 (subst (λ (rs : List Reply). FitsAction fits_reply (next_of q text number args rs) reply) (sym (append_assoc before (r ∷ []) replies)) last))
+-- ---- what a process made, with one reply more
 
 pub own-push : (q : Computes) (text : TextNo) (number : ProcessNo) (args : Data) (before replies : List Reply) (reply : Reply)
     → own_from q text number args before (replies ++ reply ∷ []) ≡ own_from q text number args before replies ++ made_by (next_of q text number args (before ++ replies)) reply

@@ -118,8 +118,10 @@ pub fn example_law()
 ///   process's next call may be tried at each number of entries from its process's place on: on a view, or on the single copy, which
 ///   is there.
 /// - `machines`: the arguments and replies of each process fit, and so does what was ever submitted or performed; who makes an object is
-///   the process that its id names, and a single object's owner is that process's member.
-/// - `sound`: so each message that was ever submitted is sound, and each line of the book.
+///   the process that its id names, and a single object's owner is that process's member; each object that exists is of a process that
+///   the list has, with a number up to how many entries it has.
+/// - `sound`: so, where the numbers of the objects that exist fit, each message that was ever submitted is sound, and each line of the
+///   book.
 /// - `members`: each member's copies meet the conditions of `apply`, `pass_make` and `call_single` at its next entry and at a call that
 ///   it takes.
 pub fn every_call_fits<P: Processor>(program: &P)

@@ -5,3 +5,4 @@ pub mod Breaches
 pub mod Seeing
 pub mod Telling
 pub mod Declaring
+pub mod OfText

@@ -36,7 +36,7 @@ tells_seen us = λ m d. (λ h. seen_so us m d (bytes_eq d.by m) refl h, is_seen_
 
 -- ---- once
 
-either_way : (r s : Role) → may_share r s ≡ may_share s r
+pub either_way : (r s : Role) → may_share r s ≡ may_share s r
 either_way Module Module = refl
 either_way Module Specification = refl
 either_way Module Implementation = refl

@@ -1,4 +1,5 @@
 pub mod Units
+pub mod OfText
 pub mod Declarations
 pub mod Rules
 pub mod Cycles

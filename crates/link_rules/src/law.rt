@@ -1,7 +1,9 @@
 //! The law of linking.
 
 ghost use Rattle.std.specs.Prelude.{◌≡◌, List, codes};
+ghost use Rattle.link_rules.specs.declared.named_unit.NamedUnit.{NamedUnit};
 ghost use Rattle.link_rules.specs.Units.{Source};
+ghost use Rattle.link_rules.specs.OfText.{IsUnitOfText};
 ghost use Rattle.link_rules.specs.Declarations.{ComesFromDeclarations};
 ghost use Rattle.link_rules.specs.Rules.{Links, first, link_errors};
 ghost use Rattle.link_rules.specs.Cycles.{ReachesAll};
@@ -15,7 +17,8 @@ ghost use Rattle.link_rules.specs.Examples.{breach, cycle_behind, importing, mai
 /// level is `OrcaMain`, and each specification has an implementation. A module leads to another within as many imports as there are units
 /// exactly where it leads there at all. The breach that is told is the first of the lowest broken rule, in the order of the files and of
 /// their texts: of two names that may not be the same the later one. In a program that links two definitions of one name that may not
-/// share it are one. Each definition is that of a unit's module, or one of a declaration; and `is_seen` tells what a module sees.
+/// share it are one. Each definition is that of a unit's module, or one of a declaration; and `is_seen` tells what a module sees. The
+/// syntax of each unit has sound words and places in text order, and nests no deeper than may be.
 pub fn linking_law()
     ensures links { (us : List Source) → IsNoBreach us }
     ensures cycles { (us : List Source) → ReachesAll us }
@@ -23,6 +26,7 @@ pub fn linking_law()
     ensures once { (us : List Source) → Links us → DefinesOnce us }
     ensures declared { (us : List Source) → ComesFromDeclarations us }
     ensures seen { (us : List Source) → TellsSeen us }
+    ensures units { (u : NamedUnit) → IsUnitOfText u }
 {}
 
 /// Each rule of linking, at examples: programs that link, and the first breach of others.

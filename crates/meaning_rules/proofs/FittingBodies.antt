@@ -93,7 +93,7 @@ module _ (us : List Source) (kinds : Kinds) where
   none_given (l ∷ ls) = refl
 
   module _ (ls : List Local) (w : View) where
-    own_fits : (params : List Parameter) (vars : List Local) (given : List Passed) → AreGiven us kinds ls given (map (formal w) params) →
+    pub own_fits : (params : List Parameter) (vars : List Local) (given : List Passed) → AreGiven us kinds ls given (map (formal w) params) →
         AllHold (map (parameter_local w) params ++ vars) → AllByRecursion (λ l. IsOfData us l.type) vars →
         AreFitting us kinds (parameter_values us (map (parameter_local w) params ++ vars) given ++ opened us (drop (length given) (map (parameter_local w) params ++ vars)))
         (map (parameter_local w) params ++ vars)
@@ -165,12 +165,12 @@ module _ (us : List Source) (kinds : Kinds) where
 
 -- ---- functions
 
-variables_hold : (us : List Source) (ls vs : List Local) → AllByRecursion (λ l. HoldsData l.role us l.type) (ls ++ vs) → AllByRecursion (λ l. HoldsData l.role us l.type) vs
+pub variables_hold : (us : List Source) (ls vs : List Local) → AllByRecursion (λ l. HoldsData l.role us l.type) (ls ++ vs) → AllByRecursion (λ l. HoldsData l.role us l.type) vs
 variables_hold us [] vs all = all
 variables_hold us (l ∷ ls) vs all = variables_hold us ls vs all.1
 
 -- of a body's variables
-all_data : (us : List Source) (vs : List syn.Variables) (of_kind : Kind → Found Measured) →
+pub all_data : (us : List Source) (vs : List syn.Variables) (of_kind : Kind → Found Measured) →
     AllByRecursion (λ l. HoldsData l.role us l.type) (flat_map (locals_of Variable of_kind) vs) → AllByRecursion (λ l. IsOfData us l.type) (flat_map (locals_of Variable of_kind) vs)
 all_data us [] of_kind all = tt
 all_data us (v ∷ vs) of_kind all = both v.names all (λ rest. all_data us vs of_kind rest)

@@ -49,31 +49,31 @@ use Rattle.meaning_rules.proofs.Judged.{left_none, right_none, both_left, both_r
 
 -- ---- lists
 
-map_none : {X Y : Type 0} (f : X → Y) (xs : List X) → map f xs ≡ [] → xs ≡ []
+pub map_none : {X Y : Type 0} (f : X → Y) (xs : List X) → map f xs ≡ [] → xs ≡ []
 map_none f [] is = refl
 map_none f (x ∷ xs) is = absurd cc
 
-each_none : {X Y : Type 0} (f : X → List Y) (xs : List X) → flat_map f xs ≡ [] → AllByRecursion (λ x. f x ≡ []) xs
+pub each_none : {X Y : Type 0} (f : X → List Y) (xs : List X) → flat_map f xs ≡ [] → AllByRecursion (λ x. f x ≡ []) xs
 each_none f [] is = tt
 each_none f (x ∷ xs) is = (left_none (f x) (flat_map f xs) is, each_none f xs (right_none (f x) (flat_map f xs) is))
 
-all_both : {X : Type 0} (P Q R : X → Type 0) (xs : List X) → ((x : X) → P x → Q x → R x) → AllByRecursion P xs → AllByRecursion Q xs → AllByRecursion R xs
+pub all_both : {X : Type 0} (P Q R : X → Type 0) (xs : List X) → ((x : X) → P x → Q x → R x) → AllByRecursion P xs → AllByRecursion Q xs → AllByRecursion R xs
 all_both P Q R [] f ps qs = tt
 all_both P Q R (x ∷ xs) f ps qs = (f x ps.0 qs.0, all_both P Q R xs f ps.1 qs.1)
 
-all_append : {X : Type 0} (P : X → Type 0) (xs ys : List X) → AllByRecursion P xs → AllByRecursion P ys → AllByRecursion P (xs ++ ys)
+pub all_append : {X : Type 0} (P : X → Type 0) (xs ys : List X) → AllByRecursion P xs → AllByRecursion P ys → AllByRecursion P (xs ++ ys)
 all_append P [] ys all more = more
 all_append P (x ∷ xs) ys all more = (all.0, all_append P xs ys all.1 more)
 
-all_flat : {X Y : Type 0} (P : Y → Type 0) (f : X → List Y) (xs : List X) → AllByRecursion (λ x. AllByRecursion P (f x)) xs → AllByRecursion P (flat_map f xs)
+pub all_flat : {X Y : Type 0} (P : Y → Type 0) (f : X → List Y) (xs : List X) → AllByRecursion (λ x. AllByRecursion P (f x)) xs → AllByRecursion P (flat_map f xs)
 all_flat P f [] all = tt
 all_flat P f (x ∷ xs) all = all_append P (f x) (flat_map f xs) all.0 (all_flat P f xs all.1)
 
-all_map : {X Y : Type 0} (P : Y → Type 0) (f : X → Y) (xs : List X) → AllByRecursion (λ x. P (f x)) xs → AllByRecursion P (map f xs)
+pub all_map : {X Y : Type 0} (P : Y → Type 0) (f : X → Y) (xs : List X) → AllByRecursion (λ x. P (f x)) xs → AllByRecursion P (map f xs)
 all_map P f [] all = tt
 all_map P f (x ∷ xs) all = (all.0, all_map P f xs all.1)
 
-all_filter : {X : Type 0} (P : X → Type 0) (p : X → Bool) (xs : List X) → AllByRecursion P xs → AllByRecursion P (filter p xs)
+pub all_filter : {X : Type 0} (P : X → Type 0) (p : X → Bool) (xs : List X) → AllByRecursion P xs → AllByRecursion P (filter p xs)
 all_filter P p [] all = tt
 all_filter P p (x ∷ xs) all = by (p x) (all_filter P p xs all.1)
   where
@@ -81,7 +81,7 @@ all_filter P p (x ∷ xs) all = by (p x) (all_filter P p xs all.1)
     by true rest = (all.0, rest)
     by false rest = rest
 
-all_filter_map : {X Y : Type 0} (P : Y → Type 0) (h : X → Option Y) (xs : List X) → AllByRecursion (λ x. (y : Y) → h x ≡ Some y → P y) xs → AllByRecursion P (filter_map h xs)
+pub all_filter_map : {X Y : Type 0} (P : Y → Type 0) (h : X → Option Y) (xs : List X) → AllByRecursion (λ x. (y : Y) → h x ≡ Some y → P y) xs → AllByRecursion P (filter_map h xs)
 all_filter_map P h [] all = tt
 all_filter_map P h (x ∷ xs) all = by (h x) refl (all_filter_map P h xs all.1)
   where
@@ -89,7 +89,7 @@ all_filter_map P h (x ∷ xs) all = by (h x) refl (all_filter_map P h xs all.1)
     by None is rest = rest
     by (Some y) is rest = (all.0 y is, rest)
 
-units : {X : Type 0} (xs : List X) → AllByRecursion (λ x. Unit {0}) xs
+pub units : {X : Type 0} (xs : List X) → AllByRecursion (λ x. Unit {0}) xs
 units [] = tt
 units (x ∷ xs) = (tt, units xs)
 
@@ -129,7 +129,7 @@ put_some b (c ∷ cs) is = by (comes_before c b) is
     by true e = absurd cc
     by false e = absurd cc
 
-order_none : (bs : List Breach) → in_text_order bs ≡ [] → bs ≡ []
+pub order_none : (bs : List Breach) → in_text_order bs ≡ [] → bs ≡ []
 order_none [] is = refl
 order_none (b ∷ bs) is = absurd (put_some b (in_text_order bs) is)
 
@@ -250,7 +250,7 @@ module _ (us : List Source) where
       where
         of_definition : (d : Definition) → IsSoundDefinition d → All (All IsCode) (map (λ n. n.text) (values_of d))
         of_definition (syn.Enumeration at ns) sound = All-from_recursion (All IsCode) (map (λ n. n.text) ns) (all_map (All IsCode) (λ n. n.text) ns
-            (all_both IsSoundName (λ n. Unit {0}) (λ n. All IsCode n.text) ns (λ n s unit. word_codes n.text s.0) sound (units ns)))
+            (all_both IsSoundName (λ n. Unit {0}) (λ n. All IsCode n.text) ns (λ n s unit. word_codes n.text s.0) sound.0 (units ns)))
         of_definition (syn.Record at fields) sound = All-nil (All IsCode)
         of_definition (syn.Alias k) sound = All-nil (All IsCode)
 

@@ -20,7 +20,7 @@ use Rattle.type_rules.specs.Scopes.{Local}
 use Rattle.type_rules.specs.Declarations.{field_locals}
 use Rattle.value_core.specs.Datum.{Datum, Data, list_of, data_of}
 use Rattle.value_core.specs.Datum as datum
-use Rattle.value_core.specs.Fits.{Kinds}
+use Rattle.value_core.specs.Fits.{AreNumbered, Kinds}
 use Rattle.value_core.specs.Integers.{IsWord}
 use Rattle.value_core.specs.Size.{size_of, size_of_all}
 use Rattle.value_core.specs.Sound.{AreSound, AreSoundArguments, AreWellFormed, IsCode, IsShort, IsSound, IsSoundReply, IsWellFormed, nesting, nesting_of_all}
@@ -33,7 +33,7 @@ use Rattle.meaning_rules.specs.Openings.{field_types}
 use Rattle.meaning_rules.specs.Programs.{ObjectType, object_type, process_scope, process_texts, result_in}
 use Rattle.meaning_rules.specs.Fitting.{IsArray, IsSet, IsBag, IsRecord, IsObject, IsOf, AllOf, AreOf, NodesOf, ValuesOf, Fits, AreFitting, AreArguments, FitsState, FitsType, FitsArgs, FitsArgsOf, FitsOperation, FitsParameters, FitsText, FitsTop, FitsWhat, FitsReply, FitsReplyOf, FitsResultOf, FitsResult}
 use Rattle.meaning_rules.specs.Accepted.{IsData, IsOfData, IsKnownResult, IsOpening, IsAccepted}
-use Rattle.meaning_rules.specs.FitsSound.{AreNumbered, FitsSound}
+use Rattle.meaning_rules.specs.FitsSound.{FitsSound}
 use Rattle.meaning_rules.proofs.Objectless.{Objectless, inside_objectless, field_objectless}
 use Rattle.meaning_rules.proofs.FittingBodies.{fitting_length}
 use Rattle.meaning_rules.proofs.FittingProcesses.{all_take, is_object_outside, object_of_type}

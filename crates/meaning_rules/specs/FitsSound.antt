@@ -1,20 +1,14 @@
 -- What fits is sound: bytes spell it.
-use Rattle.std.specs.Prelude.{◌<◌, ◌^◌, List}
-use Rattle.std.specs.List.{Contains}
+use Rattle.std.specs.Prelude.{List}
 use Rattle.orca_base.specs.declared.ids.KindNo.{KindNo}
 use Rattle.orca_base.specs.declared.ids.OpNo.{OpNo}
 use Rattle.orca_base.specs.declared.ids.TextNo.{TextNo}
-use Rattle.orca_base.specs.declared.ids.ObjectId.{ObjectId}
 use Rattle.link_rules.specs.Units.{Source}
 use Rattle.value_core.specs.Datum.{Data}
-use Rattle.value_core.specs.Fits.{Kinds}
+use Rattle.value_core.specs.Fits.{AreNumbered, Kinds}
 use Rattle.value_core.specs.Sound.{AreSound, AreSoundArguments, IsSoundReply}
 use Rattle.value_core.specs.declared.action.Reply.{Reply}
 use Rattle.meaning_rules.specs.Fitting.{FitsState, FitsArgs, FitsText, FitsReply}
-
--- the ids of the objects that exist have numbers that fit
-abbrev pub AreNumbered : Kinds → Type 0
-AreNumbered kinds = (entry : ObjectId × KindNo) → Contains kinds entry → (entry.0.process < 2 ^ 16) × (entry.0.number < 2 ^ 32)
 
 pub record FitsSound (us : List Source) : Type 0 where
   pub states : (kinds : Kinds) (kind : KindNo) (state : Data) → FitsState us kinds kind state → AreSound state

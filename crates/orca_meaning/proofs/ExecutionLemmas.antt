@@ -28,7 +28,7 @@ use Rattle.value_core.specs.Fits.{KeepsState, RepliesWell}
 use Rattle.value_core.specs.Goes.{Goes}
 use Rattle.value_core.specs.declared.processor.Halt.{Halt}
 use Rattle.value_core.specs.declared.processor.Halt.TheVariants as halt
-use Rattle.value_core.specs.Lawful.{FitsAction, RepliesFit}
+use Rattle.value_core.specs.Lawful.{FitsAction, RepliesFit, replied_fit}
 use Rattle.value_core.proofs.HistoryLemmas.{after_lines-push, LegalFrom-push}
 use Rattle.orca_meaning.specs.Operations.{Name, body_tried, operation_tried, parameters_of, small_kind, tries_of}
 use Rattle.orca_meaning.specs.Processes.{doing_of, first_object}
@@ -43,7 +43,7 @@ use Rattle.orca_meaning.specs.Executions.{Follows, HasFitting, IsFaultless, conf
 use Rattle.orca_meaning.specs.declared.execution.Execution.{Execution}
 use Rattle.orca_meaning.specs.declared.execution.Outcome.{Outcome}
 use Rattle.orca_meaning.specs.declared.process.SmallProcess.{SmallProcess}
-use Rattle.orca_meaning.proofs.KnownLemmas.{HasFittingDoing, replies_push, doing_fitting, doing_known, doing_fine, doing_end, IsAtEnd, IsFine}
+use Rattle.orca_meaning.proofs.KnownLemmas.{HasFittingDoing, doing_fitting, doing_known, doing_fine, doing_end, IsAtEnd, IsFine}
 use Rattle.std.proofs.lemmas.Bool.{cases_lt}
 
 -- the outcome is what the action does on these objects
@@ -211,7 +211,7 @@ module _ (program : SmallProgram) (small : AreInRange program) (calls : CallsFit
     count = omega (arith, ap length replies, length-append old.replies.items (o.reply ∷ []), length-append lines (line ∷ []), so_far.count);
     state = subst (λ (x : Option Data). IfSome x (FitsState program small_kind)) (sym object) (state_fits program o.state old.object right.state so_far.state);
     replies = subst (λ (rs : List Reply). RepliesFit (computes_of program) (FitsReply program) (record { 0 = 0 }) main_process datum.none rs) (sym replies)
-        (replies_push (computes_of program) (FitsReply program) (record { 0 = 0 }) main_process datum.none [] old.replies.items o.reply so_far.replies (subst (λ (d : Doing). FitsAction (FitsReply program) d o.reply) (sym next) right.reply));
+        (replied_fit (computes_of program) (FitsReply program) (record { 0 = 0 }) main_process datum.none old.replies.items o.reply so_far.replies (subst (λ (d : Doing). FitsAction (FitsReply program) d o.reply) (sym next) right.reply));
   }
     where
       line : Line

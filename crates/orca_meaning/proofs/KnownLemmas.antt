@@ -1,9 +1,8 @@
 -- After replies that fit, a process names objects and operations that there are; without a fault among them it has none; and
 -- it comes to its end.
-use Rattle.std.proofs.Common.{◌≡◌, ℕ, ◌<◌, ◌≤◌, ◌+◌, ◌*◌, List, [], ◌∷◌, ◌++◌, length, Option, Some, None, refl, sym, subst, inl, inr, append_assoc, arith}
+use Rattle.std.proofs.Common.{◌≡◌, ℕ, ◌<◌, ◌≤◌, ◌+◌, ◌*◌, List, [], ◌∷◌, length, Option, Some, None, refl, subst, inl, inr, arith}
 use Rattle.std.specs.Prelude.{pos, slice_get}
 use Rattle.std.specs.List.{All}
-use Rattle.std.proofs.lemmas.List.{append-nil}
 use Rattle.std.proofs.lemmas.List.Elements.{All-head, All-tail}
 use Rattle.std.proofs.lemmas.Option.{slice_get_within}
 use Rattle.orca_base.specs.declared.ids.KindNo.{KindNo}
@@ -19,8 +18,7 @@ use Rattle.small_program.specs.declared.tree.SmallProgram.{SmallProgram}
 use Rattle.value_core.specs.Datum.{Datum, Data, list_of}
 use Rattle.value_core.specs.Datum as datum
 use Rattle.value_core.specs.View.{datum_of}
-use Rattle.value_core.specs.Lawful.{FitsAction, RepliesFit, RepliesFitFrom, next_of}
-use Rattle.value_core.specs.Meaning.{Computes}
+use Rattle.value_core.specs.Lawful.{RepliesFit}
 use Rattle.value_core.specs.declared.action.Action.{Action}
 use Rattle.value_core.specs.declared.action.Action.TheVariants as action
 use Rattle.value_core.specs.declared.action.Reply.{Reply}
@@ -81,17 +79,6 @@ module _ (program : SmallProgram) (number : ProcessNo) where
   doing_fitting calls text args (answer.Done ∷ rest) got = as_fitting (doing_of program number (answer.Done ∷ rest)) (fit_doing program number text args calls rest got)
   doing_fitting calls text args (answer.Gave value ∷ rest) got = absurd got.0
   doing_fitting calls text args (answer.Broke fault ∷ rest) got = tt
-
--- one more reply that fits
-pub replies_push : (q : Computes) (fits_reply : KindNo → OpNo → Reply → Type 0) (text : TextNo) (number : ProcessNo) (args : Data) (before replies : List Reply) (reply : Reply) → RepliesFitFrom q fits_reply text number args before replies →
-    FitsAction fits_reply (next_of q text number args (before ++ replies)) reply → RepliesFitFrom q fits_reply text number args before (replies ++ reply ∷ [])
-replies_push q fits_reply text number args before [] reply got one =
-    (subst (λ (rs : List Reply). FitsAction fits_reply (next_of q text number args rs) reply) (append-nil before) one, tt)
-replies_push q fits_reply text number args before (r ∷ replies) reply got one = (
-  got.0,
-  replies_push q fits_reply text number args (before ++ r ∷ []) replies reply got.1
-      (subst (λ (rs : List Reply). FitsAction fits_reply (next_of q text number args rs) reply) (sym (append_assoc before (r ∷ []) replies)) one),
-)
 
 -- the process has not ended by a fault
 abbrev pub IsFine : Doing → Type 0

@@ -47,7 +47,7 @@ impl Performer for TreeMachine {
 
     ghost args_sound = { λ m kinds. arguments_sound m.program };
 
-    ghost text_sound = { λ m kinds. text_sound };
+    ghost text_sound = { λ m kinds text args numbered fits. text_sound text args fits };
 
     ghost reply_sound = { λ m. replies_sound m.program };
 

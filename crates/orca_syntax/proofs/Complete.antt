@@ -1,6 +1,8 @@
 -- Each derivation of a unit is that of a syntax. Each production is covered by the parts that its form names, in the order of the text; a
 -- nested phrase has fewer marks inside than it has.
-use Rattle.std.proofs.Common.{◌≡◌, ℕ, zero, suc, true, false, List, [], ◌∷◌, length, Option, Some, None, refl, ap, ◌∙◌, sym, arith}
+use Rattle.std.proofs.Common.{◌≡◌, ℕ, zero, suc, true, false, List, [], ◌∷◌, length, map, Option, Some, None, refl, ap, ◌∙◌, sym, arith}
+use Rattle.std.specs.Prelude.{◌≢◌}
+use Rattle.std.specs.List.{AllByRecursion}
 use Rattle.orca_base.specs.declared.place.Place.{Place}
 use Rattle.orca_lexer.specs.declared.token.Keyword.TheVariants.{KeyAnd, KeyArray, KeyBag, KeyBegin, KeyBoolean, KeyChar, KeyConst, KeyDelete, KeyDo, KeyElse, KeyElsif, KeyEnd, KeyEnum, KeyFalse, KeyFi, KeyFor, KeyFork, KeyFrom, KeyFunction, KeyGuard, KeyIf, KeyImplementation, KeyImport, KeyIn, KeyInsert, KeyInteger, KeyModule, KeyNot, KeyObject, KeyOd, KeyOf, KeyOn, KeyOperation, KeyOr, KeyOrd, KeyOut, KeyProcess, KeyRecord, KeyRepeat, KeyReturn, KeySet, KeyShared, KeySize, KeySpecification, KeyString, KeyThen, KeyTrue, KeyType, KeyUntil, KeyWhile, KeyWriteLine}
 use Rattle.orca_lexer.specs.declared.token.Symbol.TheVariants.{Becomes, Range as RangeSign, Differs, AtMost, AtLeast, Semicolon, Colon, Comma, Period, Equals, Less, Greater, Plus, Minus, Times, Over, Percent, Joins, Opens, Closes, OpensIndex, ClosesIndex, Dollar}
@@ -17,12 +19,12 @@ use Rattle.orca_tree.specs.declared.tree.Operator.{Operator}
 use Rattle.orca_tree.specs.declared.tree.Operator.TheVariants as op
 use Rattle.orca_tree.specs.Marks.{operator_token, links_of}
 use Rattle.orca_syntax.specs.Syntax as syn
-use Rattle.orca_syntax.specs.Syntax.{Expr, Links, Path, Exprs, Kind, Stmt, Stmts, Arms, Variables, TypedName, Head, Guard, Operation, Syntax}
-use Rattle.orca_syntax.specs.Forest.{Forest, none, group}
+use Rattle.orca_syntax.specs.Syntax.{Expr, Links, Path, Exprs, Kind, Stmt, Stmts, Arms, Variables, TypedName, Head, Guard, Operation, Definition, Decl, Syntax}
+use Rattle.orca_syntax.specs.Forest.{Forest, none, group, flat}
 use Rattle.orca_syntax.specs.Derivation as der
 use Rattle.orca_syntax.proofs.MarksShown.{alone}
 use Rattle.orca_syntax.proofs.Told.{made_variables, made_typed, made_parameter, made_head, made_guard, made_operation, made_block, made_syntax}
-use Rattle.orca_syntax.proofs.Covered.{Covers, as_part, a_key, a_key_at, a_sign, a_sign_at, a_name, a_number, a_value, a_char, a_text, seq, alt, maybe, many, nothing_there, some_listed, any_listed, in_phrase, in_chain}
+use Rattle.orca_syntax.proofs.Covered.{Covers, as_part, a_key, a_key_at, a_sign, a_sign_at, a_name, a_number, a_value, a_char, a_text, seq, alt, maybe, many, nothing_there, each_map, some_listed, any_listed, in_phrase, in_chain}
 
 -- the nested phrases with fewer marks than so many
 record Nests (k : ℕ) : Type 0 where
@@ -32,6 +34,16 @@ record Nests (k : ℕ) : Type 0 where
   types : Covers k (Nested TypeNest) der.type_phrase
 
 -- ---- types
+
+-- of names there is one at least
+abbrev SomeNames : Type 0
+SomeNames = (ns : List Name) × (ns ≢ [])
+
+some_names_covered : (k : ℕ) → Covers k rules.names (λ (x : SomeNames) g. der.names x.0 g)
+unfolding rules.names
+some_names_covered k =
+    as_part (seq (a_name k) (many (seq (a_sign k Comma) (a_name k)))) (λ x. (x.0 ∷ map (λ y. y.1) x.1, λ e. absurd cc))
+    (λ x g. ap (der.name x.0) (each_map (λ y h. der.word (Sign Comma) (der.name y h)) (λ y. y.1) x.1 g))
 
 names_covered : (k : ℕ) → Covers k rules.names der.names
 unfolding rules.names
@@ -525,12 +537,25 @@ field_covered : {k : ℕ} → Nests k → Covers k rules.field der.field
 unfolding rules.field
 field_covered {k = k} n = as_part (seq (typed_name_covered n) (a_sign k Semicolon)) (λ x. x.0) (λ x g. refl)
 
-definition_covered : {k : ℕ} → Nests k → Covers k rules.definition der.definition
+-- a definition with parts: a record with a field at least, or an enumeration with a name
+abbrev pub HasParts : Definition → Type 0
+HasParts (syn.Record at ts) = ts ≢ []
+HasParts (syn.Enumeration at ns) = ns ≢ []
+HasParts (syn.Alias k) = Unit {0}
+
+record Defined : Type 0 where
+  of : Definition
+  parts : HasParts of
+
+abbrev put_defined : Defined → Forest → Forest
+put_defined x g = der.definition x.of g
+
+definition_covered : {k : ℕ} → Nests k → Covers k rules.definition put_defined
 unfolding rules.definition rules.record_rest rules.fields rules.enumeration_rest
 definition_covered {k = k} n =
-    alt (as_part (seq (a_key_at k KeyRecord) (seq (seq (field_covered n) (many (field_covered n))) (a_key k KeyEnd))) (λ x. syn.Record x.0 (x.1.0.0 ∷ x.1.0.1)) (λ x g. refl))
-    (alt (as_part (seq (a_key_at k KeyEnum) (seq (a_sign k Opens) (seq (names_covered k) (a_sign k Closes)))) (λ x. syn.Enumeration x.0 x.1.1.0) (λ x g. refl))
-    (as_part n.types (λ t. syn.Alias t) (λ x g. refl)))
+    alt (as_part (seq (a_key_at k KeyRecord) (seq (seq (field_covered n) (many (field_covered n))) (a_key k KeyEnd))) (λ x. record { of = syn.Record x.0 (x.1.0.0 ∷ x.1.0.1); parts = λ e. absurd cc }) (λ x g. refl))
+    (alt (as_part (seq (a_key_at k KeyEnum) (seq (a_sign k Opens) (seq (some_names_covered k) (a_sign k Closes)))) (λ x. record { of = syn.Enumeration x.0 x.1.1.0.0; parts = x.1.1.0.1 }) (λ x g. refl))
+    (as_part n.types (λ t. record { of = syn.Alias t; parts = tt }) (λ x g. refl)))
 
 -- an object type, behind its `object`
 data Object : Type 0 where
@@ -557,34 +582,49 @@ implemented_covered {k = k} n =
     as_part (seq (a_key k KeyImplementation) (seq (a_name k) (seq (a_sign k Semicolon) (seq (all_variables_covered n) (seq (many (operation_covered n)) (opening_covered n))))))
     (λ x. implemented x.1.0 x.1.1.1.0 x.1.1.1.1.0 x.1.1.1.1.1) (λ x g. refl)
 
-abbrev object_decl : Place → Object → syn.Decl
-object_decl at (specified n hs) = syn.Specification at n hs
-object_decl at (implemented n vs os o) = syn.Implementation at n vs os o
-
-object_same : (at : Place) (o : Object) (g : Forest) → der.word_at at (Key KeyObject) (put_object o (der.ended g)) ≡ der.decl (object_decl at o) g
-object_same at (specified n hs) g = refl
-object_same at (implemented n vs os o) g = refl
-
 object_covered : {k : ℕ} → Nests k → Covers k rules.object_rest (λ (o : Object) g. put_object o (der.ended g))
 unfolding rules.object_rest
 object_covered {k = k} n = as_part (seq (alt (specified_covered n) (implemented_covered n)) (seq (a_key k KeyEnd) (a_sign k Semicolon))) (λ x. x.0) (λ x g. refl)
 
-decl_covered : {k : ℕ} → Nests k → Covers k rules.declaration der.decl
+-- a declaration whose definition, where it has one, has parts
+abbrev pub HasAllParts : Decl → Type 0
+HasAllParts (syn.Declares at n d) = HasParts d
+HasAllParts _ = Unit {0}
+
+pub record Declared : Type 0 where
+  pub decl : Decl
+  pub parts : HasAllParts decl
+
+abbrev put_declared : Declared → Forest → Forest
+put_declared x g = der.decl x.decl g
+
+abbrev object_declared : Place → Object → Declared
+object_declared at (specified n hs) = record { decl = syn.Specification at n hs; parts = tt }
+object_declared at (implemented n vs os o) = record { decl = syn.Implementation at n vs os o; parts = tt }
+
+object_same : (at : Place) (o : Object) (g : Forest) → der.word_at at (Key KeyObject) (put_object o (der.ended g)) ≡ put_declared (object_declared at o) g
+object_same at (specified n hs) g = refl
+object_same at (implemented n vs os o) g = refl
+
+decl_covered : {k : ℕ} → Nests k → Covers k rules.declaration put_declared
 unfolding rules.declaration rules.constant_rest rules.type_rest rules.function_rest rules.process_rest
 decl_covered {k = k} n =
-    alt (as_part (seq (a_key_at k KeyConst) (seq (a_name k) (seq (a_sign k Equals) (seq (bound_covered k) (a_sign k Semicolon))))) (λ x. syn.Constant x.0 x.1.0 x.1.1.1.0) (λ x g. refl))
-    (alt (as_part (seq (a_key_at k KeyType) (seq (a_name k) (seq (a_sign k Equals) (seq (definition_covered n) (a_sign k Semicolon))))) (λ x. syn.Declares x.0 x.1.0 x.1.1.1.0) (λ x g. refl))
-    (alt (as_part (seq (a_key_at k KeyObject) (object_covered n)) (λ x. object_decl x.0 x.1) (λ x g. object_same x.0 x.1 g))
+    alt (as_part (seq (a_key_at k KeyConst) (seq (a_name k) (seq (a_sign k Equals) (seq (bound_covered k) (a_sign k Semicolon))))) (λ x. record { decl = syn.Constant x.0 x.1.0 x.1.1.1.0; parts = tt }) (λ x g. refl))
+    (alt (as_part (seq (a_key_at k KeyType) (seq (a_name k) (seq (a_sign k Equals) (seq (definition_covered n) (a_sign k Semicolon))))) (λ x. record { decl = syn.Declares x.0 x.1.0 x.1.1.1.0.of; parts = x.1.1.1.0.parts }) (λ x g. refl))
+    (alt (as_part (seq (a_key_at k KeyObject) (object_covered n)) (λ x. object_declared x.0 x.1) (λ x g. object_same x.0 x.1 g))
     (alt
     (as_part (seq (a_key_at k KeyFunction) (seq (a_name k) (seq (a_sign k Opens) (seq (parameters_covered n) (seq (a_sign k Closes) (seq (result_covered n) (seq (a_sign k Semicolon) (block_covered n))))))))
-    (λ x. syn.Function x.0 x.1.0 x.1.1.1.0 x.1.1.1.1.1.0 x.1.1.1.1.1.1.1) (λ x g. refl))
+    (λ x. record { decl = syn.Function x.0 x.1.0 x.1.1.1.0 x.1.1.1.1.1.0 x.1.1.1.1.1.1.1; parts = tt }) (λ x g. refl))
     (as_part (seq (a_key_at k KeyProcess) (seq (a_name k) (seq (a_sign k Opens) (seq (parameters_covered n) (seq (a_sign k Closes) (seq (a_sign k Semicolon) (block_covered n)))))))
-    (λ x. syn.Process x.0 x.1.0 x.1.1.1.0 x.1.1.1.1.1.1) (λ x g. refl)))))
+    (λ x. record { decl = syn.Process x.0 x.1.0 x.1.1.1.0 x.1.1.1.1.1.1; parts = tt }) (λ x g. refl)))))
 
 -- ---- units
 
-abbrev put_syntax : Syntax → Forest → Forest
-put_syntax s g = der.if_any der.module_line s.name (der.each der.import_line s.imports (der.each der.decl s.declarations g))
+abbrev Parts : Type 0
+Parts = Option Name × (List Name × List Declared)
+
+abbrev put_parts : Parts → Forest → Forest
+put_parts x g = der.if_any der.module_line x.0 (der.each der.import_line x.1.0 (der.each put_declared x.1.1 g))
 
 module_covered : (k : ℕ) → Covers k rules.module_line (λ (o : Option Name) g. der.if_any der.module_line o g)
 unfolding rules.module_line
@@ -594,12 +634,31 @@ import_covered : (k : ℕ) → Covers k rules.import_line der.import_line
 unfolding rules.import_line
 import_covered k = as_part (seq (a_key k KeyImport) (seq (a_name k) (a_sign k Semicolon))) (λ x. x.1.0) (λ x g. refl)
 
-unit_covered : {k : ℕ} → Nests k → Covers k rules.unit put_syntax
+unit_covered : {k : ℕ} → Nests k → Covers k rules.unit put_parts
 unfolding rules.unit rules.imports rules.declarations
-unit_covered {k = k} n = as_part (seq (module_covered k) (seq (many (import_covered k)) (many (decl_covered n)))) (λ x. made_syntax x.0 x.1.0 x.1.1) (λ x g. refl)
+unit_covered {k = k} n = seq (module_covered k) (seq (many (import_covered k)) (many (decl_covered n)))
+
+-- a syntax with these marks, whose declarations have their parts
+pub record Made (ms : List Mark) : Type 0 where
+  pub syntax : Syntax
+  pub parts : AllByRecursion HasAllParts syntax.declarations
+  pub same : der.syntax_marks syntax ≡ ms
+
+all_parts : (ds : List Declared) → AllByRecursion HasAllParts (map (λ d. d.decl) ds)
+all_parts [] = tt
+all_parts (d ∷ ds) = (d.parts, all_parts ds)
+
+pub made : (ms : List Mark) (tokens : List Token) → IsText ms tokens → Made ms
+made ms tokens text =
+    let x = unit_covered (nests (suc (length ms))) ms tokens [] (omega arith) text in
+    record {
+      syntax = made_syntax x.part.0 x.part.1.0 (map (λ d. d.decl) x.part.1.1);
+      parts = all_parts x.part.1.1;
+      same =
+          ap (λ f. flat (der.if_any der.module_line x.part.0 (der.each der.import_line x.part.1.0 f))) (sym (each_map der.decl (λ d. d.decl) x.part.1.1 none))
+          ∙ sym (alone ms _ (x.same none));
+    }
 
 -- each derivation of a unit is that of a syntax
 pub some_syntax : (ms : List Mark) (tokens : List Token) → IsText ms tokens → (s : Syntax) × (der.syntax_marks s ≡ ms)
-some_syntax ms tokens text =
-    let x = unit_covered (nests (suc (length ms))) ms tokens [] (omega arith) text in
-    (x.part, sym (alone ms _ (x.same none)))
+some_syntax ms tokens text = let x = made ms tokens text in (x.syntax, x.same)

@@ -155,7 +155,7 @@ pub nothing_there : (k : ℕ) → Covers k Nothing (λ (u : Unit {0}) g. g)
 nothing_there k ms ts rest less nothing = record { part = tt; same = λ g. refl }
 
 -- some parts with a separator between two, and any number of these
-each_map : {X Y : Type 0} (put : Y → Forest → Forest) (view : X → Y) (xs : List X) (g : Forest) → der.each (λ x h. put (view x) h) xs g ≡ der.each put (map view xs) g
+pub each_map : {X Y : Type 0} (put : Y → Forest → Forest) (view : X → Y) (xs : List X) (g : Forest) → der.each (λ x h. put (view x) h) xs g ≡ der.each put (map view xs) g
 each_map put view [] g = refl
 each_map put view (x ∷ xs) g = ap (put (view x)) (each_map put view xs g)
 

@@ -1,24 +1,28 @@
 -- The words of a text's syntax are sound, phrase by phrase.
-use Rattle.std.proofs.Common.{ℕ, List, [], ◌∷◌, ◌++◌, Option, Some, None, subst}
+use Rattle.std.proofs.Common.{ℕ, List, [], ◌∷◌, ◌++◌, Option, Some, None, subst, sym}
 use Rattle.std.specs.Prelude.{IfSome}
 use Rattle.std.specs.List.{AllByRecursion}
 use Rattle.orca_lexer.specs.declared.token.Keyword.TheVariants.{KeyBegin, KeyEnd, KeyFi, KeyOd, KeyOf, KeyUntil}
 use Rattle.orca_lexer.specs.declared.token.Symbol.TheVariants.{Becomes, Closes, ClosesIndex, Colon, Comma, Range as RangeSign, Semicolon}
+use Rattle.orca_lexer.specs.declared.token.Token.{Token}
 use Rattle.orca_lexer.specs.declared.token.TokenKind.{TokenKind}
 use Rattle.orca_lexer.specs.declared.token.TokenKind.TheVariants.{Key, Sign}
 use Rattle.orca_lexer.specs.Spelling.{IsSound}
 use Rattle.orca_grammar.specs.Forms.{TypePhrase as TypeNest, Phrase, Chain as ChainOf, End, spelled}
+use Rattle.orca_grammar.specs.Grammar.{IsText}
 use Rattle.orca_grammar.proofs.Placed.{spelled_append}
 use Rattle.orca_tree.specs.declared.tree.Bound.TheVariants as bounds
 use Rattle.orca_tree.specs.declared.tree.Mode.{Mode}
 use Rattle.orca_tree.specs.declared.tree.Mode.TheVariants as modes
 use Rattle.orca_syntax.specs.Syntax as syn
-use Rattle.orca_syntax.specs.Syntax.{Expr, Links, Step, Path, Exprs, Kind, Stmt, Stmts, Arm, Arms, Parameter, Syntax}
+use Rattle.orca_syntax.specs.Syntax.{Expr, Links, Step, Path, Exprs, Kind, Stmt, Stmts, Arm, Arms, Parameter, Definition, Decl, Syntax}
 use Rattle.orca_syntax.specs.Forest.{Forest, none, token, group, flat}
 use Rattle.orca_syntax.specs.Derivation as der
 use Rattle.orca_syntax.specs.TextSyntax.{HasSyntax}
 use Rattle.orca_syntax.specs.Sound.{AreSoundArms, AreSoundExprs, AreSoundLinks, AreSoundNames, AreSoundStmts, AreSoundVariables, IsSoundArm, IsSoundBlock, IsSoundBody, IsSoundBound, IsSoundDecl, IsSoundDefinition, IsSoundExpr, IsSoundGuard, IsSoundHead, IsSoundKind, IsSoundName, IsSoundOperation, IsSoundParameter, IsSoundPath, IsSoundStep, IsSoundStmt, IsSoundSyntax, IsSoundTypedName}
+use Rattle.orca_syntax.proofs.Complete.{HasParts, HasAllParts, made}
 use Rattle.orca_syntax.proofs.PrintedOnce.{syntax_sound}
+use Rattle.orca_syntax.proofs.TextOnce.{marks_once}
 
 -- ---- forests
 
@@ -257,7 +261,17 @@ operation_sound o f h =
 opening_sound : Sounds der.opening AreSoundStmts
 opening_sound ss f h = stmts_sound ss f h.1
 
-definition_sound : Sounds der.definition IsSoundDefinition
+-- the words of a definition and of a declaration, without that a definition has parts
+abbrev AreDefinitionWords : Definition → Type 0
+AreDefinitionWords (syn.Record at ts) = AllByRecursion IsSoundTypedName ts
+AreDefinitionWords (syn.Enumeration at ns) = AreSoundNames ns
+AreDefinitionWords (syn.Alias k) = IsSoundKind k
+
+abbrev AreDeclWords : Decl → Type 0
+AreDeclWords (syn.Declares at n d) = IsSoundName n × AreDefinitionWords d
+AreDeclWords d = IsSoundDecl d
+
+definition_sound : Sounds der.definition AreDefinitionWords
 definition_sound (syn.Record at ts) f h = let a = each_sound der.field IsSoundTypedName field_sound ts (der.word (Key KeyEnd) f) h.1 in (a.0, a.1.1)
 definition_sound (syn.Enumeration at ns) f h = let a = names_sound ns (der.word (Sign Closes) f) h.1.1 in (a.0, a.1.1)
 definition_sound (syn.Alias k) f h = type_sound k f h
@@ -265,7 +279,7 @@ definition_sound (syn.Alias k) f h = type_sound k f h
 parameters_sound : (ps : List Parameter) (f : Forest) → AllSound (der.separated (Sign Semicolon) der.parameter ps (der.word (Sign Closes) f)) → AllByRecursion IsSoundParameter ps × AllSound f
 parameters_sound ps f h = let a = separated_sound (Sign Semicolon) der.parameter IsSoundParameter parameter_sound ps (der.word (Sign Closes) f) h in (a.0, a.1.1)
 
-decl_sound : Sounds der.decl IsSoundDecl
+decl_sound : Sounds der.decl AreDeclWords
 decl_sound (syn.Constant at n b) f h = let a = bound_sound b (der.word (Sign Semicolon) f) h.1.1.1 in ((h.1.0, a.0), a.1.1)
 decl_sound (syn.Declares at n d) f h = let a = definition_sound d (der.word (Sign Semicolon) f) h.1.1.1 in ((h.1.0, a.0), a.1.1)
 decl_sound (syn.Specification at n hs) f h =
@@ -294,13 +308,39 @@ line_sound n f h = (h.1.0, h.1.1.1)
 import_sound : Sounds der.import_line IsSoundName
 import_sound n f h = (h.1.0, h.1.1.1)
 
-unit_sound : (s : Syntax) → AllSound (der.unit s) → IsSoundSyntax s
+unit_sound : (s : Syntax) → AllSound (der.unit s) → IfSome s.name IsSoundName × AreSoundNames s.imports × AllByRecursion AreDeclWords s.declarations
 unit_sound s h =
     let last : Forest = der.each der.decl s.declarations none in
     let a = any_sound der.module_line IsSoundName line_sound s.name (der.each der.import_line s.imports last) h in
     let b = each_sound der.import_line IsSoundName import_sound s.imports last a.1 in
-    let c = each_sound der.decl IsSoundDecl decl_sound s.declarations none b.1 in
+    let c = each_sound der.decl AreDeclWords decl_sound s.declarations none b.1 in
     (a.0, b.0, c.0)
 
+-- ---- definitions have parts
+
+with_parts : (d : Definition) → AreDefinitionWords d → HasParts d → IsSoundDefinition d
+with_parts (syn.Record at ts) words parts = (words, parts)
+with_parts (syn.Enumeration at ns) words parts = (words, parts)
+with_parts (syn.Alias k) words parts = words
+
+with_all_parts : (d : Decl) → AreDeclWords d → HasAllParts d → IsSoundDecl d
+with_all_parts (syn.Constant at n b) words parts = words
+with_all_parts (syn.Declares at n d) words parts = (words.0, with_parts d words.1 parts)
+with_all_parts (syn.Specification at n hs) words parts = words
+with_all_parts (syn.Implementation at n vs os ss) words parts = words
+with_all_parts (syn.Function at n ps r b) words parts = words
+with_all_parts (syn.Process at n ps b) words parts = words
+
+all_with_parts : (ds : List Decl) → AllByRecursion AreDeclWords ds → AllByRecursion HasAllParts ds → AllByRecursion IsSoundDecl ds
+all_with_parts [] words parts = tt
+all_with_parts (d ∷ ds) words parts = (with_all_parts d words.0 parts.0, all_with_parts ds words.1 parts.1)
+
+text_parts : (s : Syntax) (tokens : List Token) → IsText (der.syntax_marks s) tokens → AllByRecursion HasAllParts s.declarations
+text_parts s tokens text =
+    let x = made (der.syntax_marks s) tokens text in
+    subst (λ (t : Syntax). AllByRecursion HasAllParts t.declarations) (sym (marks_once s x.syntax tokens text (sym x.same))) x.parts
+
 pub parts_sound : (text : List ℕ) (s : Syntax) → HasSyntax text s → IsSoundSyntax s
-parts_sound text s has = unit_sound s (forest_sound (der.unit s) (syntax_sound text s has))
+parts_sound text s has =
+    let words = unit_sound s (forest_sound (der.unit s) (syntax_sound text s has)) in
+    (words.0, words.1, all_with_parts s.declarations words.2 (text_parts s has.tokens has.derived))

@@ -1,5 +1,6 @@
--- The words of a syntax, phrase by phrase: each is one that a text may have (orca_lexer, specs/Spelling.antt, `IsSound`).
-use Rattle.std.specs.Prelude.{List, IfSome}
+-- The words of a syntax, phrase by phrase: each is one that a text may have (orca_lexer, specs/Spelling.antt, `IsSound`). Of each fact
+-- there is one proof: specs/SoundOnce.antt.
+use Rattle.std.specs.Prelude.{◌≢◌, List, [], IfSome}
 use Rattle.std.specs.List.{AllByRecursion}
 use Rattle.orca_lexer.specs.declared.token.TokenKind.TheVariants as kind
 use Rattle.orca_lexer.specs.Spelling.{IsSound}
@@ -123,9 +124,10 @@ IsSoundOperation o = IsSoundHead o.head × AllByRecursion AreSoundVariables o.va
 abbrev pub IsSoundBlock : Block → Type 0
 IsSoundBlock b = AllByRecursion AreSoundVariables b.variables × AreSoundStmts b.statements
 
+-- a record has a field at least, and an enumeration a name
 abbrev pub IsSoundDefinition : Definition → Type 0
-IsSoundDefinition (syn.Record at ts) = AllByRecursion IsSoundTypedName ts
-IsSoundDefinition (syn.Enumeration at ns) = AreSoundNames ns
+IsSoundDefinition (syn.Record at ts) = AllByRecursion IsSoundTypedName ts × (ts ≢ [])
+IsSoundDefinition (syn.Enumeration at ns) = AreSoundNames ns × (ns ≢ [])
 IsSoundDefinition (syn.Alias k) = IsSoundKind k
 
 abbrev pub IsSoundDecl : Decl → Type 0

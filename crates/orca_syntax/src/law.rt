@@ -14,11 +14,12 @@ ghost use Rattle.orca_syntax.specs.Sound.{IsSoundSyntax};
 ghost use Rattle.orca_syntax.specs.TextSyntax.{AreWordsSound, HasSyntax, IsOfSyntax, IsShown, IsSyntaxReadBack, LosesPlaces, Reads};
 
 /// The law of the syntax. What the grammar derives is derived with the marks of a syntax, and no list of tokens has two: so a text whose
-/// tokens are a unit has one syntax, and each other text none. A tree has the marks of the syntax that it shows: where a text has the
-/// marks of a tree, that is *the* syntax of the text, and trees that are read from the same tokens show the same. The tokens of a text's
-/// syntax are sound, and so are the words of each phrase in it. The text `printed u`, which `print_tree` gives where it is UTF-8, has the
-/// same syntax as the text that the unit was read from, places aside. The place of a phrase that keeps one is that of its first token, in
-/// the syntax and in the tree; and the places that a text's syntax keeps rise, in the order in which its marks stand.
+/// tokens are a unit has one syntax, and each other text none. A tree has the marks of the syntax that it shows: where a text has the marks
+/// of a tree, that is *the* syntax of the text, and trees that are read from the same tokens show the same. The tokens of a text's syntax
+/// are sound, and so are the words of each phrase in it; its records have a field and its enumerations a name. The text `printed u`, which
+/// `print_tree` gives where it is UTF-8, has the same syntax as the text that the unit was read from, places aside. The place of a phrase
+/// that keeps one is that of its first token, in the syntax and in the tree; and the places that a text's syntax keeps rise, in the order
+/// in which its marks stand.
 pub fn syntax_law()
     ensures some { (ms : List Mark) (tokens : List Token) → IsText ms tokens → IsOfSyntax ms }
     ensures one { (tokens : List Token) (s t : Syntax) → Reads tokens s → Reads tokens t → s ≡ t }

@@ -1,5 +1,5 @@
 -- What fits, over the types of the objects that exist.
-use Rattle.std.specs.Prelude.{List}
+use Rattle.std.specs.Prelude.{◌<◌, ◌^◌, List}
 use Rattle.std.specs.List.{Contains}
 use Rattle.orca_base.specs.declared.ids.KindNo.{KindNo}
 use Rattle.orca_base.specs.declared.ids.ObjectId.{ObjectId}
@@ -18,6 +18,10 @@ Kinds = List (ObjectId × KindNo)
 -- more objects, and each of the old ones with its type
 abbrev pub ExtendsKinds : Kinds → Kinds → Type 0
 ExtendsKinds kinds more = (entry : ObjectId × KindNo) → Contains kinds entry → Contains more entry
+
+-- the ids of the objects that exist have numbers that fit
+abbrev pub AreNumbered : Kinds → Type 0
+AreNumbered kinds = (entry : ObjectId × KindNo) → Contains kinds entry → (entry.0.process < 2 ^ 16) × (entry.0.number < 2 ^ 32)
 
 -- the state that a making gives, where it gives one
 abbrev pub IfMade : Making → (Data → Type 0) → Type 0

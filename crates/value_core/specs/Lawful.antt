@@ -1,6 +1,7 @@
 -- The law of processes: which objects a process names (docs/LANGUAGE.md, Processes).
 use Rattle.std.specs.Prelude.{◌≡◌, ◌+◌, List, [], ◌∷◌, ◌++◌, length}
 use Rattle.std.specs.List.{Contains}
+use Rattle.std.proofs.Common.{append-nil, append_assoc, subst, sym}
 use Rattle.orca_base.specs.declared.ids.KindNo.{KindNo}
 use Rattle.orca_base.specs.declared.ids.OpNo.{OpNo}
 use Rattle.orca_base.specs.declared.ids.TextNo.{TextNo}
@@ -95,3 +96,23 @@ abbrev pub IsLawful : Computes → (Kinds → KindNo → OpNo → Data → Type 
     Data → List Reply → Type 0
 IsLawful q fits_args fits_text kinds text number args replies =
     IsLawfulDoing q fits_args fits_text kinds text number args replies (next_of q text number args replies)
+
+-- and one reply more, that the next action can get
+replied_from : (q : Computes) (fits_reply : KindNo → OpNo → Reply → Type 0) (text : TextNo) (number : ProcessNo) (args : Data)
+    (before replies : List Reply) (reply : Reply) → RepliesFitFrom q fits_reply text number args before replies →
+    FitsAction fits_reply (next_of q text number args (before ++ replies)) reply →
+    RepliesFitFrom q fits_reply text number args before (replies ++ reply ∷ [])
+replied_from q fits_reply text number args before [] reply fits last =
+    (subst (λ (rs : List Reply). FitsAction fits_reply (next_of q text number args rs) reply) (append-nil before) last, tt)
+replied_from q fits_reply text number args before (r ∷ replies) reply fits last = (
+  fits.0,
+  replied_from q fits_reply text number args (before ++ r ∷ []) replies reply fits.1
+      (subst (λ (rs : List Reply). FitsAction fits_reply (next_of q text number args rs) reply)
+      (sym (append_assoc before (r ∷ []) replies)) last),
+)
+
+pub replied_fit : (q : Computes) (fits_reply : KindNo → OpNo → Reply → Type 0) (text : TextNo) (number : ProcessNo) (args : Data)
+    (replies : List Reply) (reply : Reply) → RepliesFit q fits_reply text number args replies →
+    FitsAction fits_reply (next_of q text number args replies) reply →
+    RepliesFit q fits_reply text number args (replies ++ reply ∷ [])
+replied_fit q fits_reply text number args replies reply = replied_from q fits_reply text number args [] replies reply

@@ -20,7 +20,7 @@ pub trait Performer {
     ghost use Rattle.value_core.specs.declared.action.Class.TheVariants.{Reads};
     ghost use Rattle.value_core.specs.declared.action.Reply.{Reply};
     ghost use Rattle.value_core.specs.Meaning.{Performs};
-    ghost use Rattle.value_core.specs.Fits.{Kinds, ExtendsKinds, IfMade, KeepsState, RepliesWell};
+    ghost use Rattle.value_core.specs.Fits.{AreNumbered, Kinds, ExtendsKinds, IfMade, KeepsState, RepliesWell};
     ghost use Rattle.value_core.specs.History.{output_kind};
     ghost use Rattle.value_core.specs.Sound.{AreSound, AreSoundArguments, IsSoundReply};
 
@@ -94,7 +94,9 @@ pub trait Performer {
     ghost args_sound: { (m : Self) (kinds : Kinds) (kind : KindNo) (op : OpNo) (args : Data) → fits_args m kinds kind op args →
         AreSoundArguments args };
 
-    ghost text_sound: { (m : Self) (kinds : Kinds) (text : TextNo) (args : Data) → fits_text m kinds text args → AreSoundArguments args };
+    /// Objects that a process is handed are sound where their ids' numbers fit.
+    ghost text_sound: { (m : Self) (kinds : Kinds) (text : TextNo) (args : Data) → AreNumbered kinds → fits_text m kinds text args →
+        AreSoundArguments args };
 
     ghost reply_sound: { (m : Self) (kind : KindNo) (op : OpNo) (reply : Reply) → fits_reply m kind op reply → IsSoundReply reply };
 }

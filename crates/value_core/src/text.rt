@@ -1,6 +1,6 @@
 //! The texts that values hold.
 
-ghost use Rattle.std.specs.Prelude.{◌≡◌, IfOk, List, ℕ};
+ghost use Rattle.std.specs.Prelude.{◌≡◌, ◌<◌, ◌^◌, IfOk, List, length, ℕ};
 
 use orca_base::{NoMemory, Text};
 use std::alloc::Global;
@@ -58,7 +58,8 @@ impl TextValue {
 
     /// The text's bytes.
     pub fn as_bytes(&self) -> &[u8]
-        ensures { result.now ≡ self.now }
+        ensures bytes { result.now ≡ self.now }
+        ensures few { length self.now < 2 ^ 63 }
     {
         self.text.as_bytes()
     }

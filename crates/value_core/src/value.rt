@@ -1,6 +1,6 @@
 //! Values: what variables hold, what operations take and give.
 
-ghost use Rattle.std.specs.Prelude.{◌≡◌, ◌↔◌, ◌<◌, ◌≤◌, ◌++◌, ◌∷◌, [], Some, length, map, slice_get, slice_set, insert, remove, option_map, IsTrue, IfOk, OnOk, OnErr};
+ghost use Rattle.std.specs.Prelude.{◌≡◌, ◌↔◌, ◌<◌, ◌≤◌, ◌^◌, ◌++◌, ◌∷◌, [], Some, length, map, slice_get, slice_set, insert, remove, option_map, IsTrue, IfOk, OnOk, OnErr};
 ghost use Rattle.std.specs.Option.{option_copied};
 ghost use Rattle.std.specs.Borrow.{sem};
 ghost use Rattle.value_core.specs.Datum.{list_of};
@@ -135,7 +135,8 @@ impl Parts {
 
     /// How many values there are.
     pub fn len(&self) -> usize
-        ensures { result ≡ length (list_of self.now) }
+        ensures len { result ≡ length (list_of self.now) }
+        ensures few { length (list_of self.now) < 2 ^ 63 }
     {
         self.items.len()
     }

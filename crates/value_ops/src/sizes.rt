@@ -70,7 +70,6 @@ pub fn size_of_all(values: &Parts) -> u32
 
 /// How many characters a string has, or how many elements a set or bag: the language's `size`.
 pub fn count(value: &Value) -> i64
-    requires { number_in (datum_of value.now) < 2 ^ 63 }
     ensures { result ≡ pos (number_in (datum_of value.now)) }
 {
     match value {

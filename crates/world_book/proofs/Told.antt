@@ -199,7 +199,7 @@ copies_kept f w laws k m = record {
     up = up_kept f w k h m
 
 -- whole, but for what the member keeps alone
-shared_kept : (f : Frame) (w : World) (k : Kept f w) (m : ℕ) → (w.nodes m).copies ≡ record (copies_at (singles_in f w) f.performs (agreed f w) (w.nodes m).member.applied) { own = (w.nodes m).copies.own; waits = (w.nodes m).copies.waits }
+pub shared_kept : (f : Frame) (w : World) (k : Kept f w) (m : ℕ) → (w.nodes m).copies ≡ record (copies_at (singles_in f w) f.performs (agreed f w) (w.nodes m).member.applied) { own = (w.nodes m).copies.own; waits = (w.nodes m).copies.waits }
 shared_kept f w k m =
     mem.copies ∙ holds.shared ∙ ap (λ (l : List Message). record (copies_at (singles_in f w) f.performs l (c.applied m)) { own = mine.own; waits = mine.waits }) h.list
     ∙ ap (λ (n : ℕ). record (copies_at (singles_in f w) f.performs (agreed f w) n) { own = mine.own; waits = mine.waits }) (sym (number_kept f (singles_in f w) w k h m))

@@ -15,7 +15,8 @@ use book_law::{every_call_fits, stuck_law};
 use group_law::agreement_law;
 use value_core::{Message, Processor};
 use world_course::worlds_are_courses;
-use world_law::{group_steps, letters_are_sound, replay_law, runs_hold};
+use world_facts::processes_stand;
+use world_law::{group_steps, letters_are_sound, numbers_stay_small, replay_law, runs_hold};
 
 /// The law of every run, for every setting that a run may have and every list of steps. A call of this function does nothing.
 ///
@@ -52,6 +53,8 @@ pub fn legal_book<P: Processor>(machine: &P)
     group_steps();
     runs_hold();
     letters_are_sound();
+    numbers_stay_small();
+    processes_stand();
     worlds_are_courses(machine);
     every_call_fits(machine);
     replay_law(machine);

@@ -73,7 +73,7 @@ call_fits f fitness single w c m call v program h z = record {
       let r : Placed = record { place = n; line = l } in
       let among : In r d.aside = in_second r c.aside (placed n lines) (line_placed n l lines (subst (λ (ls : List Line). In l ls) t.lines is)) in
       let one = fit.performed l (inside.beside r among) in
-      one.2);
+      one.3);
 }
   where
     mine : IsMember f single c h.came m v.node

@@ -17,6 +17,7 @@ use Rattle.value_core.specs.declared.message.Message.{Message}
 use Rattle.guard_queue.specs.Settles.{Settling}
 use Rattle.object_manager.specs.After.{Copied, acted, lines_after as lines_applied, settled_after}
 use Rattle.object_manager.specs.Viewed.{ReadFits}
+use Rattle.object_manager.specs.Singles.{kinds_at}
 use Rattle.book_law.specs.Book.{copies_at}
 use Rattle.book_law.specs.Conditions.{MemberMeets}
 use Rattle.book_law.specs.Course.{Course}
@@ -240,10 +241,11 @@ entry_fits f fitness single w c m x v known k moment due agrees = record {
       (entry_replies f fitness single w d m x v program l.stands l.next)
       (λ a is.
       let one = fit.performed a (inside.entries (d.applied m) x a l.next (subst (λ (ls : List Line). In a ls) same is)) in
-      one.2);
+      one.3);
   begins = λ within b is home.
       let one = fit.asked x (asks.entered x (asks.listed x (in_at x d.list (d.applied m) l.next))) in
-      (one.0, begun_fits fitness.args fitness.text one.0 f.settings.nodes (home_in (known_by f v.node) x.process.0) (suc v.node.copies.applied) x.action b is one.1);
+      let kinds = kinds_at (copies_at single f.performs d.list one.0) in
+      (kinds, begun_fits fitness.args fitness.text kinds f.settings.nodes (home_in (known_by f v.node) x.process.0) (suc v.node.copies.applied) x.action b is one.2);
 }
   where
     program : Program f fitness.state fitness.args fitness.text fitness.reply

@@ -53,7 +53,7 @@ answer_fits : (f : Frame) (fitness : Fitness) (single : Test) (w : World) (c : C
     → Stands f single (at_work f m w v) c → IsAnswer c place i call reply → MayHear fitness.reply v.node i call reply
 answer_fits f fitness single w c m place i call reply v program h a r act here asks number =
     subst (λ (z : Action). FitsAction fitness.reply (doing.At z) reply) (that.action ∙ asked_action f i.0 x r.stage act that.message asks s.is.stage that.out)
-    (subst (λ (z : Reply). FitsAction fitness.reply (doing.At a.line.line.action) z) a.reply (let one = fit.performed a.line.line (inside.beside a.line a.there) in one.2))
+    (subst (λ (z : Reply). FitsAction fitness.reply (doing.At a.line.line.action) z) a.reply (let one = fit.performed a.line.line (inside.beside a.line a.there) in one.3))
   where
     s : Starts f single (at_work f m w v) c i.0 m r
     s = starts_at f single w c m i.0 r v h here

@@ -66,7 +66,15 @@ returns g c =
           let courses : RunsSound f.performs f.computes =
           subst (λ (p : Performs). RunsSound p f.computes) (sym same_p)
           (subst (λ (q : Computes). RunsSound (g.P.Performer.performs m) q) (sym same_q) c.every_call_fits.ensures.sound) in
-          is_sound f steps w l (record { few = settings.few; courses = courses; letters = c.letters_are_sound.ensures }) replays;
+          is_sound f steps w l (record {
+            few = settings.few;
+            events = settings.events;
+            courses = courses;
+            letters = c.letters_are_sound.ensures;
+            numbers = c.agreement_law.ensures.numbers;
+            counts = c.numbers_stay_small.ensures.steps;
+            processes = c.processes_stand.ensures.stands;
+          }) replays;
       once = λ f same steps w v one two.
           let runs = c.replay_law.ensures.once f same in
           runs.replays steps w v one two;

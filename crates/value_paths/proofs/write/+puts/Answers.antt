@@ -11,7 +11,7 @@ pub put_in_array-returns-in_ok-place-in-Array : goal.put_in_array-returns-in_ok-
 put_in_array-returns-in_ok-place-in-Array t c =
     let same = c.as_parts_mut-parts.ensures.value ∙ c.in-Array.parts-is in
     let placed =
-    ap (λ n. place_of n c.args.low c.args.index) (sym c.len.ensures)
+    ap (λ n. place_of n c.args.low c.args.index) (sym c.len.ensures.len)
     ∙ ap (λ z. place_of c.len.result z c.args.index) (sym (to_z-of_z w64 c.args.low c.ranges.low))
     ∙ ap (place_of c.len.result (cast_signed w64 (cast_unsigned w64 c.args.low))) (sym (to_z-of_z w64 c.args.index c.ranges.index))
     ∙ sym (c.in_ok-place-in-Array.ensures {u = tt}) in

@@ -1,0 +1,17 @@
+pub mod Lists
+pub mod Names
+pub mod Tops
+pub mod Bounds
+pub mod Phrases
+pub mod Declared
+pub mod Measures
+pub mod Found
+pub mod Bodies
+pub mod Named
+pub mod Texts
+pub mod Operations
+pub mod Counted
+pub mod Accepted
+pub mod Starting
+pub mod Numbers
+pub mod Meeting

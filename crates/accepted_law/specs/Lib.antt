@@ -1,0 +1,5 @@
+pub mod Limits
+pub mod Known
+pub mod StartsFit
+pub mod Numbers
+pub mod Meets

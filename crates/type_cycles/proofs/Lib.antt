@@ -1,0 +1,4 @@
+pub mod Members
+pub mod Ways
+pub mod Ranked
+pub mod Marked
