@@ -20,8 +20,8 @@ mod scope;
 mod values;
 
 pub use calls::{
-    FunctionCallee, OperationCallee, Use, called, called_well, function_found, invoked,
-    operation_found,
+    FunctionCallee, OperationCallee, Use, acts, called, called_well, formals_of, function_found,
+    invoked, operation_formals, operation_found,
 };
 pub use designators::{gathering, written_root};
 pub use expressions::{arguments, typed, walked};
@@ -29,4 +29,5 @@ pub use kinds::{Wanted, agree, inside_of, meets, plain, same_type};
 pub use lending::roots_differ;
 pub use operators::wanting;
 pub use places::place_of;
-pub use scope::{Local, Scope};
+pub use scope::{Local, Scope, is_plain};
+pub use values::outer;
