@@ -193,11 +193,9 @@ pub fn values_breach(
         IfOk result (λ o. FirstOf o (rules.values_breaches w (map typed_name values.now))) }
 {
     let mut first = None;
-    let mut left = values.len();
-    'values: while left > 0 {
-        left -= 1;
-        let found = data_found(alloc, forms, view, &values[left].kind)?;
-        first = lesser(found.first, first);
+    'values: for value in values {
+        let found = data_found(alloc, forms, view, &value.kind)?;
+        first = lesser(first, found.first);
     }
     Ok(first)
 }

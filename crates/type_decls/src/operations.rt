@@ -176,11 +176,9 @@ pub fn operations_breach<'p>(
         IfOk result (λ o. FirstOf o (flat_map (rules.operation_breaches us home.now fs) (map operation_shown operations.now))) }
 {
     let mut first = None;
-    let mut left = operations.len();
-    'operations: while left > 0 {
-        left -= 1;
-        let own = operation_breach(alloc, context, home, fields, seen, &operations[left])?;
-        first = lesser(own, first);
+    'operations: for operation in operations {
+        let own = operation_breach(alloc, context, home, fields, seen, operation)?;
+        first = lesser(first, own);
     }
     Ok(first)
 }

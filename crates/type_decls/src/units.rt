@@ -28,11 +28,9 @@ fn unit_breach<'p>(
 {
     let home = module_of(unit);
     let mut first = None;
-    let mut left = unit.unit.declarations.len();
-    'declarations: while left > 0 {
-        left -= 1;
-        let own = declaration_breach(alloc, context, home, &unit.unit.declarations[left])?;
-        first = lesser(own, first);
+    'declarations: for part in &unit.unit.declarations {
+        let own = declaration_breach(alloc, context, home, part)?;
+        first = lesser(first, own);
     }
     Ok(first)
 }

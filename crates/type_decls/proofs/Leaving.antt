@@ -1,0 +1,81 @@
+-- The names of an operation, entered and left again.
+use Rattle.std.proofs.Common.{◌≡◌, ℕ, Bool, true, false, cond, ◌&&◌, ◌||◌, List, [], ◌∷◌, ◌++◌, map, find, Option, Some, refl, sym, ap, ◌∙◌}
+use Rattle.std.specs.Prelude.{bytes_eq, option_map}
+use Rattle.std.specs.Borrow.{Bor}
+use Rattle.std.specs.BTreeMap.{BTreeMap}
+use Rattle.orca_tree.specs.declared.tree.Name.{Name}
+use Rattle.type_rules.specs.Rules.{is_among}
+use Rattle.type_rules.specs.Scopes.{Local, texts}
+use Rattle.type_forms.specs.Seen.{has}
+use Rattle.type_forms.proofs.Loops.{bytes_turned}
+use Rattle.type_tables.specs.Entries.{entry}
+use Rattle.type_exprs.specs.declared.scope as code
+use Rattle.type_exprs.specs.Scoped.{local_as}
+use Rattle.type_decls.specs.Bodies.{AreLocals, AreNames}
+use Rattle.type_decls.proofs.FieldsLast.{called}
+
+abbrev NameSet : Type 0
+NameSet = BTreeMap (Bor (List ℕ)) (Unit {0})
+
+abbrev Named : Type 0
+Named = BTreeMap (Bor (List ℕ)) code.Local.Local
+
+or_again : (a b c : Bool) → ((a || b) || c) ≡ (a || (b || c))
+or_again true b c = refl
+or_again false b c = refl
+
+-- a name is among two lists
+among_both : (as bs : List Name) (n : List ℕ) → is_among (texts (as ++ bs)) n ≡ (is_among (texts as) n || is_among (texts bs) n)
+among_both [] bs n = refl
+among_both (a ∷ as) bs n =
+    ap (λ (b : Bool). bytes_eq n a.text || b) (among_both as bs n) ∙ sym (or_again (bytes_eq n a.text) (is_among (texts as) n) (is_among (texts bs) n))
+
+or_swapped : (a b : Bool) → (a || b) ≡ (b || a)
+or_swapped true true = refl
+or_swapped true false = refl
+or_swapped false true = refl
+or_swapped false false = refl
+
+-- a set of fields, the operation's names in it
+pub entered : (old new : NameSet) (own fs : List Name) → ((n : List ℕ) → has new n ≡ (has old n || is_among (texts own) n)) → AreNames old (texts fs) →
+    AreNames new (texts (own ++ fs))
+entered old new own fs is h n =
+    is n ∙ ap (λ (b : Bool). b || is_among (texts own) n) (h n) ∙ or_swapped (is_among (texts fs) n) (is_among (texts own) n) ∙ sym (among_both own fs n)
+
+back : (own f : Bool) → cond own (f && (own || f)) (own || f) ≡ f
+back true true = refl
+back true false = refl
+back false true = refl
+back false false = refl
+
+-- and out of it again
+pub left_names : (old new fields : NameSet) (own fs : List Name) →
+    ((n : List ℕ) → has new n ≡ cond (is_among (texts own) n) (has fields n && has old n) (has old n)) → AreNames old (texts (own ++ fs)) →
+    AreNames fields (texts fs) → AreNames new (texts fs)
+left_names old new fields own fs is h f n =
+    is n
+    ∙ ap (λ (b : Bool). cond (is_among (texts own) n) (has fields n && b) b) (h n ∙ among_both own fs n)
+    ∙ ap (λ (b : Bool). cond (is_among (texts own) n) (b && (is_among (texts own) n || is_among (texts fs) n)) (is_among (texts own) n || is_among (texts fs) n)) (f n)
+    ∙ back (is_among (texts own) n) (is_among (texts fs) n)
+
+-- ---- what they are
+
+neither : (a b : Bool) → (a || b) ≡ false → (a ≡ false) × (b ≡ false)
+neither true b h = absurd (cc h)
+neither false b h = (refl, h)
+
+-- a name that isn't among the first is found among the others
+past : (ls ms : List Local) (n : List ℕ) → is_among (called ls) n ≡ false → find (λ l. bytes_eq l.name n) (ls ++ ms) ≡ find (λ l. bytes_eq l.name n) ms
+past [] ms n h = refl
+past (l ∷ ls) ms n h =
+    let apart = neither (bytes_eq n l.name) (is_among (called ls) n) h in
+    ap (λ (b : Bool). cond b (Some l) (find (λ l. bytes_eq l.name n) (ls ++ ms))) (bytes_turned l.name n ∙ apart.0) ∙ past ls ms n apart.1
+
+pub left_locals : (old new fields : Named) (own : List (List ℕ)) (ls ms : List Local) →
+    ((n : List ℕ) → entry new n ≡ cond (is_among own n) (entry fields n) (entry old n)) → called ls ≡ own → AreLocals old (ls ++ ms) → AreLocals fields ms →
+    AreLocals new ms
+left_locals old new fields own ls ms is same h f n = ap (option_map (local_as n)) (is n) ∙ by_test (is_among own n) refl
+  where
+    by_test : (b : Bool) → is_among own n ≡ b → option_map (local_as n) (cond b (entry fields n) (entry old n)) ≡ find (λ l. bytes_eq l.name n) ms
+    by_test true e = f n
+    by_test false e = h n ∙ past ls ms n (ap (λ (ns : List (List ℕ)). is_among ns n) same ∙ e)

@@ -1,0 +1,6 @@
+pub mod InFront
+pub mod FieldsLast
+pub mod Leaving
+pub mod Rows
+pub mod FirstOnes
+pub mod Judging
