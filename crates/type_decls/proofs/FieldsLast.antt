@@ -6,10 +6,12 @@ use Rattle.orca_tree.specs.declared.tree.Mode.{Mode}
 use Rattle.orca_tree.specs.declared.tree.Mode.TheVariants as mode
 use Rattle.orca_syntax.specs.Syntax.{Kind, Parameter, TypedName, Variables}
 use Rattle.type_rules.specs.declared.types.DataType.{DataType}
-use Rattle.type_rules.specs.Types.{Measured}
+use Rattle.type_rules.specs.declared.types.Measured.{Measured}
 use Rattle.type_rules.specs.Rules.{Found}
 use Rattle.type_rules.specs.Constants.{View}
-use Rattle.type_rules.specs.Scopes.{Local, LocalRole, ObjectField, Variable, is_field, locals_of, parameter_local, role_of, texts, value_local, variable_names}
+use Rattle.type_rules.specs.declared.names.LocalRole.{LocalRole}
+use Rattle.type_rules.specs.declared.names.LocalRole.TheVariants.{ObjectField, Variable}
+use Rattle.type_rules.specs.Scopes.{Local, is_field, locals_of, parameter_local, role_of, texts, value_local, variable_names}
 use Rattle.type_stmts.specs.Bodies.{all_fields, fields_last}
 
 -- one name of the body in front

@@ -7,7 +7,7 @@ use Rattle.orca_syntax.specs.Syntax.{Head, TypedName, Variables}
 use Rattle.orca_syntax.specs.Shown.{operation, typed_name}
 use Rattle.link_rules.specs.Units.{Source}
 use Rattle.type_rules.specs.declared.breach.Breach.{Breach}
-use Rattle.type_rules.specs.Rules.{agree, asks}
+use Rattle.type_rules.specs.Rules.{agree, asks, breaks}
 use Rattle.type_rules.specs.Constants.{View}
 use Rattle.type_rules.specs.TypePhrases.{data_found}
 use Rattle.type_rules.specs.Scopes.{type_of}
@@ -64,6 +64,10 @@ head_more us m fs home hs os i o lt is =
     ++ heads_match us m fs home (drop 1 (drop i hs)) (map operation (drop (i + 1) os))) (first_left i hs)
     ∙ ap (λ (l : List Head). asks 12 o.head.at (is_head_of us (operation_view us m fs (operation o)) home (operation o).head (slice_get hs i))
     ++ heads_match us m fs home l (map operation (drop (i + 1) os))) (drop_once i hs)
+
+abbrev pub lacks_one : Option Head → List Breach
+lacks_one None = []
+lacks_one (Some h) = breaks 12 h.at
 
 -- what is lacked behind so many
 pub lacks_there : (hs : List Head) (i : ℕ) → lacks (drop i hs) ≡ lacks_one (slice_get hs i)

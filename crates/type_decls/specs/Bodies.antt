@@ -3,7 +3,7 @@ use Rattle.std.specs.Prelude.{◌≡◌, ℕ, Bool, true, false, List, find, byt
 use Rattle.std.specs.Borrow.{Bor}
 use Rattle.std.specs.BTreeMap.{BTreeMap}
 use Rattle.orca_syntax.specs.Syntax.{Kind}
-use Rattle.type_rules.specs.Types.{Measured}
+use Rattle.type_rules.specs.declared.types.Measured.{Measured}
 use Rattle.type_rules.specs.Rules.{Found, is_among}
 use Rattle.type_rules.specs.Constants.{View}
 use Rattle.type_rules.specs.TypePhrases.{data_found, kind_found}

@@ -3,7 +3,7 @@ use Rattle.std.specs.Prelude.{◌≡◌, ℕ, List, false, Some}
 use Rattle.link_rules.specs.Units.{Source}
 use Rattle.type_rules.specs.declared.types.Base.TheVariants.{Integer}
 use Rattle.type_rules.specs.Types.{plain}
-use Rattle.type_rules.specs.Scopes.{LoopVariable}
+use Rattle.type_rules.specs.declared.names.LocalRole.TheVariants.{LoopVariable}
 use Rattle.type_forms.specs.Seen.{has}
 use Rattle.type_cycles.specs.Leading.{AreRound}
 use Rattle.type_tables.specs.Tables.{AreTables}

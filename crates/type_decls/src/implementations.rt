@@ -65,7 +65,7 @@ fn all_names<'p>(
 }
 
 // The first field or operation that stands behind another of its name.
-fn again(
+fn repeated_name(
     alloc: Global,
     groups: &[Variables],
     operations: &[Operation],
@@ -117,7 +117,8 @@ fn opening_breach<'p>(
     match opening {
         None => Ok(None),
         Some(statements) => {
-            let scope = context.body(home, locals, Owner::Implementation, &None);
+            let gives = None;
+            let scope = context.body(home, locals, Owner::Implementation, &gives);
             Ok(stmts_breach(alloc, scope, statements)?)
         }
     }
@@ -170,7 +171,7 @@ pub fn implementation_breach<'p>(
     let index = context.tables.forms.index;
     let specified = specification(index, name.text.as_str());
     let known = asks(11, name.at, is_specified_in(home, specified));
-    let again = again(alloc, groups, operations)?;
+    let again = repeated_name(alloc, groups, operations)?;
     let names = field_names(alloc, groups)?;
     let free = are_free(index, home, context.none, &names);
     let inside = inside_breach(

@@ -9,8 +9,8 @@
 #![tactic(auto)]
 
 mod blocks;
-mod check;
 mod checked;
+mod checking;
 mod context;
 mod declarations;
 mod fields;
@@ -23,6 +23,6 @@ mod specifications;
 mod symbols;
 mod units;
 
-pub use check::check;
 pub use checked::Checked;
+pub use checking::check;
 pub use symbols::Symbols;

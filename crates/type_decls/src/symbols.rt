@@ -2,20 +2,17 @@
 
 ghost use Rattle.std.specs.Prelude.{◌≡◌, ◌∷◌, [], ℕ, List, IfOk, map, None, Some};
 ghost use Rattle.link_rules.specs.Units.{Source, source};
-ghost use Rattle.type_rules.specs.Types.{plain as rule_plain, NodeName};
+ghost use Rattle.type_rules.specs.declared.types.Base.TheVariants.{NodeName};
+ghost use Rattle.type_rules.specs.Types.{plain as rule_plain};
 ghost use Rattle.type_rules.specs.declared.signature.Formal.TheVariants.{NodeOf, SomeGraph};
-ghost use Rattle.type_forms.specs.Indexed.{Indexes};
-ghost use Rattle.type_forms.specs.Chains.{AreChains};
-ghost use Rattle.type_forms.specs.Settled.{AreTypes};
 ghost use Rattle.type_tables.specs.Tables.{AreTables};
 ghost use Rattle.type_decls.specs.Symbols.{AreSymbols};
 
 use link_rules::NamedUnit;
 use orca_base::{Items, NoMemory};
 use std::alloc::Global;
-use std::collections::BTreeMap;
 use type_exprs::plain;
-use type_forms::{Forms, Index, Known, chains_of, parts_of, types_of};
+use type_forms::{Forms, Index, chains_of, parts_of, types_of};
 use type_rules::{Base, Chain, Formal, Measured, Signature};
 use type_tables::{Fields, Operations, Tables, fields_of, operations_of, signatures_of};
 
@@ -32,25 +29,6 @@ pub struct Symbols<'p> {
     pub operations: Vec<Operations<'p>>,
     pub add_node: Signature,
     pub delete_node: Signature,
-}
-
-// The declared types of a program.
-fn declared_types(
-    alloc: Global,
-    index: &Index<'_>,
-    chains: &[Chain],
-) -> Result<Vec<Option<Measured>>, NoMemory>
-    ensures { (us : List Source) → Indexes index.now us → AreChains us chains.now → IfOk result (λ v. AreTypes us v.items) }
-{
-    let parts = parts_of(alloc, index)?;
-    let none = BTreeMap::new(alloc);
-    let known = Known {
-        index,
-        chains,
-        parts: &parts,
-        none: &none,
-    };
-    types_of(alloc, known)
 }
 
 // The signature of `addnode`.
@@ -85,7 +63,8 @@ impl<'p> Symbols<'p> {
     {
         let index = Index::new(alloc, units)?;
         let chains = chains_of(alloc, &index)?;
-        let types = declared_types(alloc, &index, &chains)?;
+        let parts = parts_of(alloc, &index)?;
+        let types = types_of(alloc, &index, &chains, &parts)?;
         let forms = Forms {
             index: &index,
             chains: &chains,

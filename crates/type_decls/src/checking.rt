@@ -5,7 +5,7 @@ ghost use Rattle.orca_base.specs.Refusal.{IfBecause};
 ghost use Rattle.link_rules.specs.Units.{source};
 ghost use Rattle.type_rules.specs.declared.types.Base.TheVariants.{Integer};
 ghost use Rattle.type_rules.specs.Types.{plain as rule_plain};
-ghost use Rattle.type_rules.specs.Scopes.{LoopVariable};
+ghost use Rattle.type_rules.specs.declared.names.LocalRole.TheVariants.{LoopVariable};
 ghost use Rattle.type_rules.specs.Breaches.{IsTypeError, IsWellTyped, breaches};
 ghost use Rattle.type_exprs.specs.Scoped.{local_as};
 ghost use Rattle.type_decls.specs.Judged.{Judges};
@@ -25,7 +25,7 @@ use type_forms::parts_of;
 use type_rules::{Base, LocalRole, TypeError};
 
 // What the variable of a loop is.
-fn counter(alloc: Global) -> Local
+fn loop_variable(alloc: Global) -> Local
     ensures { (n : List ℕ) → local_as n result ≡ record { name = n; role = LoopVariable; type = Some (rule_plain Integer) } }
 {
     Local {
@@ -45,7 +45,7 @@ fn judged<'p>(
     let parts = parts_of(alloc, &symbols.index)?;
     let rounds = holds_themselves(alloc, &parts)?;
     let none = BTreeMap::new(alloc);
-    let counter = counter(alloc);
+    let counter = loop_variable(alloc);
     let context = Context {
         tables: symbols.tables(),
         rounds: &rounds,
