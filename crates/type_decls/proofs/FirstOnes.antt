@@ -1,9 +1,9 @@
 -- The first of several lists of breaches.
-use Rattle.std.proofs.Common.{◌≡◌, ℕ, ◌<◌, ◌+◌, List, ◌∷◌, ◌++◌, length, get_or, drop, map, Option, refl, sym, ap, ◌∙◌, append_assoc}
+use Rattle.std.proofs.Common.{◌≡◌, ℕ, ◌<◌, ◌+◌, List, [], ◌∷◌, ◌++◌, length, get_or, drop, map, Option, refl, sym, ap, ◌∙◌, append_assoc}
 use Rattle.std.specs.Prelude.{flat_map}
 use Rattle.type_rules.specs.declared.breach.Breach.{Breach}
 use Rattle.type_rules.specs.Order.{least, lesser}
-use Rattle.type_rules.proofs.Least.{least_of_both, lesser_assoc}
+use Rattle.type_rules.proofs.Least.{least_of_both, lesser_assoc, lesser_none}
 use Rattle.type_forms.specs.Finding.{FirstOf}
 use Rattle.type_forms.proofs.FirstOfBoth.{first_of_both}
 use Rattle.type_forms.proofs.Loops.{rest_is}
@@ -15,22 +15,33 @@ first_of_two x y q as bs is e f = is ∙ first_of_both x y as bs e f
 pub first_of_pair : (x y q : Option Breach) (as bs cs : List Breach) → q ≡ lesser x y → FirstOf x (as ++ bs) → FirstOf y cs → FirstOf q (as ++ (bs ++ cs))
 first_of_pair x y q as bs cs is e f = first_of_two x y q (as ++ bs) cs is e f ∙ ap least (append_assoc as bs cs)
 
-module _ {A B : Type 0} (shown : A → B) (f : B → List Breach) (xs : List A) (i : ℕ) (x : A) (lt : i < length xs) (is : x ≡ get_or xs i x) where
-  abbrev behind : List Breach
-  behind = flat_map f (map shown (drop (i + 1) xs))
+-- a part more of what is left
+further : (front part behind : List Breach) (first own q all : Option Breach) → front ≡ part ++ behind → q ≡ lesser first own → FirstOf own part →
+    lesser first (least front) ≡ all → lesser q (least behind) ≡ all
+further front part behind first own q all is more e h =
+    ap (λ (o : Option Breach). lesser o (least behind)) (more ∙ ap (lesser first) e)
+    ∙ lesser_assoc first (least part) (least behind)
+    ∙ ap (lesser first) (sym (least_of_both part behind) ∙ ap least (sym is))
+    ∙ h
 
-  listed : flat_map f (map shown (drop i xs)) ≡ f (shown x) ++ behind
-  listed = ap (λ (l : List A). flat_map f (map shown l)) (rest_is xs i x lt is)
+pub next_further : {A : Type 0} (f : A → List Breach) (xs : List A) (i : ℕ) (x : A) (first own q all : Option Breach) → i < length xs → x ≡ get_or xs i x →
+    q ≡ lesser first own → FirstOf own (f x) → lesser first (least (flat_map f (drop i xs))) ≡ all → lesser q (least (flat_map f (drop (i + 1) xs))) ≡ all
+next_further {A} f xs i x first own q all lt is more e h =
+    further (flat_map f (drop i xs)) (f x) (flat_map f (drop (i + 1) xs)) first own q all (ap (flat_map f) (rest_is xs i x lt is)) more e h
 
-  -- of a list, one more in front
-  pub first_in_front : (own rest q : Option Breach) → q ≡ lesser own rest → FirstOf own (f (shown x)) → FirstOf rest behind → FirstOf q (flat_map f (map shown (drop i xs)))
-  first_in_front own rest q more e h = first_of_two own rest q (f (shown x)) behind more e h ∙ ap least (sym listed)
+pub shown_further : {A B : Type 0} (shown : A → B) (f : B → List Breach) (xs : List A) (i : ℕ) (x : A) (first own q all : Option Breach) → i < length xs →
+    x ≡ get_or xs i x → q ≡ lesser first own → FirstOf own (f (shown x)) → lesser first (least (flat_map f (map shown (drop i xs)))) ≡ all →
+    lesser q (least (flat_map f (map shown (drop (i + 1) xs)))) ≡ all
+shown_further {A} {B} shown f xs i x first own q all lt is more e h =
+    further (flat_map f (map shown (drop i xs))) (f (shown x)) (flat_map f (map shown (drop (i + 1) xs))) first own q all
+    (ap (λ (l : List A). flat_map f (map shown l)) (rest_is xs i x lt is)) more e h
 
-  -- and one more of what is left
-  pub first_further : (first own q all : Option Breach) → q ≡ lesser first own → FirstOf own (f (shown x)) →
-      lesser first (least (flat_map f (map shown (drop i xs)))) ≡ all → lesser q (least behind) ≡ all
-  first_further first own q all more e h =
-      ap (λ (o : Option Breach). lesser o (least behind)) (more ∙ ap (lesser first) e)
-      ∙ lesser_assoc first (least (f (shown x))) (least behind)
-      ∙ ap (lesser first) (sym (least_of_both (f (shown x)) behind) ∙ ap least (sym listed))
-      ∙ h
+-- nothing is left
+pub next_end : {A : Type 0} (f : A → List Breach) (xs : List A) (i : ℕ) (first all : Option Breach) → drop i xs ≡ [] →
+    lesser first (least (flat_map f (drop i xs))) ≡ all → first ≡ all
+next_end {A} f xs i first all e h = sym (lesser_none first) ∙ ap (λ (l : List A). lesser first (least (flat_map f l))) (sym e) ∙ h
+
+pub shown_end : {A B : Type 0} (shown : A → B) (f : B → List Breach) (xs : List A) (i : ℕ) (first all : Option Breach) → drop i xs ≡ [] →
+    lesser first (least (flat_map f (map shown (drop i xs)))) ≡ all → first ≡ all
+shown_end {A} {B} shown f xs i first all e h =
+    sym (lesser_none first) ∙ ap (λ (l : List A). lesser first (least (flat_map f (map shown l)))) (sym e) ∙ h

@@ -1,6 +1,6 @@
 -- The names of an operation, entered and left again.
-use Rattle.std.proofs.Common.{◌≡◌, ℕ, Bool, true, false, cond, ◌&&◌, ◌||◌, List, [], ◌∷◌, ◌++◌, map, find, Option, Some, refl, sym, ap, ◌∙◌}
-use Rattle.std.specs.Prelude.{bytes_eq, option_map}
+use Rattle.std.proofs.Common.{◌≡◌, ℕ, Bool, true, false, cond, ◌&&◌, ◌||◌, List, [], ◌∷◌, ◌++◌, map, find, Option, None, Some, refl, sym, ap, ◌∙◌}
+use Rattle.std.specs.Prelude.{bytes_eq, is_some, option_map}
 use Rattle.std.specs.Borrow.{Bor}
 use Rattle.std.specs.BTreeMap.{BTreeMap}
 use Rattle.orca_tree.specs.declared.tree.Name.{Name}
@@ -79,3 +79,22 @@ left_locals old new fields own ls ms is same h f n = ap (option_map (local_as n)
     by_test : (b : Bool) → is_among own n ≡ b → option_map (local_as n) (cond b (entry fields n) (entry old n)) ≡ find (λ l. bytes_eq l.name n) ms
     by_test true e = f n
     by_test false e = h n ∙ past ls ms n (ap (λ (ns : List (List ℕ)). is_among ns n) same ∙ e)
+
+-- ---- one name more that is left
+
+-- a name that no field has is taken out
+pub taken_out : {X : Type 0} (same f : Bool) (old new : Option X) → new ≡ cond same None old → (same ≡ true → f ≡ false) →
+    is_some new ≡ cond same (f && is_some old) (is_some old)
+taken_out {X} true f old new is out = ap is_some is ∙ sym (ap (λ (b : Bool). b && is_some old) (out refl))
+taken_out {X} false f old new is out = ap is_some is
+
+pub leave_step : (same left f o : Bool) → cond left (f && cond same (f && o) o) (cond same (f && o) o) ≡ cond (same || left) (f && o) o
+leave_step true true true o = refl
+leave_step true true false o = refl
+leave_step true false f o = refl
+leave_step false left f o = refl
+
+pub back_step : {X : Type 0} (same left : Bool) (f o : X) → cond left f (cond same f o) ≡ cond (same || left) f o
+back_step {X} true true f o = refl
+back_step {X} true false f o = refl
+back_step {X} false left f o = refl

@@ -1,6 +1,6 @@
 //! The rules of specifications.
 
-ghost use Rattle.std.specs.Prelude.{◌≡◌, ◌++◌, List, [], IfOk, flat_map, map, slice_get};
+ghost use Rattle.std.specs.Prelude.{◌≡◌, ◌++◌, List, [], IfOk, drop, flat_map, map, slice_get};
 ghost use Rattle.orca_syntax.specs.Shown.{head as head_shown};
 ghost use Rattle.link_rules.specs.Units.{Source};
 ghost use Rattle.type_rules.specs.TopLevel.{top_names};
@@ -133,16 +133,24 @@ fn operation_count(index: &Index<'_>, name: &str) -> Option<usize>
     }
 }
 
+// The first head behind so many.
+#[tactic(auto, using(crate::proofs::Rows::lacks_there))]
+fn lacks(heads: &[Head], count: usize) -> Option<Breach>
+    ensures { FirstOf result (rules.lacks (drop count (map head_shown heads.now))) }
+{
+    match heads.get(count) {
+        None => None,
+        Some(head) => breaks(12, head.at),
+    }
+}
+
 // The first head that an implementation with so many operations lacks.
 fn lacking(heads: &[Head], count: Option<usize>) -> Option<Breach>
     ensures { FirstOf result (rules.lacking (map head_shown heads.now) count) }
 {
     match count {
         None => None,
-        Some(count) => match heads.get(count) {
-            None => None,
-            Some(head) => breaks(12, head.at),
-        },
+        Some(count) => lacks(heads, count),
     }
 }
 
