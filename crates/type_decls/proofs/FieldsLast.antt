@@ -31,7 +31,7 @@ pub values_first : (v : View) (ts : List TypedName) (ls : List Local) → fields
 values_first v [] ls h = h
 values_first v (t ∷ ts) ls h = own_first (value_local v t) (map (value_local v) ts ++ ls) refl (values_first v ts ls h)
 
-abbrev named : LocalRole → Option DataType → List Name → List Local
+abbrev pub named : LocalRole → Option DataType → List Name → List Local
 named role t ns = map (λ n. record { name = n.text; role = role; type = t }) ns
 
 names_first : (t : Option DataType) (ns : List Name) (ls : List Local) → fields_last ls ≡ true → fields_last (named Variable t ns ++ ls) ≡ true

@@ -8,12 +8,12 @@ use Rattle.type_forms.specs.Finding.{FirstOf}
 use Rattle.type_forms.proofs.FirstOfBoth.{first_of_both}
 use Rattle.type_forms.proofs.Loops.{rest_is}
 
-pub first_of_two : (x y q : Option Breach) (as bs : List Breach) → q ≡ lesser x y → FirstOf x as → FirstOf y bs → FirstOf q (as ++ bs)
-first_of_two x y q as bs is e f = is ∙ first_of_both x y as bs e f
+pub first_of_two : (x y q : Option Breach) (ks bs : List Breach) → q ≡ lesser x y → FirstOf x ks → FirstOf y bs → FirstOf q (ks ++ bs)
+first_of_two x y q ks bs is e f = is ∙ first_of_both x y ks bs e f
 
 -- the first two stand together in code
-pub first_of_pair : (x y q : Option Breach) (as bs cs : List Breach) → q ≡ lesser x y → FirstOf x (as ++ bs) → FirstOf y cs → FirstOf q (as ++ (bs ++ cs))
-first_of_pair x y q as bs cs is e f = first_of_two x y q (as ++ bs) cs is e f ∙ ap least (append_assoc as bs cs)
+pub first_of_pair : (x y q : Option Breach) (ks bs cs : List Breach) → q ≡ lesser x y → FirstOf x (ks ++ bs) → FirstOf y cs → FirstOf q (ks ++ (bs ++ cs))
+first_of_pair x y q ks bs cs is e f = first_of_two x y q (ks ++ bs) cs is e f ∙ ap least (append_assoc ks bs cs)
 
 -- a part more of what is left
 further : (front part behind : List Breach) (first own q all : Option Breach) → front ≡ part ++ behind → q ≡ lesser first own → FirstOf own part →
@@ -45,3 +45,11 @@ pub shown_end : {A B : Type 0} (shown : A → B) (f : B → List Breach) (xs : L
     lesser first (least (flat_map f (map shown (drop i xs)))) ≡ all → first ≡ all
 shown_end {A} {B} shown f xs i first all e h =
     sym (lesser_none first) ∙ ap (λ (l : List A). lesser first (least (flat_map f (map shown l)))) (sym e) ∙ h
+
+-- one more in front
+pub shown_in_front : {A B : Type 0} (shown : A → B) (f : B → List Breach) (xs : List A) (i : ℕ) (x : A) (own rest q : Option Breach) → i < length xs →
+    x ≡ get_or xs i x → q ≡ lesser own rest → FirstOf own (f (shown x)) → FirstOf rest (flat_map f (map shown (drop (i + 1) xs))) →
+    FirstOf q (flat_map f (map shown (drop i xs)))
+shown_in_front {A} {B} shown f xs i x own rest q lt is more e h =
+    first_of_two own rest q (f (shown x)) (flat_map f (map shown (drop (i + 1) xs))) more e h
+    ∙ ap (λ (l : List A). least (flat_map f (map shown l))) (sym (rest_is xs i x lt is))

@@ -1,5 +1,6 @@
 -- The first unit that has a breach.
 use Rattle.std.proofs.Common.{◌≡◌, List, [], ◌∷◌, ◌++◌, map, Option, Some, None, refl, sym, ap, ◌∙◌}
+use Rattle.std.specs.Prelude.{option_map}
 use Rattle.link_rules.specs.Units.{Source}
 use Rattle.link_rules.specs.Rules.{first}
 use Rattle.type_rules.specs.declared.breach.Breach.{Breach}
@@ -15,11 +16,7 @@ none_first {A} (x ∷ xs) e = absurd (cc e)
 
 first_mapped : {A B : Type 0} (f : A → B) (xs : List A) (x : A) → first xs ≡ Some x → first (map f xs) ≡ Some (f x)
 first_mapped {A} {B} f [] x e = absurd (cc e)
-first_mapped {A} {B} f (y ∷ xs) x e = ap (λ (o : Option A). or_first o) e
-  where
-    abbrev or_first : Option A → Option B
-    or_first None = None
-    or_first (Some v) = Some (f v)
+first_mapped {A} {B} f (y ∷ xs) x e = ap (option_map f) e
 
 -- a unit without breaches, and one with a first
 pub unit_whole : (u : Source) (bs : List Breach) → FirstOf None bs → map (type_error u) (in_text_order bs) ≡ []

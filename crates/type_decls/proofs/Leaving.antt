@@ -3,6 +3,7 @@ use Rattle.std.proofs.Common.{◌≡◌, ℕ, Bool, true, false, cond, ◌&&◌,
 use Rattle.std.specs.Prelude.{bytes_eq, is_some, option_map}
 use Rattle.std.specs.Borrow.{Bor}
 use Rattle.std.specs.BTreeMap.{BTreeMap}
+use Rattle.std.proofs.lemmas.Slice.Eq.{bytes_eq-Decides}
 use Rattle.orca_tree.specs.declared.tree.Name.{Name}
 use Rattle.type_rules.specs.Rules.{is_among}
 use Rattle.type_rules.specs.Scopes.{Local, texts}
@@ -25,10 +26,10 @@ or_again true b c = refl
 or_again false b c = refl
 
 -- a name is among two lists
-among_both : (as bs : List Name) (n : List ℕ) → is_among (texts (as ++ bs)) n ≡ (is_among (texts as) n || is_among (texts bs) n)
+among_both : (ks bs : List Name) (n : List ℕ) → is_among (texts (ks ++ bs)) n ≡ (is_among (texts ks) n || is_among (texts bs) n)
 among_both [] bs n = refl
-among_both (a ∷ as) bs n =
-    ap (λ (b : Bool). bytes_eq n a.text || b) (among_both as bs n) ∙ sym (or_again (bytes_eq n a.text) (is_among (texts as) n) (is_among (texts bs) n))
+among_both (a ∷ ks) bs n =
+    ap (λ (b : Bool). bytes_eq n a.text || b) (among_both ks bs n) ∙ sym (or_again (bytes_eq n a.text) (is_among (texts ks) n) (is_among (texts bs) n))
 
 or_swapped : (a b : Bool) → (a || b) ≡ (b || a)
 or_swapped true true = refl
@@ -87,6 +88,15 @@ pub taken_out : {X : Type 0} (same f : Bool) (old new : Option X) → new ≡ co
     is_some new ≡ cond same (f && is_some old) (is_some old)
 taken_out {X} true f old new is out = ap is_some is ∙ sym (ap (λ (b : Bool). b && is_some old) (out refl))
 taken_out {X} false f old new is out = ap is_some is
+
+-- what a name is of the fields is given back
+pub given_back : {X : Type 0} (name n : List ℕ) (fields : List ℕ → Option X) (old new own : Option X) → new ≡ cond (bytes_eq name n) own old →
+    fields name ≡ own → new ≡ cond (bytes_eq name n) (fields n) old
+given_back {X} name n fields old new own is e = is ∙ by_test (bytes_eq name n) refl
+  where
+    by_test : (b : Bool) → bytes_eq name n ≡ b → cond b own old ≡ cond b (fields n) old
+    by_test true same = sym e ∙ ap fields ((bytes_eq-Decides name n).0 same)
+    by_test false same = refl
 
 pub leave_step : (same left f o : Bool) → cond left (f && cond same (f && o) o) (cond same (f && o) o) ≡ cond (same || left) (f && o) o
 leave_step true true true o = refl

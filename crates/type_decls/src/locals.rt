@@ -107,10 +107,11 @@ pub fn declare_variables<'p>(
     let mut left = groups.len();
     'groups: while left > 0 {
         left -= 1;
-        let found = variable_found(alloc, forms, view, objects, &groups[left].kind)?;
+        let group = &groups[left];
+        let found = variable_found(alloc, forms, view, objects, &group.kind)?;
         first = lesser(found.first, first);
         let kind = type_of(found);
-        declare(alloc, locals, &groups[left].names, role, &kind)?;
+        declare(alloc, locals, &group.names, role, &kind)?;
     }
     Ok(first)
 }
