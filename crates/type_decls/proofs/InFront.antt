@@ -33,12 +33,12 @@ pub put_as : (old new : Named) (name : List ℕ) (local : Local) (l : rules.Loca
     ((n : List ℕ) → entry new n ≡ cond (bytes_eq name n) (Some local) (entry old n)) → local_as name local ≡ l → AreLocals old ls → AreLocals new (l ∷ ls)
 put_as old new name local l ls is e h = subst (λ (m : rules.Local). AreLocals new (m ∷ ls)) e (put_local old new name local ls is h)
 
-pub same_local : (n m : List ℕ) (r s : LocalRole) (k j : Option DataType) → n ≡ m → r ≡ s → k ≡ j →
-    (record { name = n; role = r; type = k } : rules.Local) ≡ record { name = m; role = s; type = j }
+abbrev pub made : List ℕ → LocalRole → Option DataType → rules.Local
+made n r k = record { name = n; role = r; type = k }
+
+pub same_local : (n m : List ℕ) (r s : LocalRole) (k j : Option DataType) → n ≡ m → r ≡ s → k ≡ j → made n r k ≡ made m s j
 same_local n m r s k j e f g =
-    ap (λ (v : List ℕ). (record { name = v; role = r; type = k } : rules.Local)) e
-    ∙ ap (λ (v : LocalRole). (record { name = m; role = v; type = k } : rules.Local)) f
-    ∙ ap (λ (v : Option DataType). (record { name = m; role = s; type = v } : rules.Local)) g
+    ap (λ (v : List ℕ). made v r k) e ∙ ap (λ (v : LocalRole). made m v k) f ∙ ap (λ (v : Option DataType). made m s v) g
 
 -- those of a list from a place on, one more in front
 pub named_in_front : {A : Type 0} (f : A → rules.Local) (xs : List A) (i : ℕ) (x : A) (table : Named) (ls : List rules.Local) → i < length xs → x ≡ get_or xs i x →

@@ -2,10 +2,9 @@
 use Rattle.std.proofs.Common.{◌≡◌, ℕ, zero, suc, ◌<◌, ◌+◌, Bool, true, false, ◌&&◌, List, [], ◌∷◌, ◌++◌, length, get_or, drop, map, Option, Some, None, refl, sym, ap, ◌∙◌}
 use Rattle.std.specs.Prelude.{bytes_eq, slice_get}
 use Rattle.orca_tree.specs.declared.tree.TypedName as tree
-use Rattle.orca_tree.specs.declared.tree.Head as tree_head
 use Rattle.orca_tree.specs.declared.tree.Operation as tree_operation
 use Rattle.orca_syntax.specs.Syntax.{Head, TypedName, Variables}
-use Rattle.orca_syntax.specs.Shown.{head, operation, typed_name}
+use Rattle.orca_syntax.specs.Shown.{operation, typed_name}
 use Rattle.link_rules.specs.Units.{Source}
 use Rattle.type_rules.specs.declared.breach.Breach.{Breach}
 use Rattle.type_rules.specs.Rules.{agree, asks, breaks}
@@ -66,12 +65,12 @@ head_more us m fs home hs os i o lt is =
     ∙ ap (λ (l : List Head). asks 12 o.head.at (is_head_of us (operation_view us m fs (operation o)) home (operation o).head (slice_get hs i))
     ++ heads_match us m fs home l (map operation (drop (i + 1) os))) (drop_once i hs)
 
-abbrev pub lacks_one : Option tree_head.Head → List Breach
+abbrev pub lacks_one : Option Head → List Breach
 lacks_one None = []
 lacks_one (Some h) = breaks 12 h.at
 
 -- what is lacked behind so many
-pub lacks_there : (hs : List tree_head.Head) (i : ℕ) → lacks (drop i (map head hs)) ≡ lacks_one (slice_get hs i)
+pub lacks_there : (hs : List Head) (i : ℕ) → lacks (drop i hs) ≡ lacks_one (slice_get hs i)
 lacks_there [] zero = refl
 lacks_there [] (suc i) = refl
 lacks_there (h ∷ hs) zero = refl

@@ -98,7 +98,8 @@ fn take_local<'p>(
         Some(field) => {
             let kind = copy_known(alloc, &field.kind)?;
             let role = field.role;
-            put(locals, name, Local { role, kind })
+            put(locals, name, Local { role, kind })?;
+            Ok(())
         }
     }
 }

@@ -63,6 +63,13 @@ pub fn specification<'p>(index: &Index<'p>, name: &str) -> Option<Specified<'p>>
     }
 }
 
+/// The head at a place.
+pub fn head_at(heads: &[Head], place: usize) -> Option<&Head>
+    ensures { option_map (λ h. head_shown h.now) result ≡ slice_get (map head_shown heads.now) place }
+{
+    heads.get(place)
+}
+
 // Whether two type phrases are of one type, as far as both are known, each in its view.
 fn same_kind(
     alloc: Global,

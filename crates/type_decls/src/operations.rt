@@ -16,7 +16,7 @@ ghost use Rattle.type_decls.specs.Fields.{AreFields};
 
 use crate::context::Context;
 use crate::fields::{Fields, enter, leave, leave_locals};
-use crate::heads::{Specified, is_head_of};
+use crate::heads::{Specified, head_at, is_head_of};
 use crate::locals::{Locals, declare_values, declare_variables, result_breach};
 use crate::names::named_well;
 use orca_base::NoMemory;
@@ -59,7 +59,7 @@ fn head_matches<'p>(
     let own = operation_names(alloc, operation)?;
     enter(names, &own)?;
     let ours = View { home, names };
-    let head = specified.heads.get(place);
+    let head = head_at(specified.heads, place);
     let matches = is_head_of(alloc, forms, ours, specified.home, &operation.head, head)?;
     leave(names, fields, &own);
     Ok(matches)

@@ -13,6 +13,7 @@ ghost use Rattle.type_forms.specs.Seen.{lent, what};
 ghost use Rattle.type_decls.specs.Contexts.{IsContext};
 
 use crate::context::Context;
+use crate::heads::head_at;
 use crate::locals::{result_breach, values_breach};
 use crate::names::are_free;
 use orca_base::NoMemory;
@@ -134,11 +135,10 @@ fn operation_count(index: &Index<'_>, name: &str) -> Option<usize>
 }
 
 // The first head behind so many.
-#[tactic(auto, using(crate::proofs::Rows::lacks_there))]
 fn lacks(heads: &[Head], count: usize) -> Option<Breach>
     ensures { FirstOf result (rules.lacks (drop count (map head_shown heads.now))) }
 {
-    match heads.get(count) {
+    match head_at(heads, count) {
         None => None,
         Some(head) => breaks(12, head.at),
     }

@@ -1,7 +1,8 @@
-use Rattle.std.proofs.Common.{ℕ, List, [], Option, subst, sym, ap, ◌∙◌}
-use Rattle.std.specs.Prelude.{◌≡◌, flat_map}
+use Rattle.std.proofs.Common.{ℕ, List, [], ◌++◌, Option, subst, sym, ap, ◌∙◌}
+use Rattle.std.specs.Prelude.{flat_map}
 use Rattle.orca_tree.specs.declared.tree.Name.{Name}
 use Rattle.orca_syntax.specs.Shown as shown
+use Rattle.link_rules.specs.Units.{values_of}
 use Rattle.type_rules.specs.TopLevel.{number_of}
 use Rattle.type_rules.specs.Order.{least}
 use Rattle.type_rules.specs.TypePhrases.{declared_type, definition}
@@ -20,6 +21,9 @@ returns c = λ us ctx.
     let inside = subst (λ (i : ℕ). FirstOf c.in_ok-inside.inside (definition (declared_type us) (view_of us c.args.home.now []) i d).breaches)
     (c.number_or_none.ensures ∙ ap number_or_none number) ((c.in_ok-inside.ensures {u = tt}) us ctx) in
     let values = c.none_main-values.ensures ∙ ap (λ (ns : List Name). least (flat_map no_main ns)) c.values_of.ensures in
-    first_of_two c.no_main.result c.lesser-2.result c.lesser-3.result _ _ c.lesser-3.ensures c.no_main.ensures
-    (first_of_two c.none_main-values.result c.lesser.result c.lesser-2.result _ _ c.lesser-2.ensures values
-    (first_of_two c.holds_no_self-round.result c.in_ok-inside.inside c.lesser.result _ _ c.lesser.ensures round inside))
+    let own = (definition (declared_type us) (view_of us c.args.home.now []) (number_or_none (number_of us name.text)) d).breaches in
+    let selves = holds_no_self us name (number_of us name.text) in
+    let mains = flat_map no_main (values_of d) in
+    first_of_two c.no_main.result c.lesser-2.result c.lesser-3.result (no_main name) (mains ++ (selves ++ own)) c.lesser-3.ensures c.no_main.ensures
+    (first_of_two c.none_main-values.result c.lesser.result c.lesser-2.result mains (selves ++ own) c.lesser-2.ensures values
+    (first_of_two c.holds_no_self-round.result c.in_ok-inside.inside c.lesser.result selves own c.lesser.ensures round inside))
