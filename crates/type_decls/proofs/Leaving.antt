@@ -5,6 +5,8 @@ use Rattle.std.specs.Borrow.{Bor}
 use Rattle.std.specs.BTreeMap.{BTreeMap}
 use Rattle.std.proofs.lemmas.Slice.Eq.{bytes_eq-Decides}
 use Rattle.orca_tree.specs.declared.tree.Name.{Name}
+use Rattle.type_rules.specs.declared.types.DataType.{DataType}
+use Rattle.type_rules.specs.declared.names.LocalRole.{LocalRole}
 use Rattle.type_rules.specs.Rules.{is_among}
 use Rattle.type_rules.specs.Scopes.{Local, texts}
 use Rattle.type_forms.specs.Seen.{has}
@@ -88,6 +90,9 @@ pub taken_out : {X : Type 0} (same f : Bool) (old new : Option X) → new ≡ co
     is_some new ≡ cond same (f && is_some old) (is_some old)
 taken_out {X} true f old new is out = ap is_some is ∙ sym (ap (λ (b : Bool). b && is_some old) (out refl))
 taken_out {X} false f old new is out = ap is_some is
+
+abbrev pub local_of : LocalRole → Option DataType → code.Local.Local
+local_of role kind = record { role = role; kind = kind }
 
 -- what a name is of the fields is given back
 pub given_back : {X : Type 0} (name n : List ℕ) (fields : List ℕ → Option X) (old new own : Option X) → new ≡ cond (bytes_eq name n) own old →

@@ -1,6 +1,7 @@
 -- Rows of parameters and of heads, compared from the end.
-use Rattle.std.proofs.Common.{◌≡◌, ℕ, zero, suc, ◌<◌, ◌+◌, Bool, true, false, ◌&&◌, List, [], ◌∷◌, ◌++◌, length, get_or, drop, map, Option, Some, None, refl, sym, ap, ◌∙◌}
-use Rattle.std.specs.Prelude.{bytes_eq, slice_get}
+use Rattle.std.proofs.Common.{◌≡◌, ℕ, zero, suc, ◌<◌, ◌+◌, Bool, true, false, ◌&&◌, List, [], ◌∷◌, ◌++◌, length, get_or, drop, map, Option, Some, None, refl, sym, ap, ◌∙◌, arith}
+use Rattle.std.specs.Prelude.{◌==◌, bytes_eq, slice_get}
+use Rattle.std.proofs.lemmas.Bool.{eqb-true}
 use Rattle.orca_tree.specs.declared.tree.TypedName as tree
 use Rattle.orca_tree.specs.declared.tree.Operation as tree_operation
 use Rattle.orca_syntax.specs.Syntax.{Head, TypedName, Variables}
@@ -11,7 +12,7 @@ use Rattle.type_rules.specs.Rules.{agree, asks, breaks}
 use Rattle.type_rules.specs.Constants.{View}
 use Rattle.type_rules.specs.TypePhrases.{data_found}
 use Rattle.type_rules.specs.Scopes.{type_of}
-use Rattle.type_rules.specs.Declarations.{heads_match, is_head_of, operation_view, same_parameters, lacks}
+use Rattle.type_rules.specs.Declarations.{heads_match, is_empty, is_head_of, operation_view, same_parameters, lacks}
 use Rattle.type_forms.proofs.Loops.{rest_is}
 use Rattle.type_exprs.proofs.Pushed.{drop_once}
 
@@ -44,6 +45,14 @@ parameter_more v w ts us i t u lt lu is js =
     ap (λ (l : List tree.TypedName). same_parameters v w (map typed_name l) (map typed_name (drop i us))) (rest_is ts i t lt is)
     ∙ ap (λ (l : List tree.TypedName). same_parameters v w (map typed_name (t ∷ drop (i + 1) ts)) (map typed_name l)) (rest_is us i u lu js)
     ∙ sym (and_again (bytes_eq t.name.text u.name.text) _ (same_parameters v w (map typed_name (drop (i + 1) ts)) (map typed_name (drop (i + 1) us))))
+
+pub none_there : {A B : Type 0} (f : A → B) (xs : List A) → (length xs == 0) ≡ is_empty (map f xs)
+none_there {A} {B} f [] = refl
+none_there {A} {B} f (x ∷ xs) = by_test (length (x ∷ xs) == 0) refl
+  where
+    by_test : (b : Bool) → (length (x ∷ xs) == 0) ≡ b → b ≡ false
+    by_test true is = let none = eqb-true (length (x ∷ xs)) 0 is in absurd (omega (arith, none))
+    by_test false is = refl
 
 -- ---- heads
 

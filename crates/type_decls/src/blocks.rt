@@ -1,6 +1,6 @@
 //! The rules of functions and processes.
 
-ghost use Rattle.std.specs.Prelude.{◌≡◌, ◌++◌, List, None, IfOk, flat_map, map, option_map};
+ghost use Rattle.std.specs.Prelude.{◌≡◌, ◌++◌, ◌||◌, List, None, IfOk, flat_map, map, not, option_map};
 ghost use Rattle.std.specs.List.{list_any};
 ghost use Rattle.orca_syntax.specs.Shown.{block as block_shown, kind as kind_shown, parameter as parameter_shown, stmts, variables};
 ghost use Rattle.link_rules.specs.Units.{Source};
@@ -143,12 +143,27 @@ fn none_out(parameters: &[Parameter]) -> Option<Breach>
     first
 }
 
+// Whether there are no parameters.
+#[tactic(auto, using(crate::proofs::Rows::none_there))]
+fn is_empty(parameters: &[Parameter]) -> bool
+    ensures { result ≡ rules.is_empty (map parameter_shown parameters.now) }
+{
+    parameters.is_empty()
+}
+
+// Whether a process is another than `OrcaMain`, or has no parameters.
+fn may_start(name: &Name, parameters: &[Parameter]) -> bool
+    ensures { result ≡ (not (rules.is_main name.now) || rules.is_empty (map parameter_shown parameters.now)) }
+{
+    !is_main(name) || is_empty(parameters)
+}
+
 // The first breach of a process by its name and its parameters.
 fn process_form(name: &Name, parameters: &[Parameter]) -> Option<Breach>
     ensures { FirstOf result (rules.process_form name.now (map parameter_shown parameters.now)) }
 {
     lesser(
-        asks(16, name.at, !is_main(name) || parameters.is_empty()),
+        asks(16, name.at, may_start(name, parameters)),
         none_out(parameters),
     )
 }

@@ -63,8 +63,9 @@ fn declare<'p>(
     let mut left = names.len();
     'names: while left > 0 {
         left -= 1;
+        let name = &names[left];
         let kind = copy_known(alloc, kind)?;
-        put(locals, names[left].text.as_str(), Local { role, kind })?;
+        put(locals, name.text.as_str(), Local { role, kind })?;
     }
     Ok(())
 }

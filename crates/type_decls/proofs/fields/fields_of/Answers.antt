@@ -11,10 +11,10 @@ use Rattle.type_decls.proofs.fields.fields_of.Goals as goal
 pub returns-clause-fields : goal.returns-clause-fields
 returns-clause-fields c = λ us t is.
     let fs = map variables c.args.groups.now in
-    let names = λ n. (c.in_ok-set.ensures {u = tt}) n ∙ ap (λ (l : List Name). is_among (texts l) n) is in
     record {
-      names = names;
-      locals = λ n. (c.in_ok-first.ensures {u = tt}).locals us t (fields_view us c.args.home.now fs) (record { program = refl; home = refl; names = names }) [] (λ m. search rules) n
+      names = λ n. (c.in_ok-set.ensures {u = tt}) n ∙ ap (λ (l : List Name). is_among (texts l) n) is;
+      locals = λ n. (c.in_ok-first.ensures {u = tt}).locals us t (fields_view us c.args.home.now fs) 
+          (record { program = refl; home = refl; names = λ m. (c.in_ok-set.ensures {u = tt}) m ∙ ap (λ (l : List Name). is_among (texts l) m) is }) [] (λ m. search rules) n
           ∙ ap (find (λ l. bytes_eq l.name n)) (append-nil _);
     }
 
