@@ -1,5 +1,5 @@
 -- The names of bodies: which are fields, and what they are called.
-use Rattle.std.proofs.Common.{◌≡◌, ℕ, Bool, true, false, cond, ◌&&◌, List, [], ◌∷◌, ◌++◌, map, Option, refl, sym, ap, ◌∙◌, append_assoc}
+use Rattle.std.proofs.Common.{◌≡◌, ℕ, Bool, true, false, cond, ◌&&◌, List, [], ◌∷◌, ◌++◌, map, Option, refl, ap, ◌∙◌, append_assoc}
 use Rattle.std.specs.Prelude.{flat_map}
 use Rattle.orca_tree.specs.declared.tree.Name.{Name}
 use Rattle.orca_tree.specs.declared.tree.Mode.{Mode}
@@ -72,7 +72,6 @@ only_fields find_kind vs = all_last (flat_map (locals_of ObjectField find_kind) 
 
 abbrev pub called : List Local → List (List ℕ)
 called ls = map (λ l. l.name) ls
-
 
 called_named : (role : LocalRole) (t : Option DataType) (ns : List Name) (ls : List Local) (ms : List Name) → called ls ≡ texts ms →
     called (named role t ns ++ ls) ≡ texts (ns ++ ms)

@@ -1,11 +1,11 @@
 -- The first unit that has a breach.
-use Rattle.std.proofs.Common.{◌≡◌, List, [], ◌∷◌, ◌++◌, map, Option, Some, None, refl, sym, ap, ◌∙◌}
+use Rattle.std.proofs.Common.{◌≡◌, List, [], ◌∷◌, ◌++◌, map, Some, None, refl, sym, ap, ◌∙◌}
 use Rattle.std.specs.Prelude.{option_map}
 use Rattle.link_rules.specs.Units.{Source}
 use Rattle.link_rules.specs.Rules.{first}
 use Rattle.type_rules.specs.declared.breach.Breach.{Breach}
 use Rattle.type_rules.specs.declared.type_error.TypeError.{TypeError}
-use Rattle.type_rules.specs.Order.{in_text_order, least}
+use Rattle.type_rules.specs.Order.{in_text_order}
 use Rattle.type_rules.specs.Breaches.{type_error}
 use Rattle.type_rules.proofs.Least.{first_is_least}
 use Rattle.type_forms.specs.Finding.{FirstOf}

@@ -1,4 +1,4 @@
-use Rattle.std.proofs.Common.{◌≡◌, ℕ, true, false, List, [], ◌++◌, Option, map, find, refl, sym, ap, subst, ◌∙◌, rules}
+use Rattle.std.proofs.Common.{◌≡◌, true, false, List, [], ◌++◌, Option, map, find, refl, sym, ap, subst, ◌∙◌, rules}
 use Rattle.std.specs.Prelude.{bytes_eq, flat_map, option_map}
 use Rattle.std.proofs.lemmas.List.{append-nil}
 use Rattle.orca_tree.specs.declared.tree.Statement.{Statement}

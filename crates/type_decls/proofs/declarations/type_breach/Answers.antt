@@ -1,4 +1,4 @@
-use Rattle.std.proofs.Common.{ℕ, List, [], ◌++◌, Option, subst, sym, ap, ◌∙◌}
+use Rattle.std.proofs.Common.{ℕ, List, [], ◌++◌, Option, subst, ap, ◌∙◌}
 use Rattle.std.specs.Prelude.{flat_map}
 use Rattle.orca_tree.specs.declared.tree.Name.{Name}
 use Rattle.orca_syntax.specs.Shown as shown

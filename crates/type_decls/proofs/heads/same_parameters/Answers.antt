@@ -1,4 +1,4 @@
-use Rattle.std.proofs.Common.{◌≡◌, ℕ, ◌+◌, ◌-◌, Bool, ◌&&◌, drop, map, sym, ap, subst, ◌∙◌, arith}
+use Rattle.std.proofs.Common.{◌≡◌, ℕ, ◌+◌, ◌-◌, Bool, ◌&&◌, drop, map, sym, ap, ◌∙◌, arith}
 use Rattle.orca_syntax.specs.Shown.{typed_name}
 use Rattle.type_rules.specs.Declarations.{same_parameters}
 use Rattle.type_decls.proofs.Rows.{parameter_more, parameters_apart}

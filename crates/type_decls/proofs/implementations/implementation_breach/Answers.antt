@@ -1,4 +1,4 @@
-use Rattle.std.proofs.Common.{ℕ, Bool, List, [], ◌++◌, Option, map, None, false, ap, subst, ◌∙◌}
+use Rattle.std.proofs.Common.{Bool, List, [], ◌++◌, Option, map, None, false, ap, subst, ◌∙◌}
 use Rattle.std.specs.Prelude.{flat_map, option_map}
 use Rattle.orca_tree.specs.declared.tree.Name.{Name}
 use Rattle.orca_syntax.specs.Shown.{operation, stmts, variables}

@@ -1,4 +1,4 @@
-use Rattle.std.proofs.Common.{List, ◌++◌, None, false, map}
+use Rattle.std.proofs.Common.{◌++◌, None, false, map}
 use Rattle.std.specs.Prelude.{flat_map, option_map}
 use Rattle.orca_syntax.specs.Shown.{operation, stmts, variables}
 use Rattle.type_rules.specs.TypePhrases.{data_found}

@@ -1,4 +1,4 @@
-use Rattle.std.proofs.Common.{List, None, false, Option, Vec, subst, sym, ap, ◌∙◌}
+use Rattle.std.proofs.Common.{List, None, false, subst, sym, ap, ◌∙◌}
 use Rattle.std.specs.Prelude.{option_map}
 use Rattle.orca_tree.specs.declared.tree.Statement.{Statement}
 use Rattle.orca_syntax.specs.Shown.{stmts}

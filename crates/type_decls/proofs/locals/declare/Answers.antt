@@ -1,4 +1,4 @@
-use Rattle.std.proofs.Common.{◌≡◌, ℕ, ◌+◌, ◌-◌, ◌++◌, drop, map, refl, sym, subst, arith}
+use Rattle.std.proofs.Common.{◌≡◌, ℕ, ◌+◌, ◌-◌, ◌++◌, drop, map, refl, subst, arith}
 use Rattle.orca_tree.specs.declared.tree.Name.{Name}
 use Rattle.type_rules.specs.Scopes.{Local}
 use Rattle.type_decls.specs.Bodies.{AreLocals}

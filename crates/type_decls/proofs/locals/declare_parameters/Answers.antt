@@ -1,6 +1,6 @@
-use Rattle.std.proofs.Common.{◌≡◌, ℕ, ◌+◌, ◌-◌, ◌++◌, drop, map, refl, sym, subst, arith}
+use Rattle.std.proofs.Common.{◌≡◌, ℕ, ◌+◌, ◌-◌, ◌++◌, drop, map, subst, arith}
 use Rattle.orca_syntax.specs.Syntax.{Parameter}
-use Rattle.orca_syntax.specs.Shown.{kind, parameter}
+use Rattle.orca_syntax.specs.Shown.{parameter}
 use Rattle.type_rules.specs.Scopes.{parameter_found, parameter_local}
 use Rattle.type_rules.specs.Declarations.{parameters_breaches}
 use Rattle.type_forms.specs.Finding.{FirstOf}

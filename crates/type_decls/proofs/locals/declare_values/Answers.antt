@@ -1,6 +1,6 @@
-use Rattle.std.proofs.Common.{◌≡◌, ℕ, ◌+◌, ◌-◌, ◌++◌, drop, map, refl, sym, subst, arith}
+use Rattle.std.proofs.Common.{◌≡◌, ℕ, ◌+◌, ◌-◌, ◌++◌, drop, map, refl, subst, arith}
 use Rattle.orca_syntax.specs.Syntax.{TypedName}
-use Rattle.orca_syntax.specs.Shown.{kind, typed_name}
+use Rattle.orca_syntax.specs.Shown.{typed_name}
 use Rattle.type_rules.specs.declared.names.LocalRole.TheVariants.{ValueParameter}
 use Rattle.type_rules.specs.TypePhrases.{data_found}
 use Rattle.type_rules.specs.Scopes.{value_local}

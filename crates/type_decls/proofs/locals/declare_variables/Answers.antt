@@ -1,4 +1,4 @@
-use Rattle.std.proofs.Common.{◌≡◌, ℕ, ◌+◌, ◌-◌, List, ◌++◌, Option, drop, map, refl, sym, subst, arith}
+use Rattle.std.proofs.Common.{◌≡◌, ℕ, ◌+◌, ◌-◌, List, ◌++◌, Option, drop, map, subst, arith}
 use Rattle.std.specs.Prelude.{flat_map}
 use Rattle.orca_tree.specs.declared.tree.Name.{Name}
 use Rattle.orca_syntax.specs.Syntax.{Variables}

@@ -1,4 +1,4 @@
-use Rattle.std.proofs.Common.{◌≡◌, ℕ, Bool, true, List, ◌++◌, Option, map, find, refl, sym, ap, subst, ◌∙◌}
+use Rattle.std.proofs.Common.{◌≡◌, true, List, ◌++◌, Option, map, find, refl, ap, subst, ◌∙◌}
 use Rattle.std.specs.Prelude.{bytes_eq, flat_map}
 use Rattle.orca_tree.specs.declared.tree.TypedName as tree_typed_name
 use Rattle.orca_tree.specs.declared.tree.Variables as tree
@@ -7,12 +7,11 @@ use Rattle.type_rules.specs.declared.types.DataType.{DataType}
 use Rattle.type_rules.specs.declared.names.LocalRole.TheVariants.{Variable}
 use Rattle.type_rules.specs.Order.{least}
 use Rattle.type_rules.specs.TypePhrases.{data_found}
-use Rattle.type_rules.specs.Scopes.{Local, locals_of, value_local}
+use Rattle.type_rules.specs.Scopes.{locals_of, value_local}
 use Rattle.type_rules.specs.Declarations.{body_breaches, field_locals, fields_view, implementation_scope, operation_locals, operation_view, result_breaches, result_of, values_breaches, variables_breaches}
 use Rattle.type_forms.specs.Finding.{FirstOf}
 use Rattle.type_forms.specs.Views.{IsView}
 use Rattle.type_stmts.specs.Bodies.{fields_last}
-use Rattle.type_decls.specs.Bodies.{AreLocals}
 use Rattle.type_decls.proofs.FieldsLast.{only_fields, values_first, variables_first}
 use Rattle.type_decls.proofs.FirstOnes.{first_of_two}
 use Rattle.type_decls.proofs.operations.inside_breach.Goals as goal

@@ -1,4 +1,4 @@
-use Rattle.std.proofs.Common.{◌≡◌, ℕ, Bool, cond, ◌&&◌, ◌||◌, List, ◌++◌, Option, map, find, refl, sym, ap, ◌∙◌, append_assoc}
+use Rattle.std.proofs.Common.{cond, ◌&&◌, ◌||◌, List, ◌++◌, map, find, sym, ap, ◌∙◌, append_assoc}
 use Rattle.std.specs.Prelude.{bytes_eq, flat_map}
 use Rattle.orca_tree.specs.declared.tree.Name.{Name}
 use Rattle.orca_syntax.specs.Shown.{operation}

@@ -6,11 +6,11 @@ use Rattle.type_decls.proofs.operations.operations_breach.Goals as goal
 
 pub operations-preserved : goal.operations-preserved
 operations-preserved c = λ us ctx fs f g. (
-      shown_further operation (operation_breaches us c.args.home.now fs) c.args.operations.now c.operations.operation-index c.operation-item.result
-          c.operations.first c.in_ok-own.own c.lesser-first.result _ c.operations-test.true c.operation-item.is c.lesser-first.ensures
-          ((c.in_ok-own.ensures {u = tt}).breaches us ctx fs f (c.operations.invariant us ctx fs f g).1) (c.operations.invariant us ctx fs f g).0,
-      (c.in_ok-own.ensures {u = tt}).fields us ctx fs f (c.operations.invariant us ctx fs f g).1,
-    )
+  shown_further operation (operation_breaches us c.args.home.now fs) c.args.operations.now c.operations.operation-index c.operation-item.result
+      c.operations.first c.in_ok-own.own c.lesser-first.result _ c.operations-test.true c.operation-item.is c.lesser-first.ensures
+      ((c.in_ok-own.ensures {u = tt}).breaches us ctx fs f (c.operations.invariant us ctx fs f g).1) (c.operations.invariant us ctx fs f g).0,
+  (c.in_ok-own.ensures {u = tt}).fields us ctx fs f (c.operations.invariant us ctx fs f g).1,
+)
 
 pub returns : goal.returns
 returns c = λ us ctx fs f g.

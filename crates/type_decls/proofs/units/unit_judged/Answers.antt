@@ -1,4 +1,4 @@
-use Rattle.std.proofs.Common.{List, Some, map, subst, sym, ap, ◌∙◌}
+use Rattle.std.proofs.Common.{Some, map, subst, sym, ap, ◌∙◌}
 use Rattle.std.specs.Prelude.{flat_map}
 use Rattle.link_rules.specs.Units.{module_name, source}
 use Rattle.type_rules.specs.declared.type_error.TypeError.{TypeError}
