@@ -11,7 +11,7 @@ use Rattle.type_rules.specs.TopLevel.{top_names}
 use Rattle.type_rules.specs.TypePhrases.{holds_itself, leads_to, parts_of}
 use Rattle.type_forms.specs.Parts.{AreParts, listed_at, parts_at, parts_in}
 use Rattle.type_forms.proofs.SettledTypes.{parts_are}
-use Rattle.type_cycles.specs.Leading.{IsRound, Leads, itself, by_part, is_in}
+use Rattle.type_cycles.specs.Leading.{IsOnCycle, Leads, itself, by_part, is_in}
 use Rattle.type_cycles.proofs.Members.{any_in, below, fewer_others, in_below, in_others, length-below, others, some_in}
 
 -- a way on which these types alone name another
@@ -80,13 +80,13 @@ module _ (us : List Source) (parts : List (List ℕ)) (are : AreParts us parts) 
   count : length parts ≡ length (top_names us)
   count = ap length are ∙ length-map (top_names us) (parts_at us)
 
-  pub round_holds : (i : ℕ) → IsRound parts i → holds_itself us i ≡ true
-  round_holds i r =
+  pub cycle_holds : (i : ℕ) → IsOnCycle parts i → holds_itself us i ≡ true
+  cycle_holds i r =
       any_in (λ (h : ℕ). leads_to us (length (top_names us)) h i) (parts_of us i) r.0 (in_parts i r.0 r.1)
       (enough (length (top_names us)) (below (length parts)) r.0 i (let b = length-below (length parts) in let n = count in omega (arith, b, n)) (way r.0 i r.2))
 
-  pub holds_round : (i : ℕ) → holds_itself us i ≡ true → IsRound parts i
-  holds_round i e =
+  pub holds_cycle : (i : ℕ) → holds_itself us i ≡ true → IsOnCycle parts i
+  holds_cycle i e =
       let some = some_in (λ (h : ℕ). leads_to us (length (top_names us)) h i) (parts_of us i) e in
       (some.0, ap (is_in some.0) (parts_are us parts i are) ∙ some.1, sound (length (top_names us)) some.0 i some.2)
 

@@ -15,12 +15,12 @@ pub data Leads (parts : List (List ℕ)) : ℕ → ℕ → Type 0 where
   by_part : (i h j : ℕ) → is_in h (parts_in parts i) ≡ true → Leads parts h j → Leads parts i j
 
 -- a type names one that leads to it
-abbrev pub IsRound : List (List ℕ) → ℕ → Type 0
-IsRound parts i = (h : ℕ) × (is_in h (parts_in parts i) ≡ true) × Leads parts h i
+abbrev pub IsOnCycle : List (List ℕ) → ℕ → Type 0
+IsOnCycle parts i = (h : ℕ) × (is_in h (parts_in parts i) ≡ true) × Leads parts h i
 
 abbrev pub is_marked : List Bool → ℕ → Bool
 is_marked marks i = or_false (slice_get marks i)
 
 -- the table tells of each type whether it holds itself
 abbrev pub AreRound : List Source → List Bool → Type 0
-AreRound us rounds = (i : ℕ) → is_marked rounds i ≡ holds_itself us i
+AreRound us on_cycle = (i : ℕ) → is_marked on_cycle i ≡ holds_itself us i

@@ -5,9 +5,9 @@ ghost use Rattle.std.specs.List.{list_any};
 ghost use Rattle.link_rules.specs.Units.{Source};
 ghost use Rattle.type_rules.specs.TypePhrases.{holds_itself, leads_to};
 ghost use Rattle.type_forms.specs.Parts.{AreParts, parts_in};
-ghost use Rattle.type_cycles.specs.Leading.{is_marked};
+ghost use Rattle.type_cycles.specs.Leading.{AreRound, is_marked};
 
-use crate::places::parts_at;
+use crate::components::parts_at;
 use orca_base::{Items, NoMemory};
 use std::alloc::Global;
 
@@ -83,7 +83,7 @@ fn leading(alloc: Global, parts: &[Items<usize>], target: usize) -> Result<Vec<b
 }
 
 // Whether a type holds itself.
-fn is_round_from(alloc: Global, parts: &[Items<usize>], number: usize) -> Result<bool, NoMemory>
+fn is_on_cycle_from(alloc: Global, parts: &[Items<usize>], number: usize) -> Result<bool, NoMemory>
     ensures { (us : List Source) → AreParts us parts.now → number < length parts.now →
         IfOk result (λ b. b ≡ holds_itself us number) }
 {
@@ -92,15 +92,13 @@ fn is_round_from(alloc: Global, parts: &[Items<usize>], number: usize) -> Result
 }
 
 /// Of each type whether it holds itself, from one type after the other.
-pub fn rounds_by_levels(alloc: Global, parts: &[Items<usize>]) -> Result<Vec<bool>, NoMemory>
-    ensures long { IfOk result (λ v. length v.items ≡ length parts.now) }
-    ensures each { (us : List Source) → AreParts us parts.now →
-        IfOk result (λ v. (i : ℕ) → i < length parts.now → is_marked v.items i ≡ holds_itself us i) }
+pub fn by_levels(alloc: Global, parts: &[Items<usize>]) -> Result<Vec<bool>, NoMemory>
+    ensures { (us : List Source) → AreParts us parts.now → IfOk result (λ v. AreRound us v.items) }
 {
-    let mut rounds = Vec::new(alloc);
+    let mut on_cycle = Vec::new(alloc);
     'numbers: for number in 0..parts.len() {
-        let own = is_round_from(alloc, parts, number)?;
-        rounds.push(own)?;
+        let own = is_on_cycle_from(alloc, parts, number)?;
+        on_cycle.push(own)?;
     }
-    Ok(rounds)
+    Ok(on_cycle)
 }

@@ -1,40 +1,39 @@
 //! Which declared types hold themselves.
 
-ghost use Rattle.std.specs.Prelude.{◌≡◌, ◌<◌, ℕ, List, IfOk, length};
+ghost use Rattle.std.specs.Prelude.{◌≡◌, ℕ, List, IfOk};
 ghost use Rattle.link_rules.specs.Units.{Source};
 ghost use Rattle.type_forms.specs.Parts.{AreParts};
 ghost use Rattle.type_cycles.specs.Leading.{AreRound, is_marked};
-ghost use Rattle.type_cycles.specs.Placed.{round_at};
+ghost use Rattle.type_cycles.specs.Components.{on_cycle_at};
 
-use crate::levels::rounds_by_levels;
-use crate::places::{Place, are_right, is_round_at};
-use crate::searching::places_of;
+use crate::components::{Membership, are_right, is_on_cycle};
+use crate::levels::by_levels;
+use crate::search::components_of;
 use orca_base::{Items, NoMemory};
 use std::alloc::Global;
 
 // Of each type whether a part has its rank.
-fn rounds_by_rank(
+fn by_rank(
     alloc: Global,
     parts: &[Items<usize>],
-    places: &[Place],
+    members: &[Membership],
 ) -> Result<Vec<bool>, NoMemory>
-    ensures long { IfOk result (λ v. length v.items ≡ length parts.now) }
-    ensures each { IfOk result (λ v. (i : ℕ) → i < length parts.now → is_marked v.items i ≡ round_at parts.now places.now i) }
+    ensures { IfOk result (λ v. (i : ℕ) → is_marked v.items i ≡ on_cycle_at parts.now members.now i) }
 {
-    let mut rounds = Vec::new(alloc);
+    let mut on_cycle = Vec::new(alloc);
     'numbers: for number in 0..parts.len() {
-        rounds.push(is_round_at(parts, places, number))?;
+        on_cycle.push(is_on_cycle(parts, members, number))?;
     }
-    Ok(rounds)
+    Ok(on_cycle)
 }
 
 /// Of each name of the top level whether it declares a type that holds itself, by its number; the types that each names are given.
 pub fn holds_themselves(alloc: Global, parts: &[Items<usize>]) -> Result<Vec<bool>, NoMemory>
     ensures { (us : List Source) → AreParts us parts.now → IfOk result (λ v. AreRound us v.items) }
 {
-    let places = places_of(alloc, parts)?;
-    if are_right(parts, &places) {
-        return rounds_by_rank(alloc, parts, &places);
+    let members = components_of(alloc, parts)?;
+    if are_right(parts, &members) {
+        return by_rank(alloc, parts, &members);
     }
-    rounds_by_levels(alloc, parts)
+    by_levels(alloc, parts)
 }
