@@ -1,7 +1,8 @@
 //! Where statements stand.
 
-ghost use Rattle.std.specs.Prelude.{◌≡◌, ◌||◌, ℕ, List, IfOk, IsTrue, bytes_eq};
+ghost use Rattle.std.specs.Prelude.{◌≡◌, ◌&&◌, ◌||◌, ℕ, List, IfOk, IsTrue, bytes_eq, not};
 ghost use Rattle.orca_tree.specs.declared.tree.Name.{Name as NameTree};
+ghost use Rattle.type_rules.specs.TopLevel.{sees};
 ghost use Rattle.type_rules.specs.Scopes as scopes;
 ghost use Rattle.type_rules.specs.Statements as rules;
 ghost use Rattle.type_forms.specs.Finding.{FirstOf};
@@ -24,10 +25,10 @@ pub struct BodyScope<'a, 'p> {
 }
 
 impl<'a, 'p> BodyScope<'a, 'p> {
-    // The same among these open loops, which are one more than here.
+    /// The same in one more loop, among these variables of the open loops.
     pub fn in_loops(self, loops: &'a [&'p str]) -> BodyScope<'a, 'p>
         ensures { (w : scopes.Scope) → IsBody self.entry w → (n : NameTree) →
-            ((m : List ℕ) → counts_in loops.now m ≡ (counts_in self.scope.loops.now m || bytes_eq n.text m)) →
+            ((m : List ℕ) → counts_in loops.now m ≡ (counts_in self.entry.scope.loops.now m || bytes_eq n.text m)) →
             IsBody result (rules.with_loop w n) }
     {
         BodyScope {
@@ -39,7 +40,7 @@ impl<'a, 'p> BodyScope<'a, 'p> {
         }
     }
 
-    // The same in a guard, or behind one.
+    /// The same in a guard, or behind one.
     pub fn guarded(self, in_guard: bool) -> BodyScope<'a, 'p>
         ensures { result ≡ guarding self.entry in_guard }
     {
@@ -87,7 +88,10 @@ fn is_field(local: Option<&Local>) -> bool
 }
 
 // Whether neither a declaration that the module sees bears this name, nor a field.
-fn is_free(scope: Scope<'_, '_>, name: &str, local: Option<&Local>) -> bool {
+fn is_free(scope: Scope<'_, '_>, name: &str, local: Option<&Local>) -> bool
+    ensures { (w : scopes.Scope) → IsScope scope.entry w →
+        result ≡ (not (sees w.program w.home name.now) && not (is_field_local (lent_local name.now local.entry))) }
+{
     !scope.tables.forms.index.sees(scope.home, name) && !is_field(local)
 }
 

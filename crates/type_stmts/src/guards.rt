@@ -49,8 +49,8 @@ fn guards_breach<'p>(
     Ok(first)
 }
 
-/// The first breach of an operation's body, in text order: of its guards, in which nothing is taken or lent, and of its statements. It
-/// doesn't count whether the scope that is passed is that of a guard. The only error is want of memory.
+/// The first breach of an operation's body, in text order: of its guards, each in the scope of a guard, and of its statements. Whether
+/// the scope that is passed is that of a guard makes no difference. The only error is want of memory.
 pub fn body_breach<'p>(
     alloc: Global,
     body: BodyScope<'_, 'p>,

@@ -57,7 +57,7 @@ fn stmt_breach<'p>(
             test,
             body: inside,
             ..
-        } => tested(alloc, body, test, inside),
+        } => tested(alloc, body, inside, test),
         Statement::For {
             name,
             range,
@@ -65,7 +65,9 @@ fn stmt_breach<'p>(
             ..
         } => for_breach(alloc, body, name, range, inside),
         Statement::Repeat {
-            body: inside, test, ..
+            body: inside,
+            test,
+            ..
         } => repeat_breach(alloc, body, inside, test),
         Statement::Fork {
             at,
@@ -94,8 +96,8 @@ fn stmt_breach<'p>(
 fn tested<'p>(
     alloc: Global,
     body: BodyScope<'_, 'p>,
-    test: &Expression,
     inside: &'p [Statement],
+    test: &Expression,
 ) -> Result<Option<Breach>, NoMemory>
     ensures { (w : scopes.Scope) → IsBody body.entry w → IfOk result (λ o. FirstOf o
         (rules.wants w 21 is_boolean (expr test.now) ++ rules.stmts_breaches w (stmts inside.now))) }
@@ -187,7 +189,7 @@ fn arm_breach<'p>(
         IfOk result (λ o. FirstOf o (rules.arm_breaches w (arm_shown arm.now))) }
 {
     match arm {
-        Arm::When { test, body: inside } => tested(alloc, body, test, inside),
+        Arm::When { test, body: inside } => tested(alloc, body, inside, test),
         Arm::Otherwise { body: inside } => stmts_breach(alloc, body, inside),
     }
 }
