@@ -24,8 +24,8 @@ mod symbols;
 mod units;
 
 pub use checked::Checked;
+pub use checking::check;
 pub use context::Context;
 pub use fields::{Fields, fields_of};
 pub use locals::{Locals, declare_parameters, declare_values, declare_variables};
-pub use checking::check;
 pub use symbols::Symbols;
