@@ -1,0 +1,18 @@
+use Rattle.std.proofs.Math.ListN.{drop_of_length-le}
+use Rattle.std.proofs.Common.{[], map}
+use Rattle.orca_syntax.specs.Syntax.{Head}
+use Rattle.orca_syntax.specs.Shown.{head}
+use Rattle.type_rules.specs.Declarations.{are_free}
+use Rattle.type_decls.proofs.FirstOnes.{shown_further, shown_end}
+use Rattle.type_decls.proofs.specifications.all_free.Goals as goal
+
+pub heads-preserved : goal.heads-preserved
+heads-preserved c = λ us ctx.
+    shown_further head (λ (h : Head). are_free us c.args.home.now [] (map (λ t. t.name) h.parameters)) c.args.heads.now c.heads.head-index
+    c.head-item.result c.heads.first c.in_ok-own.own c.lesser-first.result _ c.heads-test.true c.head-item.is c.lesser-first.ensures
+    ((c.in_ok-own.ensures {u = tt}) us ctx) (c.heads.invariant us ctx)
+
+pub returns : goal.returns
+returns c = λ us ctx.
+    shown_end head (λ (h : Head). are_free us c.args.home.now [] (map (λ t. t.name) h.parameters)) c.args.heads.now c.heads.head-index c.heads.first _
+    (drop_of_length-le c.args.heads.now c.heads-test.false) (c.heads.invariant us ctx)
