@@ -474,11 +474,7 @@ process OrcaMain(); begin end;
 ";
     let rows: [(&[(&str, &str)], u8, &str); 4] = [
         (&[("one.orca", ONE)], 0, "ok\n"),
-        (
-            &[("g.orca", guard)],
-            1,
-            "orca: g.orca:6:15: type rule 1\n",
-        ),
+        (&[("g.orca", guard)], 1, "orca: g.orca:6:15: type rule 1\n"),
         (
             &[
                 ("a.orca", "module A;\nimport B;\n"),
@@ -489,7 +485,10 @@ process OrcaMain(); begin end;
         ),
         (
             &[
-                ("m.orca", "import A;\nprocess OrcaMain(); begin WriteLine(Most); end;\n"),
+                (
+                    "m.orca",
+                    "import A;\nprocess OrcaMain(); begin WriteLine(Most); end;\n",
+                ),
                 ("a.orca", "module A;\nconst Most = 7;\n"),
             ],
             0,

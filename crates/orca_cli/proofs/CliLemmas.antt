@@ -1,5 +1,5 @@
 -- What was printed, one put on; and how the program ends where it runs nothing.
-use Rattle.std.proofs.Common.{◌≡◌, ◌≢◌, ℕ, suc, ◌+◌, ◌*◌, ◌^◌, ◌<◌, ◌≤◌, true, List, [], ◌∷◌, ◌++◌, length, get_or, take, drop, add-one, drop-cons, Option, Some, None, refl, sym, ap, ◌∙◌, subst, inl, inr, arith, append_assoc, take-append-drop}
+use Rattle.std.proofs.Common.{◌≡◌, ◌≢◌, ◌⊎◌, ℕ, suc, ◌+◌, ◌*◌, ◌^◌, ◌<◌, ◌≤◌, true, List, [], ◌∷◌, ◌++◌, length, get_or, take, drop, add-one, drop-cons, Option, Some, None, refl, sym, ap, ◌∙◌, subst, inl, inr, arith, append_assoc, take-append-drop}
 use Rattle.std.specs.List.{All}
 use Rattle.std.proofs.Math.Seq.{take-suc}
 use Rattle.std.specs.Borrow.{Bor}
@@ -30,6 +30,7 @@ use Rattle.orca_front.specs.Sources.{AreUnits, IsUnit, file_of}
 use Rattle.orca_front.specs.Sources as units_of
 use Rattle.orca_io.specs.declared.sink.SinkFault.{SinkFault}
 use Rattle.orca_io.specs.declared.sink.SinkFault.TheVariants as faults
+use Rattle.orca_io.specs.Causes.{Rose}
 use Rattle.orca_io.specs.Files.{File, content_of}
 use Rattle.orca_io.specs.Sinks.{Puts}
 use Rattle.small_program.specs.declared.tree.SmallProgram.{SmallProgram}
@@ -167,45 +168,55 @@ pub record ReadSoFar (told : Option (List File)) (files : List (Bor Word)) (i : 
 pub none_read : (told : Option (List File)) (files : List (Bor Word)) → ReadSoFar told files 0 []
 none_read told files = record { names = refl; read = All-nil (IsRead told SOURCE_BYTES) }
 
-one_more : (xs : List (Bor Word)) (i : ℕ) (x : Bor Word) → i < length xs → x ≡ get_or xs i x → take (i + 1) xs ≡ take i xs ++ x ∷ []
-one_more xs i x lt is =
+one_more : (xs : List (Bor Word)) (i : ℕ) (x d : Bor Word) → i < length xs → x ≡ get_or xs i d → take (i + 1) xs ≡ take i xs ++ x ∷ []
+one_more xs i x d lt is =
     let next : i + 1 ≡ suc i = omega arith in
-    ap (λ (k : ℕ). take k xs) next ∙ take-suc xs i x lt ∙ ap (λ (y : Bor Word). take i xs ++ y ∷ []) (sym is)
+    ap (λ (k : ℕ). take k xs) next ∙ take-suc xs i d lt ∙ ap (λ (y : Bor Word). take i xs ++ y ∷ []) (sym is)
 
 -- one file more
-pub reads_more : (told : Option (List File)) (files : List (Bor Word)) (i : ℕ) (file : Bor Word) (sources new : List SourceFile) (s : SourceFile) → i < length files → file ≡ get_or files i file → new ≡ sources ++ s ∷ [] → ReadSoFar told files i sources →
+pub reads_more : (told : Option (List File)) (files : List (Bor Word)) (i : ℕ) (file d : Bor Word) (sources new : List SourceFile) (s : SourceFile) → i < length files → file ≡ get_or files i d → new ≡ sources ++ s ∷ [] → ReadSoFar told files i sources →
     s.name.now ≡ file.now → IsRead told SOURCE_BYTES (file_of s) → ReadSoFar told files (i + 1) new
-reads_more told files i file sources new s lt is pushed so_far named read =
+reads_more told files i file d sources new s lt is pushed so_far named read =
     let news = ap (map file_of) pushed ∙ map-append file_of sources (s ∷ []) in
     record {
       names =
-        ap (map (λ (f : Bor Word). f.now)) (one_more files i file lt is) ∙ map-append (λ (f : Bor Word). f.now) (take i files) (file ∷ [])
-        ∙ ap (λ (l : List Word). l ++ file.now ∷ []) so_far.names ∙ ap (λ (w : Word). map (λ (s : File). s.0) (map file_of sources) ++ w ∷ []) (sym named)
-        ∙ sym (ap (map (λ (s : File). s.0)) news ∙ map-append (λ (s : File). s.0) (map file_of sources) (file_of s ∷ []));
+          ap (map (λ (f : Bor Word). f.now)) (one_more files i file d lt is) ∙ map-append (λ (f : Bor Word). f.now) (take i files) (file ∷ [])
+          ∙ ap (λ (l : List Word). l ++ file.now ∷ []) so_far.names ∙ ap (λ (w : Word). map (λ (s : File). s.0) (map file_of sources) ++ w ∷ []) (sym named)
+          ∙ sym (ap (map (λ (s : File). s.0)) news ∙ map-append (λ (s : File). s.0) (map file_of sources) (file_of s ∷ []));
       read = subst (All (IsRead told SOURCE_BYTES)) (sym news) (All-push (IsRead told SOURCE_BYTES) (map file_of sources) (file_of s) so_far.read read);
     }
 
 -- where reading stops at the next file
-pub stops_next : (told : Option (List File)) (files : List (Bor Word)) (i : ℕ) (file : Bor Word) (sources : List SourceFile) → length files ≤ MODULES → i < length files → file ≡ get_or files i file → ReadSoFar told files i sources →
+pub stops_next : (told : Option (List File)) (files : List (Bor Word)) (i : ℕ) (file d : Bor Word) (sources : List SourceFile) → length files ≤ MODULES → i < length files → file ≡ get_or files i d → ReadSoFar told files i sources →
     StopsAt told (map (λ (f : Bor Word). f.now) files) file.now
-stops_next told files i file sources few lt is so_far = record {
+stops_next told files i file d sources few lt is so_far = record {
   few = subst (λ (n : ℕ). n ≤ MODULES) (sym (length-map files (λ (f : Bor Word). f.now))) few;
   before = map file_of sources;
   after = map (λ (f : Bor Word). f.now) (drop (suc i) files);
   splits =
-    ap (map (λ (f : Bor Word). f.now)) (sym (take-append-drop i files) ∙ ap (λ (r : List (Bor Word)). take i files ++ r) (drop-cons files i file lt ∙ ap (λ (y : Bor Word). y ∷ drop (suc i) files) (sym is)))
-    ∙ map-append (λ (f : Bor Word). f.now) (take i files) (file ∷ drop (suc i) files)
-    ∙ ap (λ (l : List Word). l ++ file.now ∷ map (λ (f : Bor Word). f.now) (drop (suc i) files)) so_far.names;
+      ap (map (λ (f : Bor Word). f.now)) (sym (take-append-drop i files) ∙ ap (λ (r : List (Bor Word)). take i files ++ r) (drop-cons files i d lt ∙ ap (λ (y : Bor Word). y ∷ drop (suc i) files) (sym is)))
+      ∙ map-append (λ (f : Bor Word). f.now) (take i files) (file ∷ drop (suc i) files)
+      ∙ ap (λ (l : List Word). l ++ file.now ∷ map (λ (f : Bor Word). f.now) (drop (suc i) files)) so_far.names;
   read = so_far.read;
 }
 
+pub only_left : {A : Type 0} → A ⊎ ⊥ → A
+only_left (inl a) = a
+only_left (inr h) = absurd h
+
+-- what was read of a file, over what was so before any was read
+pub reads_since : (told old : Option (List File)) (faults before new : ℕ) (name : Word) (x y : Result SourceFile (Refusal LoadFault)) → told ≡ old → faults ≡ before → x ≡ y → Reads told (Rose faults new) name x → Reads old (Rose before new) name y
+reads_since told old faults before new name x y same quiet is h =
+    subst (λ (r : Result SourceFile (Refusal LoadFault)). Reads old (Rose before new) name r) is
+    (subst (λ (t : Option (List File)). Reads t (Rose before new) name x) same (subst (λ (f : ℕ). Reads told (Rose f new) name x) quiet h))
+
 -- why reading stopped there
-pub fault_next : {T : Type 0} (told : Option (List File)) (rose : Type 0) (files : List Word) (name : Word) (r : Refusal LoadFault) → StopsAt told files name → Reads told rose name (Err r) → IfBecause {T = T} (Err r) (IsLoadFault told rose files)
-fault_next {T} told rose files name (Because (loads.Absent file)) stops h = (subst (StopsAt told files) (sym h.0) stops, subst (IsAbsent told) (sym h.0) h.1)
-fault_next {T} told rose files name (Because (loads.TooLong file)) stops h = (subst (StopsAt told files) (sym h.0) stops, subst (IsTooLong told SOURCE_BYTES) (sym h.0) h.1)
-fault_next {T} told rose files name (Because (loads.Failed file)) stops h = (subst (StopsAt told files) (sym h.0) stops, subst (IsThere told) (sym h.0) h.1, h.2)
-fault_next {T} told rose files name (Because loads.TooMany) stops h = absurd h
-fault_next {T} told rose files name NoMemory stops h = tt
+pub fault_next : (T : Type 0) (told : Option (List File)) (rose : Type 0) (files : List Word) (name : Word) (r : Refusal LoadFault) → StopsAt told files name → Reads told rose name (Err r) → IfBecause {T = T} (Err r) (IsLoadFault told rose files)
+fault_next T told rose files name (Because (loads.Absent file)) stops h = (subst (StopsAt told files) (sym h.0) stops, subst (IsAbsent told) (sym h.0) h.1)
+fault_next T told rose files name (Because (loads.TooLong file)) stops h = (subst (StopsAt told files) (sym h.0) stops, subst (IsTooLong told SOURCE_BYTES) (sym h.0) h.1)
+fault_next T told rose files name (Because (loads.Failed file)) stops h = (subst (StopsAt told files) (sym h.0) stops, subst (IsThere told) (sym h.0) h.1, h.2)
+fault_next T told rose files name (Because loads.TooMany) stops h = absurd h
+fault_next T told rose files name NoMemory stops h = tt
 
 -- all files were read
 pub all_read : (told : Option (List File)) (files : List (Bor Word)) (i : ℕ) (sources : List SourceFile) → length files ≤ MODULES → length files ≤ i → ReadSoFar told files i sources → AreRead told (map (λ (f : Bor Word). f.now) files) (map file_of sources)

@@ -1,5 +1,5 @@
 -- How the program ends where it runs nothing: with which status and line, and when (docs/FORMATS.md, Statuses).
-use Rattle.std.specs.Prelude.{◌≡◌, ◌⊎◌, ℕ, List, [], ◌∷◌, ◌++◌, Option, Some, None, codes, slice_index_or}
+use Rattle.std.specs.Prelude.{◌≡◌, ◌⊎◌, ℕ, List, [], Option, Some, None, slice_index_or}
 use Rattle.command_line.specs.declared.request.RunOptions.{RunOptions}
 use Rattle.orca_io.specs.Files.{File}
 use Rattle.link_rules.specs.Units.{Source}

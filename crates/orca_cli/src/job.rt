@@ -12,9 +12,13 @@ use std::alloc::Global;
 #[derive(Debug, Drop)]
 pub enum Job<'a> {
     /// It says this, and no more.
-    Says { text: &'static str },
+    Says {
+        text: &'static str,
+    },
     /// It checks the program in these files.
-    Checks { files: Vec<&'a str> },
+    Checks {
+        files: Vec<&'a str>,
+    },
     /// It runs the program in these files, with these options, over the wire that this script tells.
     Runs {
         options: RunOptions,

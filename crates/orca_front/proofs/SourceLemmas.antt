@@ -1,5 +1,5 @@
 -- Sources and their units, one further.
-use Rattle.std.proofs.Common.{◌≡◌, ℕ, suc, ◌+◌, ◌<◌, List, [], ◌∷◌, ◌++◌, length, get_or, take, drop, drop-cons, refl, sym, ap, ◌∙◌, subst, arith, take-append-drop, map}
+use Rattle.std.proofs.Common.{◌≡◌, ℕ, suc, ◌+◌, ◌<◌, List, [], ◌∷◌, ◌++◌, length, get_or, take, drop, drop-cons, sym, ap, ◌∙◌, subst, arith, take-append-drop, map}
 use Rattle.std.proofs.Math.Seq.{take-suc}
 use Rattle.std.proofs.lemmas.List.{map-append}
 use Rattle.orca_io.specs.Files.{File}
@@ -25,7 +25,7 @@ taken_more xs i x us new u lt is pushed are unit =
     let files = ap (map file_of) (one_more xs i x lt is) ∙ map-append file_of (take i xs) (x ∷ []) in
     let units = ap (map source) pushed ∙ map-append source us (u ∷ []) in
     subst (λ (v : List Source). AreUnits (map file_of (take (i + 1) xs)) v) (sym units)
-      (subst (λ (f : List File). AreUnits f (map source us ++ source u ∷ [])) (sym files) (are_more (map file_of (take i xs)) (map source us) (file_of x) (source u) are unit))
+    (subst (λ (f : List File). AreUnits f (map source us ++ source u ∷ [])) (sym files) (are_more (map file_of (take i xs)) (map source us) (file_of x) (source u) are unit))
 
 -- all before the next source are units
 pub reaches_next : (xs : List SourceFile) (i : ℕ) (x : SourceFile) (us : List NamedUnit) → i < length xs → x ≡ get_or xs i x → AreUnits (map file_of (take i xs)) (map source us) → Reaches (map file_of xs) (file_of x)
@@ -34,7 +34,7 @@ reaches_next xs i x us lt is are = record {
   after = map file_of (drop (suc i) xs);
   units = map source us;
   splits =
-    ap (map file_of) (sym (take-append-drop i xs) ∙ ap (λ (r : List SourceFile). take i xs ++ r) (drop-cons xs i x lt ∙ ap (λ (y : SourceFile). y ∷ drop (suc i) xs) (sym is)))
-    ∙ map-append file_of (take i xs) (x ∷ drop (suc i) xs);
+      ap (map file_of) (sym (take-append-drop i xs) ∙ ap (λ (r : List SourceFile). take i xs ++ r) (drop-cons xs i x lt ∙ ap (λ (y : SourceFile). y ∷ drop (suc i) xs) (sym is)))
+      ∙ map-append file_of (take i xs) (x ∷ drop (suc i) xs);
   are = are;
 }

@@ -1,6 +1,6 @@
 -- What tokens and units say of a text.
-use Rattle.std.proofs.Common.{◌≡◌, ℕ, ◌≤◌, Vec, Global, List, [], ◌∷◌, ◌++◌, Some, None, length, sym, ap, ◌∙◌, subst, arith}
-use Rattle.std.specs.Prelude.{slice_range, map, Result, Ok, Err, codes, IfOk, OnErr}
+use Rattle.std.proofs.Common.{◌≡◌, ℕ, ◌≤◌, Vec, Global, List, [], ◌∷◌, ◌++◌, Some, None, length, sym, ◌∙◌, subst, arith}
+use Rattle.std.specs.Prelude.{slice_range, Result, Ok, Err, codes, IfOk, OnErr}
 use Rattle.orca_base.specs.declared.place.Place.{Place}
 use Rattle.orca_base.specs.declared.limits.TheConstants.{NESTING}
 use Rattle.orca_base.specs.declared.refusal.NoMemory.{NoMemory}
@@ -11,12 +11,9 @@ use Rattle.orca_lexer.specs.declared.token.Token.{Token}
 use Rattle.orca_lexer.specs.Tokens.{Follow, Tokens}
 use Rattle.orca_lexer.specs.Refusal.{IsRefusal as IsLexical}
 use Rattle.orca_lexer.proofs.Once.{begins_some, refusal_none, tokens_once}
-use Rattle.orca_grammar.specs.Forms.{Mark, first_deep, spelled}
+use Rattle.orca_grammar.specs.Forms.{Mark, first_deep}
 use Rattle.orca_grammar.specs.Grammar.{IsText, IsTooNested, IsUnexpected}
-use Rattle.orca_grammar.proofs.Placed.{text_kinds}
 use Rattle.orca_grammar.proofs.Refusals.{not_both}
-use Rattle.orca_tree.specs.declared.tree.Unit.{Unit as UnitTree}
-use Rattle.orca_tree.specs.Marks.{unit as unit_marks}
 use Rattle.parse_units.specs.declared.parse_error.ParseError.TheVariants.{Syntax, TooNested}
 use Rattle.parse_units.specs.declared.parse_error.Found.TheVariants.{Token as OfToken, End}
 use Rattle.orca_front.specs.declared.reading.TextFault.{TextFault}

@@ -1,10 +1,8 @@
 -- Sources, files with their texts, and what is said of them together (docs/FORMATS.md, The program). `Source` of link_rules has the
 -- syntax in place of the bytes.
-use Rattle.std.specs.Prelude.{◌≡◌, ℕ, List, [], ◌∷◌, ◌++◌, map}
-use Rattle.std.specs.List.{All}
+use Rattle.std.specs.Prelude.{◌≡◌, ℕ, List, [], ◌∷◌, ◌++◌}
 use Rattle.orca_base.specs.declared.place.Place.{Place}
 use Rattle.orca_io.specs.Files.{File}
-use Rattle.orca_syntax.specs.Syntax.{Syntax}
 use Rattle.orca_syntax.specs.TextSyntax.{HasSyntax}
 use Rattle.link_rules.specs.declared.link_error.LinkError.{LinkError}
 use Rattle.link_rules.specs.Rules.{IsLinkError, Links}

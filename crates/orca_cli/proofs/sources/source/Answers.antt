@@ -9,5 +9,5 @@ returns-in-Ok g c =
       reads = (refl, read_is (g.F.Shelf.told c.args.shelf.now) c.args.name.now c.in-Ok.text.items read.reads (omega (arith, read.within)));
       same = c.read_all.ensures.same;
       later = c.read_all.ensures.later;
-      quiet = inl (c.read_all.ensures.quiet (λ h. absurd (rw c.in-Ok.is at h)));
+      quiet = inl (c.read_all.ensures.quiet (λ h. absurd (cc (c.in-Ok.is, h))));
     }
