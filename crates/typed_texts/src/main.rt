@@ -1,21 +1,34 @@
 //! Runs each program of data/ by `check` of the top call, and compares what it prints with the line in front of the program.
 //!
-//! The lines were worked out by hand from the rules of linking and typing in docs/LANGUAGE.md, without a look at the definitions:
-//! breaches of each rule at its plain place, at the edge of its wording and beside another rule (rules.txt), programs that come near
-//! to each rule and break none (accepted.txt), the rules of linking (linking.txt), and what follows from the rules only by reading
-//! them closely (corners.txt). A program begins with `=> ` and the line that is wanted, then comes `-- ` and why, and then each of
-//! its texts behind a line `== ` with its file's name. There a lower rule is one with a lower number, which is told of two at one
-//! place. It is a program and not a test, since the gate lays files where a program runs. It prints each program that is answered
-//! otherwise, and for each file how many there are.
+//! The lines were worked out by hand from the rules of linking and typing in docs/LANGUAGE.md, without a look at the definitions, and
+//! in two tables by two people who didn't see each other's work. The first has breaches of each rule at its plain place, at the edge of
+//! its wording and beside another rule (rules.txt), programs that come near to each rule and break none (accepted.txt), the rules of
+//! linking (linking.txt), and what follows from the rules only by reading them closely (corners.txt; docs/DECISIONS.md says how each was
+//! decided); the second is texts.txt. The programs of long.txt are long, and take hours where something is done for each pair of names.
+//!
+//! A program begins with `=> ` and the line that is wanted, then comes `-- ` and why, but for texts.txt, and then each of its texts behind a
+//! line `== ` with its file's name; lines may be written short (`expanded`). There a lower rule is one with a lower number, which is told
+//! of two at one place. It is a program and not a test, since the gate lays files where a program runs. It prints each program that is
+//! answered otherwise, and for each file how many there are.
 #![tactic(auto)]
 
+mod lines;
+
+use lines::expanded;
 use orca_base::SOURCE_BYTES;
 use orca_cli::orca_main;
 use orca_io::{FileShelf, MemoryShelf, MemorySink, Shelf};
 use std::alloc::{AllocError, Global};
 use std::io;
 
-const TABLES: [&str; 4] = ["rules.txt", "accepted.txt", "linking.txt", "corners.txt"];
+const TABLES: [&str; 6] = [
+    "rules.txt",
+    "accepted.txt",
+    "linking.txt",
+    "corners.txt",
+    "texts.txt",
+    "long.txt",
+];
 
 // What `check` prints for texts, each behind `== ` and its file's name.
 fn answer(alloc: Global, texts: &str) -> Result<Vec<u8>, AllocError> {
@@ -42,7 +55,8 @@ fn try_all(rt: &HostRuntime, name: &str, table: &str) -> io::Result<()> {
     let mut same = 0u32;
     for part in table.split("=> ").skip(1) {
         let (line, texts) = part.split_once('\n').unwrap_or((part, ""));
-        let found = answer(rt.alloc(), texts)?;
+        let long = expanded(rt.alloc(), texts)?;
+        let found = answer(rt.alloc(), long.as_str())?;
         let found = String::from_utf8_lossy(rt.alloc(), &found)?;
         if found.as_str().strip_suffix('\n') == Some(line) {
             same = same.saturating_add(1);
