@@ -7,7 +7,7 @@ use std::alloc::{AllocError, Global};
 use std::collections::BTreeMap;
 use std::test::Fail;
 use type_cycles::holds_themselves;
-use type_forms::{Forms, Index, Top, View, What, chains_of, kind_found, parts_of, types_of};
+use type_forms::{Forms, Index, Names, Top, View, What, chains_of, kind_found, parts_of, types_of};
 use type_rules::{Breach, Measured};
 
 // Declared types: of each kind, at the limit of sizes and just above it, one that holds itself, and one that names that.
@@ -74,12 +74,12 @@ fn declared_types_have_sizes_and_nesting(rt: HostRuntime) -> Result<(), Fail> {
 fn first_breach(
     alloc: Global,
     forms: Forms<'_, '_>,
+    names: &Names<'_>,
     top: &Top<'_>,
 ) -> Result<Option<Breach>, NoMemory> {
-    let names = BTreeMap::new(alloc);
     let view = View {
         home: top.by,
-        names: &names,
+        names,
     };
     match top.what {
         What::TypeName {
@@ -90,6 +90,17 @@ fn first_breach(
         }
         _ => Ok(None),
     }
+}
+
+// The same of each name of the top level.
+fn first_breaches(alloc: Global, forms: Forms<'_, '_>) -> Result<Vec<Option<Breach>>, NoMemory> {
+    let none = BTreeMap::new(alloc);
+    let mut all = Vec::new(alloc);
+    for top in forms.index.tops() {
+        let own = first_breach(alloc, forms, &none, top)?;
+        all.push(own)?;
+    }
+    Ok(all)
 }
 
 #[test]
@@ -104,17 +115,15 @@ fn an_array_that_is_too_large_is_told(rt: HostRuntime) -> Result<(), Fail> {
         chains: &chains,
         types: &types,
     };
-    let wide = Breach {
+    let breaches = first_breaches(rt.alloc(), forms)?;
+    let mut wanted = [None; 12];
+    wanted[9] = Some(Breach {
         at: Place {
             line: 8,
             column: 13,
         },
         rule: 10,
-    };
-    for top in index.tops() {
-        let wanted = if top.name == "Wide" { Some(wide) } else { None };
-        let found = first_breach(rt.alloc(), forms, top)?;
-        assert_eq!(rt; found, wanted, "{}", top.name);
-    }
+    });
+    assert_eq!(rt; breaches.as_slice(), wanted.as_slice());
     Ok(())
 }
