@@ -1,12 +1,15 @@
 //! Runs each program of data/ by `check` of the top call, and compares what it prints with the line in front of the program.
 //!
-//! The lines were worked out by hand from the rules of linking and typing in docs/LANGUAGE.md, without a look at the definitions:
-//! breaches of each rule at its plain place, at the edge of its wording and beside another rule (rules.txt), programs that come near
-//! to each rule and break none (accepted.txt), the rules of linking (linking.txt), and what follows from the rules only by reading
-//! them closely (corners.txt). A program begins with `=> ` and the line that is wanted, then comes `-- ` and why, and then each of
-//! its texts behind a line `== ` with its file's name. There a lower rule is one with a lower number, which is told of two at one
-//! place. It is a program and not a test, since the gate lays files where a program runs. It prints each program that is answered
-//! otherwise, and for each file how many there are.
+//! The lines were worked out by hand from the rules of linking and typing in docs/LANGUAGE.md, without a look at the definitions, and
+//! in two tables by two people who didn't see each other's work. The first has breaches of each rule at its plain place, at the edge of
+//! its wording and beside another rule (rules.txt), programs that come near to each rule and break none (accepted.txt), the rules of
+//! linking (linking.txt), and what follows from the rules only by reading them closely (corners.txt; docs/DECISIONS.md says how each was
+//! decided); the second is texts.txt.
+//!
+//! A program begins with `=> ` and the line that is wanted, then comes `-- ` and why, but for texts.txt, and then each of its texts behind a
+//! line `== ` with its file's name. There a lower rule is one with a lower number, which is told of two at one place. It is a program and
+//! not a test, since the gate lays files where a program runs. It prints each program that is answered otherwise, and for each file how many
+//! there are.
 #![tactic(auto)]
 
 use orca_base::SOURCE_BYTES;
@@ -15,7 +18,13 @@ use orca_io::{FileShelf, MemoryShelf, MemorySink, Shelf};
 use std::alloc::{AllocError, Global};
 use std::io;
 
-const TABLES: [&str; 4] = ["rules.txt", "accepted.txt", "linking.txt", "corners.txt"];
+const TABLES: [&str; 5] = [
+    "rules.txt",
+    "accepted.txt",
+    "linking.txt",
+    "corners.txt",
+    "texts.txt",
+];
 
 // What `check` prints for texts, each behind `== ` and its file's name.
 fn answer(alloc: Global, texts: &str) -> Result<Vec<u8>, AllocError> {
