@@ -186,7 +186,7 @@ module _ (G : (A : Type 0) → (State → Out A) → Type 0) (c : Closed G) wher
       c.framed Flow (λ frame s. after (body s) (λ flow s2. Goes flow (without_name s2))) (λ frame. datum.int i ∷ frame) (λ frame.
       c.then _ _ _ _ h without_holds))
 
-  count_holds : (n : ℕ) (i : ℤ) (body : State → Out Flow) → G Flow body → G Flow (count n i body)
+  pub count_holds : (n : ℕ) (i : ℤ) (body : State → Out Flow) → G Flow body → G Flow (count n i body)
   count_holds zero i body h = c.goes _ On
   count_holds (suc n) i body h =
       c.then _ _ _ _ (counted_holds i body h) (λ flow. go_on_holds flow (count n (i +ℤ pos 1) body) (count_holds n (i +ℤ pos 1) body h))
@@ -233,7 +233,7 @@ module _ (G : (A : Type 0) → (State → Out A) → Type 0) (c : Closed G) wher
       eval_holds v (Expr.Invoke o m es) =
           c.then _ _ _ _ (all_holds v es) (λ xs. c.then _ _ _ _ (operate_holds v o m xs) (λ x. c.goes _ _))
 
-      links_holds : (v : Scope) (ls : Links) (left : Datum) → G Datum (eval_links call v ls left)
+      pub links_holds : (v : Scope) (ls : Links) (left : Datum) → G Datum (eval_links call v ls left)
       links_holds v syn.no_link left = c.goes _ left
       links_holds v (syn.link operator e ls) left =
           c.then _ _ _ _ (joined_holds (decides operator left) operator left (eval call v e) (eval_holds v e)) (λ x. links_holds v ls x)
