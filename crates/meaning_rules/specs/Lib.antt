@@ -23,6 +23,7 @@ pub mod ElementsFit
 pub mod GraphsFit
 pub mod PathsFit
 pub mod PhrasesFit
+pub mod Answers
 pub mod Accepted
 pub mod Preservation
 pub mod FitsSound

@@ -19,6 +19,7 @@ ghost use Rattle.meaning_rules.specs.Accepted.{GivesOrder, IsAccepted, IsPlain};
 ghost use Rattle.meaning_rules.specs.Preservation.{PhrasesPreserve, Preservation};
 ghost use Rattle.meaning_rules.specs.FitsSound.{FitsSound};
 ghost use Rattle.meaning_rules.specs.ReadsKeep.{ReadsKeep};
+ghost use Rattle.meaning_rules.specs.Answers.{RepliesAnswer};
 ghost use Rattle.meaning_rules.specs.Replies.{StaysOver, UsesFront};
 ghost use Rattle.meaning_rules.specs.Fitting.{FitsArgs, FitsReply, FitsState, FitsText};
 ghost use Rattle.meaning_rules.specs.ElementsFit.{ElementsFit};
@@ -166,12 +167,13 @@ pub fn examples_are_typed()
 /// The law of the meaning. What a process does next, once it isn't busy, is the same for every greater number of turns. And an operation
 /// that is a read leaves its object as it was, whatever the program: it asks for as many arguments as the operation has parameters, and as
 /// many values as the object has fields. Replies are used from the front, one by each action, and others behind change nothing; a process
-/// that has ended, has faulted or is busy is so with more replies.
+/// that has ended, has faulted or is busy is so with more replies. And replies that fit a process answer its text, whatever the turns.
 pub fn meaning_law()
     ensures settled { (us : List Source) → IsSettled us }
     ensures reads { (us : List Source) → ReadsKeep us }
     ensures fronts { (us : List Source) → UsesFront us }
     ensures over { (us : List Source) → StaysOver us }
+    ensures answers { (us : List Source) → RepliesAnswer us }
 {}
 
 /// What fits, on examples: the state that a making gives, and values that aren't of a type.

@@ -1,3 +1,4 @@
+use Rattle.meaning_rules.proofs.Answering.{replies_answer}
 use Rattle.meaning_rules.proofs.Settling.{is_settled, stays_over, uses_front}
 use Rattle.meaning_rules.proofs.ReadsKeeping.{reads_keep}
 use Rattle.meaning_rules.proofs.law.meaning_law.Goals as goal
@@ -13,3 +14,6 @@ returns-clause-fronts c = uses_front
 
 pub returns-clause-over : goal.returns-clause-over
 returns-clause-over c = stays_over
+
+pub returns-clause-answers : goal.returns-clause-answers
+returns-clause-answers c = replies_answer
