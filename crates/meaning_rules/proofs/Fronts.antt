@@ -130,5 +130,5 @@ fronts = record {
   turns = turn_front;
   acts = act_front;
   framed = framed_front;
-  repeats = repeated_front;
+  repeats = λ round h is. repeated_front round h;
 }

@@ -4,6 +4,8 @@ pub mod Fronts
 pub mod Steady
 pub mod Settling
 pub mod Answering
+pub mod Counting
+pub mod Turning
 pub mod Keeping
 pub mod KeepingPhrases
 pub mod ReadsKeeping

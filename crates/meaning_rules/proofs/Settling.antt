@@ -93,7 +93,7 @@ all_waiting = record {
   turns = record { waits = λ s. begun_waits s.left s };
   acts = λ a performable. record { waits = λ s. replied_waits (a s.frame) (performable s.frame) s s.replies };
   framed = λ A g h all. record { waits = λ s. (all s.frame).waits (record s { frame = h s.frame }) };
-  repeats = λ round h. record { waits = λ s. (loop_waiting (suc s.left) round h).waits s };
+  repeats = λ round h is. record { waits = λ s. (loop_waiting (suc s.left) round h).waits s };
 }
 
 module _ (us : List Source) (levels : ℕ) where

@@ -16,6 +16,7 @@ pub mod Meanings
 pub mod Settled
 pub mod ReadsKeep
 pub mod Replies
+pub mod Turns
 pub mod Fitting
 pub mod StaysFit
 pub mod PartsFit
