@@ -39,7 +39,7 @@ module _ (us : List Source) (text : TextNo) (number : ProcessNo) (args : Data) w
 pub replies_answer : (us : List Source) → RepliesAnswer us
 replies_answer us text number args replies turns fit before rest answer act are comes =
     let can : FitsAction (FitsReply us) (next_of (computes_of us) text number args before) answer =
-            replied_at us text number args [] before answer rest (subst (λ rs. RepliesFitFrom (computes_of us) (FitsReply us) text number args [] rs) are fit) in
+    replied_at us text number args [] before answer rest (subst (λ rs. RepliesFitFrom (computes_of us) (FitsReply us) text number args [] rs) are fit) in
     let is : next_doing us text number args before turns ≡ doing.At act = ap doing_of comes in
     let calm : next_doing us text number args before turns ≡ doing.Busy → ⊥ = λ busy. cc (is, busy) in
     subst (λ d. FitsAction (FitsReply us) d answer)

@@ -1,6 +1,6 @@
 -- That phrases, functions and processes count turns, and after how many what a process does next is reached.
 use Rattle.std.proofs.Common.{refl, ap, ◌∙◌, arith, ◌⊎◌, inl, inr}
-use Rattle.std.specs.Prelude.{◌≡◌, ◌≤◌, ℕ, zero, suc, ◌+◌, List, [], Option, slice_get}
+use Rattle.std.specs.Prelude.{◌≡◌, ◌≤◌, ℕ, zero, suc, List, [], Option, slice_get}
 use Rattle.link_rules.specs.Units.{Source}
 use Rattle.value_core.specs.Datum.{Datum}
 use Rattle.value_core.specs.Goes.{Reaches}
@@ -9,7 +9,7 @@ use Rattle.value_core.specs.declared.meaning.Doing.TheVariants as doing
 use Rattle.meaning_rules.specs.Programs.{process_texts}
 use Rattle.meaning_rules.specs.States.{State, Out, Goes, Stops, Needs, Faults, Busy}
 use Rattle.meaning_rules.specs.Calls.{Calls, Passed}
-use Rattle.meaning_rules.specs.Loops.{Flow, while_round, until_round}
+use Rattle.meaning_rules.specs.Loops.{Flow}
 use Rattle.meaning_rules.specs.Functions.{calls}
 use Rattle.meaning_rules.specs.Processes.{doing_of, text_run}
 use Rattle.meaning_rules.specs.Turns.{with_left, Counts, CountedTo, Counted, CountsTurns, TakesTurns}

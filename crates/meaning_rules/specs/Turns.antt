@@ -16,7 +16,7 @@ use Rattle.value_paths.specs.declared.step.Step.{Step as ValueStep}
 use Rattle.meaning_rules.specs.States.{State, Out, Goes, Stops, Needs, Faults, Busy}
 use Rattle.meaning_rules.specs.Variables.{Target}
 use Rattle.meaning_rules.specs.Calls.{Passed}
-use Rattle.meaning_rules.specs.Loops.{Flow, Round, while_round, until_round, repeated, count}
+use Rattle.meaning_rules.specs.Loops.{Flow, while_round, until_round, repeated, count}
 use Rattle.meaning_rules.specs.Expressions.{eval, eval_links, eval_path, eval_all, eval_passed, eval_target}
 use Rattle.meaning_rules.specs.Statements.{run, run_all, run_arms}
 use Rattle.meaning_rules.specs.Functions.{calls}
