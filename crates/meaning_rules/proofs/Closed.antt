@@ -6,7 +6,12 @@ use Rattle.value_core.specs.Datum.{Datum}
 use Rattle.value_core.specs.Performable.{is_performable}
 use Rattle.value_core.specs.declared.action.Action.{Action}
 use Rattle.meaning_rules.specs.States.{State, Out, Goes, Stops, Faults, after, gives, turn, act}
-use Rattle.meaning_rules.specs.Loops.{Flow, Round, repeated}
+use Rattle.meaning_rules.specs.Loops.{Flow, Round, while_round, until_round, repeated}
+
+-- a round of `while` or of `repeat`, which takes a turn where the loop goes on
+pub data IsRound (G : (A : Type 0) → (State → Out A) → Type 0) : (State → Out Round) → Type 0 where
+  of_while : (test : State → Out Datum) (body : State → Out Flow) → G Datum test → G Flow body → IsRound G (while_round test body)
+  of_until : (test : State → Out Datum) (body : State → Out Flow) → G Datum test → G Flow body → IsRound G (until_round test body)
 
 pub record Closed (G : (A : Type 0) → (State → Out A) → Type 0) : Type 1 where
   pub goes : (A : Type 0) (x : A) → G A (λ s. Goes x s)
@@ -17,4 +22,4 @@ pub record Closed (G : (A : Type 0) → (State → Out A) → Type 0) : Type 1 w
   pub acts : (a : List Datum → Action) → ((frame : List Datum) → is_performable (a frame) ≡ true) → G (Option Datum) (λ s. act (a s.frame) s)
   pub framed : (A : Type 0) (g : List Datum → State → Out A) (h : List Datum → List Datum) → ((frame : List Datum) → G A (g frame)) →
       G A (λ s. g s.frame (record s { frame = h s.frame }))
-  pub repeats : (round : State → Out Round) → G Round round → G Flow (repeated round)
+  pub repeats : (round : State → Out Round) → G Round round → IsRound G round → G Flow (repeated round)

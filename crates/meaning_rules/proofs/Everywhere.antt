@@ -44,11 +44,11 @@ use Rattle.value_core.specs.Performable.{is_performable}
 use Rattle.meaning_rules.specs.States.{Stops, Busy, after}
 use Rattle.meaning_rules.specs.Designators.{slot, outer_value}
 use Rattle.meaning_rules.specs.Variables.{changed_at}
-use Rattle.meaning_rules.specs.Loops.{Round, go_on}
+use Rattle.meaning_rules.specs.Loops.{Round, go_on, while_round, until_round, repeated}
 use Rattle.meaning_rules.specs.Programs.{function_scope, process_scope}
 use Rattle.meaning_rules.specs.Functions.{hand_back, leave, returned, own_frame, enter_body, enter_what, enter, calls, all_calls}
 use Rattle.meaning_rules.specs.Processes.{own_object, make, behind, variable_made, variables_made, object_type_of, block_run, what_run, text_run}
-use Rattle.meaning_rules.proofs.Closed.{Closed}
+use Rattle.meaning_rules.proofs.Closed.{Closed, of_while, of_until}
 
 module _ (G : (A : Type 0) → (State → Out A) → Type 0) (c : Closed G) where
   given_holds : (A : Type 0) (r : Result A FaultKind) → G A (λ s. gives r s)
@@ -177,6 +177,14 @@ module _ (G : (A : Type 0) → (State → Out A) → Type 0) (c : Closed G) wher
   until_holds test h On = c.then _ _ _ _ h (λ x. c.goes _ _)
   until_holds test h (Back x) = c.goes _ (Leave x)
 
+  pub while_holds : (test : State → Out Datum) (body : State → Out Flow) → G Datum test → G Flow body → G Flow (repeated (while_round test body))
+  while_holds test body h k =
+      c.repeats (while_round test body) (c.then _ _ _ _ h (λ x. round_if_holds (truth_in x) body k)) (of_while test body h k)
+
+  pub repeat_holds : (test : State → Out Datum) (body : State → Out Flow) → G Datum test → G Flow body → G Flow (repeated (until_round test body))
+  repeat_holds test body h k =
+      c.repeats (until_round test body) (c.then _ _ _ _ c.turns (λ _. c.then _ _ _ _ k (until_holds test h))) (of_until test body h k)
+
   without_holds : (flow : Flow) → G Flow (λ s. Goes flow (without_name s))
   without_holds flow = c.framed Flow (λ frame s. Goes flow s) (λ frame. drop 1 frame) (λ frame. c.goes Flow flow)
 
@@ -186,7 +194,7 @@ module _ (G : (A : Type 0) → (State → Out A) → Type 0) (c : Closed G) wher
       c.framed Flow (λ frame s. after (body s) (λ flow s2. Goes flow (without_name s2))) (λ frame. datum.int i ∷ frame) (λ frame.
       c.then _ _ _ _ h without_holds))
 
-  count_holds : (n : ℕ) (i : ℤ) (body : State → Out Flow) → G Flow body → G Flow (count n i body)
+  pub count_holds : (n : ℕ) (i : ℤ) (body : State → Out Flow) → G Flow body → G Flow (count n i body)
   count_holds zero i body h = c.goes _ On
   count_holds (suc n) i body h =
       c.then _ _ _ _ (counted_holds i body h) (λ flow. go_on_holds flow (count n (i +ℤ pos 1) body) (count_holds n (i +ℤ pos 1) body h))
@@ -233,7 +241,7 @@ module _ (G : (A : Type 0) → (State → Out A) → Type 0) (c : Closed G) wher
       eval_holds v (Expr.Invoke o m es) =
           c.then _ _ _ _ (all_holds v es) (λ xs. c.then _ _ _ _ (operate_holds v o m xs) (λ x. c.goes _ _))
 
-      links_holds : (v : Scope) (ls : Links) (left : Datum) → G Datum (eval_links call v ls left)
+      pub links_holds : (v : Scope) (ls : Links) (left : Datum) → G Datum (eval_links call v ls left)
       links_holds v syn.no_link left = c.goes _ left
       links_holds v (syn.link operator e ls) left =
           c.then _ _ _ _ (joined_holds (decides operator left) operator left (eval call v e) (eval_holds v e)) (λ x. links_holds v ls x)
@@ -291,12 +299,12 @@ module _ (G : (A : Type 0) → (State → Out A) → Type 0) (c : Closed G) wher
       run_holds v (syn.Return at e) = give_back_holds v e
       run_holds v (syn.If at as_) = arms_holds v as_
       run_holds v (syn.While at test ss) =
-          c.repeats _ (c.then _ _ _ _ (eval_holds v test) (λ x. round_if_holds (truth_in x) (run_all call v ss) (run_all_holds v ss)))
+          while_holds (eval call v test) (run_all call v ss) (eval_holds v test) (run_all_holds v ss)
       run_holds v (syn.For at n low high ss) =
           c.then _ _ _ _ (eval_holds v low) (λ a. c.then _ _ _ _ (eval_holds v high) (λ b.
           count_holds (rounds (integer_in a) (integer_in b)) (integer_in a) (run_all call (with_loop v n) ss) (run_all_holds (with_loop v n) ss)))
       run_holds v (syn.Repeat at ss test) =
-          c.repeats _ (c.then _ _ _ _ c.turns (λ _. c.then _ _ _ _ (run_all_holds v ss) (until_holds (eval call v test) (eval_holds v test))))
+          repeat_holds (eval call v test) (run_all call v ss) (eval_holds v test) (run_all_holds v ss)
       run_holds v (syn.Fork at p es on) =
           c.then _ _ _ _ (all_holds v es) (λ xs. c.then _ _ _ _ (member_holds v on) (λ m. c.then _ _ _ _ (fork_holds v p xs m) (λ _. c.goes _ On)))
       run_holds v (syn.WriteLine at es) =

@@ -15,17 +15,14 @@ use Rattle.meaning_rules.proofs.Closed.{Closed}
 
 -- ---- one evaluation and then another
 
--- what stops behind some replies does so with more
-abbrev Still : {A : Type 0} → (State → Out A) → State → Stop → Type 0
-Still f s why = (rest : List Reply) → f (with_replies (s.replies ++ rest) s) ≡ Stops why
-
 module _ {A B : Type 0} (f : State → Out A) (next : A → State → Out B) where
-  still_behind : (s s1 : State) (x : A) (used : List Reply) (why : Stop) → s.replies ≡ used ++ s1.replies →
-      ((rest : List Reply) → f (with_replies (used ++ rest) s) ≡ Goes x (with_replies rest s1)) → Still (next x) s1 why →
-      Still (λ t. after (f t) next) s why
-  still_behind s s1 x used why are goes still rest =
+  -- what the second stops with behind some replies stops both
+  still_behind : (s s1 : State) (x : A) (used rest : List Reply) (why : Stop) → s.replies ≡ used ++ s1.replies →
+      ((rest : List Reply) → f (with_replies (used ++ rest) s) ≡ Goes x (with_replies rest s1)) →
+      next x (with_replies (s1.replies ++ rest) s1) ≡ Stops why → after (f (with_replies (s.replies ++ rest) s)) next ≡ Stops why
+  still_behind s s1 x used rest why are goes still =
       ap (λ rs. after (f (with_replies rs s)) next) (ap (λ rs. rs ++ rest) are ∙ append_assoc used s1.replies rest)
-      ∙ (ap (λ o. after o next) (goes (s1.replies ++ rest)) ∙ still rest)
+      ∙ (ap (λ o. after o next) (goes (s1.replies ++ rest)) ∙ still)
 
   behind_front : (s s1 : State) (x : A) (used : List Reply) → s.replies ≡ used ++ s1.replies →
       ((rest : List Reply) → f (with_replies (used ++ rest) s) ≡ Goes x (with_replies rest s1)) →
@@ -35,13 +32,14 @@ module _ {A B : Type 0} (f : State → Out A) (next : A → State → Out B) whe
     are ∙ (ap (λ rs. used ++ rs) h.1 ∙ sym (append_assoc used h.0 s2.replies)),
     λ rest. ap (λ rs. after (f (with_replies rs s)) next) (append_assoc used h.0 rest) ∙ (ap (λ o. after o next) (goes (h.0 ++ rest)) ∙ h.2 rest),
   )
-  behind_front s s1 x used are goes (Stops (Needs action)) h = tt
-  behind_front s s1 x used are goes (Stops (Faults fault)) h = still_behind s s1 x used (Faults fault) are goes h
-  behind_front s s1 x used are goes (Stops Busy) h = still_behind s s1 x used Busy are goes h
+  behind_front s s1 x used are goes (Stops (Needs action)) h =
+      λ fault rest. still_behind s s1 x used (reply.Broke fault ∷ rest) (Faults fault) are goes (h fault rest)
+  behind_front s s1 x used are goes (Stops (Faults fault)) h = λ rest. still_behind s s1 x used rest (Faults fault) are goes (h rest)
+  behind_front s s1 x used are goes (Stops Busy) h = λ rest. still_behind s s1 x used rest Busy are goes (h rest)
 
   after_front : (s : State) (o : Out A) → Fronted f s o → ((x : A) → Front B (next x)) → Fronted (λ t. after (f t) next) s (after o next)
   after_front s (Goes x s1) h others = behind_front s s1 x h.0 h.1 h.2 (next x s1) ((others x).front s1)
-  after_front s (Stops (Needs action)) h others = tt
+  after_front s (Stops (Needs action)) h others = λ fault rest. ap (λ o. after o next) (h fault rest)
   after_front s (Stops (Faults fault)) h others = λ rest. ap (λ o. after o next) (h rest)
   after_front s (Stops Busy) h others = λ rest. ap (λ o. after o next) (h rest)
 
@@ -78,7 +76,7 @@ turn_front = record { front = λ s. turn_fronted s.frame s.replies s.left }
 act_fronted : (a : List Datum → Action) (frame : List Datum) (left : ℕ) (replies : List Reply) →
     Fronted (λ s. act (a s.frame) s) (record { frame = frame; replies = replies; left = left })
     (replied (a frame) (record { frame = frame; replies = replies; left = left }) replies)
-act_fronted a frame left [] = tt
+act_fronted a frame left [] = λ fault rest. refl
 act_fronted a frame left (reply.Done ∷ replies) = (reply.Done ∷ [], refl, λ rest. refl)
 act_fronted a frame left (reply.Gave value ∷ replies) = (reply.Gave value ∷ [], refl, λ rest. refl)
 act_fronted a frame left (reply.Broke fault ∷ replies) = λ rest. refl
@@ -91,7 +89,7 @@ act_front a performable = record { front = λ s. act_fronted a s.frame s.left s.
 framed_fronted : (A : Type 0) (g : List Datum → State → Out A) (h : List Datum → List Datum) (s : State) (o : Out A) →
     Fronted (g s.frame) (record s { frame = h s.frame }) o → Fronted (λ t. g t.frame (record t { frame = h t.frame })) s o
 framed_fronted A g h s (Goes x s1) k = k
-framed_fronted A g h s (Stops (Needs action)) k = tt
+framed_fronted A g h s (Stops (Needs action)) k = k
 framed_fronted A g h s (Stops (Faults fault)) k = k
 framed_fronted A g h s (Stops Busy) k = k
 
@@ -109,14 +107,14 @@ next_front Again rounds h = h
 next_front (Leave x) rounds h = goes_front Flow (Back x)
 
 module _ (round : State → Out Round) (h : Front Round round) where
-  loop_front : (n : ℕ) → Front Flow (loop n round)
+  pub loop_front : (n : ℕ) → Front Flow (loop n round)
   unfolding loop
   loop_front zero = record { front = λ s rest. refl }
   loop_front (suc n) = then_front Round Flow round (λ r s1. next_round r s1 (loop n round)) h (λ r. next_front r (loop n round) (loop_front n))
 
   repeated_fronted : (s : State) (o : Out Flow) → Fronted (loop (suc s.left) round) s o → Fronted (repeated round) s o
   repeated_fronted s (Goes x s1) k = k
-  repeated_fronted s (Stops (Needs action)) k = tt
+  repeated_fronted s (Stops (Needs action)) k = k
   repeated_fronted s (Stops (Faults fault)) k = k
   repeated_fronted s (Stops Busy) k = k
 
@@ -132,5 +130,5 @@ fronts = record {
   turns = turn_front;
   acts = act_front;
   framed = framed_front;
-  repeats = repeated_front;
+  repeats = λ round h is. repeated_front round h;
 }

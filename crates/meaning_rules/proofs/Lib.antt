@@ -3,6 +3,9 @@ pub mod Everywhere
 pub mod Fronts
 pub mod Steady
 pub mod Settling
+pub mod Answering
+pub mod Counting
+pub mod Turning
 pub mod Keeping
 pub mod KeepingPhrases
 pub mod ReadsKeeping

@@ -2,8 +2,9 @@
 -- replies.
 use Rattle.std.proofs.Common.{refl, ap, ◌∙◌}
 use Rattle.std.proofs.lemmas.List.{append_assoc}
-use Rattle.std.specs.Prelude.{◌≡◌, ℕ, ◌++◌, List, true, Result, Ok, Err, [], ◌∷◌, zero, suc, slice_get}
+use Rattle.std.specs.Prelude.{◌≡◌, ℕ, ◌++◌, List, true, Option, Result, Ok, Err, [], ◌∷◌, zero, suc, slice_get}
 use Rattle.orca_base.specs.declared.fault.FaultKind.{FaultKind}
+use Rattle.value_core.specs.Datum.{Datum}
 use Rattle.value_core.specs.Performable.{is_performable}
 use Rattle.value_core.specs.declared.action.Action.{Action}
 use Rattle.value_core.specs.declared.action.Action.TheVariants as action
@@ -14,13 +15,15 @@ use Rattle.link_rules.specs.Units.{Source}
 use Rattle.meaning_rules.specs.Programs.{process_texts}
 use Rattle.meaning_rules.specs.States.{State, Out, Goes, Stops, Needs, Faults, Busy, after, gives, begun, replied}
 use Rattle.meaning_rules.specs.Loops.{Flow, Round, Over, Again, Leave, loop, next_round}
-use Rattle.meaning_rules.specs.Functions.{all_calls}
+use Rattle.meaning_rules.specs.Calls.{Calls, Passed}
+use Rattle.meaning_rules.specs.Functions.{calls}
 use Rattle.meaning_rules.specs.Processes.{doing_of, text_run}
 use Rattle.meaning_rules.specs.Settled.{IsSettled}
 use Rattle.meaning_rules.specs.Replies.{Fronted, Front, UsesFront, IsOver, StaysOver}
 use Rattle.meaning_rules.proofs.Closed.{Closed}
-use Rattle.meaning_rules.proofs.Everywhere.{eval_holds, run_all_holds, calls_holds, text_holds}
-use Rattle.meaning_rules.proofs.Fronts.{fronts}
+use Rattle.meaning_rules.proofs.Everywhere as everywhere
+use Rattle.meaning_rules.proofs.Everywhere.{text_holds}
+use Rattle.meaning_rules.proofs.Fronts.{fronts, loop_front}
 use Rattle.meaning_rules.proofs.Steady.{Keeps, Steady, all_steady, busy_steady}
 
 -- the same is done next
@@ -90,13 +93,31 @@ all_waiting = record {
   turns = record { waits = λ s. begun_waits s.left s };
   acts = λ a performable. record { waits = λ s. replied_waits (a s.frame) (performable s.frame) s s.replies };
   framed = λ A g h all. record { waits = λ s. (all s.frame).waits (record s { frame = h s.frame }) };
-  repeats = λ round h. record { waits = λ s. (loop_waiting (suc s.left) round h).waits s };
+  repeats = λ round h is. record { waits = λ s. (loop_waiting (suc s.left) round h).waits s };
 }
+
+module _ (us : List Source) (levels : ℕ) where
+  abbrev call : Calls
+  call = calls us levels
+
+  call_front : (i : ℕ) (given : List Passed) → Front (Option Datum) (call i given)
+  call_front = everywhere.calls_holds Front fronts us levels
 
 pub uses_front : (us : List Source) → UsesFront us
 uses_front us = record {
-  values = eval_holds Front fronts (all_calls us) (calls_holds Front fronts us 64);
-  statements = run_all_holds Front fronts (all_calls us) (calls_holds Front fronts us 64);
+  values = λ levels. everywhere.eval_holds Front fronts (call us levels) (call_front us levels);
+  links = λ levels. everywhere.links_holds Front fronts (call us levels) (call_front us levels);
+  paths = λ levels. everywhere.path_holds Front fronts (call us levels) (call_front us levels);
+  rows = λ levels. everywhere.all_holds Front fronts (call us levels) (call_front us levels);
+  passed = λ levels. everywhere.arguments_holds Front fronts (call us levels) (call_front us levels);
+  targets = λ levels. everywhere.target_holds Front fronts (call us levels) (call_front us levels);
+  statement = λ levels. everywhere.run_holds Front fronts (call us levels) (call_front us levels);
+  statements = λ levels. everywhere.run_all_holds Front fronts (call us levels) (call_front us levels);
+  arms = λ levels. everywhere.arms_holds Front fronts (call us levels) (call_front us levels);
+  rounds = λ k round h. loop_front round h k;
+  counted = everywhere.count_holds Front fronts;
+  functions = call_front us;
+  makes = everywhere.variables_holds Front fronts us;
 }
 
 performs_not_over : (a : Action) → is_performable a ≡ true → IsOver (doing.At a) → ⊥

@@ -126,5 +126,5 @@ all_steady = record {
   turns = turn_steady;
   acts = λ a performable. act_steady a;
   framed = λ A g h all. framed_steady g h all;
-  repeats = λ round h. repeated_steady round h;
+  repeats = λ round h is. repeated_steady round h;
 }

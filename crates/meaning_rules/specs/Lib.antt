@@ -16,6 +16,7 @@ pub mod Meanings
 pub mod Settled
 pub mod ReadsKeep
 pub mod Replies
+pub mod Turns
 pub mod Fitting
 pub mod StaysFit
 pub mod PartsFit
@@ -23,6 +24,7 @@ pub mod ElementsFit
 pub mod GraphsFit
 pub mod PathsFit
 pub mod PhrasesFit
+pub mod Answers
 pub mod Accepted
 pub mod Preservation
 pub mod FitsSound

@@ -4,7 +4,7 @@ ghost use Rattle.std.specs.Prelude.{List, ◌≡◌, [], ◌∷◌, codes, flat_
 ghost use Rattle.meaning_rules.specs.Operators.{fitting, fitting_all};
 ghost use Rattle.orca_base.specs.declared.fault.FaultKind.TheVariants.{DivideByZero, FromEmpty, IndexOutside, NoReturn, Overflow, TooDeep, TooLarge, TooLong};
 ghost use Rattle.value_core.specs.Datum as datum;
-ghost use Rattle.value_core.specs.Datum.{data_of};
+ghost use Rattle.value_core.specs.Datum.{data_of, Datum};
 ghost use Rattle.value_core.specs.History.{IsStuck, Legal, output_of};
 ghost use Rattle.value_core.specs.declared.action.Action.TheVariants as action;
 ghost use Rattle.value_core.specs.declared.action.Class.TheVariants.{Reads, Writes};
@@ -19,6 +19,7 @@ ghost use Rattle.meaning_rules.specs.Accepted.{GivesOrder, IsAccepted, IsPlain};
 ghost use Rattle.meaning_rules.specs.Preservation.{PhrasesPreserve, Preservation};
 ghost use Rattle.meaning_rules.specs.FitsSound.{FitsSound};
 ghost use Rattle.meaning_rules.specs.ReadsKeep.{ReadsKeep};
+ghost use Rattle.meaning_rules.specs.Answers.{RepliesAnswer};
 ghost use Rattle.meaning_rules.specs.Replies.{StaysOver, UsesFront};
 ghost use Rattle.meaning_rules.specs.Fitting.{FitsArgs, FitsReply, FitsState, FitsText};
 ghost use Rattle.meaning_rules.specs.ElementsFit.{ElementsFit};
@@ -27,10 +28,11 @@ ghost use Rattle.meaning_rules.specs.PartsFit.{PartsFit};
 ghost use Rattle.meaning_rules.specs.PathsFit.{PathsFit};
 ghost use Rattle.meaning_rules.specs.StaysFit.{ArgumentsStay, StatesStay, TextsStay};
 ghost use Rattle.meaning_rules.specs.Settled.{IsSettled};
+ghost use Rattle.meaning_rules.specs.Turns.{CountsTurns, TakesTurns};
 ghost use Rattle.meaning_rules.specs.Runs.{class, did, does, ended, faulted, first_made, four_lines, gave, three_lines, twelve_lines, integers, kind, makes, runs, stand, tries};
 ghost use Rattle.orca_tree.specs.declared.tree.Operator.TheVariants as op;
 ghost use Rattle.meaning_rules.specs.Processes.{own_object};
-ghost use Rattle.meaning_rules.specs.Operations.{body_tried};
+ghost use Rattle.meaning_rules.specs.Operations.{body_tried, start};
 ghost use Rattle.meaning_rules.specs.Functions.{hand_back};
 ghost use Rattle.meaning_rules.specs.Calls.{Lent};
 ghost use Rattle.meaning_rules.specs.Variables.{store, take};
@@ -166,12 +168,18 @@ pub fn examples_are_typed()
 /// The law of the meaning. What a process does next, once it isn't busy, is the same for every greater number of turns. And an operation
 /// that is a read leaves its object as it was, whatever the program: it asks for as many arguments as the operation has parameters, and as
 /// many values as the object has fields. Replies are used from the front, one by each action, and others behind change nothing; a process
-/// that has ended, has faulted or is busy is so with more replies.
+/// that has ended, has faulted or is busy is so with more replies. And replies that fit a process answer its text, whatever the turns.
+/// An evaluation takes so many turns, or is busy: with so many and one it goes as with more, and with fewer it is busy; and a guard, a body
+/// and a making begin with 10,000 and one.
 pub fn meaning_law()
     ensures settled { (us : List Source) → IsSettled us }
     ensures reads { (us : List Source) → ReadsKeep us }
     ensures fronts { (us : List Source) → UsesFront us }
     ensures over { (us : List Source) → StaysOver us }
+    ensures answers { (us : List Source) → RepliesAnswer us }
+    ensures counts { (us : List Source) → CountsTurns us }
+    ensures turns { (us : List Source) → TakesTurns us }
+    ensures first { (frame : List Datum) → (start frame).left ≡ 10001 }
 {}
 
 /// What fits, on examples: the state that a making gives, and values that aren't of a type.
