@@ -455,7 +455,9 @@ fn checked(alloc: Global, files: &[(&str, &str)]) -> Result<(u8, String), Fail> 
     let mut shelf = MemoryShelf::new(told, Vec::new(alloc));
     let mut out = MemorySink::new(alloc, Vec::new(alloc));
     let ended = orca_main(alloc, &words, &mut shelf, &mut out);
-    let printed = String::from_utf8(Vec::from_slice(alloc, out.bytes())?)?;
+    let printed = String::from_utf8(Vec::from_slice(alloc, out.bytes())?)
+        .ok()
+        .ok_or("no text")?;
     Ok((ended.status, printed))
 }
 
@@ -507,10 +509,7 @@ process OrcaMain(); begin end;
 #[test]
 fn the_first_file_that_fails_is_told(rt: HostRuntime) -> Result<(), Fail> {
     let alloc = rt.alloc();
-    let mut words = Vec::new(alloc);
-    for word in ["check", "one.orca", "gone.orca"] {
-        words.push(String::from_str(alloc, word)?)?;
-    }
+    let words = words(alloc, &["check", "one.orca", "gone.orca"])?;
     let mut shelf = MemoryShelf::new(
         files(alloc, "one.orca", ONE.as_bytes())?,
         [1].to_vec(alloc)?,
@@ -518,7 +517,7 @@ fn the_first_file_that_fails_is_told(rt: HostRuntime) -> Result<(), Fail> {
     let mut out = MemorySink::new(alloc, Vec::new(alloc));
     let ended = orca_main(alloc, &words, &mut shelf, &mut out);
     assert_eq!(rt; ended.status, 8);
-    assert_eq!(rt; out.bytes(), b"orca: cannot read one.orca\n");
+    assert_eq!(rt; out.bytes(), b"orca: cannot read one.orca\n".as_slice());
     Ok(())
 }
 
