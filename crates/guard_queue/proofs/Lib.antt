@@ -10,6 +10,7 @@ pub mod KindsAt
 pub mod Same
 pub mod Writes
 pub mod Places
+pub mod Indexed
 pub mod Changed
 pub mod Stays
 pub mod Ends

@@ -1,5 +1,5 @@
 -- Elements of a list by their places, seen through a function.
-use Rattle.std.proofs.Common.{◌≡◌, ℕ, ◌+◌, ◌<◌, ◌≤◌, List, [], ◌∷◌, length, get_or, drop, map, ap, sym, refl, subst, zero, suc, arith, remove}
+use Rattle.std.proofs.Common.{◌≡◌, ℕ, ◌+◌, ◌<◌, ◌≤◌, List, [], ◌∷◌, ◌++◌, length, get_or, drop, map, ap, sym, refl, subst, zero, suc, arith, remove, ◌∙◌}
 use Rattle.std.specs.List.{Any}
 use Rattle.guard_queue.proofs.Ready.{from_here}
 
@@ -20,11 +20,26 @@ module _ {X Y : Type 0} (f : X → Y) where
   removed (x ∷ xs) zero = refl
   removed (x ∷ xs) (suc i) = ap (λ ys. f x ∷ ys) (removed xs i)
 
+  -- the element at i, where there is one
+  seen_at : (xs : List X) (i : ℕ) (d : X) → get_or (map f xs) i (f d) ≡ f (get_or xs i d)
+  seen_at [] zero d = refl
+  seen_at [] (suc i) d = refl
+  seen_at (x ∷ xs) zero d = refl
+  seen_at (x ∷ xs) (suc i) d = seen_at xs i d
+
+  -- the one that stands at i, seen
+  pub seen_one : (xs : List X) (i : ℕ) (x : X) (y : Y) → x ≡ get_or xs i x → y ≡ f x → y ≡ get_or (map f xs) i y
+  seen_one xs i x y is seen = seen ∙ ap f is ∙ sym (seen_at xs i x) ∙ ap (get_or (map f xs) i) (sym seen)
+
+  pub seen_last : (xs : List X) (x : X) → map f (xs ++ x ∷ []) ≡ map f xs ++ f x ∷ []
+  seen_last [] x = refl
+  seen_last (y ∷ ys) x = ap (λ zs. f y ∷ zs) (seen_last ys x)
+
 any_head : {Y : Type 0} (P : Y → Type 0) (y : Y) (ys : List Y) → Any P (y ∷ ys) → (P y → ⊥) → Any P ys
 any_head P y ys (zero, x, lt, is, p) apart = absurd (apart (subst P (sym is) p))
 any_head P y ys (suc k, x, lt, is, p) apart = (k, x, omega arith, is, p)
 
-any_behind : {Y : Type 0} (P : Y → Type 0) (y : Y) (ys : List Y) → Any P ys → Any P (y ∷ ys)
+pub any_behind : {Y : Type 0} (P : Y → Type 0) (y : Y) (ys : List Y) → Any P ys → Any P (y ∷ ys)
 any_behind P y ys (k, x, lt, is, p) = (suc k, x, omega arith, is, p)
 
 any_none : {Y : Type 0} (P : Y → Type 0) → Any P [] → ⊥

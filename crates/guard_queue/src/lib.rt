@@ -6,6 +6,7 @@
 #![tactic(auto)]
 
 mod change;
+mod index;
 mod laws;
 mod objects;
 mod queue;

@@ -3,8 +3,10 @@
 ghost use Rattle.std.specs.Prelude.{◌≡◌, ◌<◌, ◌↔◌, ◌∷◌, ◌++◌, [], length, IfOk, OnOk, OnErr, IsTrue, remove, slice_get, Some};
 ghost use Rattle.guard_queue.specs.Waits.{IsWaiting, IsWaitingOn, called};
 
+use crate::index::{add_one, index_copy, take_one};
 use orca_base::{CallNo, KindNo, NoMemory, ObjectId, OpNo, ProcessNo};
 use std::alloc::Global;
+use std::collections::BTreeMap;
 use std::marker::Model;
 use std::sync::Arc;
 use value_core::Parts;
@@ -37,16 +39,17 @@ impl Suspended {
 }
 
 /// The suspended calls in order of their entries, the oldest first. Each is shared with the copies of the queue, so that a copy
-/// is some counts.
+/// is some counts. Beside them stands how many are on each object, so that a look for one costs no look at each.
 #[derive(Drop)]
 pub struct Queue {
     calls: Vec<Arc<Suspended>>,
+    index: BTreeMap<ObjectId, usize>,
 }
 
 impl Model for Queue {
     ghost use Rattle.std.specs.Prelude.{List};
     ghost use Rattle.guard_queue.specs.declared.queue.Suspended.{Suspended};
-    ghost use Rattle.guard_queue.specs.Waits.{called};
+    ghost use Rattle.guard_queue.specs.Waits.{IsIndexOf, called};
 
     ghost Value = { List Suspended };
 
@@ -56,6 +59,8 @@ impl Model for Queue {
     ghost coded = { Prim.hlevel (codes, data_code) };
 
     ghost view = { λ q. called q.calls.items };
+
+    ghost invariant = { λ q. IsIndexOf q.index (called q.calls.items) };
 }
 
 impl Queue {
@@ -65,6 +70,7 @@ impl Queue {
     {
         Queue {
             calls: Vec::new(alloc),
+            index: BTreeMap::new(alloc),
         }
     }
 
@@ -106,12 +112,7 @@ impl Queue {
     pub fn has_on(&self, object: ObjectId) -> bool
         ensures { IsTrue result ↔ IsWaitingOn self.now object }
     {
-        for call in &self.calls {
-            if call.object == object {
-                return true;
-            }
-        }
-        false
+        self.index.contains_key(&object)
     }
 
     /// Adds a call as the newest.
@@ -119,7 +120,11 @@ impl Queue {
         ensures ok { OnOk result (self.new ≡ self.old ++ call ∷ []) }
         ensures err { OnErr result (self.new ≡ self.old) }
     {
-        self.calls.push(Arc::new(alloc, call)?)?;
+        let object = call.object;
+        let call = Arc::new(alloc, call)?;
+        self.calls.reserve(1)?;
+        add_one(&mut self.index, object)?;
+        self.calls.push_reserved(call);
         Ok(())
     }
 
@@ -128,7 +133,8 @@ impl Queue {
         requires { at < length self.old }
         ensures { self.new ≡ remove self.old at }
     {
-        self.calls.remove(at);
+        let call = self.calls.remove(at);
+        take_one(&mut self.index, call.object);
     }
 
     /// Equal calls, which are shared with these.
@@ -139,6 +145,9 @@ impl Queue {
         for call in &self.calls {
             calls.push(Arc::try_clone(call)?)?;
         }
-        Ok(Queue { calls })
+        Ok(Queue {
+            calls,
+            index: index_copy(&self.index)?,
+        })
     }
 }
