@@ -79,7 +79,7 @@ types_are_known us links typed sound = λ i t of at what.
     record { type = known.0; is = known.1; defined = sym (declared_is us linked fine i is) ∙ known.1 }
 
 pub phrases_are_known : (us : List Source) → Links us → IsWellTyped us → AreTexts us → ArePhrasesKnown us
-phrases_are_known us links typed sound = λ v k is none. by v is k none
+phrases_are_known us links typed sound = λ v k is _ none. by v is k none
   where
     here : (m : List ℕ) (names : List (List ℕ)) (k : Kind) → (kind_found (record { program = us; home = m; names = names }) k).breaches ≡ [] → IsPhraseKnown (record { program = us; home = m; names = names }) k
     here m names k none =

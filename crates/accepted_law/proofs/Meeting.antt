@@ -1,5 +1,5 @@
 -- Typing and meaning find the same by a name.
-use Rattle.std.proofs.Common.{refl, sym, ap, ◌∙◌}
+use Rattle.std.proofs.Common.{inl, inr, refl, sym, ap, ◌∙◌}
 use Rattle.std.specs.Prelude.{◌≡◌, ℕ, Bool, true, false, cond, if◌then◌else◌, bytes_eq, List, [], length, map, find, position, slice_get, unwrap_or, Option, Some, None, option_map}
 use Rattle.std.specs.List.{position_or_len}
 use Rattle.std.specs.Option.{option_map_or}
@@ -37,13 +37,17 @@ use Rattle.meaning_rules.specs.Programs.{process_texts, text_of}
 use Rattle.meaning_rules.proofs.Called.{top_at}
 use Rattle.meaning_rules.proofs.Judged.{local_at}
 use Rattle.meaning_rules.proofs.Preserving.{frame_at}
-use Rattle.accepted_law.specs.Meets.{IsFunctionCalled, IsHeld, IsProcessForked, Meets}
+use Rattle.accepted_law.specs.Meets.{IsFunctionCalled, IsGraphFunctionCalled, IsHeld, IsProcessForked, Meets}
 use Rattle.accepted_law.proofs.Named.{own_text}
 use Rattle.accepted_law.proofs.Texts.{stands_bears}
 
 signed_call : Signature → Called → Signature
 signed_call g (typing.AFunction s) = s
 signed_call g c = g
+
+signed_graphs : Signature → Called → Signature
+signed_graphs g (typing.AGraphFunction s) = s
+signed_graphs g c = g
 
 signed_operation : Signature → Invoked → Signature
 signed_operation g (typing.AnOperation s) = s
@@ -56,9 +60,8 @@ signed_fork g f = g
 module _ (v : Scope) where
   names_meet : (kinds : Kinds) (frame : List Datum) (n : Name) (l : Local) → local v n.text ≡ Some l → AreFitting v.program kinds frame v.locals → IsHeld v kinds frame n l
   names_meet kinds frame n l is fits =
-      let named = local_at v n l is in
-      let x = frame_at v.program kinds frame v.locals (slot v n) l fits named in
-      record { value = x.0; at = x.1; named = named; fits = x.2 }
+      let x = frame_at v.program kinds frame v.locals (slot v n) l fits (local_at v n l is) in
+      record { value = x.0; at = x.1; fits = x.2 }
 
   functions_meet : (n : Name) (g : Signature) → called v n ≡ typing.AFunction g → IsFunctionCalled v n g
   unfolding signed_call
@@ -98,6 +101,35 @@ module _ (v : Scope) where
       by : (o : Option Local) → function_of v n.text o ≡ typing.AFunction g → IsFunctionCalled v n g
       by (Some l) e = absurd cc
       by None e = outer (stands_for v.program v.home n.text) refl e
+
+  graphs_meet : (n : Name) (g : Signature) → called v n ≡ typing.AGraphFunction g → IsGraphFunctionCalled v n g
+  unfolding signed_graphs
+  graphs_meet n g is = by (local v n.text) is
+    where
+      what : (t : TopName) (w : What) → top_function v t w ≡ typing.AGraphFunction g → IsGraphFunctionCalled v n g
+      what t (top.Function ps r b) f = absurd cc
+      what t (top.Constant b) f = absurd cc
+      what t (top.TypeName of) f = absurd cc
+      what t (top.Value of number) f = absurd cc
+      what t (top.Specified hs) f = absurd cc
+      what t (top.Implemented os) f = absurd cc
+      what t (top.Process ps b) f = absurd cc
+
+      everywhere : (p : Predeclared) → stands_for v.program v.home n.text ≡ top.Everywhere p → predeclared_function p ≡ typing.AGraphFunction g → IsGraphFunctionCalled v n g
+      everywhere predeclared.AddNode e f = inl (ap function_named e, sym (ap (λ c. (signed_graphs g c).formals) f))
+      everywhere predeclared.DeleteNode e f = inr (ap function_named e, sym (ap (λ c. (signed_graphs g c).formals) f))
+      everywhere predeclared.GraphBound e f = absurd cc
+      everywhere predeclared.NodeNameType e f = absurd cc
+      everywhere predeclared.Nil e f = absurd cc
+
+      outer : (s : StandsFor) → stands_for v.program v.home n.text ≡ s → outer_function v s ≡ typing.AGraphFunction g → IsGraphFunctionCalled v n g
+      outer top.Nothing e f = absurd cc
+      outer (top.Everywhere p) e f = everywhere p e f
+      outer (top.Top i t) e f = what t t.what f
+
+      by : (o : Option Local) → function_of v n.text o ≡ typing.AGraphFunction g → IsGraphFunctionCalled v n g
+      by (Some l) f = absurd cc
+      by None f = outer (stands_for v.program v.home n.text) refl f
 
   operations_meet : (o m : Name) (g : Signature) → invoked v o m ≡ typing.AnOperation g → operation_of v.program (object_number (root_type v o)) m.text ≡ Some g
   unfolding signed_operation
@@ -199,8 +231,10 @@ module _ (v : Scope) where
 
 meets : (v : Scope) → IsLinked v.program → Meets v
 meets v linked = record {
+  slots = local_at v;
   names = names_meet v;
   functions = functions_meet v;
+  graphs = graphs_meet v;
   operations = operations_meet v;
   processes = processes_meet v linked;
   fields = fields_meet v;

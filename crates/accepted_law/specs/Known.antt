@@ -1,6 +1,8 @@
--- That the types of a program are known (docs/LANGUAGE.md, Types): each declared type, and each type phrase that breaks no rule.
+-- That the types of a program are known (docs/LANGUAGE.md, Types): each declared type, and each type phrase that breaks no rule and whose
+-- words are such as a text may have.
 use Rattle.std.specs.Prelude.{◌≡◌, ℕ, false, List, [], slice_get, Some}
 use Rattle.orca_syntax.specs.Syntax.{Kind, Definition}
+use Rattle.orca_syntax.specs.Sound.{IsSoundKind}
 use Rattle.link_rules.specs.Units.{Source}
 use Rattle.type_rules.specs.declared.types.Measured.{Measured}
 use Rattle.type_rules.specs.Constants.{View}
@@ -27,4 +29,4 @@ pub record IsPhraseKnown (v : View) (k : Kind) : Type 0 where
   pub data_type : is_object type.kind ≡ false → IsData v.program type.kind
 
 abbrev pub ArePhrasesKnown : List Source → Type 0
-ArePhrasesKnown us = (v : View) (k : Kind) → v.program ≡ us → (kind_found v k).breaches ≡ [] → IsPhraseKnown v k
+ArePhrasesKnown us = (v : View) (k : Kind) → v.program ≡ us → IsSoundKind k → (kind_found v k).breaches ≡ [] → IsPhraseKnown v k

@@ -1,8 +1,9 @@
--- That what the rules of typing find by a name, and what the meaning finds by it, are the same: variables, functions, operations, processes
--- and fields.
-use Rattle.std.specs.Prelude.{◌≡◌, ℕ, List, map, slice_get, Option, Some, None}
+-- That what the rules of typing find by a name, and what the meaning finds by it, are the same: variables, functions, functions of graphs,
+-- operations, processes and fields.
+use Rattle.std.specs.Prelude.{◌≡◌, ◌⊎◌, ℕ, List, [], ◌∷◌, map, slice_get, Option, Some, None}
 use Rattle.orca_tree.specs.declared.tree.Name.{Name}
 use Rattle.orca_syntax.specs.Syntax.{Kind, Parameter, Block}
+use Rattle.type_rules.specs.declared.signature.Formal.TheVariants.{SomeGraph, NodeOf}
 use Rattle.type_rules.specs.declared.signature.Signature.{Signature}
 use Rattle.type_rules.specs.declared.types.Base.TheVariants as base
 use Rattle.type_rules.specs.declared.types.DataType.{DataType}
@@ -27,7 +28,6 @@ use Rattle.meaning_rules.specs.Programs.{process_texts, text_of}
 pub record IsHeld (v : Scope) (kinds : Kinds) (frame : List Datum) (n : Name) (l : Local) : Type 0 where
   pub value : Datum
   pub at : slice_get frame (slot v n) ≡ Some value
-  pub named : slice_get v.locals (slot v n) ≡ Some l
   pub fits : Fits v.program kinds value l.type
 
 -- what is called is a function of the program, with its signature
@@ -51,10 +51,18 @@ pub record IsProcessForked (v : Scope) (n : Name) (g : Signature) : Type 0 where
   pub what : named.what ≡ top.Process parameters body
   pub signed : g ≡ signature v.program named.defined.by parameters None body
 
+-- `addnode` is called with a graph, `deletenode` with a node's name and a graph
+abbrev pub IsGraphFunctionCalled : Scope → Name → Signature → Type 0
+IsGraphFunctionCalled v n g =
+    ((callee v n ≡ calls.Adds) × (g.formals ≡ SomeGraph ∷ []))
+    ⊎ ((callee v n ≡ calls.Deletes) × (g.formals ≡ NodeOf ∷ SomeGraph ∷ []))
+
 pub record Meets (v : Scope) : Type 0 where
+  pub slots : (n : Name) (l : Local) → local v n.text ≡ Some l → slice_get v.locals (slot v n) ≡ Some l
   pub names : (kinds : Kinds) (frame : List Datum) (n : Name) (l : Local) → local v n.text ≡ Some l →
       AreFitting v.program kinds frame v.locals → IsHeld v kinds frame n l
   pub functions : (n : Name) (g : Signature) → called v n ≡ typing.AFunction g → IsFunctionCalled v n g
+  pub graphs : (n : Name) (g : Signature) → called v n ≡ typing.AGraphFunction g → IsGraphFunctionCalled v n g
   pub operations : (o m : Name) (g : Signature) → invoked v o m ≡ typing.AnOperation g →
       operation_of v.program (object_number (root_type v o)) m.text ≡ Some g
   pub processes : (n : Name) (g : Signature) → forked v n ≡ statements.AProcess g → IsProcessForked v n g

@@ -13,12 +13,12 @@ ghost use Rattle.accepted_law.specs.Numbers.{AreNumbers};
 ghost use Rattle.accepted_law.specs.Known.{ArePhrasesKnown, AreTypesKnown};
 
 /// The law of checked programs. In a program that links and is well typed, whose words are such as a text may have, each declared type is
-/// known, and is what its definition says: none holds itself; and each type phrase that breaks no rule is a type, and one of data where
-/// that is no object type. Where it keeps within the limits too, it is accepted, as preservation asks: types of data open with values that
-/// fit and nest no deeper than values may; calls, operations and processes are what their signatures say, and the main process has no
-/// parameters. In an accepted program bodies begin in variables that fit; and within the limits the numbers of object types, operations,
-/// texts, fields and guards have 16 bits, and those of a process's variables 32. What typing finds by a name in a program that links, and
-/// what the meaning finds by it, are the same.
+/// known, and is what its definition says: none holds itself; and each type phrase of such words that breaks no rule is a type, and one of
+/// data where that is no object type. Where it keeps within the limits too, it is accepted, as preservation asks: types of data open with
+/// values that fit and nest no deeper than values may; calls, operations and processes are what their signatures say, and the main process
+/// has no parameters. In an accepted program bodies begin in variables that fit; and within the limits the numbers of object types,
+/// operations, texts, fields and guards have 16 bits, and those of a process's variables 32. What typing finds by a name in a program that
+/// links, and what the meaning finds by it, are the same: variables, functions, functions of graphs, operations, processes and fields.
 pub fn accepted_law()
     ensures types { (us : List Source) → Links us → IsWellTyped us → AreTexts us → AreTypesKnown us }
     ensures phrases { (us : List Source) → Links us → IsWellTyped us → AreTexts us → ArePhrasesKnown us }

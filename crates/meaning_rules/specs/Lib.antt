@@ -31,5 +31,6 @@ pub mod FitsSound
 pub mod Phrases
 pub mod Runs
 pub mod ProcessExamples
+pub mod PhraseExamples
 pub mod ObjectExamples
 pub mod WrongRules

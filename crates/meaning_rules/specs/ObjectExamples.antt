@@ -327,6 +327,66 @@ reads_and_writes =
     ∷ syn.Return nowhere (Some (number 0)) ∷ []))) ∷ []) None
     ∷ main [] syn.no_stmt ∷ [])
 
+-- object specification Changes;
+--   operation Sets();
+--   operation Inserts();
+--   operation Deletes();
+--   operation Adds();
+--   operation Frees();
+--   operation Counts(): integer;
+-- end;
+-- object implementation Changes;
+--   a: array [1..3] of integer; s: set of integer; g: array [1..graph] of integer;
+--   operation Sets(); begin a[2] := 1; end;
+--   operation Inserts(); begin insert(1, s); end;
+--   operation Deletes(); begin delete(1, s); end;
+--   operation Adds(); n: nodename; begin n := addnode(g); end;
+--   operation Frees(); begin deletenode(nil, g); end;
+--   operation Counts(): integer; y: integer; begin for i in 1..3 do y := y + a[i]; od; return y; end;
+-- end;
+-- process OrcaMain(); begin end;
+abbrev pub changes : List Source
+changes =
+    program
+    (syn.Specification nowhere (name (codes "Changes"))
+    (head (name (codes "Sets")) [] None
+    ∷ head (name (codes "Inserts")) [] None
+    ∷ head (name (codes "Deletes")) [] None
+    ∷ head (name (codes "Adds")) [] None
+    ∷ head (name (codes "Frees")) [] None
+    ∷ head (name (codes "Counts")) [] (Some (syn.Integer nowhere)) ∷ [])
+    ∷ syn.Implementation nowhere (name (codes "Changes"))
+    (variables (name (codes "a") ∷ [])
+    (syn.Array nowhere (bounds.Number nowhere (pos 1)) (bounds.Number nowhere (pos 3)) (syn.Integer nowhere))
+    ∷ variables (name (codes "s") ∷ []) (syn.Set nowhere (syn.Integer nowhere))
+    ∷ variables (name (codes "g") ∷ [])
+    (syn.Array nowhere (bounds.Number nowhere (pos 1)) (bounds.Named (name (codes "graph"))) (syn.Integer nowhere)) ∷ [])
+    (operation (head (name (codes "Sets")) [] None) []
+    (syn.Plain
+    (statements (syn.Assign (name (codes "a")) (syn.to (syn.Index nowhere (number 2)) syn.here) (number 1) ∷ [])))
+    ∷ operation (head (name (codes "Inserts")) [] None) []
+    (syn.Plain (statements (syn.Insert nowhere (number 1) (name (codes "s")) syn.here ∷ [])))
+    ∷ operation (head (name (codes "Deletes")) [] None) []
+    (syn.Plain (statements (syn.Delete nowhere (number 1) (name (codes "s")) syn.here ∷ [])))
+    ∷ operation (head (name (codes "Adds")) [] None)
+    (variables (name (codes "n") ∷ []) (syn.Named (name (codes "nodename"))) ∷ [])
+    (syn.Plain
+    (statements (set (codes "n") (Expr.Call (name (codes "addnode")) (arguments (get (codes "g") ∷ []))) ∷ [])))
+    ∷ operation (head (name (codes "Frees")) [] None) []
+    (syn.Plain
+    (statements (Stmt.Call (name (codes "deletenode")) (arguments (get (codes "nil") ∷ get (codes "g") ∷ [])) ∷ [])))
+    ∷ operation (head (name (codes "Counts")) [] (Some (syn.Integer nowhere)))
+    (variables (name (codes "y") ∷ []) (syn.Integer nowhere) ∷ [])
+    (syn.Plain
+    (statements
+    (syn.For nowhere (name (codes "i")) (number 1) (number 3)
+    (statements
+    (set (codes "y")
+    (joined (get (codes "y")) op.Add
+    (syn.Get (name (codes "a")) (syn.to (syn.Index nowhere (get (codes "i"))) syn.here))) ∷ []))
+    ∷ syn.Return nowhere (Some (get (codes "y"))) ∷ []))) ∷ []) None
+    ∷ main [] syn.no_stmt ∷ [])
+
 -- object implementation B; end;
 -- object specification A; operation Set(v: integer); end;
 -- object specification B; end;
@@ -371,4 +431,4 @@ two_types =
 
 abbrev pub programs : List (List Source)
 programs =
-    one_orca ∷ a_pair ∷ a_pool ∷ pool_orca ∷ guards ∷ broken_making ∷ forever ∷ reads_and_writes ∷ two_types ∷ []
+    one_orca ∷ a_pair ∷ a_pool ∷ pool_orca ∷ guards ∷ broken_making ∷ forever ∷ reads_and_writes ∷ changes ∷ two_types ∷ []

@@ -1,5 +1,5 @@
--- Operations and makings (docs/LANGUAGE.md, Operations and makings). No text of a program's runs here but that of one implementation, which
--- holds no action.
+-- Operations and makings (docs/LANGUAGE.md, Operations and makings). No text of a program's runs here but that of one implementation and of
+-- the functions that it calls, and these hold no action.
 use Rattle.std.specs.Prelude.{ℕ, ◌+◌, ◌==◌, Bool, true, false, List, [], ◌∷◌, ◌++◌, length, drop, slice_get, is_some, if◌then◌else◌, Option, Some, None}
 use Rattle.orca_base.specs.declared.fault.FaultKind.{FaultKind}
 use Rattle.orca_base.specs.declared.fault.FaultKind.TheVariants.{NoReturn, TooLong}

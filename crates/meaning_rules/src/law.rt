@@ -43,7 +43,8 @@ ghost use Rattle.meaning_rules.specs.Statements.{assign, run_all};
 ghost use Rattle.meaning_rules.specs.Phrases.{get, name, number};
 ghost use Rattle.meaning_rules.specs.WrongRules.{bad_index as index_by_zero, body_frame, body_program, body_scope, body_state, both_operands, bound_in_each_round, divides, evaluates, fault_keeps_half, faults_behind, frame_of, here, overflows, right_side_first, runs_adds, take_greatest, the_set, variable_stays};
 ghost use Rattle.meaning_rules.specs.Meanings.{computes_of, performs_of};
-ghost use Rattle.meaning_rules.specs.ObjectExamples.{programs as object_programs, a_pair, a_pool, broken_making, forever, guards, one_orca, pool_orca, reads_and_writes, two_types};
+ghost use Rattle.meaning_rules.specs.ObjectExamples.{programs as object_programs, a_pair, a_pool, broken_making, changes, forever, guards, one_orca, pool_orca, reads_and_writes, two_types};
+ghost use Rattle.meaning_rules.specs.PhraseExamples.{programs as phrase_programs, left_loops, low_first, phrases, too_deep, two_arguments, two_indices, two_large};
 ghost use Rattle.meaning_rules.specs.ProcessExamples.{programs as process_programs, a_chain_of_nodes, bad_index, counting, down, element_first, empty_main, forked_badly, forking, handed_back, indices_first, least_divided, least_element, least_remainder, left_by_return, left_first, no_return, of_another_module, once_until, records, right_side_before_the_walk, short_and, texts, three_rounds, three_until};
 
 use graph_values::graphs_law;
@@ -82,7 +83,21 @@ pub fn process_examples()
     ensures down { runs down 1000 ≡ stand (codes "0\n") (faulted TooDeep) }
 {}
 
-/// Programs of objects: what tries and makings give, which operations are reads, and a history.
+/// Programs that tell phrases apart: operators of one level group from the left, of two parts the left one comes first, `return` leaves
+/// loops, and a call asks the sizes of its arguments, and how deep it stands, before its turn begins.
+pub fn phrase_examples()
+    ensures phrases { runs phrases 1000
+        ≡ stand (codes "3 7 abc\nfalse0true0\nfalsetruetruefalsetruefalsefalse\nno\n") ended }
+    ensures two_indices { runs two_indices 1000 ≡ stand [] (faulted FromEmpty) }
+    ensures two_arguments { runs two_arguments 1000 ≡ stand [] (faulted FromEmpty) }
+    ensures low_first { runs low_first 1000 ≡ stand [] (faulted FromEmpty) }
+    ensures left_loops { runs left_loops 1000 ≡ stand (codes "13\n") ended }
+    ensures two_large { runs two_large 10 ≡ stand (codes "5120\n") (faulted TooLarge) }
+    ensures too_deep { runs too_deep 65 ≡ stand [] (faulted TooDeep) }
+    ensures a_turn_less { runs too_deep 64 ≡ stand [] Busy }
+{}
+
+/// Programs of objects: what tries and makings give, and histories.
 pub fn object_examples()
     ensures history { Legal (performs_of one_orca) (computes_of one_orca) four_lines }
     ensures output { output_of four_lines ≡ codes "6\n" }
@@ -120,10 +135,20 @@ pub fn object_examples()
         ≡ did 0 (datum.int (pos 0) ∷ datum.set (data_of []) ∷ datum.array (data_of (integers (0 ∷ 1 ∷ 0 ∷ []))) ∷ []) Done }
     ensures left_early { tries reads_and_writes 4 (datum.int (pos 0) ∷ datum.set (data_of []) ∷ datum.array (data_of []) ∷ []) []
         ≡ did 0 (datum.int (pos 3) ∷ datum.set (data_of []) ∷ datum.array (data_of []) ∷ []) (gave 2) }
+{}
+
+/// Which operations are reads: one that changes its own variables alone, in a loop too. Each way to change a field is a write.
+pub fn class_examples()
     ensures own_variable { class reads_and_writes 0 ≡ Reads }
     ensures lent { class reads_and_writes 1 ≡ Writes }
     ensures taken { class reads_and_writes 2 ≡ Writes }
     ensures shown { class reads_and_writes 3 ≡ Reads }
+    ensures sets { class changes 0 ≡ Writes }
+    ensures inserts { class changes 1 ≡ Writes }
+    ensures deletes { class changes 2 ≡ Writes }
+    ensures adds { class changes 3 ≡ Writes }
+    ensures frees { class changes 4 ≡ Writes }
+    ensures counts { class changes 5 ≡ Reads }
 {}
 
 /// Sizes, and values that are handed back: the last one at a place stays.
@@ -161,6 +186,7 @@ pub fn wrong_rules()
 /// Each of the programs is well typed.
 pub fn examples_are_typed()
     ensures processes { flat_map breaches process_programs ≡ [] }
+    ensures phrases { flat_map breaches phrase_programs ≡ [] }
     ensures objects { flat_map breaches object_programs ≡ [] }
     ensures wrong { breaches body_program ≡ [] }
 {}
@@ -212,8 +238,8 @@ pub fn fitting_law()
 
 /// Preservation, of a program with `IsAccepted`. A phrase without a breach, evaluated in variables that fit their scope, gives what is of
 /// its type and leaves variables that fit, as long as replies are such as its actions can get; an action to which it comes is of an object
-/// that is there, and of arguments that fit. So do functions; a made state fits, what a try leaves and replies fits, and processes are lawful.
-/// What fits is sound. Where no rule is broken and the texts' words are sound, all bodies are in order, as `IsAccepted` asks; and a
+/// that is there, and of arguments that fit. So do functions; a made state fits, what a try leaves and replies fits, and processes are
+/// lawful. What fits is sound. Where no rule is broken and the texts' words are sound, all bodies are in order, as `IsAccepted` asks; and a
 /// program has it.
 pub fn typed_law()
     ensures phrases { (v : Scope) → IsAccepted v.program → IsPlain v → PhrasesPreserve v }

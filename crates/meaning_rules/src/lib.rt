@@ -12,7 +12,7 @@
 //! time; a body's names but the loops' keep their distance from the frame's end, which a compiler takes for slots. A name that the body
 //! doesn't have is a constant, an enumeration's name or `nil`, and its value is in the text.
 //!
-//! An accepted program links and breaks no rule of typing. For what doesn't occur in one (a name without a type, a call of what is no
+//! An accepted program links, breaks no rule of typing, and keeps within the limits. For what doesn't occur in one (a name without a type, a call of what is no
 //! function, a value of another type, an action in an implementation) the definitions give some answer, of which nothing is claimed.
 //!
 //! specs/Fitting.antt says what fits, and `typed_law` that programs keep it (specs/Preservation.antt). `meaning_law` says that more turns change nothing but whether a process is busy, and that a read
@@ -23,6 +23,6 @@
 mod law;
 
 pub use law::{
-    examples_are_typed, fitting_examples, fitting_law, meaning_law, object_examples,
-    process_examples, typed_law, value_examples, wrong_rules,
+    class_examples, examples_are_typed, fitting_examples, fitting_law, meaning_law,
+    object_examples, phrase_examples, process_examples, typed_law, value_examples, wrong_rules,
 };

@@ -7,6 +7,10 @@ pub returns-clause-processes : goal.returns-clause-processes
 unfolding loop digits
 returns-clause-processes c = refl
 
+pub returns-clause-phrases : goal.returns-clause-phrases
+unfolding loop digits
+returns-clause-phrases c = refl
+
 pub returns-clause-objects : goal.returns-clause-objects
 unfolding loop digits
 returns-clause-objects c = refl

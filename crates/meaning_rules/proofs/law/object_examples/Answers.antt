@@ -99,22 +99,6 @@ pub returns-clause-left_early : goal.returns-clause-left_early
 unfolding loop digits
 returns-clause-left_early c = refl
 
-pub returns-clause-own_variable : goal.returns-clause-own_variable
-unfolding loop digits
-returns-clause-own_variable c = refl
-
-pub returns-clause-lent : goal.returns-clause-lent
-unfolding loop digits
-returns-clause-lent c = refl
-
-pub returns-clause-taken : goal.returns-clause-taken
-unfolding loop digits
-returns-clause-taken c = refl
-
-pub returns-clause-shown : goal.returns-clause-shown
-unfolding loop digits
-returns-clause-shown c = refl
-
 pub returns-clause-history : goal.returns-clause-history
 unfolding loop digits
 returns-clause-history c = (
