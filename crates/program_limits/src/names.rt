@@ -8,9 +8,7 @@ ghost use Rattle.program_limits.specs.Counted.{names_in_declarations, names_in_h
 use crate::counts::both;
 use crate::loops::{loops_in_all, loops_in_body};
 use orca_base::NoMemory;
-use orca_tree::{
-    Block, Declaration, Definition, Head, Operation, Parameter, Statement, Variables,
-};
+use orca_tree::{Block, Declaration, Definition, Head, Operation, Parameter, Statement, Variables};
 
 // The names of variables.
 fn variables(all: &[Variables]) -> Result<u64, NoMemory>

@@ -8,7 +8,10 @@ use std::test::Fail;
 
 // A program with a function of so many parameters.
 fn text_with(alloc: Global, parameters: usize) -> Result<String, AllocError> {
-    let mut text = String::from_str(alloc, "process OrcaMain(); begin end; function f(p: integer")?;
+    let mut text = String::from_str(
+        alloc,
+        "process OrcaMain(); begin end; function f(p: integer",
+    )?;
     for number in 1..parameters {
         text.push_str(format!(in alloc; "; p{number}: integer")?.as_str())?;
     }

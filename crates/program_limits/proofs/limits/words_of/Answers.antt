@@ -13,7 +13,7 @@ pub returns : goal.returns
 returns c =
     let counted : vec_len c.in_ok-words.field-0 ≡ length c.in_ok-words.field-0.items = search rules in
     let tokens =
-        c.len-tokens.ensures ∙ counted ∙ ap (λ (l : List TokenKind). length l) (c.in_ok-words.ensures {u = tt})
-        ∙ ap (λ (ms : List Mark). length (spelled ms)) (unit_shown c.args.unit.now.unit) in
+    c.len-tokens.ensures ∙ counted ∙ ap (λ (l : List TokenKind). length l) (c.in_ok-words.ensures {u = tt})
+    ∙ ap (λ (ms : List Mark). length (spelled ms)) (unit_shown c.args.unit.now.unit) in
     let names = (c.in_ok-names.ensures {u = tt}) ∙ ap (λ (ds : List Declaration). names_in_declarations ds) c.deref.ensures.value in
     subst (λ (k : ℕ). IfOk c.both.result (λ n. n ≡ k)) (ap (λ (k : ℕ). k + c.in_ok-names.names) tokens ∙ ap (λ (k : ℕ). length (spelled (syntax_marks (syntax_of c.args.unit.now.unit))) + k) names) c.both.ensures

@@ -1,4 +1,4 @@
-use Rattle.std.proofs.Common.{◌≡◌, ap, sym, ◌∙◌}
+use Rattle.std.proofs.Common.{ap, sym, ◌∙◌}
 use Rattle.type_forms.specs.declared.tops.What.{What}
 use Rattle.type_forms.specs.Seen.{what}
 use Rattle.accepted_law.specs.Limits.{has_few_parameters}

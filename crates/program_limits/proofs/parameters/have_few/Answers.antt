@@ -1,4 +1,4 @@
-use Rattle.std.proofs.Common.{◌≡◌, ap, sym, ◌∙◌, List}
+use Rattle.std.proofs.Common.{ap, sym, ◌∙◌, List}
 use Rattle.std.specs.List.{list_all}
 use Rattle.std.proofs.lemmas.List.Folds.{list_all-map}
 use Rattle.type_rules.specs.TopLevel.{TopName}
