@@ -1,0 +1,19 @@
+use Rattle.std.proofs.Common.{◌≡◌, ◌∙◌, ap, sym, subst, refl}
+use Rattle.node_core.specs.declared.node.Node.{Node}
+use Rattle.node_core.proofs.Starting.{submitted_so}
+use Rattle.node_core.proofs.Working.{ok_map}
+use Rattle.node_core.proofs.work.Work.submit.Goals as goal
+
+pub submit-requires : goal.submit-requires
+submit-requires g c = ?
+
+pub returns : goal.returns
+returns g c =
+    let node = c.post.ensures.node in
+    let member = ap (λ (n : Node g.row.P.Denot g.row.P-State.Denot). n.member) node in
+    ok_map c.post.result _ _
+    (λ posted.
+    submitted_so g.P.OneRun.stood g.P.OneRun.left g.P.OneRun.run.frame c.args.process.0 c.args.message c.in_ok-action.action c.args.self.now _ c.post.new.self c.in_ok-sends.sends.items (c.in_ok-action.ensures {u = tt})
+    (c.in_ok-move_to.ensures {u = tt}) refl (rw member ((c.in_ok-sends.ensures {u = tt}).row))
+    (node ∙ ap (λ x. record c.move_to.new.node { member = x }) (sym member)) c.post.ensures.others posted)
+    c.post.ensures.sends

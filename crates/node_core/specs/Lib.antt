@@ -1,0 +1,9 @@
+pub mod Runs
+pub mod Names
+pub mod Named
+pub mod Shown
+pub mod Stands
+pub mod Pieces
+pub mod Entries
+pub mod Events
+pub mod Calls
