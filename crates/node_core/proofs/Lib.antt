@@ -9,6 +9,7 @@ pub mod Answering
 pub mod Knowing
 pub mod Beginning
 pub mod NextEntry
+pub mod TakingEntry
 pub mod CatchingUp
 pub mod Handing
 pub mod Calling
