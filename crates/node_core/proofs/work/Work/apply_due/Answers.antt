@@ -19,19 +19,19 @@ pub entries-preserved : goal.entries-preserved
 entries-preserved g c =
     let m = c.args.machine.now in
     far_more g.P.OneRun.stood g.P.OneRun.left g.P.OneRun.run.frame (fitness_of (g.P.Performer.fits_state m) (g.P.Performer.fits_args m) (g.P.Performer.fits_text m) (g.P.Performer.fits_reply m)) c.args.self.now c.entries.self c.apply_next.new.self (λ h which s k stands. whole_length stands) c.entries.invariant (omega arith)
-    (subst (AppliesNext g.P.OneRun.stood g.P.OneRun.left g.P.OneRun.run.frame (fitness_of (g.P.Performer.fits_state m) (g.P.Performer.fits_args m) (g.P.Performer.fits_text m) (g.P.Performer.fits_reply m)) c.entries.self c.apply_next.new.self) ? (c.in_ok-apply_next.ensures {u = tt}))
+    (subst (AppliesNext g.P.OneRun.stood g.P.OneRun.left g.P.OneRun.run.frame (fitness_of (g.P.Performer.fits_state m) (g.P.Performer.fits_args m) (g.P.Performer.fits_text m) (g.P.Performer.fits_reply m)) c.entries.self c.apply_next.new.self) c.if-not-branch.false (c.in_ok-apply_next.ensures {u = tt}))
 
 pub entries-smaller : goal.entries-smaller
 entries-smaller g c =
     let m = c.args.machine.now in
     far_smaller g.P.OneRun.stood g.P.OneRun.left g.P.OneRun.run.frame (fitness_of (g.P.Performer.fits_state m) (g.P.Performer.fits_args m) (g.P.Performer.fits_text m) (g.P.Performer.fits_reply m)) c.args.self.now c.entries.self c.apply_next.new.self (λ h which s k stands. whole_length stands) c.requires c.entries.invariant (omega arith)
-    (subst (AppliesNext g.P.OneRun.stood g.P.OneRun.left g.P.OneRun.run.frame (fitness_of (g.P.Performer.fits_state m) (g.P.Performer.fits_args m) (g.P.Performer.fits_text m) (g.P.Performer.fits_reply m)) c.entries.self c.apply_next.new.self) ? (c.in_ok-apply_next.ensures {u = tt}))
+    (subst (AppliesNext g.P.OneRun.stood g.P.OneRun.left g.P.OneRun.run.frame (fitness_of (g.P.Performer.fits_state m) (g.P.Performer.fits_args m) (g.P.Performer.fits_text m) (g.P.Performer.fits_reply m)) c.entries.self c.apply_next.new.self) c.if-not-branch.false (c.in_ok-apply_next.ensures {u = tt}))
 
-pub returns-then-apply_next : goal.returns-then-apply_next
-returns-then-apply_next g c =
+pub returns-then-not-branch : goal.returns-then-not-branch
+returns-then-not-branch g c =
     let m = c.args.machine.now in
     far_stops g.P.OneRun.stood g.P.OneRun.left g.P.OneRun.run.frame (fitness_of (g.P.Performer.fits_state m) (g.P.Performer.fits_args m) (g.P.Performer.fits_text m) (g.P.Performer.fits_reply m)) c.args.self.now c.entries.self c.apply_next.new.self (λ h which s k stands. whole_length stands) c.entries.invariant (omega arith)
-    (subst (AppliesNext g.P.OneRun.stood g.P.OneRun.left g.P.OneRun.run.frame (fitness_of (g.P.Performer.fits_state m) (g.P.Performer.fits_args m) (g.P.Performer.fits_text m) (g.P.Performer.fits_reply m)) c.entries.self c.apply_next.new.self) ? (c.in_ok-apply_next.ensures {u = tt}))
+    (subst (AppliesNext g.P.OneRun.stood g.P.OneRun.left g.P.OneRun.run.frame (fitness_of (g.P.Performer.fits_state m) (g.P.Performer.fits_args m) (g.P.Performer.fits_text m) (g.P.Performer.fits_reply m)) c.entries.self c.apply_next.new.self) c.if-not-branch.true (c.in_ok-apply_next.ensures {u = tt}))
 
 pub returns : goal.returns
 returns g c = (let m = c.args.machine.now in far_done g.P.OneRun.stood g.P.OneRun.left g.P.OneRun.run.frame (fitness_of (g.P.Performer.fits_state m) (g.P.Performer.fits_args m) (g.P.Performer.fits_text m) (g.P.Performer.fits_reply m)) c.args.self.now c.entries.self c.entries.invariant (omega arith))
