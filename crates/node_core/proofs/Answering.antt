@@ -2,9 +2,7 @@
 use Rattle.std.proofs.Common.{◌≡◌, ◌<◌, ◌++◌, ◌∷◌, ◌==◌, ◌^◌, ℕ, zero, suc, Bool, true, false, List, [], length, take, slice_get, Option, Some, None, refl, sym, ap, ◌∙◌, subst, arith, if◌then◌else◌}
 use Rattle.std.proofs.lemmas.Bool.{eqb-true}
 use Rattle.value_core.specs.declared.action.Line.{Line}
-use Rattle.value_core.specs.declared.action.Reply.{Reply}
 use Rattle.book_law.specs.Fitness.{ReplyFits}
-use Rattle.group_rules.specs.Sets.{with_at}
 use Rattle.world_rules.specs.Applying.{answers}
 use Rattle.world_rules.specs.Frame.{Frame}
 use Rattle.world_rules.specs.Nodes.{Deed, NodeWork, changes, does, if_played}
@@ -14,7 +12,7 @@ use Rattle.node_rules.specs.Handing.{MayReceive}
 use Rattle.node_core.specs.Entries.{MayAnswer, MayAnswerHere}
 use Rattle.node_core.specs.Pieces.{Becomes, BecomesIn, MayBeHanded, resident_at}
 use Rattle.node_core.specs.Shown.{IsPlayedIf, Left, Stood}
-use Rattle.node_core.specs.Stands.{IsMoved, IsWork, StandsAs}
+use Rattle.node_core.specs.Stands.{IsWork, StandsAs}
 use Rattle.node_core.specs.declared.moved.Moved.{Moved}
 use Rattle.node_core.specs.declared.node.Node.{Node}
 use Rattle.node_core.specs.declared.resident.Resident.{Resident}

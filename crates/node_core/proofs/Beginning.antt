@@ -1,5 +1,5 @@
 -- The process that an entry forks begins, where it is this member's.
-use Rattle.std.proofs.Common.{◌≡◌, ◌<◌, ◌++◌, ◌∷◌, ◌==◌, ℕ, Bool, true, false, List, [], map, Option, Some, None, refl, sym, ap, ◌∙◌, subst, if◌then◌else◌}
+use Rattle.std.proofs.Common.{◌≡◌, ◌∷◌, ◌==◌, ℕ, Bool, true, false, List, [], map, Option, None, refl, sym, ap, ◌∙◌, subst, if◌then◌else◌}
 use Rattle.std.specs.Prelude.{ℤ}
 use Rattle.std.proofs.lemmas.Bool.{eq-eqb, eqb-true}
 use Rattle.orca_base.specs.declared.ids.TextNo.{TextNo}
@@ -9,7 +9,6 @@ use Rattle.value_core.specs.declared.action.Action.{Action}
 use Rattle.value_core.specs.declared.action.Action.TheVariants as action
 use Rattle.book_law.specs.Fitness.{TextFits}
 use Rattle.object_manager.specs.After.{Copied}
-use Rattle.world_rules.specs.Applying.{begins}
 use Rattle.world_rules.specs.Frame.{Frame}
 use Rattle.world_rules.specs.Nodes.{NodeWork, plays}
 use Rattle.world_rules.specs.Played.{newborn}

@@ -12,7 +12,6 @@ use Rattle.world_rules.specs.Nodes as nodes
 use Rattle.world_rules.specs.Nodes.{NodeWork}
 use Rattle.node_rules.specs.Conditions.{Fitness}
 use Rattle.node_rules.specs.Moments.{IsDue, Moment, works}
-use Rattle.node_rules.specs.Moments.Walks.{Stays}
 use Rattle.node_rules.proofs.Ending.{catching_up_ends}
 use Rattle.node_rules.proofs.Walking.{due_rest, one_more}
 use Rattle.node_core.specs.Entries.{AppliesNext}

@@ -1,24 +1,18 @@
 -- A member applies its next entry, piece by piece.
-use Rattle.std.proofs.Common.{◌≡◌, ◌≤◌, ◌<◌, ◌+◌, ◌^◌, ◌++◌, ◌∷◌, ◌==◌, ℕ, zero, suc, Bool, true, false, List, [], length, map, slice_get, slice_index_or, is_some, Option, Some, None, refl, sym, ap, ◌∙◌, subst, arith, if◌then◌else◌}
+use Rattle.std.proofs.Common.{◌≡◌, ◌<◌, ◌++◌, ◌∷◌, ◌==◌, ℕ, zero, suc, Bool, true, false, List, [], length, map, slice_get, slice_index_or, is_some, Option, Some, None, refl, sym, ap, ◌∙◌, subst, arith, if◌then◌else◌}
 use Rattle.std.proofs.lemmas.List.{map-append}
 use Rattle.orca_base.specs.declared.what.What.{What}
-use Rattle.value_core.specs.Fits.{Kinds}
 use Rattle.value_core.specs.Meaning.{Performs}
-use Rattle.value_core.specs.declared.action.Action.{Action}
 use Rattle.value_core.specs.declared.action.Line.{Line}
 use Rattle.value_core.specs.declared.message.Message.{Message}
 use Rattle.guard_queue.specs.Settles.{lines_of}
 use Rattle.guard_queue.specs.declared.settling.Answered.{Answered}
-use Rattle.history_buffer.specs.declared.history.Slot.{Slot}
 use Rattle.history_buffer.specs.declared.history.Slot.TheVariants.{Found}
 use Rattle.object_manager.specs.After.{Copied, after as after_applied}
-use Rattle.object_manager.specs.Applies.{Applies, CopiesBlocked, CopiesFit}
 use Rattle.object_manager.specs.Limits.{too_many}
 use Rattle.object_manager.specs.Singles.{after_passed}
-use Rattle.book_law.specs.Fitness.{ReplyFits, TextFits}
 use Rattle.book_law.specs.Members.{after_entry}
 use Rattle.book_law.specs.Passes.{Test, is_passed, lines_after}
-use Rattle.group_rules.specs.Member.{Member}
 use Rattle.group_member.specs.Laws.{EntryLaw, LengthLaw}
 use Rattle.group_member.specs.StandsFor.{StandsFor}
 use Rattle.value_core.specs.declared.action.Reply.{Reply}
@@ -28,8 +22,7 @@ use Rattle.world_rules.specs.Nodes as nodes
 use Rattle.world_rules.specs.Nodes.{NodeWork, becomes, does, known}
 use Rattle.world_rules.specs.Nodes.Deed.{Applies as Told}
 use Rattle.world_rules.specs.Processes.{Begun, begun_by, home_in, singles_of}
-use Rattle.node_rules.specs.Conditions.{Conditions, Fitness}
-use Rattle.node_rules.specs.Handing.{MayHandAll}
+use Rattle.node_rules.specs.Conditions.{Fitness}
 use Rattle.node_rules.specs.Moments.{IsDue, Moment, born_of, entry_lines, takes_entry, works}
 use Rattle.node_rules.specs.Moments.Goes.{Takes_entry}
 use Rattle.node_rules.specs.Moments.Walks.{Stays}

@@ -5,28 +5,25 @@ use Rattle.orca_base.specs.declared.what.What.{What}
 use Rattle.value_core.specs.Meaning.{Performs}
 use Rattle.value_core.specs.declared.action.Action.{Action}
 use Rattle.value_core.specs.declared.action.Action.TheVariants as action
-use Rattle.value_core.specs.declared.action.Line.{Line}
 use Rattle.value_core.specs.declared.action.Reply.{Reply}
 use Rattle.value_core.specs.declared.message.Message.{Message}
 use Rattle.guard_queue.specs.Settles.{lines_of}
 use Rattle.guard_queue.specs.declared.settling.Answered.{Answered}
-use Rattle.object_manager.specs.After.{Copied, acted, after as after_applied, lines_after as lines_applied}
+use Rattle.object_manager.specs.After.{acted, after as after_applied, lines_after as lines_applied}
 use Rattle.object_manager.specs.Limits.{IfLimit, too_many}
 use Rattle.object_manager.specs.Singles.{after_passed}
 use Rattle.object_manager.specs.declared.copies.ApplyError.{ApplyError}
 use Rattle.object_manager.specs.declared.copies.ApplyError.TheVariants.{Limit}
-use Rattle.book_law.specs.Passes.{is_passed, lines_after}
-use Rattle.book_law.specs.Members.{after_entry}
+use Rattle.book_law.specs.Passes.{is_passed}
 use Rattle.group_member.specs.Laws.{EntryLaw}
 use Rattle.world_rules.specs.Frame.{Frame}
 use Rattle.world_rules.specs.Nodes.{NodeWork}
-use Rattle.world_rules.specs.Processes.{Begun, begun_by, home_in, singles_of}
+use Rattle.world_rules.specs.Processes.{Begun, home_in, singles_of}
 use Rattle.node_rules.specs.Conditions.{Fitness}
-use Rattle.node_rules.specs.Moments.{works}
 use Rattle.node_core.specs.Entries.{AppliesNext, Begins, HasTaken, IsBorn, KnowsAs, Refused, Took, listed}
 use Rattle.node_core.specs.Pieces.{GoesOn, IsNext}
 use Rattle.node_core.specs.Shown.{Left, Stood}
-use Rattle.node_core.specs.Stands.{IsMoved, StandsAs, on_known}
+use Rattle.node_core.specs.Stands.{IsMoved, StandsAs}
 use Rattle.node_core.specs.declared.moved.Moved.{Moved}
 use Rattle.node_core.specs.declared.node.Known.{Known}
 use Rattle.node_core.specs.declared.node.Node.{Node}

@@ -1,4 +1,4 @@
-use Rattle.std.proofs.Common.{◌≡◌, ◌∙◌, ◌++◌, ◌∷◌, [], List, ap, sym, subst, refl}
+use Rattle.std.proofs.Common.{◌∙◌, ◌++◌, ◌∷◌, [], List, ap, sym, subst, refl}
 use Rattle.value_core.specs.declared.action.Line.{Line}
 use Rattle.world_rules.specs.Applying.{answers}
 use Rattle.world_rules.specs.Nodes.{does}

@@ -1,4 +1,4 @@
-use Rattle.std.proofs.Common.{◌≡◌, ◌<◌, ◌≤◌, arith}
+use Rattle.std.proofs.Common.{arith}
 use Rattle.world_rules.specs.Applying.{notes}
 use Rattle.node_core.specs.Stands.{fitness_of}
 use Rattle.node_core.proofs.CatchingUp.{first_applied, rounds_more, rounds_over, rounds_smaller, somewhere_goes, somewhere_rounds}

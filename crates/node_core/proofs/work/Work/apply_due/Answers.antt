@@ -1,4 +1,4 @@
-use Rattle.std.proofs.Common.{◌≡◌, ◌<◌, ◌≤◌, Bool, true, false, subst, arith}
+use Rattle.std.proofs.Common.{subst, arith}
 use Rattle.node_core.specs.Entries.{AppliesNext}
 use Rattle.node_core.specs.Stands.{fitness_of}
 use Rattle.node_core.proofs.CatchingUp.{far_done, far_more, far_smaller, far_stops, so_far, somewhere_far}

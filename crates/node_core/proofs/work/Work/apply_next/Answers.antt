@@ -1,5 +1,4 @@
-use Rattle.std.proofs.Common.{◌≡◌, ◌∙◌, Option, sym, subst, refl}
-use Rattle.value_core.specs.declared.action.Action.{Action}
+use Rattle.std.proofs.Common.{sym, subst, refl}
 use Rattle.value_core.specs.declared.action.Reply.{Reply}
 use Rattle.value_core.specs.declared.message.Message.{Message}
 use Rattle.group_member.specs.Laws.{EntryLaw, LengthLaw}

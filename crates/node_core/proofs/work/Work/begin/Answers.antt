@@ -1,4 +1,4 @@
-use Rattle.std.proofs.Common.{◌≡◌, ◌∙◌, Option, List, ap, sym, subst, refl}
+use Rattle.std.proofs.Common.{◌∙◌, Option, ap, sym, subst}
 use Rattle.node_core.specs.Entries.{Begins, listed}
 use Rattle.node_core.specs.declared.node.Known.{Known}
 use Rattle.node_core.proofs.Beginning.{begins_away, begins_here, begins_none, starts_fit}

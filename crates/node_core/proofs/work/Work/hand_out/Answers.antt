@@ -1,4 +1,4 @@
-use Rattle.std.proofs.Common.{◌≡◌, ◌∙◌, ◌+◌, ℕ, List, length, take, slice_get, refl, sym, ap, subst, arith}
+use Rattle.std.proofs.Common.{◌+◌, ℕ, List, length, refl, subst, arith}
 use Rattle.std.proofs.lemmas.List.{take_all}
 use Rattle.std.proofs.lemmas.Option.{slice_get_read}
 use Rattle.value_core.specs.declared.action.Line.{Line}

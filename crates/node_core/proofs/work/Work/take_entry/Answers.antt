@@ -1,4 +1,3 @@
-use Rattle.std.proofs.Common.{◌≡◌, refl}
 use Rattle.node_core.proofs.TakingEntry.{refused_by}
 use Rattle.node_core.proofs.work.Work.take_entry.Goals as goal
 

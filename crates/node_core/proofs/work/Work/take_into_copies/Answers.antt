@@ -1,4 +1,4 @@
-use Rattle.std.proofs.Common.{◌≡◌, ◌<◌, ◌==◌, ◌∙◌, ℕ, ap, arith, refl}
+use Rattle.std.proofs.Common.{◌==◌, ◌∙◌, ℕ, ap, arith, refl}
 use Rattle.world_rules.specs.Processes.{home_in}
 use Rattle.node_core.specs.declared.node.Node.{Node}
 use Rattle.node_core.proofs.TakingEntry.{ok_three, took_applied, took_passed}
