@@ -39,11 +39,11 @@ pub took_passed : {P S : Type 0} (p : Performs) (old new : Node P S) (x : Messag
 took_passed p old new x lines passes keeps is single own within after told = record {
   within = within;
   copies = λ f processes knows.
-  after ∙ ap (λ (b : Bool). after_passed p b old.copies x) (own f processes knows)
-  ∙ ap (λ (b : Bool). if b then after_passed p (home_in processes x.process.0 == old.member.me) old.copies x else after_applied p old.copies x)
-  (sym is ∙ single f processes knows);
+      after ∙ ap (λ (b : Bool). after_passed p b old.copies x) (own f processes knows)
+      ∙ ap (λ (b : Bool). if b then after_passed p (home_in processes x.process.0 == old.member.me) old.copies x else after_applied p old.copies x)
+      (sym is ∙ single f processes knows);
   lines = λ f processes knows.
-  told ∙ ap (λ (b : Bool). if b then (acted p old.copies x).lines else lines_applied p old.copies x) (sym is ∙ single f processes knows);
+      told ∙ ap (λ (b : Bool). if b then (acted p old.copies x).lines else lines_applied p old.copies x) (sym is ∙ single f processes knows);
 }
 
 -- any other entry is applied
@@ -54,11 +54,11 @@ pub took_applied : {P S : Type 0} (p : Performs) (old new : Node P S) (x : Messa
 took_applied p old new x lines passes is single within after told = record {
   within = within;
   copies = λ f processes knows.
-  after
-  ∙ ap (λ (b : Bool). if b then after_passed p (home_in processes x.process.0 == old.member.me) old.copies x else after_applied p old.copies x)
-  (sym is ∙ single f processes knows);
+      after
+      ∙ ap (λ (b : Bool). if b then after_passed p (home_in processes x.process.0 == old.member.me) old.copies x else after_applied p old.copies x)
+      (sym is ∙ single f processes knows);
   lines = λ f processes knows.
-  told ∙ ap (λ (b : Bool). if b then (acted p old.copies x).lines else lines_applied p old.copies x) (sym is ∙ single f processes knows);
+      told ∙ ap (λ (b : Bool). if b then (acted p old.copies x).lines else lines_applied p old.copies x) (sym is ∙ single f processes knows);
 }
 
 -- what passes a limit is refused
