@@ -212,6 +212,24 @@ arrives_held stood left errand old new is same held f m v work =
     (ap (λ (b : Bool). if b then v else holds (on_errand errand) v) (sym (refused_so stood left f m errand old v work ∙ is)))
     (held_more stood left f m errand old new v same held work)
 
+-- so the two tests tell
+refused_as : {P S : Type 0} (errand : Errand) (s : Work P S) (outside held : Bool) (list : List Errand) → outside ≡ s.node.member.outside → outside ≡ false → list ≡ s.node.held.items
+    → held ≡ is_held (on_errand errand) (map on_errand list) → refused errand s ≡ held
+refused_as errand s outside held list tells inside is same =
+    ap (λ (b : Bool). b || is_held (on_errand errand) (map on_errand s.node.held.items)) (sym tells ∙ inside)
+    ∙ ap (λ (l : List Errand). is_held (on_errand errand) (map on_errand l)) (sym is) ∙ sym same
+
+pub refused_outside : {P S : Type 0} (errand : Errand) (s : Work P S) (outside : Bool) → outside ≡ s.node.member.outside → outside ≡ true → refused errand s ≡ true
+refused_outside errand s outside tells out = ap (λ (b : Bool). b || is_held (on_errand errand) (map on_errand s.node.held.items)) (sym tells ∙ out)
+
+pub refused_held : {P S : Type 0} (errand : Errand) (s : Work P S) (outside held : Bool) (list : List Errand) → outside ≡ s.node.member.outside → outside ≡ false → list ≡ s.node.held.items
+    → held ≡ is_held (on_errand errand) (map on_errand list) → held ≡ true → refused errand s ≡ true
+refused_held errand s outside held list tells inside is same hit = refused_as errand s outside held list tells inside is same ∙ hit
+
+pub refused_none : {P S : Type 0} (errand : Errand) (s : Work P S) (outside held : Bool) (list : List Errand) → outside ≡ s.node.member.outside → outside ≡ false → list ≡ s.node.held.items
+    → held ≡ is_held (on_errand errand) (map on_errand list) → held ≡ false → refused errand s ≡ false
+refused_none errand s outside held list tells inside is same apart = refused_as errand s outside held list tells inside is same ∙ apart
+
 -- ---- whether one of the same call is held
 
 one_held : (errand other : Errand) (held : List Errand) (i : ℕ) → i < length held → other ≡ get_or held i other
