@@ -1,5 +1,5 @@
 -- Asks and Answers whose place is reached are taken one by one, in a walk.
-use Rattle.std.proofs.Common.{◌≡◌, ◌≤◌, ◌<◌, ◌++◌, ◌∷◌, ℕ, Bool, true, false, ◌||◌, ◌+◌, List, [], drop, get_or, length, map, refl, sym, ap, ◌∙◌, subst, arith, if◌then◌else◌}
+use Rattle.std.proofs.Common.{◌≡◌, ◌≤◌, ◌<◌, ◌++◌, ◌∷◌, ℕ, Bool, true, false, ◌||◌, ◌+◌, List, [], Option, Some, None, MatchOption, drop, get_or, length, map, refl, sym, ap, ◌∙◌, subst, arith, if◌then◌else◌}
 use Rattle.std.proofs.lemmas.Bool.{le-leb, lt-leb}
 use Rattle.std.proofs.lemmas.List.{at_drop_all, at_drop_more, map-append}
 use Rattle.object_manager.specs.After.{Copied}
@@ -18,6 +18,11 @@ use Rattle.node_core.specs.Shown.{Left, Stood, on_errand}
 use Rattle.node_core.specs.Stands.{IsAt, IsWork}
 use Rattle.node_core.specs.declared.errand.Errand.{Errand}
 use Rattle.node_core.specs.declared.work.Work.{Work}
+
+-- what is so of a value that is there
+pub some_left : {X : Type 0} (r : Option X) (x : X) (P : Type 0) (Q : X → Type 0) → r ≡ Some x → MatchOption r P Q → Q x
+some_left None x P Q is h = absurd (cc is)
+some_left (Some y) x P Q is h = (let e : y ≡ x = cc is in subst Q e h)
 
 -- one more is held
 pub held_more : {P S : Type 0} (stood : Stood S) (left : Left S) (f : Frame) (m : ℕ) (errand : Errand) (old new : Work P S) (v : NodeWork)

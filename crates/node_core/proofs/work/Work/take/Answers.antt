@@ -9,13 +9,13 @@ take_ask-requires g c =
     let m = c.args.machine.now in
     take_ask_may g.P.OneRun.stood g.P.OneRun.left g.P.OneRun.run.frame
     (fitness_of (g.P.Performer.fits_state m) (g.P.Performer.fits_args m) (g.P.Performer.fits_text m) (g.P.Performer.fits_reply m))
-    c.args.errand _ _ c.message.result.now c.args.self.now c.in-Ask.is c.message.ensures c.requires
+    c.args.errand _ _ c.message-in-Ask.result.now c.args.self.now c.in-Ask.is c.message-in-Ask.ensures c.requires
 
 pub returns-in-Ask : goal.returns-in-Ask
 returns-in-Ask g c =
     ok_map c.take_ask.result _ _
     (λ becomes.
-    ask_taken g.P.OneRun.stood g.P.OneRun.left g.P.OneRun.run.frame c.args.errand _ _ c.message.result.now c.args.self.now c.take_ask.new.self c.in-Ask.is c.message.ensures becomes)
+    ask_taken g.P.OneRun.stood g.P.OneRun.left g.P.OneRun.run.frame c.args.errand _ _ c.message-in-Ask.result.now c.args.self.now c.take_ask.new.self c.in-Ask.is c.message-in-Ask.ensures becomes)
     c.take_ask.ensures
 
 pub take_answer-requires : goal.take_answer-requires

@@ -4,21 +4,21 @@ use Rattle.node_core.proofs.Taking.{asked_again, asked_before, asked_late, asked
 use Rattle.node_core.proofs.Working.{ok_map}
 use Rattle.node_core.proofs.work.Work.take_ask.Goals as goal
 
-pub take_call-requires-in-None : goal.take_call-requires-in-None
-take_call-requires-in-None g c =
+pub take_call-requires : goal.take_call-requires
+take_call-requires g c =
     let m = c.args.machine.now in
     new_none g.P.OneRun.stood g.P.OneRun.left g.P.OneRun.run.frame
     (fitness_of (g.P.Performer.fits_state m) (g.P.Performer.fits_args m) (g.P.Performer.fits_text m) (g.P.Performer.fits_reply m))
-    c.args.message.now c.args.self.now (sym c.in-None.is ∙ c.last_given.ensures) c.requires
+    c.args.message.now c.args.self.now (sym c.in_default.is ∙ c.last_given.ensures) c.requires
 
-pub returns-in-None : goal.returns-in-None
-returns-in-None g c =
+pub returns-in_default : goal.returns-in_default
+returns-in_default g c =
     ok_map c.take_call.result _ _
-    (λ becomes. asked_none g.P.OneRun.stood g.P.OneRun.left g.P.OneRun.run.frame c.args.message.now c.args.self.now c.take_call.new.self (sym c.in-None.is ∙ c.last_given.ensures) becomes)
+    (λ becomes. asked_none g.P.OneRun.stood g.P.OneRun.left g.P.OneRun.run.frame c.args.message.now c.args.self.now c.take_call.new.self (sym c.in_default.is ∙ c.last_given.ensures) becomes)
     c.take_call.ensures
 
-pub take_call-requires : goal.take_call-requires
-take_call-requires g c =
+pub take_call-requires-then-last-message : goal.take_call-requires-then-last-message
+take_call-requires-then-last-message g c =
     let m = c.args.machine.now in
     new_some g.P.OneRun.stood g.P.OneRun.left g.P.OneRun.run.frame
     (fitness_of (g.P.Performer.fits_state m) (g.P.Performer.fits_args m) (g.P.Performer.fits_text m) (g.P.Performer.fits_reply m))
@@ -26,11 +26,11 @@ take_call-requires g c =
 
 pub returns-then-last-message : goal.returns-then-last-message
 returns-then-last-message g c =
-    ok_map c.take_call.result _ _
+    ok_map c.take_call-then-last-message.result _ _
     (λ becomes.
-    asked_before g.P.OneRun.stood g.P.OneRun.left g.P.OneRun.run.frame c.args.message.now c.args.self.now c.take_call.new.self c.in-Some.last (sym c.in-Some.is ∙ c.last_given.ensures)
+    asked_before g.P.OneRun.stood g.P.OneRun.left g.P.OneRun.run.frame c.args.message.now c.args.self.now c.take_call-then-last-message.new.self c.in-Some.last (sym c.in-Some.is ∙ c.last_given.ensures)
     c.if-last-message.true becomes)
-    c.take_call.ensures
+    c.take_call-then-last-message.ensures
 
 pub returns-then-last-message-2 : goal.returns-then-last-message-2
 returns-then-last-message-2 g c =

@@ -1,7 +1,10 @@
-use Rattle.std.proofs.Common.{◌≡◌, ◌∙◌, sym, refl}
+use Rattle.std.proofs.Common.{◌≡◌, ◌∙◌, ap, sym, refl, subst, List, [], arith, rules}
+use Rattle.std.specs.Vec.Iter.{into_iter_items}
 use Rattle.node_core.specs.Stands.{fitness_of}
-use Rattle.node_core.proofs.Reaching.{reached_begin, reached_held, reached_next, reached_outside, reached_over, reached_taken}
+use Rattle.node_core.specs.declared.work.Work.{Work}
+use Rattle.node_core.proofs.Reaching.{TakesRest, reached_begin, reached_held, reached_next, reached_outside, reached_over, reached_taken, some_left}
 use Rattle.node_core.proofs.work.Work.take_reached.Goals as goal
+use Rattle.node_core.proofs.work.Work.take_reached.Goals.{else-place-applied, then-place-applied}
 
 pub returns-then-is_outside : goal.returns-then-is_outside
 returns-then-is_outside g c =
@@ -13,15 +16,48 @@ returns-then-is_outside g c =
 pub errands-init : goal.errands-init
 errands-init g c =
     let m = c.args.machine.now in
+    let all : into_iter_items c.into_iter-errand-iterator.result ≡ c.args.self.now.node.held.items = search rules in
     reached_begin g.P.OneRun.stood g.P.OneRun.left g.P.OneRun.run.frame
     (fitness_of (g.P.Performer.fits_state m) (g.P.Performer.fits_args m) (g.P.Performer.fits_text m) (g.P.Performer.fits_reply m))
-    c.is_outside.result c.args.self.now _ _ c.is_outside.ensures c.if-is_outside.false ? refl ?
+    c.is_outside.result c.args.self.now _ _ c.is_outside.ensures c.if-is_outside.false all refl (search rules)
 
 pub take-requires : goal.take-requires
-take-requires g c = ?
+take-requires g c =
+    let m = c.args.machine.now in
+    let tested = c.if-place-applied.true in
+    let place = c.place.ensures in
+    let applied = c.applied.ensures in
+    reached_next g.P.OneRun.stood g.P.OneRun.left g.P.OneRun.run.frame
+    (fitness_of (g.P.Performer.fits_state m) (g.P.Performer.fits_args m) (g.P.Performer.fits_text m) (g.P.Performer.fits_reply m))
+    c.args.self.now c.errands.self _ _ c.in-Some.errand ((some_left c.next.result c.in-Some.errand _ _ c.in-Some.is c.next.ensures.steps).0)
+    (omega (arith, tested, place, applied)) c.errands.invariant c.requires
 
 pub errands-preserved : goal.errands-preserved
-errands-preserved g c = ?
+errands-preserved g c =
+    let m = c.args.machine.now in
+    let fitness = (fitness_of (g.P.Performer.fits_state m) (g.P.Performer.fits_args m) (g.P.Performer.fits_text m) (g.P.Performer.fits_reply m)) in
+    let rest = (some_left c.next.result c.in-Some.errand _ _ c.in-Some.is c.next.ensures.steps).0 in
+    let place = c.place.ensures in
+    let applied = c.applied.ensures in
+    elim c.if-place-applied.branch [
+      | then-place-applied w ↦
+          subst (λ (s : Work g.row.P.Denot g.row.P-State.Denot). TakesRest g.P.OneRun.stood g.P.OneRun.left g.P.OneRun.run.frame fitness c.args.self.now s _)
+              (sym w.self-is)
+              (let tested = w.if-place-applied.true in
+              reached_taken g.P.OneRun.stood g.P.OneRun.left g.P.OneRun.run.frame fitness c.args.self.now c.errands.self w.take.new.self _ _ c.in-Some.errand rest
+              (omega (arith, tested, place, applied)) (w.in_ok-take.ensures {u = tt}) c.errands.invariant)
+      | else-place-applied w ↦
+          subst (λ (s : Work g.row.P.Denot g.row.P-State.Denot). TakesRest g.P.OneRun.stood g.P.OneRun.left g.P.OneRun.run.frame fitness c.args.self.now s _)
+              (sym w.self-is)
+              (let tested = w.if-place-applied.false in
+              reached_held g.P.OneRun.stood g.P.OneRun.left g.P.OneRun.run.frame fitness c.args.self.now c.errands.self _ _ _ c.in-Some.errand rest
+              (omega (arith, tested, place, applied)) refl ((w.in_ok-push.ensures {u = tt}).items) c.errands.invariant)
+    ]
 
 pub returns : goal.returns
-returns g c = ?
+returns g c =
+    let m = c.args.machine.now in
+    let none : into_iter_items c.errands.errand-iterator ≡ [] = search rules in
+    reached_over g.P.OneRun.stood g.P.OneRun.left g.P.OneRun.run.frame
+    (fitness_of (g.P.Performer.fits_state m) (g.P.Performer.fits_args m) (g.P.Performer.fits_text m) (g.P.Performer.fits_reply m))
+    c.args.self.now c.errands.self _ none c.errands.invariant
