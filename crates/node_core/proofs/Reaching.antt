@@ -19,10 +19,18 @@ use Rattle.node_core.specs.Stands.{IsAt, IsWork}
 use Rattle.node_core.specs.declared.errand.Errand.{Errand}
 use Rattle.node_core.specs.declared.work.Work.{Work}
 
--- what is so of a value that is there
+-- what is so of a value that is there, and of none
 pub some_left : {X : Type 0} (r : Option X) (x : X) (P : Type 0) (Q : X → Type 0) → r ≡ Some x → MatchOption r P Q → Q x
 some_left None x P Q is h = absurd (cc is)
 some_left (Some y) x P Q is h = (let e : y ≡ x = cc is in subst Q e h)
+
+pub none_left : {X : Type 0} (r : Option X) (P : Type 0) (Q : X → Type 0) → r ≡ None → MatchOption r P Q → P
+none_left None P Q is h = h
+none_left (Some y) P Q is h = absurd (cc is)
+
+pub empty_left : {X : Type 0} (xs : List X) → length xs ≡ 0 → xs ≡ []
+empty_left [] is = refl
+empty_left (x ∷ xs) is = absurd (cc is)
 
 -- one more is held
 pub held_more : {P S : Type 0} (stood : Stood S) (left : Left S) (f : Frame) (m : ℕ) (errand : Errand) (old new : Work P S) (v : NodeWork)

@@ -1,10 +1,10 @@
-use Rattle.std.proofs.Common.{◌≡◌, ◌∙◌, ap, sym, refl, List, [], rules}
+use Rattle.std.proofs.Common.{◌≡◌, ◌∙◌, ap, sym, refl, List, [], arith, rules}
 use Rattle.std.specs.Vec.Iter.{into_iter_items}
 use Rattle.guard_queue.specs.Settles.{lines_of}
 use Rattle.guard_queue.specs.declared.settling.Answered.{Answered}
 use Rattle.node_core.specs.Stands.{fitness_of}
 use Rattle.node_core.proofs.Calling.{hands_begin, hands_more, hands_next, hands_over, may_call}
-use Rattle.node_core.proofs.Reaching.{some_left}
+use Rattle.node_core.proofs.Reaching.{empty_left, none_left, some_left}
 use Rattle.node_core.proofs.work.Work.perform_call.Goals as goal
 
 pub call_single-requires : goal.call_single-requires
@@ -38,5 +38,7 @@ lines-preserved g c =
 
 pub returns : goal.returns
 returns g c =
-    let none : into_iter_items c.lines.one-iterator ≡ [] = search rules in
+    let over = (none_left c.next.result _ _ c.in-None.is c.next.ensures.steps).0 in
+    let whole = c.lines.one-iterator.rest.ok.0 in
+    let none = empty_left (into_iter_items c.lines.one-iterator) (omega (arith, over, whole)) in
     hands_over g.P.OneRun.stood g.P.OneRun.left g.P.OneRun.run.frame (g.P.Performer.fits_reply c.args.machine.now) c.args.message.now c.args.self.now c.lines.self _ none c.lines.invariant

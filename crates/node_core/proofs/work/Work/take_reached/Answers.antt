@@ -2,7 +2,7 @@ use Rattle.std.proofs.Common.{◌≡◌, ◌∙◌, ap, sym, refl, subst, List, 
 use Rattle.std.specs.Vec.Iter.{into_iter_items}
 use Rattle.node_core.specs.Stands.{fitness_of}
 use Rattle.node_core.specs.declared.work.Work.{Work}
-use Rattle.node_core.proofs.Reaching.{TakesRest, reached_begin, reached_held, reached_next, reached_outside, reached_over, reached_taken, some_left}
+use Rattle.node_core.proofs.Reaching.{TakesRest, empty_left, none_left, reached_begin, reached_held, reached_next, reached_outside, reached_over, reached_taken, some_left}
 use Rattle.node_core.proofs.work.Work.take_reached.Goals as goal
 use Rattle.node_core.proofs.work.Work.take_reached.Goals.{else-place-applied, then-place-applied}
 
@@ -16,10 +16,7 @@ returns-then-is_outside g c =
 pub errands-init : goal.errands-init
 errands-init g c =
     let m = c.args.machine.now in
-    let all : into_iter_items c.into_iter-errand-iterator.result ≡ c.args.self.now.node.held.items = search rules in
-    reached_begin g.P.OneRun.stood g.P.OneRun.left g.P.OneRun.run.frame
-    (fitness_of (g.P.Performer.fits_state m) (g.P.Performer.fits_args m) (g.P.Performer.fits_text m) (g.P.Performer.fits_reply m))
-    c.is_outside.result c.args.self.now _ _ c.is_outside.ensures c.if-is_outside.false all refl (search rules)
+    let h = c.into_iter-errand-iterator in let k = c.replace-held in ?
 
 pub take-requires : goal.take-requires
 take-requires g c =
@@ -57,7 +54,9 @@ errands-preserved g c =
 pub returns : goal.returns
 returns g c =
     let m = c.args.machine.now in
-    let none : into_iter_items c.errands.errand-iterator ≡ [] = search rules in
+    let over = (none_left c.next.result _ _ c.in-None.is c.next.ensures.steps).0 in
+    let whole = c.errands.errand-iterator.rest.ok.0 in
+    let none = empty_left (into_iter_items c.errands.errand-iterator) (omega (arith, over, whole)) in
     reached_over g.P.OneRun.stood g.P.OneRun.left g.P.OneRun.run.frame
     (fitness_of (g.P.Performer.fits_state m) (g.P.Performer.fits_args m) (g.P.Performer.fits_text m) (g.P.Performer.fits_reply m))
     c.args.self.now c.errands.self _ none c.errands.invariant
