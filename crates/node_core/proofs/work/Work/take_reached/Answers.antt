@@ -1,10 +1,8 @@
-use Rattle.std.proofs.Common.{◌≡◌, ◌∙◌, ap, sym, refl, subst, List, [], arith, rules}
+use Rattle.std.proofs.Common.{◌≡◌, ◌∙◌, ap, refl, arith}
 use Rattle.std.specs.Vec.Iter.{into_iter_items}
 use Rattle.node_core.specs.Stands.{fitness_of}
-use Rattle.node_core.specs.declared.work.Work.{Work}
-use Rattle.node_core.proofs.Reaching.{TakesRest, empty_left, none_left, reached_begin, reached_held, reached_next, reached_outside, reached_over, reached_taken, some_left}
+use Rattle.node_core.proofs.Reaching.{empty_left, none_left, reached_begin, reached_held, reached_next, reached_outside, reached_over, reached_taken, some_left}
 use Rattle.node_core.proofs.work.Work.take_reached.Goals as goal
-use Rattle.node_core.proofs.work.Work.take_reached.Goals.{else-place-applied, then-place-applied}
 
 pub returns-then-is_outside : goal.returns-then-is_outside
 returns-then-is_outside g c =
@@ -16,7 +14,11 @@ returns-then-is_outside g c =
 pub errands-init : goal.errands-init
 errands-init g c =
     let m = c.args.machine.now in
-    let h = c.into_iter-errand-iterator in let k = c.replace-held in ?
+    reached_begin g.P.OneRun.stood g.P.OneRun.left g.P.OneRun.run.frame
+    (fitness_of (g.P.Performer.fits_state m) (g.P.Performer.fits_args m) (g.P.Performer.fits_text m) (g.P.Performer.fits_reply m))
+    c.is_outside.result c.args.self.now _ _ c.is_outside.ensures c.if-is_outside.false
+    (c.into_iter-errand-iterator.ensures.into_iter_gives.0 ∙ ap (λ v. v.items) c.replace-held.ensures.value) refl
+    (ap (λ v. v.items) c.replace-held.ensures.after ∙ c.new.ensures.items)
 
 pub take-requires : goal.take-requires
 take-requires g c =
@@ -32,24 +34,24 @@ take-requires g c =
 pub errands-preserved : goal.errands-preserved
 errands-preserved g c =
     let m = c.args.machine.now in
-    let fitness = (fitness_of (g.P.Performer.fits_state m) (g.P.Performer.fits_args m) (g.P.Performer.fits_text m) (g.P.Performer.fits_reply m)) in
-    let rest = (some_left c.next.result c.in-Some.errand _ _ c.in-Some.is c.next.ensures.steps).0 in
+    let tested = c.if-place-applied.false in
     let place = c.place.ensures in
     let applied = c.applied.ensures in
-    elim c.if-place-applied.branch [
-      | then-place-applied w ↦
-          subst (λ (s : Work g.row.P.Denot g.row.P-State.Denot). TakesRest g.P.OneRun.stood g.P.OneRun.left g.P.OneRun.run.frame fitness c.args.self.now s _)
-              (sym w.self-is)
-              (let tested = w.if-place-applied.true in
-              reached_taken g.P.OneRun.stood g.P.OneRun.left g.P.OneRun.run.frame fitness c.args.self.now c.errands.self w.take.new.self _ _ c.in-Some.errand rest
-              (omega (arith, tested, place, applied)) (w.in_ok-take.ensures {u = tt}) c.errands.invariant)
-      | else-place-applied w ↦
-          subst (λ (s : Work g.row.P.Denot g.row.P-State.Denot). TakesRest g.P.OneRun.stood g.P.OneRun.left g.P.OneRun.run.frame fitness c.args.self.now s _)
-              (sym w.self-is)
-              (let tested = w.if-place-applied.false in
-              reached_held g.P.OneRun.stood g.P.OneRun.left g.P.OneRun.run.frame fitness c.args.self.now c.errands.self _ _ _ c.in-Some.errand rest
-              (omega (arith, tested, place, applied)) refl ((w.in_ok-push.ensures {u = tt}).items) c.errands.invariant)
-    ]
+    reached_held g.P.OneRun.stood g.P.OneRun.left g.P.OneRun.run.frame
+    (fitness_of (g.P.Performer.fits_state m) (g.P.Performer.fits_args m) (g.P.Performer.fits_text m) (g.P.Performer.fits_reply m))
+    c.args.self.now c.errands.self _ _ _ c.in-Some.errand ((some_left c.next.result c.in-Some.errand _ _ c.in-Some.is c.next.ensures.steps).0)
+    (omega (arith, tested, place, applied)) refl ((c.in_ok-push.ensures {u = tt}).items) c.errands.invariant
+
+pub errands-preserved-in-Continue-1 : goal.errands-preserved-in-Continue-1
+errands-preserved-in-Continue-1 g c =
+    let m = c.args.machine.now in
+    let tested = c.if-place-applied.true in
+    let place = c.place.ensures in
+    let applied = c.applied.ensures in
+    reached_taken g.P.OneRun.stood g.P.OneRun.left g.P.OneRun.run.frame
+    (fitness_of (g.P.Performer.fits_state m) (g.P.Performer.fits_args m) (g.P.Performer.fits_text m) (g.P.Performer.fits_reply m))
+    c.args.self.now c.errands.self c.take.new.self _ _ c.in-Some.errand ((some_left c.next.result c.in-Some.errand _ _ c.in-Some.is c.next.ensures.steps).0)
+    (omega (arith, tested, place, applied)) (c.in_ok-take.ensures {u = tt}) c.errands.invariant
 
 pub returns : goal.returns
 returns g c =
