@@ -1,5 +1,5 @@
 -- Asks and Answers whose place is reached are taken one by one, in a walk.
-use Rattle.std.proofs.Common.{◌≡◌, ◌≤◌, ◌<◌, ◌++◌, ◌∷◌, ℕ, Bool, true, false, ◌||◌, ◌+◌, List, [], drop, get_or, length, map, refl, sym, ap, ◌∙◌, subst, arith, if◌then◌else◌}
+use Rattle.std.proofs.Common.{◌≡◌, ◌≤◌, ◌<◌, ◌++◌, ◌∷◌, ℕ, Bool, true, false, ◌||◌, ◌+◌, List, [], Option, Some, None, MatchOption, drop, get_or, length, map, refl, sym, ap, ◌∙◌, subst, arith, if◌then◌else◌}
 use Rattle.std.proofs.lemmas.Bool.{le-leb, lt-leb}
 use Rattle.std.proofs.lemmas.List.{at_drop_all, at_drop_more, map-append}
 use Rattle.object_manager.specs.After.{Copied}
@@ -18,6 +18,19 @@ use Rattle.node_core.specs.Shown.{Left, Stood, on_errand}
 use Rattle.node_core.specs.Stands.{IsAt, IsWork}
 use Rattle.node_core.specs.declared.errand.Errand.{Errand}
 use Rattle.node_core.specs.declared.work.Work.{Work}
+
+-- what is so of a value that is there, and of none
+pub some_left : {X : Type 0} (r : Option X) (x : X) (P : Type 0) (Q : X → Type 0) → r ≡ Some x → MatchOption r P Q → Q x
+some_left None x P Q is h = absurd (cc is)
+some_left (Some y) x P Q is h = (let e : y ≡ x = cc is in subst Q e h)
+
+pub none_left : {X : Type 0} (r : Option X) (P : Type 0) (Q : X → Type 0) → r ≡ None → MatchOption r P Q → P
+none_left None P Q is h = h
+none_left (Some y) P Q is h = absurd (cc is)
+
+pub empty_left : {X : Type 0} (xs : List X) → length xs ≡ 0 → xs ≡ []
+empty_left [] is = refl
+empty_left (x ∷ xs) is = absurd (cc is)
 
 -- one more is held
 pub held_more : {P S : Type 0} (stood : Stood S) (left : Left S) (f : Frame) (m : ℕ) (errand : Errand) (old new : Work P S) (v : NodeWork)
@@ -211,6 +224,24 @@ arrives_held stood left errand old new is same held f m v work =
     subst (λ (w : NodeWork). IsWork stood left f m new w)
     (ap (λ (b : Bool). if b then v else holds (on_errand errand) v) (sym (refused_so stood left f m errand old v work ∙ is)))
     (held_more stood left f m errand old new v same held work)
+
+-- so the two tests tell
+refused_as : {P S : Type 0} (errand : Errand) (s : Work P S) (outside held : Bool) (list : List Errand) → outside ≡ s.node.member.outside → outside ≡ false → list ≡ s.node.held.items
+    → held ≡ is_held (on_errand errand) (map on_errand list) → refused errand s ≡ held
+refused_as errand s outside held list tells inside is same =
+    ap (λ (b : Bool). b || is_held (on_errand errand) (map on_errand s.node.held.items)) (sym tells ∙ inside)
+    ∙ ap (λ (l : List Errand). is_held (on_errand errand) (map on_errand l)) (sym is) ∙ sym same
+
+pub refused_outside : {P S : Type 0} (errand : Errand) (s : Work P S) (outside : Bool) → outside ≡ s.node.member.outside → outside ≡ true → refused errand s ≡ true
+refused_outside errand s outside tells out = ap (λ (b : Bool). b || is_held (on_errand errand) (map on_errand s.node.held.items)) (sym tells ∙ out)
+
+pub refused_held : {P S : Type 0} (errand : Errand) (s : Work P S) (outside held : Bool) (list : List Errand) → outside ≡ s.node.member.outside → outside ≡ false → list ≡ s.node.held.items
+    → held ≡ is_held (on_errand errand) (map on_errand list) → held ≡ true → refused errand s ≡ true
+refused_held errand s outside held list tells inside is same hit = refused_as errand s outside held list tells inside is same ∙ hit
+
+pub refused_none : {P S : Type 0} (errand : Errand) (s : Work P S) (outside held : Bool) (list : List Errand) → outside ≡ s.node.member.outside → outside ≡ false → list ≡ s.node.held.items
+    → held ≡ is_held (on_errand errand) (map on_errand list) → held ≡ false → refused errand s ≡ false
+refused_none errand s outside held list tells inside is same apart = refused_as errand s outside held list tells inside is same ∙ apart
 
 -- ---- whether one of the same call is held
 
