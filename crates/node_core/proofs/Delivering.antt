@@ -111,6 +111,23 @@ IsPlain (V.Join join) = ⊥
 IsPlain (V.Result news) = ⊥
 IsPlain packet = Unit {0}
 
+-- what is none of these is
+pub plain_else : (packet : Wire) → ((k : ℕ) → packet ≡ V.Invite k → ⊥) → ((join : JoinPacket Message Reply) → packet ≡ V.Join join → ⊥)
+    → ((news : NewsPacket Message Reply) → packet ≡ V.Result news → ⊥) → IsPlain packet
+plain_else (V.Invite k) invite joins result = invite k refl
+plain_else (V.Join join) invite joins result = joins join refl
+plain_else (V.Result news) invite joins result = result news refl
+plain_else (V.Request k applied x) invite joins result = tt
+plain_else (V.Body k applied x) invite joins result = tt
+plain_else (V.Order k number process call accepted stable) invite joins result = tt
+plain_else (V.Entry k number accepted stable x) invite joins result = tt
+plain_else (V.Ack k count applied) invite joins result = tt
+plain_else (V.Accept k accepted stable) invite joins result = tt
+plain_else (V.Nack k first applied whole) invite joins result = tt
+plain_else (V.Status k count applied) invite joins result = tt
+plain_else (V.Ask k place x) invite joins result = tt
+plain_else (V.Answer k place process call reply) invite joins result = tt
+
 -- any other kind is received as it travels
 plain_kind : (g : Group Message) (m from N inc : ℕ) (kind : Kind Message) (s : RulesMember Message) → IsPlain (on_wire N inc kind)
     → receive_packet g m from (on_wire {R = Reply} N inc kind) s ≡ deliver_kind g m from inc kind s
@@ -280,6 +297,23 @@ abbrev pub IsOfGroup : Wire → Type 0
 IsOfGroup (V.Ask k place x) = ⊥
 IsOfGroup (V.Answer k place process call reply) = ⊥
 IsOfGroup packet = Unit {0}
+
+-- what is none of these is the group's
+pub grouped_else : (packet : Wire) → ((k place : ℕ) (x : Message) → packet ≡ V.Ask k place x → ⊥)
+    → ((k place : ℕ) (process : ProcessNo) (call : CallNo) (reply : Reply) → packet ≡ V.Answer k place process call reply → ⊥) → IsOfGroup packet
+grouped_else (V.Ask k place x) asks answers = asks k place x refl
+grouped_else (V.Answer k place process call reply) asks answers = answers k place process call reply refl
+grouped_else (V.Request k applied x) asks answers = tt
+grouped_else (V.Body k applied x) asks answers = tt
+grouped_else (V.Order k number process call accepted stable) asks answers = tt
+grouped_else (V.Entry k number accepted stable x) asks answers = tt
+grouped_else (V.Ack k count applied) asks answers = tt
+grouped_else (V.Accept k accepted stable) asks answers = tt
+grouped_else (V.Nack k first applied whole) asks answers = tt
+grouped_else (V.Status k count applied) asks answers = tt
+grouped_else (V.Invite k) asks answers = tt
+grouped_else (V.Join join) asks answers = tt
+grouped_else (V.Result news) asks answers = tt
 
 errand_not : (k : ℕ) (errand : letters.Errand) → IsOfGroup (errand_packet k errand) → ⊥
 errand_not k (letters.Errand.Ask place x) h = h

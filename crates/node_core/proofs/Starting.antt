@@ -64,6 +64,11 @@ use Rattle.node_core.proofs.NextEntry.{knows}
 use Rattle.node_core.proofs.Noting.{joined}
 use Rattle.node_core.proofs.Sending.{waits_first}
 
+-- what is no value is none
+pub none_else : {A : Type 0} (o : Option A) → ((x : A) → o ≡ Some x → ⊥) → None ≡ o
+none_else None apart = refl
+none_else (Some x) apart = absurd (apart x refl)
+
 -- ---- the work begins, and catches up
 
 -- a copy that did nothing
@@ -197,6 +202,11 @@ coordinated_so stood left f fitness old new sends row node others posts m v work
 
 -- ---- an action is submitted
 
+-- its member in the group stays one
+pub still_member : {P S : Type 0} (i : ℕ) (to : Stage) (o : Option (Resident S)) (old new : Node P S) → HasMoved i to o old new → IsMember old.member → IsMember new.member
+still_member {P} {S} i to None old new has is = subst (λ (n : Node P S). IsMember n.member) (sym has) is
+still_member {P} {S} i to (Some s) old new has is = subst (λ (n : Node P S). IsMember n.member) (sym has.others) is
+
 pub submitted_so : {P S : Type 0} (stood : Stood S) (left : Left S) (f : Frame) (i : ℕ) (x : Message) (act : Action) (old mid new : Work P S) (sends : List (Sent Message Reply))
     → act ≡ x.action → HasMoved i (at_stage.Submitted act) (resident_at old.node i) old.node mid.node → mid.moved ≡ old.moved
     → Does name_of bytes_of mid.node.member new.node.member sends (λ g which. submit g which x) → new.node ≡ record mid.node { member = new.node.member }
@@ -231,6 +241,9 @@ comes_done stood left f fitness from packet s new work mid end moved idles has g
     (goes m (at_work (begun f m (Comes mail) v)) (started_at stood left f fitness m (Comes mail) v mid (has mail m v post (idles f m v stands) fits) fits))
 
 -- ---- a tick at which it is due
+
+pub some_is_member : (s : Member Message Reply) → IsSome name_of bytes_of s → IsMember s
+some_is_member s (nodes, resilience, which, m, stands) = stands.member
 
 pub due_some : (old new : Member Message Reply) → TicksAs name_of bytes_of old new Due → IsSome name_of bytes_of old → IsSome name_of bytes_of new
 due_some old new row (nodes, resilience, which, m, stands) =
