@@ -1,11 +1,15 @@
 -- An action that wasn't carried out is: which piece of the rules it is.
 use Rattle.std.proofs.Common.{◌≡◌, ◌<◌, ◌^◌, ◌==◌, ℕ, Bool, true, false, List, length, Option, Some, None, refl, sym, ap, ◌∙◌, subst, if◌then◌else◌}
 use Rattle.std.proofs.lemmas.Bool.{eq-eqb}
+use Rattle.std.proofs.Math.Bool.{Bool-set}
+use Rattle.orca_base.specs.declared.ids.CallNo.{CallNo}
 use Rattle.orca_base.specs.declared.ids.KindNo.{KindNo}
 use Rattle.orca_base.specs.declared.ids.ObjectId.{ObjectId}
 use Rattle.orca_base.specs.declared.ids.OpNo.{OpNo}
+use Rattle.orca_base.specs.declared.ids.ProcessNo.{ProcessNo}
 use Rattle.value_core.specs.Datum.{Data}
 use Rattle.value_core.specs.Meaning.{Performs}
+use Rattle.value_core.specs.Performable.{is_performable}
 use Rattle.value_core.specs.declared.action.Action.{Action}
 use Rattle.value_core.specs.declared.action.Action.TheVariants as action
 use Rattle.value_core.specs.declared.action.Class.{Class}
@@ -40,6 +44,21 @@ use Rattle.node_core.specs.declared.work.Work.{Work}
 use Rattle.node_core.proofs.NextEntry.{knows}
 
 -- ---- the message of the action
+
+message_is : (process : ProcessNo) (call : CallNo) (act : Action) (p : is_performable act ≡ true) → Some (record { process = process; call = call; action = act; performable = p }) ≡ message_by process.0 call.0 act
+message_is process call (action.Make kind object) p =
+    ap (λ (q : true ≡ true). Some (record { process = process; call = call; action = action.Make kind object; performable = q })) (Bool-set true true p refl)
+message_is process call (action.Call kind op object args) p =
+    ap (λ (q : true ≡ true). Some (record { process = process; call = call; action = action.Call kind op object args; performable = q })) (Bool-set true true p refl)
+message_is process call (action.Fork text args place_on) p =
+    ap (λ (q : true ≡ true). Some (record { process = process; call = call; action = action.Fork text args place_on; performable = q })) (Bool-set true true p refl)
+message_is process call action.Ended p = absurd (cc p)
+message_is process call (action.Faulted fault) p = absurd (cc p)
+
+-- it is that, whatever shows that the action can be performed
+pub message_so : (process : ProcessNo) (call : CallNo) (act made : Action) (p : is_performable made ≡ true) → act ≡ made
+    → Some (record { process = process; call = call; action = made; performable = p }) ≡ message_by process.0 call.0 act
+message_so process call act made p is = message_is process call made p ∙ ap (λ (a : Action). message_by process.0 call.0 a) (sym is)
 
 same_message : (x y : Message) → Some x ≡ Some y → x ≡ y
 same_message x y is = cc is

@@ -28,11 +28,11 @@ returns-in-Answer g c =
     let m = c.args.machine.now in
     let f = g.P.OneRun.run.frame in
     let fitness = (fitness_of (g.P.Performer.fits_state m) (g.P.Performer.fits_args m) (g.P.Performer.fits_text m) (g.P.Performer.fits_reply m)) in
-    ok_map c.arrive.result _ _
-    (λ becomes. subst (λ (p : Wire). HasCome g.P.OneRun.stood g.P.OneRun.left f fitness c.args.from p c.args.self.now c.arrive.new.self) (sym c.in-Answer.is)
+    ok_map c.arrive-in-Answer.result _ _
+    (λ becomes. subst (λ (p : Wire). HasCome g.P.OneRun.stood g.P.OneRun.left f fitness c.args.from p c.args.self.now c.arrive-in-Answer.new.self) (sym c.in-Answer.is)
     (come_answer g.P.OneRun.stood g.P.OneRun.left f fitness c.args.from _ c.in-Answer.place c.in-Answer.process c.in-Answer.call c.in-Answer.reply
-    c.args.self.now c.arrive.new.self becomes))
-    c.arrive.ensures
+    c.args.self.now c.arrive-in-Answer.new.self becomes))
+    c.arrive-in-Answer.ensures
 
 pub returns-in_ok-sends-in_default : goal.returns-in_ok-sends-in_default
 returns-in_ok-sends-in_default g c =
