@@ -18,23 +18,20 @@ use Rattle.value_core.specs.declared.message.Message.{Message}
 use Rattle.guard_queue.specs.declared.queue.Suspended.{Suspended}
 use Rattle.object_manager.specs.State.{message_of}
 use Rattle.object_manager.specs.Viewed.{ReadFits}
-use Rattle.book_law.specs.Passes.{Test}
-use Rattle.group_rules.specs.Sets.{with_at}
-use Rattle.group_member.specs.StandsFor.{IsMember}
 use Rattle.world_rules.specs.Frame.{Frame}
 use Rattle.world_rules.specs.Nodes as nodes
 use Rattle.world_rules.specs.Nodes.{NodeWork, entries_of, idle, known, plays}
 use Rattle.world_rules.specs.Parts.{acts_at, acts_by, acts_of, asks, calls, calls_as, reads, submits}
 use Rattle.world_rules.specs.Played.{Played, Stage as RulesStage, moves_to, next_call}
 use Rattle.world_rules.specs.Played.{Stage as stage}
-use Rattle.world_rules.specs.Processes.{Begun, owner_in, singles_of}
-use Rattle.node_rules.specs.Conditions.{AreSmall, Conditions, Fitness}
+use Rattle.world_rules.specs.Processes.{Begun, singles_of}
+use Rattle.node_rules.specs.Conditions.{AreSmall, Fitness}
 use Rattle.node_rules.specs.Starts.{EventFits, MayAct, MayCall, begun}
 use Rattle.node_rules.specs.Starts.Start.{Acts}
 use Rattle.node_core.specs.Calls.{Asks, IsCallOf, MayAsk, MayReadFirst, ReadsFirst}
 use Rattle.node_core.specs.Entries.{KnowsAs}
 use Rattle.node_core.specs.Events.{HasStarted, HasSubmitted, MayStart, acting_as, acting_at, called_single, is_read_by, message_by, reads_nothing}
-use Rattle.node_core.specs.Pieces.{MayCallHere, MayTry, resident_at}
+use Rattle.node_core.specs.Pieces.{resident_at}
 use Rattle.node_core.specs.Shown.{IsPlayedIf, Left, Stood, on_stage}
 use Rattle.node_core.specs.Stands.{IsWork}
 use Rattle.node_core.specs.declared.resident.Resident.{Resident}

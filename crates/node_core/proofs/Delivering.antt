@@ -8,15 +8,14 @@ use Rattle.group_packets.specs.declared.packet.Join.{Join as JoinPacket}
 use Rattle.group_packets.specs.declared.packet.News.{News as NewsPacket}
 use Rattle.group_packets.specs.declared.packet.Packet.{Packet}
 use Rattle.group_packets.specs.declared.packet.Packet.TheVariants as V
-use Rattle.group_rules.specs.Member.{Kind, Letter, Member as RulesMember, Report, is_gathering}
+use Rattle.group_rules.specs.Member.{Kind, Letter, Member as RulesMember, Report}
 use Rattle.group_rules.specs.Member.Kind.{Request, Body, Order, Entry, Ack, Accept, Nack, Status, Invite, Join, News}
 use Rattle.group_rules.specs.Messages.{Group, group_of}
-use Rattle.group_rules.specs.OnWire.{Posted, on_join, on_wire, post_of, receive_packet}
-use Rattle.group_rules.specs.Reset.{announced, invited, joined}
+use Rattle.group_rules.specs.OnWire.{Posted, on_join, on_wire, receive_packet}
 use Rattle.group_rules.specs.Steps.{deliver, deliver_kind}
 use Rattle.group_rules.specs.Work as group_work
 use Rattle.group_member.specs.AtWork.{AtWork, Does}
-use Rattle.group_member.specs.StandsFor.{IsMember, StandsFor}
+use Rattle.group_member.specs.StandsFor.{IsMember}
 use Rattle.group_member.specs.declared.member.Member.{Member}
 use Rattle.group_member.specs.declared.sends.Letter.{Letter as Sent}
 use Rattle.group_reset.specs.Calls.{HearsAs, Hears, InvitedAs, Joins, JoinsAs, MayHear, MayJoin}
@@ -27,15 +26,12 @@ use Rattle.world_rules.specs.Nodes as nodes
 use Rattle.world_rules.specs.Nodes.{NodeWork, idle}
 use Rattle.world_rules.specs.Owners.{arrives}
 use Rattle.node_rules.specs.Conditions.{Fitness}
-use Rattle.node_rules.specs.Starts.{EventFits, JoinFits, KindFits, LetterFits, NewsFits, begun}
+use Rattle.node_rules.specs.Starts.{EventFits, JoinFits, KindFits, NewsFits, begun}
 use Rattle.node_rules.specs.Starts.Start.{Comes}
 use Rattle.node_core.specs.Events.{HasCome, IsTakenBy, MayBeTaken, MayComeFrom, TakesGrouped}
 use Rattle.node_core.specs.Pieces.{Becomes}
-use Rattle.node_core.specs.Shown.{Left, Stood, on_errand}
+use Rattle.node_core.specs.Shown.{Left, Stood}
 use Rattle.node_core.specs.Stands.{IsPostOf, IsWork}
-use Rattle.node_core.specs.declared.errand.Errand.{Errand}
-use Rattle.node_core.specs.declared.moved.Moved.{Moved}
-use Rattle.node_core.specs.declared.node.Node.{Node}
 use Rattle.node_core.specs.declared.work.Work.{Work}
 use Rattle.node_core.proofs.Noting.{joined as joins_group}
 

@@ -1,4 +1,4 @@
-use Rattle.std.proofs.Common.{◌≡◌, subst, sym}
+use Rattle.std.proofs.Common.{subst, sym}
 use Rattle.std.proofs.lemmas.Result.{IfOk-weaker}
 use Rattle.node_core.specs.Events.{MayBeTaken, TakesGrouped}
 use Rattle.node_core.proofs.Delivering.{Wire, may_hear, may_join, plain_else, taken_from, taken_invite, taken_join, taken_member, taken_plain, taken_result}

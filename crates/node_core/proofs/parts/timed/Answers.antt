@@ -1,4 +1,4 @@
-use Rattle.std.proofs.Common.{◌≡◌, arith, subst}
+use Rattle.std.proofs.Common.{arith, subst}
 use Rattle.std.proofs.lemmas.Result.{IfOk-weaker}
 use Rattle.group_member.specs.Ticks.{TicksAs}
 use Rattle.world_rules.specs.Frame.{bytes_of, name_of}

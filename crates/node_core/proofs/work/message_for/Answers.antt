@@ -1,4 +1,3 @@
-use Rattle.std.proofs.Common.{◌≡◌}
 use Rattle.value_core.specs.declared.action.Action.TheVariants as action
 use Rattle.node_core.proofs.CarryingOut.{message_so}
 use Rattle.node_core.proofs.work.message_for.Goals as goal

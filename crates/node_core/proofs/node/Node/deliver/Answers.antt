@@ -1,4 +1,4 @@
-use Rattle.std.proofs.Common.{◌≡◌, refl}
+use Rattle.std.proofs.Common.{refl}
 use Rattle.node_core.specs.Stands.{fitness_of}
 use Rattle.node_core.proofs.Starting.{come_free, comes_done, may_come}
 use Rattle.node_core.proofs.node.Node.deliver.Goals as goal

@@ -1,4 +1,4 @@
-use Rattle.std.proofs.Common.{◌≡◌, refl}
+use Rattle.std.proofs.Common.{refl}
 use Rattle.node_rules.specs.Starts.Start.{Suspects}
 use Rattle.node_core.specs.Stands.{fitness_of}
 use Rattle.node_core.proofs.Starting.{suspects_done, may_start, started_free}

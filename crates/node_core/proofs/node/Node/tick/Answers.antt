@@ -1,4 +1,4 @@
-use Rattle.std.proofs.Common.{◌≡◌, refl}
+use Rattle.std.proofs.Common.{refl}
 use Rattle.node_rules.specs.Starts.Start.{Ticks}
 use Rattle.node_core.specs.Stands.{fitness_of}
 use Rattle.node_core.proofs.Starting.{ticks_done, may_start, asked_free}

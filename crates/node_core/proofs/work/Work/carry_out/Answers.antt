@@ -1,4 +1,4 @@
-use Rattle.std.proofs.Common.{◌≡◌, ◌∙◌, sym}
+use Rattle.std.proofs.Common.{◌∙◌, sym}
 use Rattle.node_rules.specs.Starts.Start.{Acts}
 use Rattle.node_core.specs.Stands.{fitness_of}
 use Rattle.node_core.proofs.CarryingOut.{ask_acts, may_ask, may_read_first, nothing_acts, read_acts, submit_acts}

@@ -1,5 +1,5 @@
-use Rattle.std.proofs.Common.{◌≡◌, ◌∙◌, ap, sym, subst, refl}
-use Rattle.node_core.specs.Events.{HasCome, TakesGrouped}
+use Rattle.std.proofs.Common.{◌∙◌, ap, sym, subst}
+use Rattle.node_core.specs.Events.{HasCome}
 use Rattle.node_core.specs.Stands.{fitness_of}
 use Rattle.node_core.specs.declared.node.Node.{Node}
 use Rattle.node_core.proofs.Delivering.{Wire, come_answer, come_ask, come_grouped, grouped_else, may_be_taken}
