@@ -1,11 +1,15 @@
 -- An action that wasn't carried out is: which piece of the rules it is.
 use Rattle.std.proofs.Common.{◌≡◌, ◌<◌, ◌^◌, ◌==◌, ℕ, Bool, true, false, List, length, Option, Some, None, refl, sym, ap, ◌∙◌, subst, if◌then◌else◌}
 use Rattle.std.proofs.lemmas.Bool.{eq-eqb}
+use Rattle.std.proofs.Math.Bool.{Bool-set}
+use Rattle.orca_base.specs.declared.ids.CallNo.{CallNo}
 use Rattle.orca_base.specs.declared.ids.KindNo.{KindNo}
 use Rattle.orca_base.specs.declared.ids.ObjectId.{ObjectId}
 use Rattle.orca_base.specs.declared.ids.OpNo.{OpNo}
+use Rattle.orca_base.specs.declared.ids.ProcessNo.{ProcessNo}
 use Rattle.value_core.specs.Datum.{Data}
 use Rattle.value_core.specs.Meaning.{Performs}
+use Rattle.value_core.specs.Performable.{is_performable}
 use Rattle.value_core.specs.declared.action.Action.{Action}
 use Rattle.value_core.specs.declared.action.Action.TheVariants as action
 use Rattle.value_core.specs.declared.action.Class.{Class}
@@ -14,23 +18,20 @@ use Rattle.value_core.specs.declared.message.Message.{Message}
 use Rattle.guard_queue.specs.declared.queue.Suspended.{Suspended}
 use Rattle.object_manager.specs.State.{message_of}
 use Rattle.object_manager.specs.Viewed.{ReadFits}
-use Rattle.book_law.specs.Passes.{Test}
-use Rattle.group_rules.specs.Sets.{with_at}
-use Rattle.group_member.specs.StandsFor.{IsMember}
 use Rattle.world_rules.specs.Frame.{Frame}
 use Rattle.world_rules.specs.Nodes as nodes
 use Rattle.world_rules.specs.Nodes.{NodeWork, entries_of, idle, known, plays}
 use Rattle.world_rules.specs.Parts.{acts_at, acts_by, acts_of, asks, calls, calls_as, reads, submits}
 use Rattle.world_rules.specs.Played.{Played, Stage as RulesStage, moves_to, next_call}
 use Rattle.world_rules.specs.Played.{Stage as stage}
-use Rattle.world_rules.specs.Processes.{Begun, owner_in, singles_of}
-use Rattle.node_rules.specs.Conditions.{AreSmall, Conditions, Fitness}
+use Rattle.world_rules.specs.Processes.{Begun, singles_of}
+use Rattle.node_rules.specs.Conditions.{AreSmall, Fitness}
 use Rattle.node_rules.specs.Starts.{EventFits, MayAct, MayCall, begun}
 use Rattle.node_rules.specs.Starts.Start.{Acts}
 use Rattle.node_core.specs.Calls.{Asks, IsCallOf, MayAsk, MayReadFirst, ReadsFirst}
 use Rattle.node_core.specs.Entries.{KnowsAs}
 use Rattle.node_core.specs.Events.{HasStarted, HasSubmitted, MayStart, acting_as, acting_at, called_single, is_read_by, message_by, reads_nothing}
-use Rattle.node_core.specs.Pieces.{MayCallHere, MayTry, resident_at}
+use Rattle.node_core.specs.Pieces.{resident_at}
 use Rattle.node_core.specs.Shown.{IsPlayedIf, Left, Stood, on_stage}
 use Rattle.node_core.specs.Stands.{IsWork}
 use Rattle.node_core.specs.declared.resident.Resident.{Resident}
@@ -40,6 +41,21 @@ use Rattle.node_core.specs.declared.work.Work.{Work}
 use Rattle.node_core.proofs.NextEntry.{knows}
 
 -- ---- the message of the action
+
+message_is : (process : ProcessNo) (call : CallNo) (act : Action) (p : is_performable act ≡ true) → Some (record { process = process; call = call; action = act; performable = p }) ≡ message_by process.0 call.0 act
+message_is process call (action.Make kind object) p =
+    ap (λ (q : true ≡ true). Some (record { process = process; call = call; action = action.Make kind object; performable = q })) (Bool-set true true p refl)
+message_is process call (action.Call kind op object args) p =
+    ap (λ (q : true ≡ true). Some (record { process = process; call = call; action = action.Call kind op object args; performable = q })) (Bool-set true true p refl)
+message_is process call (action.Fork text args place_on) p =
+    ap (λ (q : true ≡ true). Some (record { process = process; call = call; action = action.Fork text args place_on; performable = q })) (Bool-set true true p refl)
+message_is process call action.Ended p = absurd (cc p)
+message_is process call (action.Faulted fault) p = absurd (cc p)
+
+-- it is that, whatever shows that the action can be performed
+pub message_so : (process : ProcessNo) (call : CallNo) (act made : Action) (p : is_performable made ≡ true) → act ≡ made
+    → Some (record { process = process; call = call; action = made; performable = p }) ≡ message_by process.0 call.0 act
+message_so process call act made p is = message_is process call made p ∙ ap (λ (a : Action). message_by process.0 call.0 a) (sym is)
 
 same_message : (x y : Message) → Some x ≡ Some y → x ≡ y
 same_message x y is = cc is

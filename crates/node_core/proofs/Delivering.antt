@@ -8,15 +8,14 @@ use Rattle.group_packets.specs.declared.packet.Join.{Join as JoinPacket}
 use Rattle.group_packets.specs.declared.packet.News.{News as NewsPacket}
 use Rattle.group_packets.specs.declared.packet.Packet.{Packet}
 use Rattle.group_packets.specs.declared.packet.Packet.TheVariants as V
-use Rattle.group_rules.specs.Member.{Kind, Letter, Member as RulesMember, Report, is_gathering}
+use Rattle.group_rules.specs.Member.{Kind, Letter, Member as RulesMember, Report}
 use Rattle.group_rules.specs.Member.Kind.{Request, Body, Order, Entry, Ack, Accept, Nack, Status, Invite, Join, News}
 use Rattle.group_rules.specs.Messages.{Group, group_of}
-use Rattle.group_rules.specs.OnWire.{Posted, on_join, on_wire, post_of, receive_packet}
-use Rattle.group_rules.specs.Reset.{announced, invited, joined}
+use Rattle.group_rules.specs.OnWire.{Posted, on_join, on_wire, receive_packet}
 use Rattle.group_rules.specs.Steps.{deliver, deliver_kind}
 use Rattle.group_rules.specs.Work as group_work
 use Rattle.group_member.specs.AtWork.{AtWork, Does}
-use Rattle.group_member.specs.StandsFor.{IsMember, StandsFor}
+use Rattle.group_member.specs.StandsFor.{IsMember}
 use Rattle.group_member.specs.declared.member.Member.{Member}
 use Rattle.group_member.specs.declared.sends.Letter.{Letter as Sent}
 use Rattle.group_reset.specs.Calls.{HearsAs, Hears, InvitedAs, Joins, JoinsAs, MayHear, MayJoin}
@@ -27,15 +26,12 @@ use Rattle.world_rules.specs.Nodes as nodes
 use Rattle.world_rules.specs.Nodes.{NodeWork, idle}
 use Rattle.world_rules.specs.Owners.{arrives}
 use Rattle.node_rules.specs.Conditions.{Fitness}
-use Rattle.node_rules.specs.Starts.{EventFits, JoinFits, KindFits, LetterFits, NewsFits, begun}
+use Rattle.node_rules.specs.Starts.{EventFits, JoinFits, KindFits, NewsFits, begun}
 use Rattle.node_rules.specs.Starts.Start.{Comes}
 use Rattle.node_core.specs.Events.{HasCome, IsTakenBy, MayBeTaken, MayComeFrom, TakesGrouped}
 use Rattle.node_core.specs.Pieces.{Becomes}
-use Rattle.node_core.specs.Shown.{Left, Stood, on_errand}
+use Rattle.node_core.specs.Shown.{Left, Stood}
 use Rattle.node_core.specs.Stands.{IsPostOf, IsWork}
-use Rattle.node_core.specs.declared.errand.Errand.{Errand}
-use Rattle.node_core.specs.declared.moved.Moved.{Moved}
-use Rattle.node_core.specs.declared.node.Node.{Node}
 use Rattle.node_core.specs.declared.work.Work.{Work}
 use Rattle.node_core.proofs.Noting.{joined as joins_group}
 
@@ -110,6 +106,23 @@ IsPlain (V.Invite k) = ⊥
 IsPlain (V.Join join) = ⊥
 IsPlain (V.Result news) = ⊥
 IsPlain packet = Unit {0}
+
+-- what is none of these is
+pub plain_else : (packet : Wire) → ((k : ℕ) → packet ≡ V.Invite k → ⊥) → ((join : JoinPacket Message Reply) → packet ≡ V.Join join → ⊥)
+    → ((news : NewsPacket Message Reply) → packet ≡ V.Result news → ⊥) → IsPlain packet
+plain_else (V.Invite k) invite joins result = invite k refl
+plain_else (V.Join join) invite joins result = joins join refl
+plain_else (V.Result news) invite joins result = result news refl
+plain_else (V.Request k applied x) invite joins result = tt
+plain_else (V.Body k applied x) invite joins result = tt
+plain_else (V.Order k number process call accepted stable) invite joins result = tt
+plain_else (V.Entry k number accepted stable x) invite joins result = tt
+plain_else (V.Ack k count applied) invite joins result = tt
+plain_else (V.Accept k accepted stable) invite joins result = tt
+plain_else (V.Nack k first applied whole) invite joins result = tt
+plain_else (V.Status k count applied) invite joins result = tt
+plain_else (V.Ask k place x) invite joins result = tt
+plain_else (V.Answer k place process call reply) invite joins result = tt
 
 -- any other kind is received as it travels
 plain_kind : (g : Group Message) (m from N inc : ℕ) (kind : Kind Message) (s : RulesMember Message) → IsPlain (on_wire N inc kind)
@@ -280,6 +293,23 @@ abbrev pub IsOfGroup : Wire → Type 0
 IsOfGroup (V.Ask k place x) = ⊥
 IsOfGroup (V.Answer k place process call reply) = ⊥
 IsOfGroup packet = Unit {0}
+
+-- what is none of these is the group's
+pub grouped_else : (packet : Wire) → ((k place : ℕ) (x : Message) → packet ≡ V.Ask k place x → ⊥)
+    → ((k place : ℕ) (process : ProcessNo) (call : CallNo) (reply : Reply) → packet ≡ V.Answer k place process call reply → ⊥) → IsOfGroup packet
+grouped_else (V.Ask k place x) asks answers = asks k place x refl
+grouped_else (V.Answer k place process call reply) asks answers = answers k place process call reply refl
+grouped_else (V.Request k applied x) asks answers = tt
+grouped_else (V.Body k applied x) asks answers = tt
+grouped_else (V.Order k number process call accepted stable) asks answers = tt
+grouped_else (V.Entry k number accepted stable x) asks answers = tt
+grouped_else (V.Ack k count applied) asks answers = tt
+grouped_else (V.Accept k accepted stable) asks answers = tt
+grouped_else (V.Nack k first applied whole) asks answers = tt
+grouped_else (V.Status k count applied) asks answers = tt
+grouped_else (V.Invite k) asks answers = tt
+grouped_else (V.Join join) asks answers = tt
+grouped_else (V.Result news) asks answers = tt
 
 errand_not : (k : ℕ) (errand : letters.Errand) → IsOfGroup (errand_packet k errand) → ⊥
 errand_not k (letters.Errand.Ask place x) h = h

@@ -1,30 +1,15 @@
 -- The first piece of an event, and what follows it up to the event's end.
-use Rattle.std.proofs.Common.{◌≡◌, ◌<◌, ◌^◌, ◌++◌, ◌==◌, ℕ, zero, suc, Bool, true, false, List, [], ◌∷◌, length, map, Option, Some, None, refl, sym, ap, ◌∙◌, subst, if◌then◌else◌}
-use Rattle.std.proofs.lemmas.Bool.{true≢false}
-use Rattle.orca_base.specs.declared.ids.ObjectId.{ObjectId}
-use Rattle.orca_base.specs.declared.ids.CallNo.{CallNo}
-use Rattle.orca_base.specs.declared.ids.KindNo.{KindNo}
-use Rattle.orca_base.specs.declared.ids.OpNo.{OpNo}
-use Rattle.value_core.specs.Datum.{Data}
-use Rattle.value_core.specs.Meaning.{Performs}
+use Rattle.std.proofs.Common.{◌≡◌, ◌<◌, ◌^◌, ◌++◌, ℕ, zero, suc, Bool, true, false, List, [], Option, Some, None, refl, sym, subst, if◌then◌else◌}
 use Rattle.value_core.specs.declared.action.Action.{Action}
-use Rattle.value_core.specs.declared.action.Action.TheVariants as action
-use Rattle.value_core.specs.declared.action.Class.{Class}
-use Rattle.value_core.specs.declared.action.Class.TheVariants.{Reads, Writes}
 use Rattle.value_core.specs.declared.action.Reply.{Reply}
 use Rattle.value_core.specs.declared.message.Message.{Message}
-use Rattle.guard_queue.specs.declared.queue.Suspended.{Suspended}
-use Rattle.object_manager.specs.After.{Copied}
-use Rattle.object_manager.specs.State.{message_of}
-use Rattle.object_manager.specs.Viewed.{ReadFits}
-use Rattle.book_law.specs.Passes.{Test}
 use Rattle.group_packets.specs.declared.packet.Packet.{Packet}
 use Rattle.group_rules.specs.Reset.{coordinate}
 use Rattle.group_rules.specs.Messages.{Group, group_of}
 use Rattle.group_rules.specs.Steps.{submit, ticked, timer}
 use Rattle.group_rules.specs.Work as group_work
 use Rattle.group_member.specs.AtWork.{AtWork, Does}
-use Rattle.group_member.specs.StandsFor.{IsMember, StandsFor}
+use Rattle.group_member.specs.StandsFor.{IsMember}
 use Rattle.group_member.specs.declared.sends.Letter.{Letter as Sent}
 use Rattle.group_member.specs.Ticks.{TicksAs}
 use Rattle.group_member.specs.declared.member.Member.{Member}
@@ -36,33 +21,34 @@ use Rattle.world_rules.specs.Nodes.{Deed, NodeWork, does, entries_of, idle, know
 use Rattle.world_rules.specs.Nodes.Deed.{Submits}
 use Rattle.world_rules.specs.Applying.{applies_all}
 use Rattle.world_rules.specs.Owners.{takes_reached}
-use Rattle.world_rules.specs.Parts.{acts_at, acts_by, acts_of, asks, asks_again, asks_below, calls, calls_as, catches_up, reads, submits}
-use Rattle.world_rules.specs.Played.{Played, Stage as RulesStage, moves_to, next_call}
+use Rattle.world_rules.specs.Parts.{asks_again, asks_below, catches_up}
+use Rattle.world_rules.specs.Played.{moves_to}
 use Rattle.world_rules.specs.Played.{Stage as stage}
-use Rattle.world_rules.specs.Processes.{owner_in, singles_of}
-use Rattle.node_rules.specs.Conditions.{AreSmall, Conditions, Fitness}
+use Rattle.node_rules.specs.Conditions.{Fitness}
 use Rattle.node_rules.specs.Moments.{Moment, Walks, at_work, works}
 use Rattle.node_rules.specs.Moments.Goes.{Asks_again}
 use Rattle.node_rules.specs.Moments.Walks.{Stays}
-use Rattle.node_rules.specs.Starts.{EventFits, MayAct, MayCall, Start, StartFits, begun, part}
+use Rattle.node_rules.specs.Starts.{EventFits, Start, begun, part}
 use Rattle.node_rules.specs.Starts.Start.{Acts, Comes, Suspects, Ticks}
 use Rattle.node_rules.proofs.Walking.{walk_on, walk_one}
-use Rattle.node_core.specs.Calls.{Asks, GoesFree, HasMoved, IsCallOf, IsFree, MayAsk, MayReadFirst, ReadsFirst}
-use Rattle.node_core.specs.Entries.{KnowsAs}
-use Rattle.node_core.specs.Events.{HasCome, HasStarted, HasSubmitted, IsIdle, MayComeFrom, MayStart, acting_as, acting_at, called_single, is_read_by, message_by, reads_nothing}
-use Rattle.node_core.specs.Pieces.{Becomes, GoesOn, IsSomewhere, MayCallHere, MayTry, resident_at}
-use Rattle.node_core.specs.Shown.{IsPlayed, IsPlayedIf, Left, Stood, on_stage}
+use Rattle.node_core.specs.Calls.{GoesFree, HasMoved, IsFree}
+use Rattle.node_core.specs.Events.{HasCome, HasStarted, HasSubmitted, IsIdle, MayComeFrom, MayStart}
+use Rattle.node_core.specs.Pieces.{Becomes, GoesOn, IsSomewhere, resident_at}
+use Rattle.node_core.specs.Shown.{Left, Stood}
 use Rattle.node_core.specs.Stands.{Does as DoesEvent, IsAt, IsDone, IsMoved, IsWork, MayDo, MayTakePacket, StandsAs, StandsAlike, TakesPacket}
-use Rattle.node_core.specs.declared.errand.Errand.{Errand}
 use Rattle.node_core.specs.declared.moved.Moved.{Moved}
 use Rattle.node_core.specs.declared.node.Node.{Node}
 use Rattle.node_core.specs.declared.resident.Resident.{Resident}
 use Rattle.node_core.specs.declared.resident.Stage.{Stage}
 use Rattle.node_core.specs.declared.resident.Stage.TheVariants as at_stage
 use Rattle.node_core.specs.declared.work.Work.{Work}
-use Rattle.node_core.proofs.NextEntry.{knows}
 use Rattle.node_core.proofs.Noting.{joined}
 use Rattle.node_core.proofs.Sending.{waits_first}
+
+-- what is no value is none
+pub none_else : {A : Type 0} (o : Option A) → ((x : A) → o ≡ Some x → ⊥) → None ≡ o
+none_else None apart = refl
+none_else (Some x) apart = absurd (apart x refl)
 
 -- ---- the work begins, and catches up
 
@@ -197,6 +183,11 @@ coordinated_so stood left f fitness old new sends row node others posts m v work
 
 -- ---- an action is submitted
 
+-- its member in the group stays one
+pub still_member : {P S : Type 0} (i : ℕ) (to : Stage) (o : Option (Resident S)) (old new : Node P S) → HasMoved i to o old new → IsMember old.member → IsMember new.member
+still_member {P} {S} i to None old new has is = subst (λ (n : Node P S). IsMember n.member) (sym has) is
+still_member {P} {S} i to (Some s) old new has is = subst (λ (n : Node P S). IsMember n.member) (sym has.others) is
+
 pub submitted_so : {P S : Type 0} (stood : Stood S) (left : Left S) (f : Frame) (i : ℕ) (x : Message) (act : Action) (old mid new : Work P S) (sends : List (Sent Message Reply))
     → act ≡ x.action → HasMoved i (at_stage.Submitted act) (resident_at old.node i) old.node mid.node → mid.moved ≡ old.moved
     → Does name_of bytes_of mid.node.member new.node.member sends (λ g which. submit g which x) → new.node ≡ record mid.node { member = new.node.member }
@@ -231,6 +222,9 @@ comes_done stood left f fitness from packet s new work mid end moved idles has g
     (goes m (at_work (begun f m (Comes mail) v)) (started_at stood left f fitness m (Comes mail) v mid (has mail m v post (idles f m v stands) fits) fits))
 
 -- ---- a tick at which it is due
+
+pub some_is_member : (s : Member Message Reply) → IsSome name_of bytes_of s → IsMember s
+some_is_member s (nodes, resilience, which, m, stands) = stands.member
 
 pub due_some : (old new : Member Message Reply) → TicksAs name_of bytes_of old new Due → IsSome name_of bytes_of old → IsSome name_of bytes_of new
 due_some old new row (nodes, resilience, which, m, stands) =

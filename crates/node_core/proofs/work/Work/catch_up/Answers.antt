@@ -1,4 +1,3 @@
-use Rattle.std.proofs.Common.{◌≡◌}
 use Rattle.world_rules.specs.Applying.{applies_all}
 use Rattle.node_core.specs.Stands.{fitness_of}
 use Rattle.node_core.proofs.Starting.{caught_up, free_on, free_somewhere}

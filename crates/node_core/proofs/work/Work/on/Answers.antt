@@ -1,4 +1,3 @@
-use Rattle.std.proofs.Common.{◌≡◌, refl}
 use Rattle.node_core.proofs.Starting.{idle_work}
 use Rattle.node_core.proofs.work.Work.on.Goals as goal
 
