@@ -151,7 +151,7 @@ comes_to stood stands q f i budget last now state after at_halt is tie back of l
 answer_may : {S : Type 0} (stood : Stood S) (f : Frame) (fitness : Fitness) (task : Tasked S) (last call : ℕ) (state after : S) (reads : List Line) (p : Performs) (act : Action)
     → p ≡ f.performs → MayRun stood f fitness task → InBurst stood f task last call state reads → ComesTo stood f task.process last state after (halt.At act)
     → MayAnswer p fitness.state fitness.args task.view.objects act
-answer_may stood f fitness task last call state after reads p (action.Call kind op object given) is may burst comes there class =
+answer_may stood f fitness task last call state after reads p (action.Call kind op object given) is may burst comes = λ there class.
     let here = burst.each may.played may.is in
     let until = burst.until may.played may.is ∙ may.turns in
     let came_to = comes here.0 here.1.is here.1.some in
@@ -205,18 +205,18 @@ answer_fits p fitness law objects action.Ended may is = absurd (cc is)
 answer_fits p fitness law objects (action.Faulted fault) may is = absurd (cc is)
 
 -- what is asked of whoever hands the read's reply to the halted state
-pub record MayBeTold {S : Type 0} (stands : Stood S) (at_action : S → Action → Type 0) (fitness : Fitness) (state : S) (reply : Reply) : Type 0 where
+pub record MayBeTold {S : Type 0} (stands : Stood S) (rests : S → Action → Type 0) (fitness : Fitness) (state : S) (reply : Reply) : Type 0 where
   pub some : (text : TextNo) × (number : ProcessNo) × (args : Data) × (replies : List Reply) × (turns : ℕ) × stands state text number args replies turns
-  pub fits : (act : Action) × at_action state act × FitsAction fitness.reply (doing.At act) reply
+  pub fits : (act : Action) × rests state act × FitsAction fitness.reply (doing.At act) reply
 
-pub read_told : {S : Type 0} (stood stands : Stood S) (at_action : S → Action → Type 0) (f : Frame) (fitness : Fitness) (task : Tasked S) (last call : ℕ) (state after : S) (reads : List Line)
+pub read_told : {S : Type 0} (stood stands : Stood S) (rests : S → Action → Type 0) (f : Frame) (fitness : Fitness) (task : Tasked S) (last call : ℕ) (state after : S) (reads : List Line)
     (p : Performs) (at_halt : Halt) (line : Line) (reply : Reply)
     → RepliesFit p fitness.state fitness.args fitness.reply
     → ((text : TextNo) (number : ProcessNo) (args : Data) (replies : List Reply) (turns : ℕ) → stood after text number args replies turns → stands after text number args replies turns)
-    → p ≡ f.performs → MayRun stood f fitness task → InBurst stood f task last call state reads → ComesTo stood f task.process last state after at_halt → IfAt at_halt (at_action after)
+    → p ≡ f.performs → MayRun stood f fitness task → InBurst stood f task last call state reads → ComesTo stood f task.process last state after at_halt → IfAt at_halt (rests after)
     → IsCame (record f { performs = p }) task.view.objects task.process (record { 0 = call }) at_halt (came.Read line) → reply ≡ line.reply
-    → MayBeTold stands at_action fitness after reply
-read_told {S} stood stands at_action f fitness task last call state after reads p at_halt line reply law back is may burst comes left came_so same =
+    → MayBeTold stands rests fitness after reply
+read_told {S} stood stands rests f fitness task last call state after reads p at_halt line reply law back is may burst comes left came_so same =
     let act = came_so.0 in
     let at = came_so.1 in
     let answered = came_so.2 in
@@ -228,7 +228,7 @@ read_told {S} stood stands at_action f fitness task last call state after reads 
       some = (here.0.text, task.process, here.0.args, here.0.replies, came_to.0, back here.0.text task.process here.0.args here.0.replies came_to.0 came_to.2);
       fits = (
         act,
-        subst (λ (h : Halt). IfAt h (at_action after)) at left,
+        subst (λ (h : Halt). IfAt h (rests after)) at left,
         subst (λ (x : Reply). FitsAction fitness.reply (doing.At act) x) (sym (same ∙ ap (λ (l : Line). l.reply) line_is))
             (answer_fits p fitness law task.view.objects act (answer_may stood f fitness task last call state after reads p act is may burst comes_at) answered),
       );
@@ -299,6 +299,11 @@ left_at left state (action.Faulted fault) h = tt
 left_halted : {S : Type 0} (left : Left S) (state : S) (at_halt : Halt) → IfAt at_halt (left state) → LeftAt left state (stage_at at_halt)
 left_halted left state (halt.At act) h = left_at left state act h
 left_halted left state halt.Paused h = tt
+
+-- what is so of each action is so of that at which it halts
+pub halted_by : (at_halt : Halt) (P Q : Action → Type 0) → ((act : Action) → P act → Q act) → IfAt at_halt P → IfAt at_halt Q
+halted_by (halt.At act) P Q f h = f act h
+halted_by halt.Paused P Q f h = tt
 
 pub burst_ends : {S : Type 0} (stood : Stood S) (left : Left S) (f : Frame) (fitness : Fitness) (task : Tasked S) (done : Computed S) (last call : ℕ) (state : S) (p : Performs) (at_halt : Halt) (stage : Stage)
     → p ≡ f.performs → MayRun stood f fitness task → InBurst stood f task last call state done.reads → ComesTo stood f task.process last state done.end at_halt → IfAt at_halt (left done.end)

@@ -19,7 +19,7 @@ use Rattle.group_member.specs.StandsFor.{StandsFor}
 use Rattle.group_rules.specs.Member.{opening_member}
 use Rattle.group_rules.specs.Messages.{group_of}
 use Rattle.group_rules.specs.Sets.{with_at}
-use Rattle.world_rules.specs.Bursts.{Ran, reads_on}
+use Rattle.world_rules.specs.Bursts.{Ran, last_turn, reads_on}
 use Rattle.world_rules.specs.Frame.{Frame, bytes_of, group, name_of}
 use Rattle.world_rules.specs.Nodes as nodes
 use Rattle.world_rules.specs.Nodes.{NodeWork, idle, opening_node, opening_processes}
@@ -192,13 +192,13 @@ becomes_computed {P} {S} stood left f done old new a run at state calls changed 
     }) in
     let ended = ran.0 in
     let end = ran.1 in
-    let more = ran_calls f done.view.objects done.view.place done.process _ r done.reads ended end.ran in
+    let more = ran_calls f done.view.objects done.view.place done.process (last_turn f r) r done.reads ended end.ran in
     let was = is.calls in
     let now : IsPlayed stood left done.process.0 (after_burst done a) ended = record {
       state = end.state;
       halts = end.halts;
       turns = end.turns;
-      place = ap (λ (n : ℕ). if length done.reads == 0 then n else done.view.place) is.place ∙ sym (ran_place f done.view.objects done.view.place done.process _ r done.reads ended end.ran);
+      place = ap (λ (n : ℕ). if length done.reads == 0 then n else done.view.place) is.place ∙ sym (ran_place f done.view.objects done.view.place done.process (last_turn f r) r done.reads ended end.ran);
       calls = omega (arith, more, was);
       stage = end.stage;
     } in (

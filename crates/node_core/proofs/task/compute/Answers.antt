@@ -28,3 +28,82 @@ burst-init g c =
     (λ r is. ap (λ (n : ℕ). n + c.args.budget)
     (c.turns-last.ensures r.text c.args.process r.args r.replies r.turns (g.met.P.OneRun.stood_stands m c.args.start.now r.text c.args.process r.args r.replies r.turns is.state)))
     (c.in_ok-state.ensures {u = tt}) refl
+
+-- some turns are left, and no more than the budget
+pub overflow_sub-left : goal.overflow_sub-left
+overflow_sub-left g c =
+    let m = c.args.machine.now in
+    let left = within g.P.OneRun.stood g.P.OneRun.run.frame
+        (fitness_of (g.P.Performer.fits_state m) (g.P.Performer.fits_args m) (g.P.Performer.fits_text m) (g.P.Performer.fits_reply m))
+        (record { process = c.args.process; start = c.args.start.now; calls = c.args.calls; view = c.args.view.now; budget = c.args.budget })
+        _ _ c.turns-left.result c.burst.state c.burst.reads.items c.requires c.burst.invariant
+        (λ text number args replies turns at. c.turns-left.ensures text number args replies turns (g.met.P.OneRun.stood_stands m c.burst.state text number args replies turns at)) in
+    let some = left.some in
+    omega (arith, some)
+
+pub overflow_cast-left : goal.overflow_cast-left
+overflow_cast-left g c =
+    let m = c.args.machine.now in
+    let left = within g.P.OneRun.stood g.P.OneRun.run.frame
+        (fitness_of (g.P.Performer.fits_state m) (g.P.Performer.fits_args m) (g.P.Performer.fits_text m) (g.P.Performer.fits_reply m))
+        (record { process = c.args.process; start = c.args.start.now; calls = c.args.calls; view = c.args.view.now; budget = c.args.budget })
+        _ _ c.turns-left.result c.burst.state c.burst.reads.items c.requires c.burst.invariant
+        (λ text number args replies turns at. c.turns-left.ensures text number args replies turns (g.met.P.OneRun.stood_stands m c.burst.state text number args replies turns at)) in
+    let enough = left.enough in
+    let budget = c.ranges.budget in
+    omega (arith, enough, budget)
+
+pub go-after-requires-clause-some : goal.go-after-requires-clause-some
+go-after-requires-clause-some g c =
+    let m = c.args.machine.now in
+    let left = within g.P.OneRun.stood g.P.OneRun.run.frame
+        (fitness_of (g.P.Performer.fits_state m) (g.P.Performer.fits_args m) (g.P.Performer.fits_text m) (g.P.Performer.fits_reply m))
+        (record { process = c.args.process; start = c.args.start.now; calls = c.args.calls; view = c.args.view.now; budget = c.args.budget })
+        _ _ c.turns-left.result c.burst.state c.burst.reads.items c.requires c.burst.invariant
+        (λ text number args replies turns at. c.turns-left.ensures text number args replies turns (g.met.P.OneRun.stood_stands m c.burst.state text number args replies turns at)) in
+    let some = left.some in
+    omega (arith, some)
+
+pub go-after-requires-clause-room : goal.go-after-requires-clause-room
+go-after-requires-clause-room g c text number args replies turns at =
+    let m = c.args.machine.now in
+    let left = within g.P.OneRun.stood g.P.OneRun.run.frame
+        (fitness_of (g.P.Performer.fits_state m) (g.P.Performer.fits_args m) (g.P.Performer.fits_text m) (g.P.Performer.fits_reply m))
+        (record { process = c.args.process; start = c.args.start.now; calls = c.args.calls; view = c.args.view.now; budget = c.args.budget })
+        _ _ c.turns-left.result c.burst.state c.burst.reads.items c.requires c.burst.invariant
+        (λ text number args replies turns at. c.turns-left.ensures text number args replies turns (g.met.P.OneRun.stood_stands m c.burst.state text number args replies turns at)) in
+    let some = left.some in
+    let most = left.most in
+    let now = c.turns-left.ensures text number args replies turns at in
+    omega (arith, some, most, now)
+
+pub halted-requires : goal.halted-requires
+halted-requires g c =
+    let m = c.args.machine.now in
+    halted_may g.P.OneRun.stood g.P.OneRun.run.frame
+    (fitness_of (g.P.Performer.fits_state m) (g.P.Performer.fits_args m) (g.P.Performer.fits_text m) (g.P.Performer.fits_reply m))
+    (record { process = c.args.process; start = c.args.start.now; calls = c.args.calls; view = c.args.view.now; budget = c.args.budget })
+    _ c.burst.call c.burst.state c.in_ok-after.after c.burst.reads.items (g.P.Performer.performs m) c.in_ok-after.halt (g.met.P.OneRun.performs_run m) c.requires c.burst.invariant
+    (comes_to g.P.OneRun.stood (g.P.Processor.stands m) (g.P.Processor.computes m) g.P.OneRun.run.frame c.args.process _ _ c.turns-left.result c.burst.state c.in_ok-after.after c.in_ok-after.halt
+    (g.met.P.OneRun.computes_run m) (g.met.P.OneRun.stands_stood m) (g.met.P.OneRun.stood_stands m) c.turns-left.ensures refl (c.in_ok-after.ensures {u = tt}).goes)
+
+pub reply-state-requires-clause-stands : goal.reply-state-requires-clause-stands
+reply-state-requires-clause-stands g c =
+    let m = c.args.machine.now in
+    (read_told g.P.OneRun.stood (g.P.Processor.stands m) (g.P.Processor.halted m) g.P.OneRun.run.frame
+    (fitness_of (g.P.Performer.fits_state m) (g.P.Performer.fits_args m) (g.P.Performer.fits_text m) (g.P.Performer.fits_reply m))
+    (record { process = c.args.process; start = c.args.start.now; calls = c.args.calls; view = c.args.view.now; budget = c.args.budget })
+    _ c.burst.call c.burst.state c.in_ok-after.after c.burst.reads.items (g.P.Performer.performs m) c.in_ok-after.halt c.in_ok-Read.line c.in_ok-copy.copy
+    (g.met.P.Performer.replies_fit m) (g.met.P.OneRun.stood_stands m c.in_ok-after.after) (g.met.P.OneRun.performs_run m) c.requires c.burst.invariant
+    (comes_to g.P.OneRun.stood (g.P.Processor.stands m) (g.P.Processor.computes m) g.P.OneRun.run.frame c.args.process _ _ c.turns-left.result c.burst.state c.in_ok-after.after c.in_ok-after.halt
+    (g.met.P.OneRun.computes_run m) (g.met.P.OneRun.stands_stood m) (g.met.P.OneRun.stood_stands m) c.turns-left.ensures refl (c.in_ok-after.ensures {u = tt}).goes)
+    (c.in_ok-after.ensures {u = tt}).left (c.in_ok-halted.ensures {u = tt}) (c.in_ok-copy.ensures {u = tt})).some
+
+pub reply-state-requires-clause-fits : goal.reply-state-requires-clause-fits
+reply-state-requires-clause-fits g c = ?
+
+pub burst-preserved : goal.burst-preserved
+burst-preserved g c = ?
+
+pub returns-in-End-clause-ran : goal.returns-in-End-clause-ran
+returns-in-End-clause-ran g c = ?

@@ -1,0 +1,12 @@
+use Rattle.std.proofs.Common.{◌≡◌, ◌∷◌, [], ap, sym, subst, refl, ◌∙◌}
+use Rattle.value_core.specs.Meaning.{Computes}
+use Rattle.orca_base.specs.declared.ids.TextNo.{TextNo}
+use Rattle.node_core.specs.declared.node.Known.{Known}
+use Rattle.node_core.proofs.TakingIn.{opens}
+use Rattle.node_core.proofs.node.Node.new.Goals as goal
+
+pub returns : goal.returns
+returns g c members losses choices =
+    let m = c.args.machine.now in
+    opens g.P.OneRun.stood g.P.OneRun.left g.P.OneRun.run.frame c.args.me c.args.config.nodes c.args.config.resilience _ (c.in_ok-new.ensures {u = tt}) members losses
+    (c.in_ok-opening.ensures {u = tt}) ? (c.in_ok-opening_residents.ensures {u = tt}) ? ? choices
