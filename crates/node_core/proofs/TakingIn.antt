@@ -6,7 +6,7 @@ use Rattle.orca_base.specs.declared.ids.KindNo.{KindNo}
 use Rattle.orca_base.specs.declared.ids.OpNo.{OpNo}
 use Rattle.orca_base.specs.declared.ids.ProcessNo.{ProcessNo}
 use Rattle.orca_base.specs.declared.ids.TextNo.{TextNo}
-use Rattle.value_core.specs.Datum.{Data}
+use Rattle.value_core.specs.Datum.{Data, list_of}
 use Rattle.value_core.specs.Datum as datum
 use Rattle.value_core.specs.Fits.{Kinds}
 use Rattle.value_core.specs.History.{Objects}
@@ -28,7 +28,7 @@ use Rattle.world_rules.specs.Played.{Played, Stage as played, newborn}
 use Rattle.world_rules.specs.Processes.{first_process}
 use Rattle.node_rules.specs.Bursting.{BurstFits}
 use Rattle.node_rules.specs.Conditions.{Fitness}
-use Rattle.node_core.specs.CheckingIn.{BecomesComputed, HasChanged, HasRecalled, IsOutFor, MayHandOut, after_burst, recalled}
+use Rattle.node_core.specs.CheckingIn.{BecomesComputed, HasChanged, HasCheckedIn, HasRecalled, IsOutFor, MayHandOut, after_burst, recalled}
 use Rattle.node_core.specs.Pieces.{resident_at}
 use Rattle.node_core.specs.Shown.{IsPlayed, IsPlayedIf, Left, Stood, on_errand, on_given, on_stage}
 use Rattle.node_core.specs.Stands.{StandsAlike, StandsAs}
@@ -39,6 +39,7 @@ use Rattle.node_core.specs.declared.node.Node.{Node}
 use Rattle.node_core.specs.declared.resident.Resident.{Resident}
 use Rattle.node_core.specs.declared.resident.Stage.{Stage}
 use Rattle.node_core.specs.declared.resident.Stage.TheVariants as at_stage
+use Rattle.node_core.specs.declared.task.CheckedIn.{CheckedIn}
 use Rattle.node_core.proofs.Working.{some_here, stands_put}
 
 some_same : {A : Type 0} (x y : A) → Some x ≡ Some y → x ≡ y
@@ -208,6 +209,31 @@ becomes_computed {P} {S} stood left f done old new a run at state calls changed 
           (stands_put stood left f m done.process.0 (after_burst done a) ended old new v changed.put now stands),
     )
 
+after_is : {S : Type 0} (done : Computed S) (s after : Resident S) (place reads : ℕ)
+    → after ≡ record { state = done.end; turns = done.turns; place = (if reads == 0 then s.place else place); calls = s.calls + reads; stage = done.stage; out = None }
+    → place ≡ done.view.place → reads ≡ length done.reads → after ≡ after_burst done s
+after_is {S} done s after place reads is at many =
+    is ∙ ap (λ (n : ℕ). let a : Resident S = record { state = done.end; turns = done.turns; place = (if reads == 0 then s.place else n); calls = s.calls + reads; stage = done.stage; out = None } in a) at
+    ∙ ap (λ (n : ℕ). let a : Resident S = record { state = done.end; turns = done.turns; place = (if n == 0 then s.place else done.view.place); calls = s.calls + n; stage = done.stage; out = None } in a) many
+
+pub taken_in : {P S : Type 0} (stood : Stood S) (left : Left S) (f : Frame) (done : Computed S) (old new : Node P S) (s after : Resident S) (checked : CheckedIn) (reads : ℕ)
+    → HasRun stood left f done → IsOutFor done (resident_at old done.process.0) → resident_at old done.process.0 ≡ Some s
+    → after ≡ record { state = done.end; turns = done.turns; place = (if reads == 0 then s.place else checked.place); calls = s.calls + reads; stage = done.stage; out = None }
+    → checked.place ≡ done.view.place → reads ≡ length done.reads → checked.reads.items ≡ done.reads → HasChanged done.process.0 after old new
+    → HasCheckedIn stood left f done checked old new
+taken_in {P} {S} stood left f done old new s after checked reads run out here is at many same changed =
+    let out_is = back_is done (resident_at old done.process.0) s out here in
+    let now = subst (λ (a : Resident S). HasChanged done.process.0 a old new) (after_is done s after checked.place reads is at many) changed in
+    record {
+      place = at;
+      reads = same;
+      resident = s;
+      here = here;
+      out = out_is;
+      changed = now;
+      becomes = becomes_computed stood left f done old new s run here out_is.1 out_is.2 now;
+    }
+
 -- ---- recalled
 
 recalled_at : {S : Type 0} (xs : List (Option (Resident S))) (i : ℕ) → slice_index_or (map recalled xs) i None ≡ recalled (slice_index_or xs i None)
@@ -243,16 +269,16 @@ opens_away stood left f zero i xs other none = absurd (other refl)
 opens_away {S} stood left f (suc m) i xs other none = subst (λ (l : List (Option (Resident S))). IsPlayedIf stood left i (slice_index_or l i None) None) (sym none) tt
 
 -- process 0 is there, in this state
-pub opens_here : {S : Type 0} (stood : Stood S) (left : Left S) (f : Frame) (me i : ℕ) (a : Resident S) (xs : List (Option (Resident S))) → me ≡ 0
-    → a ≡ record { state = a.state; turns = 0; place = 0; calls = 0; stage = at_stage.Computing; out = None } → xs ≡ Some a ∷ []
-    → stood a.state f.computes.main (record { 0 = 0 }) datum.none [] 0 → IsPlayedIf stood left i (slice_index_or xs i None) (opening_processes f me i)
-opens_here {S} stood left f me i a xs first is one state =
+pub opens_here : {S : Type 0} (stood : Stood S) (left : Left S) (f : Frame) (me i : ℕ) (state : S) (a : Resident S) (xs : List (Option (Resident S))) → me ≡ 0
+    → a ≡ record { state = state; turns = 0; place = 0; calls = 0; stage = at_stage.Computing; out = None } → xs ≡ Some a ∷ []
+    → stood state f.computes.main (record { 0 = 0 }) datum.none [] 0 → IsPlayedIf stood left i (slice_index_or xs i None) (opening_processes f me i)
+opens_here {S} stood left f me i state a xs first is one stands =
     subst (λ (n : ℕ). IsPlayedIf stood left i (slice_index_or xs i None) (opening_processes f n i)) (sym first)
     (subst (λ (l : List (Option (Resident S))). IsPlayedIf stood left i (slice_index_or l i None) (opening_processes f 0 i)) (sym one) (go i (i == 0) refl))
   where
     born : IsPlayed stood left 0 a (newborn (first_process f))
     born = record {
-      state = state;
+      state = subst (λ (x : Resident S). stood x.state f.computes.main (record { 0 = 0 }) datum.none [] 0) (sym is) stands;
       halts = tt;
       turns = ap (λ (x : Resident S). x.turns) is;
       place = ap (λ (x : Resident S). x.place) is;
@@ -264,6 +290,11 @@ opens_here {S} stood left f me i a xs first is one state =
     go zero false e = absurd (cc e)
     go (suc k) true e = let zero_is = eqb-true (suc k) 0 e in absurd (omega (arith, zero_is))
     go (suc k) false e = tt
+
+-- an empty list of arguments is none
+pub no_values : (d : Data) → list_of d ≡ [] → d ≡ datum.none
+no_values datum.none is = refl
+no_values (datum.more v vs) is = absurd (cc is)
 
 -- with these parts it is the run's member before the first event
 pub opens : {P S : Type 0} (stood : Stood S) (left : Left S) (f : Frame) (me members losses : ℕ) (s : Node P S)

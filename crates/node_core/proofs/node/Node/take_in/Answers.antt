@@ -1,7 +1,17 @@
-use Rattle.std.proofs.Common.{◌≡◌, ap, sym, subst, refl, ◌∙◌}
-use Rattle.node_core.specs.CheckingIn.{IsOutFor}
-use Rattle.node_core.proofs.TakingIn.{back_here, back_is, becomes_computed, within_of}
+use Rattle.std.proofs.Common.{◌≡◌, sym, subst, refl}
+use Rattle.node_core.specs.CheckingIn.{HasCheckedIn, IsOutFor}
+use Rattle.node_core.specs.Pieces.{resident_at}
+use Rattle.node_core.specs.Tasks.{Computed}
+use Rattle.node_core.proofs.TakingIn.{taken_in}
 use Rattle.node_core.proofs.node.Node.take_in.Goals as goal
 
-pub here-requires : goal.here-requires
-here-requires g c = rw c.done.view_is (back_here c.args.done _ c.requires)
+pub returns : goal.returns
+returns g c =
+    let d = c.done.inside in
+    subst (λ (done : Computed g.row.P-State.Denot). HasCheckedIn g.P.OneRun.stood g.P.OneRun.left g.P.OneRun.run.frame done (record { place = c.place-place.result; reads = d.reads }) c.args.self.now c.change.new.self)
+    c.done.view_is
+    (taken_in g.P.OneRun.stood g.P.OneRun.left g.P.OneRun.run.frame
+    (record { process = d.process; start = d.start; calls = d.calls; view = d.view; turns = d.turns; end = d.end; stage = d.stage; reads = d.reads.items })
+    c.args.self.now c.change.new.self c.here-resident.result.now c.after_burst-after.result (record { place = c.place-place.result; reads = d.reads }) c.len-reads.result c.done.invariant.0
+    (subst (λ (done : Computed g.row.P-State.Denot). IsOutFor done (resident_at c.args.self.now done.process.0)) (sym c.done.view_is) c.requires)
+    c.here-resident.ensures c.after_burst-after.ensures c.place-place.ensures c.len-reads.ensures refl c.change.ensures)
