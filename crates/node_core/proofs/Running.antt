@@ -119,15 +119,15 @@ halts_at stood stands q f i u after budget last (halt.At act) is tie lt less (us
       le,
     )
 halts_at stood stands q f i u after budget last halt.Paused is tie lt less (busy, at) = (
-      u.turns + budget,
-      (
-          subst (λ (c : Computes). c.doing u.text i u.args u.replies (u.turns + (last - u.turns)) ≡ doing.Busy) is
-              (subst (λ (n : ℕ). q.doing u.text i u.args u.replies (u.turns + n) ≡ doing.Busy) less busy),
-          ap (λ (n : ℕ). u.turns + n) (sym less),
-      ),
-      tie u.text i u.args u.replies (u.turns + budget) at,
-      omega arith,
-    )
+  u.turns + budget,
+  (
+    subst (λ (c : Computes). c.doing u.text i u.args u.replies (u.turns + (last - u.turns)) ≡ doing.Busy) is
+        (subst (λ (n : ℕ). q.doing u.text i u.args u.replies (u.turns + n) ≡ doing.Busy) less busy),
+    ap (λ (n : ℕ). u.turns + n) (sym less),
+  ),
+  tie u.text i u.args u.replies (u.turns + budget) at,
+  omega arith,
+)
 
 -- of whichever process the state stands for, the computation comes to this halt
 abbrev pub ComesTo : {S : Type 0} → Stood S → Frame → ProcessNo → ℕ → S → S → Halt → Type 0
@@ -263,7 +263,7 @@ read_more {S} stood f task last call next state after new reads more p at_halt l
           let used = came_to.0 in
           let halts : Halts f task.process u last used (halt.At act) = subst (λ (h : Halt). Halts f task.process u last used h) at came_to.1 in
           let read : line ≡ read_line task.process u act (read_on f.performs task.view.objects act) =
-              line_is ∙ ap (λ (n : ℕ). record { process = task.process; call = record { 0 = n }; action = act; guard = guard_of (read_on f.performs task.view.objects act); reply = reply_of (read_on f.performs task.view.objects act) }) come.number in
+          line_is ∙ ap (λ (n : ℕ). record { process = task.process; call = record { 0 = n }; action = act; guard = guard_of (read_on f.performs task.view.objects act); reply = reply_of (read_on f.performs task.view.objects act) }) come.number in
           let below = halts.2 in
           let exact = halts.4 in
           let some = come.some in
@@ -330,8 +330,8 @@ burst_ends {S} stood left f fitness task done last call state p at_halt stage is
     let same : r.turns ≡ may.played.turns = omega (arith, until, first) in
     let last_is : last ≡ last_turn f r = first ∙ may_turns ∙ ap (λ (n : ℕ). n + min BURST_TURNS (f.settings.turns - n)) (sym same) in
     let ran : Ran f task.view.objects task.view.place task.process last r done.reads (halted used at_halt u) =
-        subst (λ (l : List Line). Ran f task.view.objects task.view.place task.process last r l (halted used at_halt u)) (append-nil done.reads)
-        (come.leads [] (halted used at_halt u) (at_halt, used, came_to.1, ends, refl)) in (
+    subst (λ (l : List Line). Ran f task.view.objects task.view.place task.process last r l (halted used at_halt u)) (append-nil done.reads)
+    (come.leads [] (halted used at_halt u) (at_halt, used, came_to.1, ends, refl)) in (
       halted used at_halt u,
       record {
         ran = subst (λ (n : ℕ). Ran f done.view.objects done.view.place done.process n r done.reads (halted used at_halt u)) last_is

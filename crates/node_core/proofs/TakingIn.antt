@@ -285,6 +285,7 @@ opens_here {S} stood left f me i state a xs first is one stands =
       calls = ap (λ (x : Resident S). x.calls) is;
       stage = ap (λ (x : Resident S). on_stage x.stage) is;
     }
+
     go : (k : ℕ) (t : Bool) → (k == 0) ≡ t → IsPlayedIf stood left k (slice_index_or (Some a ∷ []) k None) (if t then Some (newborn (first_process f)) else None)
     go zero true e = born
     go zero false e = absurd (cc e)

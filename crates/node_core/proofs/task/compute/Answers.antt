@@ -30,8 +30,8 @@ pub overflow_sub-left : goal.overflow_sub-left
 overflow_sub-left g c =
     let m = c.args.machine.now in
     let left = within g.P.OneRun.stood g.P.OneRun.run.frame (fitness_of (g.P.Performer.fits_state m) (g.P.Performer.fits_args m) (g.P.Performer.fits_text m) (g.P.Performer.fits_reply m)) (record { process = c.args.process; start = c.args.start.now; calls = c.args.calls; view = c.args.view.now; budget = c.args.budget })
-        (c.turns.result + c.args.budget) c.burst.call c.turns-in-burst.result c.burst.state c.burst.reads.items c.requires c.burst.invariant
-        (λ text number args replies turns at. c.turns-in-burst.ensures text number args replies turns (g.met.P.OneRun.stood_stands m c.burst.state text number args replies turns at)) in
+    (c.turns.result + c.args.budget) c.burst.call c.turns-in-burst.result c.burst.state c.burst.reads.items c.requires c.burst.invariant
+    (λ text number args replies turns at. c.turns-in-burst.ensures text number args replies turns (g.met.P.OneRun.stood_stands m c.burst.state text number args replies turns at)) in
     let some = left.some in
     omega (arith, some)
 
@@ -39,8 +39,8 @@ pub overflow_cast-left : goal.overflow_cast-left
 overflow_cast-left g c =
     let m = c.args.machine.now in
     let left = within g.P.OneRun.stood g.P.OneRun.run.frame (fitness_of (g.P.Performer.fits_state m) (g.P.Performer.fits_args m) (g.P.Performer.fits_text m) (g.P.Performer.fits_reply m)) (record { process = c.args.process; start = c.args.start.now; calls = c.args.calls; view = c.args.view.now; budget = c.args.budget })
-        (c.turns.result + c.args.budget) c.burst.call c.turns-in-burst.result c.burst.state c.burst.reads.items c.requires c.burst.invariant
-        (λ text number args replies turns at. c.turns-in-burst.ensures text number args replies turns (g.met.P.OneRun.stood_stands m c.burst.state text number args replies turns at)) in
+    (c.turns.result + c.args.budget) c.burst.call c.turns-in-burst.result c.burst.state c.burst.reads.items c.requires c.burst.invariant
+    (λ text number args replies turns at. c.turns-in-burst.ensures text number args replies turns (g.met.P.OneRun.stood_stands m c.burst.state text number args replies turns at)) in
     let enough = left.enough in
     let budget = c.ranges.budget.fits in
     omega (arith, enough, budget)
@@ -49,8 +49,8 @@ pub go-requires-clause-some : goal.go-requires-clause-some
 go-requires-clause-some g c =
     let m = c.args.machine.now in
     let left = within g.P.OneRun.stood g.P.OneRun.run.frame (fitness_of (g.P.Performer.fits_state m) (g.P.Performer.fits_args m) (g.P.Performer.fits_text m) (g.P.Performer.fits_reply m)) (record { process = c.args.process; start = c.args.start.now; calls = c.args.calls; view = c.args.view.now; budget = c.args.budget })
-        (c.turns.result + c.args.budget) c.burst.call c.turns-in-burst.result c.burst.state c.burst.reads.items c.requires c.burst.invariant
-        (λ text number args replies turns at. c.turns-in-burst.ensures text number args replies turns (g.met.P.OneRun.stood_stands m c.burst.state text number args replies turns at)) in
+    (c.turns.result + c.args.budget) c.burst.call c.turns-in-burst.result c.burst.state c.burst.reads.items c.requires c.burst.invariant
+    (λ text number args replies turns at. c.turns-in-burst.ensures text number args replies turns (g.met.P.OneRun.stood_stands m c.burst.state text number args replies turns at)) in
     let some = left.some in
     omega (arith, some)
 
@@ -58,8 +58,8 @@ pub go-requires-clause-room : goal.go-requires-clause-room
 go-requires-clause-room g c text number args replies turns at =
     let m = c.args.machine.now in
     let left = within g.P.OneRun.stood g.P.OneRun.run.frame (fitness_of (g.P.Performer.fits_state m) (g.P.Performer.fits_args m) (g.P.Performer.fits_text m) (g.P.Performer.fits_reply m)) (record { process = c.args.process; start = c.args.start.now; calls = c.args.calls; view = c.args.view.now; budget = c.args.budget })
-        (c.turns.result + c.args.budget) c.burst.call c.turns-in-burst.result c.burst.state c.burst.reads.items c.requires c.burst.invariant
-        (λ text number args replies turns at. c.turns-in-burst.ensures text number args replies turns (g.met.P.OneRun.stood_stands m c.burst.state text number args replies turns at)) in
+    (c.turns.result + c.args.budget) c.burst.call c.turns-in-burst.result c.burst.state c.burst.reads.items c.requires c.burst.invariant
+    (λ text number args replies turns at. c.turns-in-burst.ensures text number args replies turns (g.met.P.OneRun.stood_stands m c.burst.state text number args replies turns at)) in
     let some = left.some in
     let most = left.most in
     let now = c.turns-in-burst.ensures text number args replies turns at in
