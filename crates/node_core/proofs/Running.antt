@@ -1,5 +1,5 @@
 -- A burst as it is computed: the reads so far, one more, and the end.
-use Rattle.std.proofs.Common.{◌≡◌, ◌≤◌, ◌<◌, ◌+◌, ◌-◌, ◌++◌, ◌∷◌, ℕ, Bool, true, false, not, List, [], length, append-nil, length-append, Option, Some, None, is_some, refl, sym, ap, ◌∙◌, subst, arith}
+use Rattle.std.proofs.Common.{◌≡◌, ◌≤◌, ◌<◌, ◌+◌, ◌-◌, ◌++◌, ◌∷◌, ℕ, not, List, [], length, append-nil, length-append, Option, Some, None, is_some, refl, sym, ap, ◌∙◌, subst, arith}
 use Rattle.std.proofs.lemmas.List.{append_assoc}
 use Rattle.std.specs.Prelude.{IsTrue, min}
 use Rattle.orca_base.specs.declared.limits.TheConstants.{BURST_TURNS}
@@ -10,7 +10,7 @@ use Rattle.orca_base.specs.declared.ids.ProcessNo.{ProcessNo}
 use Rattle.orca_base.specs.declared.ids.TextNo.{TextNo}
 use Rattle.value_core.specs.Datum.{Data}
 use Rattle.value_core.specs.Fits.{RepliesWell}
-use Rattle.value_core.specs.Goes.{ForEach, GoesOn, IfAt, Reaches, Stands}
+use Rattle.value_core.specs.Goes.{ForEach, GoesOn, IfAt, Reaches}
 use Rattle.value_core.specs.History.{Objects, most_turns, object_at}
 use Rattle.value_core.specs.Lawful.{FitsAction}
 use Rattle.value_core.specs.Meaning.{Computes, Performs}
@@ -28,14 +28,14 @@ use Rattle.value_core.specs.declared.processor.Halt.{Halt}
 use Rattle.value_core.specs.declared.processor.Halt.TheVariants as halt
 use Rattle.guard_queue.specs.Settles.{guard_of, is_blocked, reply_of, tried_by, tried_on}
 use Rattle.object_manager.specs.Viewed.{ReadFits, Viewed}
-use Rattle.world_rules.specs.Bursts.{Halts, Ran, if_reads, is_answered, is_end, last_turn, read_line, read_on, reads_on}
+use Rattle.world_rules.specs.Bursts.{Halts, Ran, if_reads, last_turn, read_line, read_on, reads_on}
 use Rattle.world_rules.specs.Frame.{Frame}
 use Rattle.world_rules.specs.Played.{Played, at_action, halted, stage_at}
-use Rattle.node_rules.specs.Bursting.{IsNextRead, ReadsOn}
+use Rattle.node_rules.specs.Bursting.{ReadsOn}
 use Rattle.node_rules.specs.Bursting.ReadsOn.{Stays, Then}
 use Rattle.node_rules.specs.Conditions.{Fitness}
 use Rattle.node_core.specs.Shown.{Left, LeftAt, Stood, on_stage}
-use Rattle.node_core.specs.Tasks.{Computed, HasEnded, HasRun, IsCame, IsStart, MayAnswer, MayRun, Tasked}
+use Rattle.node_core.specs.Tasks.{Computed, HasRun, IsCame, IsStart, MayAnswer, MayRun, Tasked}
 use Rattle.node_core.specs.declared.resident.Stage.{Stage}
 use Rattle.node_core.specs.declared.task.Came.{Came}
 use Rattle.node_core.specs.declared.task.Came.TheVariants as came

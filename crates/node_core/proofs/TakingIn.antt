@@ -1,18 +1,15 @@
 -- Tasks at a node: they are handed out, checked in and recalled.
-use Rattle.std.proofs.Common.{◌≡◌, ◌≤◌, ◌<◌, ◌+◌, ◌-◌, ◌++◌, ◌∷◌, ◌==◌, ℕ, zero, suc, Bool, true, false, List, [], length, length-append, is_some, map, take, drop, set, get_or, slice_index_or, Option, Some, None, refl, sym, ap, ◌∙◌, subst, arith, if◌then◌else◌}
+use Rattle.std.proofs.Common.{◌≡◌, ◌<◌, ◌+◌, ◌++◌, ◌∷◌, ◌==◌, ℕ, zero, suc, Bool, true, false, List, [], length, length-append, is_some, map, take, drop, set, get_or, slice_index_or, Option, Some, None, refl, sym, ap, ◌∙◌, subst, arith, if◌then◌else◌}
 use Rattle.std.proofs.lemmas.Bool.{eqb-true}
 use Rattle.std.specs.Prelude.{IsTrue}
 use Rattle.orca_base.specs.declared.ids.KindNo.{KindNo}
 use Rattle.orca_base.specs.declared.ids.OpNo.{OpNo}
 use Rattle.orca_base.specs.declared.ids.ProcessNo.{ProcessNo}
-use Rattle.orca_base.specs.declared.ids.TextNo.{TextNo}
 use Rattle.value_core.specs.Datum.{Data, list_of}
 use Rattle.value_core.specs.Datum as datum
 use Rattle.value_core.specs.Fits.{Kinds}
 use Rattle.value_core.specs.History.{Objects}
-use Rattle.value_core.specs.Meaning.{Computes}
 use Rattle.value_core.specs.declared.action.Line.{Line}
-use Rattle.value_core.specs.declared.action.Reply.{Reply}
 use Rattle.object_manager.specs.After.{opening_copies}
 use Rattle.object_manager.specs.Viewed.{Viewed}
 use Rattle.group_member.specs.StandsFor.{StandsFor}
@@ -26,13 +23,12 @@ use Rattle.world_rules.specs.Nodes.{NodeWork, idle, opening_node, opening_proces
 use Rattle.world_rules.specs.Parts.{computes, performs_all}
 use Rattle.world_rules.specs.Played.{Played, Stage as played, newborn}
 use Rattle.world_rules.specs.Processes.{first_process}
-use Rattle.node_rules.specs.Bursting.{BurstFits}
 use Rattle.node_rules.specs.Conditions.{Fitness}
 use Rattle.node_core.specs.CheckingIn.{BecomesComputed, HasChanged, HasCheckedIn, HasRecalled, IsOutFor, MayHandOut, after_burst, recalled}
 use Rattle.node_core.specs.Pieces.{resident_at}
 use Rattle.node_core.specs.Shown.{IsPlayed, IsPlayedIf, Left, Stood, on_errand, on_given, on_stage}
 use Rattle.node_core.specs.Stands.{StandsAlike, StandsAs}
-use Rattle.node_core.specs.Tasks.{Computed, HasEnded, HasRun, IsStart, MayRun, Tasked}
+use Rattle.node_core.specs.Tasks.{Computed, HasRun, MayRun, Tasked}
 use Rattle.node_core.specs.declared.errand.Errand.{Errand}
 use Rattle.node_core.specs.declared.errand.Given.{Given}
 use Rattle.node_core.specs.declared.node.Node.{Node}
@@ -114,6 +110,10 @@ out_runs {P} {S} stood left f fitness i view budget s a start may at same =
       fits = may.fits;
       turns = may.turns;
     }
+
+-- over an equal view it is the same
+pub handed_over : {S : Type 0} (s a : Resident S) (copied view : Viewed) → a ≡ record s { out = Some copied } → copied ≡ view → a ≡ record s { out = Some view }
+handed_over {S} s a copied view is same = is ∙ ap (λ (v : Viewed). let out : Resident S = record s { out = Some v } in out) same
 
 -- a task may be run by any machine by which the same fits
 pub runs_by : {S : Type 0} (stood : Stood S) (f : Frame) (one other : Fitness) (task : Tasked S)

@@ -90,7 +90,8 @@ impl<P: OneRun> Model for Task<P> {
 
     ghost view = { λ t. record { process = t.process; start = t.start; calls = t.calls; view = t.view; budget = t.budget } };
 
-    ghost invariant = { λ t. (m : P) × MayRun P.stood P.run.frame (fitness_of (P.fits_state m) (P.fits_args m) (P.fits_text m) (P.fits_reply m))
+    ghost invariant = { λ t. (m : P) × MayRun P.stood P.run.frame
+        (fitness_of (P.fits_state m) (P.fits_args m) (P.fits_text m) (P.fits_reply m))
         (record { process = t.process; start = t.start; calls = t.calls; view = t.view; budget = t.budget }) };
 }
 
@@ -202,7 +203,8 @@ fn compute<P: OneRun>(
     calls: u64,
     budget: u32,
 ) -> Result<Burst<P::State>, NoMemory>
-    requires { MayRun P.stood P.run.frame (fitness_of (P.fits_state machine.now) (P.fits_args machine.now) (P.fits_text machine.now) (P.fits_reply machine.now))
+    requires { MayRun P.stood P.run.frame
+        (fitness_of (P.fits_state machine.now) (P.fits_args machine.now) (P.fits_text machine.now) (P.fits_reply machine.now))
         (record { process = process; start = start.now; calls = calls; view = view.now; budget = budget }) }
     ensures ran { IfOk result (λ burst. HasRun P.stood P.left P.run.frame (record {
       process = process;
@@ -321,10 +323,12 @@ impl<P: OneRun> Node<P> {
         process: ProcessNo,
         budget: u32,
     ) -> Result<Task<P>, NoMemory>
-        requires { MayHandOut P.stood P.left P.run.frame (fitness_of (P.fits_state machine.now) (P.fits_args machine.now) (P.fits_text machine.now) (P.fits_reply machine.now))
+        requires { MayHandOut P.stood P.left P.run.frame
+            (fitness_of (P.fits_state machine.now) (P.fits_args machine.now) (P.fits_text machine.now) (P.fits_reply machine.now))
             process (record { objects = self.old.copies.objects; place = self.old.copies.applied }) budget self.old }
         ensures out { IfOk result (λ task.
-            HandsOut process (record { objects = self.old.copies.objects; place = self.old.copies.applied }) budget task self.old self.new) }
+            HandsOut process (record { objects = self.old.copies.objects; place = self.old.copies.applied }) budget task
+            self.old self.new) }
         ensures err { OnErr result (self.new ≡ self.old) }
     {
         let view = self.copies.view(alloc)?;
@@ -340,7 +344,8 @@ impl<P: OneRun> Node<P> {
         view: View,
         budget: u32,
     ) -> Result<Task<P>, NoMemory>
-        requires { MayHandOut P.stood P.left P.run.frame (fitness_of (P.fits_state _machine.now) (P.fits_args _machine.now) (P.fits_text _machine.now) (P.fits_reply _machine.now))
+        requires { MayHandOut P.stood P.left P.run.frame
+            (fitness_of (P.fits_state _machine.now) (P.fits_args _machine.now) (P.fits_text _machine.now) (P.fits_reply _machine.now))
             process view budget self.old }
         ensures out { IfOk result (λ task. HandsOut process view budget task self.old self.new) }
         ensures err { OnErr result (self.new ≡ self.old) }

@@ -1,4 +1,4 @@
-use Rattle.std.proofs.Common.{◌≡◌, ◌≤◌, ◌<◌, ◌+◌, ◌-◌, ◌++◌, ◌∷◌, [], ℕ, List, length, ap, sym, subst, refl, ◌∙◌, arith}
+use Rattle.std.proofs.Common.{◌+◌, ◌-◌, ◌++◌, ◌∷◌, [], ℕ, ap, subst, refl, arith}
 use Rattle.node_core.specs.Stands.{fitness_of}
 use Rattle.node_core.specs.Tasks.{IsCame}
 use Rattle.node_core.specs.declared.task.Came.{Came}

@@ -1,4 +1,4 @@
-use Rattle.std.proofs.Common.{◌≡◌, ◌<◌, length, ap, ◌∙◌, arith}
+use Rattle.std.proofs.Common.{◌<◌, length, ap, ◌∙◌, arith}
 use Rattle.node_core.specs.CheckingIn.{recalled}
 use Rattle.node_core.proofs.TakingIn.{one_recalled}
 use Rattle.node_core.proofs.task.recall_all.Goals as goal

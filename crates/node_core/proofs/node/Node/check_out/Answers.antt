@@ -1,4 +1,4 @@
-use Rattle.std.proofs.Common.{◌≡◌, ap, sym, subst, refl, ◌∙◌}
+use Rattle.std.proofs.Common.{sym, subst}
 use Rattle.std.specs.Prelude.{IfOk}
 use Rattle.object_manager.specs.Viewed.{Viewed}
 use Rattle.node_core.specs.CheckingIn.{HandsOut, MayHandOut}

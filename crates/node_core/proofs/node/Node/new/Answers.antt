@@ -1,4 +1,4 @@
-use Rattle.std.proofs.Common.{◌≡◌, ◌++◌, ◌∷◌, [], List, ap, ◌∙◌}
+use Rattle.std.proofs.Common.{◌++◌, ◌∷◌, [], List, ap, ◌∙◌}
 use Rattle.orca_base.specs.declared.ids.TextNo.{TextNo}
 use Rattle.value_core.specs.Meaning.{Computes}
 use Rattle.node_core.specs.declared.node.Known.{Known}

@@ -1,10 +1,9 @@
-use Rattle.std.proofs.Common.{◌≡◌, Some, ap, subst, ◌∙◌}
-use Rattle.object_manager.specs.Viewed.{Viewed}
+use Rattle.std.proofs.Common.{ap, subst}
 use Rattle.node_core.specs.CheckingIn.{HasChanged}
 use Rattle.node_core.specs.Stands.{fitness_of}
 use Rattle.node_core.specs.Tasks.{Tasked}
 use Rattle.node_core.specs.declared.resident.Resident.{Resident}
-use Rattle.node_core.proofs.TakingIn.{out_computing, out_here, out_runs, within_of}
+use Rattle.node_core.proofs.TakingIn.{handed_over, out_computing, out_here, out_runs, within_of}
 use Rattle.node_core.proofs.node.Node.task_on.Goals as goal
 
 pub here-resident-requires : goal.here-resident-requires
@@ -42,5 +41,5 @@ returns-clause-out g c =
       is = ap (λ (x : g.row.P-State.Denot). let t : Tasked g.row.P-State.Denot = record { process = c.args.process; start = x; calls = s.calls; view = c.args.view; budget = c.args.budget } in t)
           (c.in_ok-copy-2.ensures {u = tt});
       out = subst (λ (a : Resident g.row.P-State.Denot). HasChanged c.args.process.0 a c.args.self.now c.change.new.self)
-          (c.in_ok-out.ensures {u = tt} ∙ ap (λ (v : Viewed). let a : Resident g.row.P-State.Denot = record s { out = Some v } in a) (c.in_ok-copy.ensures {u = tt})) c.change.ensures;
+          (handed_over s c.in_ok-out.out c.in_ok-copy.field-0 c.args.view (c.in_ok-out.ensures {u = tt}) (c.in_ok-copy.ensures {u = tt})) c.change.ensures;
     }

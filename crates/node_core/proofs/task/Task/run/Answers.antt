@@ -1,4 +1,4 @@
-use Rattle.std.proofs.Common.{◌≡◌, ap, sym, subst}
+use Rattle.std.proofs.Common.{ap, sym, subst}
 use Rattle.node_core.specs.Stands.{fitness_of}
 use Rattle.node_core.specs.Tasks.{HasRun, MayRun, Tasked}
 use Rattle.node_core.proofs.TakingIn.{runs_by}
