@@ -19,3 +19,5 @@ pub mod Reaching
 pub mod Delivering
 pub mod Starting
 pub mod CarryingOut
+pub mod Running
+pub mod TakingIn

@@ -7,3 +7,5 @@ pub mod Pieces
 pub mod Entries
 pub mod Events
 pub mod Calls
+pub mod Tasks
+pub mod CheckingIn

@@ -3,10 +3,12 @@
 ghost use Rattle.std.specs.Prelude.{◌≡◌, ◌<◌, ◌*◌, ℕ, IfOk, List, OnOk, length, map, None, Some, slice_get, slice_index_or};
 ghost use Rattle.std.specs.Option.{option_copied};
 ghost use Rattle.world_rules.specs.Frame.{Frame, choice_in, is_single};
+ghost use Rattle.world_rules.specs.Nodes.{opening_node, opening_processes};
 ghost use Rattle.world_rules.specs.Processes.{Begun, home_in, singles_of};
 ghost use Rattle.node_core.specs.Calls.{HasMoved, given_at};
 ghost use Rattle.node_core.specs.Pieces.{HasPut, resident_at};
-ghost use Rattle.node_core.specs.Stands.{StandsAlike, on_known};
+ghost use Rattle.node_core.specs.Shown.{IsPlayedIf};
+ghost use Rattle.node_core.specs.Stands.{StandsAlike, StandsAs, on_known};
 
 use crate::errand::{Errand, Given};
 use crate::kept::Kept;
@@ -39,7 +41,8 @@ pub struct Node<P: OneRun> {
 }
 
 impl<P: OneRun> Node<P> {
-    /// Member `me` as all members begin, with these choices of copies. Process 0 is on member 0.
+    /// Member `me` as all members begin, with these choices of copies. Process 0 is on member 0. By the run's settings it is the member of
+    /// that number before the run's first event.
     pub fn new(
         alloc: Global,
         machine: &P,
@@ -49,6 +52,9 @@ impl<P: OneRun> Node<P> {
     ) -> Result<Node<P>, NoMemory>
         requires me { me < config.nodes }
         requires few { 2 * config.resilience < config.nodes }
+        ensures { config.nodes ≡ P.run.frame.settings.nodes → config.resilience ≡ P.run.frame.settings.resilience →
+            choices ≡ P.run.frame.settings.choices →
+            IfOk result (λ node. StandsAs P.stood P.left P.run.frame me node (opening_node P.run.frame me)) }
     {
         let text = machine.main_text();
         let mut known = Vec::new(alloc);
@@ -209,13 +215,18 @@ fn opening_residents<P: OneRun>(
     machine: &P,
     text: TextNo,
     me: u8,
-) -> Result<Vec<Option<Resident<P::State>>>, NoMemory> {
+) -> Result<Vec<Option<Resident<P::State>>>, NoMemory>
+    requires { text ≡ (P.computes machine.now).main }
+    ensures { IfOk result (λ residents. (i : ℕ) →
+        IsPlayedIf P.stood P.left i (slice_index_or residents.items i None) (opening_processes P.run.frame me i)) }
+{
     let mut residents = Vec::new(alloc);
-    if me == 0 {
-        let args = Parts::new(alloc);
-        let state = machine.start(alloc, text, ProcessNo::MAIN, &args)?;
-        residents.push(Some(Resident::newborn(alloc, state, 0)?))?;
+    if me != 0 {
+        return Ok(residents);
     }
+    let args = Parts::new(alloc);
+    let state = machine.start(alloc, text, ProcessNo::MAIN, &args)?;
+    residents.push(Some(Resident::newborn(alloc, state, 0)?))?;
     Ok(residents)
 }
 

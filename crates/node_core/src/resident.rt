@@ -1,6 +1,6 @@
 //! A process as its member knows it.
 
-ghost use Rattle.std.specs.Prelude.{◌≡◌, ◌<◌, ◌+◌, ◌^◌, IfOk, None, Some, is_some};
+ghost use Rattle.std.specs.Prelude.{◌≡◌, ◌==◌, ◌<◌, ◌+◌, ◌^◌, IfOk, None, Some, if◌then◌else◌, is_some};
 ghost use Rattle.node_core.specs.declared.resident.Stage.TheVariants.{Computing};
 
 use crate::kept::Kept;
@@ -164,22 +164,32 @@ impl<S: Drop> Resident<S> {
         })
     }
 
-    // Its burst ended so, with so many reads at this place.
-    pub(crate) fn check_in(
-        &mut self,
-        state: Kept<S>,
+    // The process after a burst that ended so, with so many reads at this place.
+    pub(crate) fn after_burst(
+        &self,
+        end: Kept<S>,
         turns: u64,
         stage: Stage,
         place: u64,
         reads: u64,
-    ) {
-        self.state = state;
-        self.turns = turns;
-        self.stage = stage;
-        self.out = None;
-        if reads > 0 {
-            self.place = place;
-            self.calls += reads;
+    ) -> Resident<S>
+        requires { self.now.calls + reads < 2 ^ 64 }
+        ensures { result ≡ record {
+          state = end;
+          turns = turns;
+          place = (if reads == 0 then self.now.place else place);
+          calls = self.now.calls + reads;
+          stage = stage;
+          out = None;
+        } }
+    {
+        Resident {
+            state: end,
+            turns,
+            place: if reads == 0 { self.place } else { place },
+            calls: self.calls + reads,
+            stage,
+            out: None,
         }
     }
 
