@@ -1,0 +1,238 @@
+-- The first piece of an event, and what follows it up to the event's end.
+use Rattle.std.proofs.Common.{◌≡◌, ◌<◌, ◌^◌, ◌++◌, ℕ, zero, suc, Bool, true, false, List, [], Option, Some, None, refl, sym, subst, if◌then◌else◌}
+use Rattle.value_core.specs.declared.action.Action.{Action}
+use Rattle.value_core.specs.declared.action.Reply.{Reply}
+use Rattle.value_core.specs.declared.message.Message.{Message}
+use Rattle.group_packets.specs.declared.packet.Packet.{Packet}
+use Rattle.group_rules.specs.Reset.{coordinate}
+use Rattle.group_rules.specs.Messages.{Group, group_of}
+use Rattle.group_rules.specs.Steps.{submit, ticked, timer}
+use Rattle.group_rules.specs.Work as group_work
+use Rattle.group_member.specs.AtWork.{AtWork, Does}
+use Rattle.group_member.specs.StandsFor.{IsMember}
+use Rattle.group_member.specs.declared.sends.Letter.{Letter as Sent}
+use Rattle.group_member.specs.Ticks.{TicksAs}
+use Rattle.group_member.specs.declared.member.Member.{Member}
+use Rattle.group_member.specs.declared.timer.Timed.TheVariants.{Due}
+use Rattle.group_reset.specs.Calls.{IsSome}
+use Rattle.world_rules.specs.Frame.{Frame, bytes_of, group, name_of}
+use Rattle.world_rules.specs.Nodes as nodes
+use Rattle.world_rules.specs.Nodes.{Deed, NodeWork, does, entries_of, idle, known, mails_of, plays}
+use Rattle.world_rules.specs.Nodes.Deed.{Submits}
+use Rattle.world_rules.specs.Applying.{applies_all}
+use Rattle.world_rules.specs.Owners.{takes_reached}
+use Rattle.world_rules.specs.Parts.{asks_again, asks_below, catches_up}
+use Rattle.world_rules.specs.Played.{moves_to}
+use Rattle.world_rules.specs.Played.{Stage as stage}
+use Rattle.node_rules.specs.Conditions.{Fitness}
+use Rattle.node_rules.specs.Moments.{Moment, Walks, at_work, works}
+use Rattle.node_rules.specs.Moments.Goes.{Asks_again}
+use Rattle.node_rules.specs.Moments.Walks.{Stays}
+use Rattle.node_rules.specs.Starts.{EventFits, Start, begun, part}
+use Rattle.node_rules.specs.Starts.Start.{Acts, Comes, Suspects, Ticks}
+use Rattle.node_rules.proofs.Walking.{walk_on, walk_one}
+use Rattle.node_core.specs.Calls.{GoesFree, HasMoved, IsFree}
+use Rattle.node_core.specs.Events.{HasCome, HasStarted, HasSubmitted, IsIdle, MayComeFrom, MayStart}
+use Rattle.node_core.specs.Pieces.{Becomes, GoesOn, IsSomewhere, resident_at}
+use Rattle.node_core.specs.Shown.{Left, Stood}
+use Rattle.node_core.specs.Stands.{Does as DoesEvent, IsAt, IsDone, IsMoved, IsWork, MayDo, MayTakePacket, StandsAs, StandsAlike, TakesPacket}
+use Rattle.node_core.specs.declared.moved.Moved.{Moved}
+use Rattle.node_core.specs.declared.node.Node.{Node}
+use Rattle.node_core.specs.declared.resident.Resident.{Resident}
+use Rattle.node_core.specs.declared.resident.Stage.{Stage}
+use Rattle.node_core.specs.declared.resident.Stage.TheVariants as at_stage
+use Rattle.node_core.specs.declared.work.Work.{Work}
+use Rattle.node_core.proofs.Noting.{joined}
+use Rattle.node_core.proofs.Sending.{waits_first}
+
+-- what is no value is none
+pub none_else : {A : Type 0} (o : Option A) → ((x : A) → o ≡ Some x → ⊥) → None ≡ o
+none_else None apart = refl
+none_else (Some x) apart = absurd (apart x refl)
+
+-- ---- the work begins, and catches up
+
+-- a copy that did nothing
+pub idle_work : {P S : Type 0} (stood : Stood S) (left : Left S) (s : Node P S) (work : Work P S) → StandsAlike stood left s work.node
+    → work.moved.sends.items ≡ [] → work.moved.entries.items ≡ [] → work.moved.aside.items ≡ [] → IsIdle stood left s work
+idle_work stood left s work alike sends entries aside f m v stands =
+    record { node = alike f m v stands; moved = record { sends = sends; entries = entries; aside = aside } }
+
+-- with nothing at hand it is at a moment
+pub free_somewhere : {P S : Type 0} (stood : Stood S) (left : Left S) (f : Frame) (fitness : Fitness) (s : Work P S) → IsFree stood left f fitness s → IsSomewhere stood left f fitness s
+free_somewhere stood left f fitness s (m, u, at) = (m, [], u, at)
+
+pub free_on : {P S : Type 0} (stood : Stood S) (left : Left S) (f : Frame) (fitness : Fitness) (old new : Work P S) (piece : ℕ → NodeWork → NodeWork)
+    → IsFree stood left f fitness old → GoesOn stood left f fitness old new piece → IsFree stood left f fitness new
+free_on stood left f fitness old new piece (m, u, at) goes = (m, works (piece m u.work) u, goes m [] u at)
+
+pub caught_up : {P S : Type 0} (stood : Stood S) (left : Left S) (f : Frame) (fitness : Fitness) (old mid new : Work P S)
+    → GoesOn stood left f fitness old mid (applies_all f) → GoesFree stood left f fitness mid new (takes_reached f) → GoesFree stood left f fitness old new (catches_up f)
+caught_up stood left f fitness old mid new applied taken m u at = taken m (works (applies_all f m u.work) u) (applied m [] u at)
+
+-- ---- after the first piece
+
+-- where it comes to from there the conditions hold
+pub started_at : {P S : Type 0} (stood : Stood S) (left : Left S) (f : Frame) (fitness : Fitness) (m : ℕ) (start : Start) (v : nodes.Node) (s : Work P S)
+    → IsWork stood left f m s (begun f m start v) → EventFits f fitness m start v → IsAt stood left f fitness m s [] (at_work (begun f m start v))
+started_at stood left f fitness m start v s work fits = record { work = work; errands = refl; fits = fits.moments }
+
+-- so it is of the node that the event is of
+pub may_start : {P S : Type 0} (stood : Stood S) (left : Left S) (f : Frame) (fitness : Fitness) (start : Start) (s : Node P S) (work : Work P S) → IsIdle stood left s work
+    → MayDo stood left f fitness s start → MayStart stood left f fitness start work
+may_start stood left f fitness start s work idles (v, stands, fits) = (s.member.me, v, idles f s.member.me v stands, fits)
+
+pub started_free : {P S : Type 0} (stood : Stood S) (left : Left S) (f : Frame) (fitness : Fitness) (start : Start) (s : Node P S) (work new : Work P S) → IsIdle stood left s work
+    → MayDo stood left f fitness s start → HasStarted stood left f fitness start work new → IsFree stood left f fitness new
+started_free stood left f fitness start s work new idles (v, stands, fits) has =
+    (s.member.me, at_work (begun f s.member.me start v), started_at stood left f fitness s.member.me start v new (has s.member.me v (idles f s.member.me v stands) fits) fits)
+
+-- ---- a tick's Asks
+
+walks_below : (f : Frame) (m n : ℕ) (v : NodeWork) → Walks f m (at_work v) (at_work (asks_below f m n v))
+walks_below f m zero v = Stays (at_work v)
+walks_below f m (suc i) v =
+    walk_on f m (at_work v) (at_work (asks_below f m i v)) (at_work (asks_below f m (suc i) v)) (walks_below f m i v)
+    (walk_one f m (at_work (asks_below f m i v)) (at_work (asks_below f m (suc i) v)) (Asks_again i refl))
+
+walks_again : (f : Frame) (m : ℕ) (v : NodeWork) → Walks f m (at_work v) (at_work (asks_again f m v))
+walks_again f m v = go v.node.member.outside
+  where
+    go : (b : Bool) → Walks f m (at_work v) (at_work (if b then v else asks_below f m v.node.copies.processes v))
+    go true = Stays (at_work v)
+    go false = walks_below f m v.node.copies.processes v
+
+asks_at : {P S : Type 0} (stood : Stood S) (left : Left S) (f : Frame) (fitness : Fitness) (m : ℕ) (v : nodes.Node) (s new : Work P S)
+    → IsWork stood left f m s (begun f m Ticks v) → EventFits f fitness m Ticks v → Becomes stood left s new asks_again
+    → IsAt stood left f fitness m new [] (at_work (asks_again f m (begun f m Ticks v)))
+asks_at stood left f fitness m v s new work fits becomes = record {
+  work = becomes f m (begun f m Ticks v) work;
+  errands = refl;
+  fits = λ x walk. fits.moments x (walk_on f m (at_work (begun f m Ticks v)) (at_work (asks_again f m (begun f m Ticks v))) x (walks_again f m (begun f m Ticks v)) walk);
+}
+
+pub asked_free : {P S : Type 0} (stood : Stood S) (left : Left S) (f : Frame) (fitness : Fitness) (s : Node P S) (work timed new : Work P S) → IsIdle stood left s work
+    → MayDo stood left f fitness s Ticks → HasStarted stood left f fitness Ticks work timed → Becomes stood left timed new asks_again → IsFree stood left f fitness new
+asked_free stood left f fitness s work timed new idles (v, stands, fits) has becomes = (
+  s.member.me,
+  at_work (asks_again f s.member.me (begun f s.member.me Ticks v)),
+  asks_at stood left f fitness s.member.me v timed new (has s.member.me v (idles f s.member.me v stands) fits) fits becomes,
+)
+
+-- ---- the event is done
+
+done : {P S : Type 0} (stood : Stood S) (left : Left S) (f : Frame) (fitness : Fitness) (m : ℕ) (s : Work P S) (new : Node P S) (moved : Moved) (u : Moment)
+    → new ≡ s.node → moved ≡ s.moved → IsAt stood left f fitness m s [] u → IsDone stood left f m new moved u.work
+done {P} {S} stood left f fitness m s new moved u node did at = record {
+  node = subst (λ (n : Node P S). StandsAs stood left f m n u.work.node) (sym node) at.work.node;
+  did = subst (λ (d : Moved). IsMoved f.settings.nodes d u.work.deeds) (sym did) at.work.moved;
+}
+
+-- an action is carried out
+pub acts_done : {P S : Type 0} (stood : Stood S) (left : Left S) (f : Frame) (fitness : Fitness) (i : ℕ) (s new : Node P S) (work mid end : Work P S) (moved : Moved) → IsIdle stood left s work
+    → HasStarted stood left f fitness (Acts i) work mid → GoesFree stood left f fitness mid end (catches_up f) → new ≡ end.node → moved ≡ end.moved
+    → DoesEvent stood left f fitness s new moved (Acts i)
+acts_done stood left f fitness i s new work mid end moved idles has goes node did v stands fits =
+    let m : ℕ = s.member.me in
+    done stood left f fitness m end new moved (at_work (part f m (Acts i) v)) node did
+    (goes m (at_work (begun f m (Acts i) v)) (started_at stood left f fitness m (Acts i) v mid (has m v (idles f m v stands) fits) fits))
+
+-- it coordinates
+pub suspects_done : {P S : Type 0} (stood : Stood S) (left : Left S) (f : Frame) (fitness : Fitness) (s new : Node P S) (work mid end : Work P S) (moved : Moved) → IsIdle stood left s work
+    → HasStarted stood left f fitness Suspects work mid → GoesFree stood left f fitness mid end (catches_up f) → new ≡ end.node → moved ≡ end.moved
+    → DoesEvent stood left f fitness s new moved Suspects
+suspects_done stood left f fitness s new work mid end moved idles has goes node did v stands fits =
+    let m : ℕ = s.member.me in
+    done stood left f fitness m end new moved (at_work (part f m Suspects v)) node did
+    (goes m (at_work (begun f m Suspects v)) (started_at stood left f fitness m Suspects v mid (has m v (idles f m v stands) fits) fits))
+
+-- time passes
+pub ticks_done : {P S : Type 0} (stood : Stood S) (left : Left S) (f : Frame) (fitness : Fitness) (s new : Node P S) (work timed mid end : Work P S) (moved : Moved) → IsIdle stood left s work
+    → HasStarted stood left f fitness Ticks work timed → Becomes stood left timed mid asks_again → GoesFree stood left f fitness mid end (catches_up f) → new ≡ end.node → moved ≡ end.moved
+    → DoesEvent stood left f fitness s new moved Ticks
+ticks_done stood left f fitness s new work timed mid end moved idles has becomes goes node did v stands fits =
+    let m : ℕ = s.member.me in
+    done stood left f fitness m end new moved (at_work (part f m Ticks v)) node did
+    (goes m (at_work (asks_again f m (begun f m Ticks v)))
+    (asks_at stood left f fitness m v timed mid (has m v (idles f m v stands) fits) fits becomes))
+
+-- ---- its member in the group takes a step
+
+pub member_of : {P S : Type 0} (stood : Stood S) (left : Left S) (f : Frame) (fitness : Fitness) (start : Start) (s : Work P S) → MayStart stood left f fitness start s → IsMember s.node.member
+member_of stood left f fitness start s (m, v, work, fits) = work.node.member.member
+
+pub some_member : {P S : Type 0} (stood : Stood S) (left : Left S) (f : Frame) (fitness : Fitness) (start : Start) (s : Work P S) → MayStart stood left f fitness start s
+    → IsSome name_of bytes_of s.node.member
+some_member stood left f fitness start s (m, v, work, fits) = (f.settings.nodes, f.settings.resilience, m, v.member, work.node.member)
+
+pub few_promised : {P S : Type 0} (stood : Stood S) (left : Left S) (f : Frame) (fitness : Fitness) (start : Start) (s : Work P S) → MayStart stood left f fitness start s
+    → s.node.member.promised < 2 ^ 62
+few_promised stood left f fitness start s (m, v, work, fits) = subst (λ (n : ℕ). n < 2 ^ 62) work.node.member.promised fits.before.small.promised
+
+pub timed_so : {P S : Type 0} (stood : Stood S) (left : Left S) (f : Frame) (fitness : Fitness) (old new : Work P S) (sends : List (Sent Message Reply))
+    → Does name_of bytes_of old.node.member new.node.member sends timer → new.node ≡ record old.node { member = new.node.member }
+    → new.moved ≡ record old.moved { sends = new.moved.sends } → new.moved.sends.items ≡ old.moved.sends.items ++ sends → HasStarted stood left f fitness Ticks old new
+timed_so stood left f fitness old new sends row node others posts m v work fits =
+    joined stood left f m old new sends (timer (group f) m v.member) (idle v) (row f.settings.nodes f.settings.resilience m v.member work.node.member) node others posts fits.kept work
+
+pub coordinated_so : {P S : Type 0} (stood : Stood S) (left : Left S) (f : Frame) (fitness : Fitness) (old new : Work P S) (sends : List (Sent Message Reply))
+    → Does name_of bytes_of old.node.member new.node.member sends coordinate → new.node ≡ record old.node { member = new.node.member }
+    → new.moved ≡ record old.moved { sends = new.moved.sends } → new.moved.sends.items ≡ old.moved.sends.items ++ sends → HasStarted stood left f fitness Suspects old new
+coordinated_so stood left f fitness old new sends row node others posts m v work fits =
+    joined stood left f m old new sends (coordinate (group f) m v.member) (idle v) (row f.settings.nodes f.settings.resilience m v.member work.node.member) node others posts fits.kept work
+
+-- ---- an action is submitted
+
+-- its member in the group stays one
+pub still_member : {P S : Type 0} (i : ℕ) (to : Stage) (o : Option (Resident S)) (old new : Node P S) → HasMoved i to o old new → IsMember old.member → IsMember new.member
+still_member {P} {S} i to None old new has is = subst (λ (n : Node P S). IsMember n.member) (sym has) is
+still_member {P} {S} i to (Some s) old new has is = subst (λ (n : Node P S). IsMember n.member) (sym has.others) is
+
+pub submitted_so : {P S : Type 0} (stood : Stood S) (left : Left S) (f : Frame) (i : ℕ) (x : Message) (act : Action) (old mid new : Work P S) (sends : List (Sent Message Reply))
+    → act ≡ x.action → HasMoved i (at_stage.Submitted act) (resident_at old.node i) old.node mid.node → mid.moved ≡ old.moved
+    → Does name_of bytes_of mid.node.member new.node.member sends (λ g which. submit g which x) → new.node ≡ record mid.node { member = new.node.member }
+    → new.moved ≡ record mid.moved { sends = new.moved.sends } → new.moved.sends.items ≡ mid.moved.sends.items ++ sends → HasSubmitted stood left f i x old new
+submitted_so {P} {S} stood left f i x act old mid new sends is has moved row node others posts m v r work here acts kept =
+    let u : NodeWork = does (Submits x) (plays i (moves_to (stage.Submitted x.action) r) v) in
+    let waits = waits_first stood left f m i (at_stage.Submitted x.action) x.action old mid v r (λ state halted. halted)
+    (subst (λ (a : Action). HasMoved i (at_stage.Submitted a) (resident_at old.node i) old.node mid.node) is has) moved work here acts in
+    let told : IsWork stood left f m mid u = record { node = waits.node; moved = record { sends = waits.moved.sends; entries = waits.moved.entries; aside = waits.moved.aside } } in
+    joined stood left f m mid new sends (submit (group f) m x u.node.member) u (row f.settings.nodes f.settings.resilience m u.node.member told.node.member) node others posts kept told
+
+-- ---- a packet comes
+
+pub may_come : {P S : Type 0} (stood : Stood S) (left : Left S) (f : Frame) (fitness : Fitness) (from : ℕ) (packet : Packet Message Reply) (s : Node P S) (work : Work P S) → IsIdle stood left s work
+    → MayTakePacket stood left f fitness from packet s → MayComeFrom stood left f fitness from packet work
+may_come stood left f fitness from packet s work idles (mail, post, (v, stands, fits)) = (mail, s.member.me, v, post, idles f s.member.me v stands, fits)
+
+pub come_free : {P S : Type 0} (stood : Stood S) (left : Left S) (f : Frame) (fitness : Fitness) (from : ℕ) (packet : Packet Message Reply) (s : Node P S) (work new : Work P S) → IsIdle stood left s work
+    → MayTakePacket stood left f fitness from packet s → HasCome stood left f fitness from packet work new → IsFree stood left f fitness new
+come_free stood left f fitness from packet s work new idles (mail, post, (v, stands, fits)) has = (
+  s.member.me,
+  at_work (begun f s.member.me (Comes mail) v),
+  started_at stood left f fitness s.member.me (Comes mail) v new (has mail s.member.me v post (idles f s.member.me v stands) fits) fits,
+)
+
+pub comes_done : {P S : Type 0} (stood : Stood S) (left : Left S) (f : Frame) (fitness : Fitness) (from : ℕ) (packet : Packet Message Reply) (s new : Node P S) (work mid end : Work P S) (moved : Moved)
+    → IsIdle stood left s work → HasCome stood left f fitness from packet work mid → GoesFree stood left f fitness mid end (catches_up f) → new ≡ end.node → moved ≡ end.moved
+    → TakesPacket stood left f fitness from packet s new moved
+comes_done stood left f fitness from packet s new work mid end moved idles has goes node did mail post v stands fits =
+    let m : ℕ = s.member.me in
+    done stood left f fitness m end new moved (at_work (part f m (Comes mail) v)) node did
+    (goes m (at_work (begun f m (Comes mail) v)) (started_at stood left f fitness m (Comes mail) v mid (has mail m v post (idles f m v stands) fits) fits))
+
+-- ---- a tick at which it is due
+
+pub some_is_member : (s : Member Message Reply) → IsSome name_of bytes_of s → IsMember s
+some_is_member s (nodes, resilience, which, m, stands) = stands.member
+
+pub due_some : (old new : Member Message Reply) → TicksAs name_of bytes_of old new Due → IsSome name_of bytes_of old → IsSome name_of bytes_of new
+due_some old new row (nodes, resilience, which, m, stands) =
+    (nodes, resilience, which, ticked (group_of name_of bytes_of nodes resilience) which m, (row nodes resilience which m stands).state)
+
+pub due_does : (old mid new : Member Message Reply) (sends : List (Sent Message Reply)) → TicksAs name_of bytes_of old mid Due → Does name_of bytes_of mid new sends coordinate
+    → Does name_of bytes_of old new sends timer
+due_does old mid new sends row coordinates nodes resilience which m stands =
+    let g : Group Message = group_of name_of bytes_of nodes resilience in
+    let to = row nodes resilience which m stands in
+    subst (λ (w : group_work.Work Message). AtWork g which new sends w) (sym to.row) (coordinates nodes resilience which (ticked g which m) to.state)

@@ -1,0 +1,19 @@
+use Rattle.std.proofs.Common.{refl}
+use Rattle.node_rules.specs.Starts.Start.{Suspects}
+use Rattle.node_core.specs.Stands.{fitness_of}
+use Rattle.node_core.proofs.Starting.{suspects_done, may_start, started_free}
+use Rattle.node_core.proofs.node.Node.suspect.Goals as goal
+
+pub reset-requires : goal.reset-requires
+reset-requires g c = (let m = c.args.machine.now in may_start g.P.OneRun.stood g.P.OneRun.left g.P.OneRun.run.frame (fitness_of (g.P.Performer.fits_state m) (g.P.Performer.fits_args m) (g.P.Performer.fits_text m) (g.P.Performer.fits_reply m)) Suspects c.args.self.now c.in_ok-work.work (c.in_ok-work.ensures {u = tt}) c.requires)
+
+pub catch_up-requires : goal.catch_up-requires
+catch_up-requires g c =
+    let m = c.args.machine.now in
+    started_free g.P.OneRun.stood g.P.OneRun.left g.P.OneRun.run.frame (fitness_of (g.P.Performer.fits_state m) (g.P.Performer.fits_args m) (g.P.Performer.fits_text m) (g.P.Performer.fits_reply m)) Suspects c.args.self.now c.in_ok-work.work c.reset.new.self (c.in_ok-work.ensures {u = tt}) c.requires (c.in_ok-reset.ensures {u = tt})
+
+pub returns-clause-does : goal.returns-clause-does
+returns-clause-does g c =
+    let m = c.args.machine.now in
+    suspects_done g.P.OneRun.stood g.P.OneRun.left g.P.OneRun.run.frame (fitness_of (g.P.Performer.fits_state m) (g.P.Performer.fits_args m) (g.P.Performer.fits_text m) (g.P.Performer.fits_reply m)) c.args.self.now _ c.in_ok-work.work c.reset.new.self c.catch_up.new.self _ (c.in_ok-work.ensures {u = tt}) (c.in_ok-reset.ensures {u = tt})
+    (c.in_ok-catch_up.ensures {u = tt}) refl refl

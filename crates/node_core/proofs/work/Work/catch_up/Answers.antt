@@ -1,0 +1,17 @@
+use Rattle.world_rules.specs.Applying.{applies_all}
+use Rattle.node_core.specs.Stands.{fitness_of}
+use Rattle.node_core.proofs.Starting.{caught_up, free_on, free_somewhere}
+use Rattle.node_core.proofs.Working.{ok_map}
+use Rattle.node_core.proofs.work.Work.catch_up.Goals as goal
+
+pub apply_all-requires : goal.apply_all-requires
+apply_all-requires g c = (let m = c.args.machine.now in free_somewhere g.P.OneRun.stood g.P.OneRun.left g.P.OneRun.run.frame (fitness_of (g.P.Performer.fits_state m) (g.P.Performer.fits_args m) (g.P.Performer.fits_text m) (g.P.Performer.fits_reply m)) c.args.self.now c.requires)
+
+pub take_reached-requires : goal.take_reached-requires
+take_reached-requires g c =
+    (let m = c.args.machine.now in free_on g.P.OneRun.stood g.P.OneRun.left g.P.OneRun.run.frame (fitness_of (g.P.Performer.fits_state m) (g.P.Performer.fits_args m) (g.P.Performer.fits_text m) (g.P.Performer.fits_reply m)) c.args.self.now c.apply_all.new.self (applies_all g.P.OneRun.run.frame) c.requires (c.in_ok-apply_all.ensures {u = tt}))
+
+pub returns : goal.returns
+returns g c =
+    let m = c.args.machine.now in
+    ok_map c.take_reached.result _ _ (λ taken. caught_up g.P.OneRun.stood g.P.OneRun.left g.P.OneRun.run.frame (fitness_of (g.P.Performer.fits_state m) (g.P.Performer.fits_args m) (g.P.Performer.fits_text m) (g.P.Performer.fits_reply m)) c.args.self.now c.apply_all.new.self c.take_reached.new.self (c.in_ok-apply_all.ensures {u = tt}) taken) c.take_reached.ensures

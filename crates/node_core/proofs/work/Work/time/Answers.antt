@@ -1,0 +1,23 @@
+use Rattle.std.proofs.Common.{◌∙◌, ap, sym}
+use Rattle.node_rules.specs.Starts.Start.{Ticks}
+use Rattle.node_core.specs.Stands.{fitness_of}
+use Rattle.node_core.specs.declared.node.Node.{Node}
+use Rattle.node_core.proofs.Starting.{few_promised, some_member, timed_so}
+use Rattle.node_core.proofs.Working.{ok_map}
+use Rattle.node_core.proofs.work.Work.time.Goals as goal
+
+pub timed-requires-clause-stands : goal.timed-requires-clause-stands
+timed-requires-clause-stands g c = (let m = c.args.machine.now in some_member g.P.OneRun.stood g.P.OneRun.left g.P.OneRun.run.frame (fitness_of (g.P.Performer.fits_state m) (g.P.Performer.fits_args m) (g.P.Performer.fits_text m) (g.P.Performer.fits_reply m)) Ticks c.args.self.now c.requires)
+
+pub timed-requires-clause-small : goal.timed-requires-clause-small
+timed-requires-clause-small g c = (let m = c.args.machine.now in few_promised g.P.OneRun.stood g.P.OneRun.left g.P.OneRun.run.frame (fitness_of (g.P.Performer.fits_state m) (g.P.Performer.fits_args m) (g.P.Performer.fits_text m) (g.P.Performer.fits_reply m)) Ticks c.args.self.now c.requires)
+
+pub returns : goal.returns
+returns g c =
+    let m = c.args.machine.now in
+    let node = c.post.ensures.node in
+    let member = ap (λ (n : Node g.row.P.Denot g.row.P-State.Denot). n.member) node in
+    ok_map c.post.result _ _
+    (λ posted. timed_so g.P.OneRun.stood g.P.OneRun.left g.P.OneRun.run.frame (fitness_of (g.P.Performer.fits_state m) (g.P.Performer.fits_args m) (g.P.Performer.fits_text m) (g.P.Performer.fits_reply m)) c.args.self.now c.post.new.self c.in_ok-sends.sends.items
+    (rw member (c.in_ok-sends.ensures {u = tt})) (node ∙ ap (λ x. record c.args.self.now.node { member = x }) (sym member)) c.post.ensures.others posted)
+    c.post.ensures.sends

@@ -1,0 +1,11 @@
+pub mod Runs
+pub mod Names
+pub mod Named
+pub mod Shown
+pub mod Stands
+pub mod Pieces
+pub mod Entries
+pub mod Events
+pub mod Calls
+pub mod Tasks
+pub mod CheckingIn

@@ -1,0 +1,304 @@
+//! One member with its copies and processes.
+
+ghost use Rattle.std.specs.Prelude.{◌≡◌, ◌<◌, ◌*◌, ℕ, IfOk, List, OnOk, length, map, None, Some, slice_get, slice_index_or};
+ghost use Rattle.std.specs.Option.{option_copied};
+ghost use Rattle.world_rules.specs.Frame.{Frame, choice_in, is_single};
+ghost use Rattle.world_rules.specs.Nodes.{opening_node, opening_processes};
+ghost use Rattle.world_rules.specs.Processes.{Begun, home_in, singles_of};
+ghost use Rattle.node_core.specs.Calls.{HasMoved, given_at};
+ghost use Rattle.node_core.specs.Pieces.{HasPut, resident_at};
+ghost use Rattle.node_core.specs.Shown.{IsPlayedIf};
+ghost use Rattle.node_core.specs.Stands.{StandsAlike, StandsAs, on_known};
+
+use crate::errand::{Errand, Given};
+use crate::kept::Kept;
+use crate::resident::{Resident, Stage};
+use crate::run::OneRun;
+use group_member::{Config, Member};
+use history_buffer::Shared;
+use object_manager::Copies;
+use orca_base::{Choice, Items, NoMemory, ObjectId, ProcessNo, TextNo};
+use std::alloc::Global;
+use value_core::{Message, Parts};
+
+/// What a member knows of a process: its text, and the member at which it began.
+#[derive(Clone, Copy, Debug, PartialEq, Eq)]
+pub struct Known {
+    pub text: TextNo,
+    pub home: u8,
+}
+
+/// One member of a run: its state in the group, its copies, and the processes that began here.
+#[derive(Drop)]
+pub struct Node<P: OneRun> {
+    pub(crate) member: Member<Shared<Message>>,
+    pub(crate) copies: Copies,
+    pub(crate) known: Vec<Known>,
+    pub(crate) residents: Vec<Option<Resident<P::State>>>,
+    pub(crate) held: Vec<Errand>,
+    pub(crate) given: Vec<Option<Given>>,
+    pub(crate) choices: Kept<Items<Items<Choice>>>,
+}
+
+impl<P: OneRun> Node<P> {
+    /// Member `me` as all members begin, with these choices of copies. Process 0 is on member 0. By the run's settings it is the member of
+    /// that number before the run's first event.
+    pub fn new(
+        alloc: Global,
+        machine: &P,
+        config: Config,
+        me: u8,
+        choices: Kept<Items<Items<Choice>>>,
+    ) -> Result<Node<P>, NoMemory>
+        requires me { me < config.nodes }
+        requires few { 2 * config.resilience < config.nodes }
+        ensures { config.nodes ≡ P.run.frame.settings.nodes → config.resilience ≡ P.run.frame.settings.resilience →
+            choices ≡ P.run.frame.settings.choices →
+            IfOk result (λ node. StandsAs P.stood P.left P.run.frame me node (opening_node P.run.frame me)) }
+    {
+        let text = machine.main_text();
+        let mut known = Vec::new(alloc);
+        known.push(Known { text, home: 0 })?;
+        Ok(Node {
+            member: Member::new(alloc, config, me)?,
+            copies: Copies::opening(alloc)?,
+            known,
+            residents: opening_residents(alloc, machine, text, me)?,
+            held: Vec::new(alloc),
+            given: Vec::new(alloc),
+            choices,
+        })
+    }
+
+    /// An equal node, which shares what it can: it stands for whatever this one stands for.
+    pub fn copy(&self, alloc: Global) -> Result<Node<P>, NoMemory>
+        ensures { IfOk result (StandsAlike P.stood P.left self.now) }
+    {
+        Ok(Node {
+            member: self.member.copy(alloc)?,
+            copies: self.copies.copy(alloc)?,
+            known: Vec::from_slice(alloc, self.known.as_slice())?,
+            residents: copy_residents(alloc, self.residents.as_slice())?,
+            held: copy_held(alloc, self.held.as_slice())?,
+            given: copy_given(alloc, self.given.as_slice())?,
+            choices: self.choices.copy()?,
+        })
+    }
+
+    /// Its state in the group.
+    pub fn member(&self) -> &Member<Shared<Message>>
+        ensures { result.now ≡ self.now.member }
+    {
+        &self.member
+    }
+
+    /// Its copies.
+    pub fn copies(&self) -> &Copies
+        ensures { result.now ≡ self.now.copies }
+    {
+        &self.copies
+    }
+
+    /// The processes that it knows, by their numbers.
+    pub fn known(&self) -> &[Known]
+        ensures { result.now ≡ self.now.known.items }
+    {
+        self.known.as_slice()
+    }
+
+    /// The process, where it began here.
+    pub fn resident(&self, process: ProcessNo) -> Option<&Resident<P::State>>
+        ensures { option_copied result ≡ resident_at self.now process.0 }
+    {
+        match self.residents.get(process.0 as usize) {
+            Some(Some(resident)) => Some(resident),
+            _ => None,
+        }
+    }
+
+    // The last Answer that it gave the process.
+    pub(crate) fn answer_to(&self, process: ProcessNo) -> Option<&Given>
+        ensures { option_copied result ≡ given_at self.now process.0 }
+    {
+        match self.given.get(process.0 as usize) {
+            Some(Some(given)) => Some(given),
+            _ => None,
+        }
+    }
+
+    /// The Asks and Answers that came and whose place it hasn't reached, in order of arrival.
+    pub fn held(&self) -> &[Errand]
+        ensures { result.now ≡ self.now.held.items }
+    {
+        self.held.as_slice()
+    }
+
+    // Its own number.
+    pub(crate) fn me(&self) -> u8
+        ensures { result ≡ self.now.member.me }
+    {
+        self.member.me()
+    }
+
+    /// The member of a process; processes that it doesn't know count as member 0's.
+    pub fn home_of(&self, process: u16) -> u8
+        ensures { (processes : List Begun) → self.now.known.items ≡ map on_known processes → result ≡ home_in processes process }
+    {
+        match self.known.get(process as usize) {
+            Some(known) => known.home,
+            None => 0,
+        }
+    }
+
+    // Whether the object is single, as far as its maker is known.
+    pub(crate) fn is_single(&self, object: ObjectId) -> bool
+        ensures { (f : Frame) (processes : List Begun) → self.now.known.items ≡ map on_known processes → self.now.choices ≡ f.settings.choices → result ≡ singles_of f processes object }
+    {
+        match self.known.get(object.process as usize) {
+            Some(maker) => chooses_single(
+                self.choices.value().as_slice(),
+                maker.text,
+                object.number,
+            ),
+            None => false,
+        }
+    }
+
+    // The process stands so from now on.
+    pub(crate) fn put(&mut self, process: u16, resident: Resident<P::State>) -> Result<(), NoMemory>
+        ensures { OnOk result (HasPut process resident self.old self.new) }
+    {
+        let place = process as usize;
+        reach_resident(&mut self.residents, place)?;
+        self.residents[place] = Some(resident);
+        Ok(())
+    }
+
+    // The process moves to another stage, where it began here.
+    pub(crate) fn move_to(&mut self, process: u16, stage: Stage) -> Result<(), NoMemory>
+        ensures { OnOk result (HasMoved process stage (resident_at self.old process) self.old self.new) }
+    {
+        let moved = match self.resident(ProcessNo(process)) {
+            Some(resident) => resident.moved_to(stage)?,
+            None => return Ok(()),
+        };
+        self.put(process, moved)
+    }
+}
+
+// Whether this text's object of this number is chosen to be single.
+fn chooses_single(choices: &[Items<Choice>], text: TextNo, number: u32) -> bool
+    ensures { result ≡ is_single (choice_in (slice_get choices.now text.0) number) }
+{
+    match choices.get(text.0 as usize) {
+        Some(choices) => is_single_at(choices.as_slice(), number),
+        None => false,
+    }
+}
+
+// Whether the choice of this number, from 1, is to keep one copy.
+fn is_single_at(choices: &[Choice], number: u32) -> bool
+    ensures { result ≡ is_single (choice_in (Some choices.now) number) }
+{
+    if number == 0 {
+        return false;
+    }
+    match choices.get(number as usize - 1) {
+        Some(choice) => *choice == Choice::Single,
+        None => false,
+    }
+}
+
+// The processes at the start: process 0, on member 0.
+fn opening_residents<P: OneRun>(
+    alloc: Global,
+    machine: &P,
+    text: TextNo,
+    me: u8,
+) -> Result<Vec<Option<Resident<P::State>>>, NoMemory>
+    requires { text ≡ (P.computes machine.now).main }
+    ensures { IfOk result (λ residents. (i : ℕ) →
+        IsPlayedIf P.stood P.left i (slice_index_or residents.items i None) (opening_processes P.run.frame me i)) }
+{
+    let mut residents = Vec::new(alloc);
+    if me != 0 {
+        return Ok(residents);
+    }
+    let args = Parts::new(alloc);
+    let state = machine.start(alloc, text, ProcessNo::MAIN, &args)?;
+    residents.push(Some(Resident::newborn(alloc, state, 0)?))?;
+    Ok(residents)
+}
+
+// There is a place for this process.
+fn reach_resident<S: Drop>(
+    residents: &mut Vec<Option<Resident<S>>>,
+    place: usize,
+) -> Result<(), NoMemory>
+    ensures place { OnOk result (place < length residents.new.items) }
+    ensures same { (i : ℕ) → slice_index_or residents.new.items i None ≡ slice_index_or residents.old.items i None }
+{
+    'places: while residents.len() <= place {
+        residents.push(None)?;
+    }
+    Ok(())
+}
+
+// An equal list of processes.
+fn copy_residents<S: Drop>(
+    alloc: Global,
+    residents: &[Option<Resident<S>>],
+) -> Result<Vec<Option<Resident<S>>>, NoMemory>
+    ensures { IfOk result (λ copied. copied.items ≡ residents.now) }
+{
+    let mut copied = Vec::new(alloc);
+    'residents: for resident in residents {
+        copied.push(copy_resident(alloc, resident)?)?;
+    }
+    Ok(copied)
+}
+
+// An equal process, where there is one.
+fn copy_resident<S: Drop>(
+    alloc: Global,
+    resident: &Option<Resident<S>>,
+) -> Result<Option<Resident<S>>, NoMemory>
+    ensures { IfOk result (λ copied. copied ≡ resident.now) }
+{
+    match resident {
+        Some(resident) => Ok(Some(resident.copy(alloc)?)),
+        None => Ok(None),
+    }
+}
+
+// Equal Asks and Answers.
+fn copy_held(alloc: Global, held: &[Errand]) -> Result<Vec<Errand>, NoMemory>
+    ensures { IfOk result (λ copied. copied.items ≡ held.now) }
+{
+    let mut copied = Vec::new(alloc);
+    'errands: for errand in held {
+        copied.push(errand.copy(alloc)?)?;
+    }
+    Ok(copied)
+}
+
+// Equal answers that were given.
+fn copy_given(alloc: Global, given: &[Option<Given>]) -> Result<Vec<Option<Given>>, NoMemory>
+    ensures { IfOk result (λ copied. copied.items ≡ given.now) }
+{
+    let mut copied = Vec::new(alloc);
+    'answers: for one in given {
+        copied.push(copy_one(alloc, one)?)?;
+    }
+    Ok(copied)
+}
+
+// An equal answer, where there is one.
+fn copy_one(alloc: Global, given: &Option<Given>) -> Result<Option<Given>, NoMemory>
+    ensures { IfOk result (λ copied. copied ≡ given.now) }
+{
+    match given {
+        Some(given) => Ok(Some(given.copy(alloc)?)),
+        None => Ok(None),
+    }
+}
