@@ -5,7 +5,7 @@ use std::alloc::Global;
 use std::process::Abort;
 use std::test::Fail;
 use value_core::{BoxedParts, Parts, TextValue, Value};
-use value_texts::{Misspelled, print_value, read_value, value_in_front, values_in_front};
+use value_texts::{Misspelled, print_value, push_value, push_values, read_value, value_in_front, values_in_front};
 
 // Each of the tests' texts has fewer bytes.
 const MOST: usize = 1_000;
@@ -28,6 +28,9 @@ fn assert_text(rt: &impl Abort, alloc: Global, text: &str, value: &Value) -> Res
     assert!(rt; found.is(value));
     let printed = print_value(alloc, &found)?;
     assert_eq!(rt; printed.as_slice(), text.as_bytes());
+    let mut out = Vec::new(alloc);
+    push_value(&mut out, &found)?;
+    assert_eq!(rt; out.as_slice(), text.as_bytes());
     Ok(())
 }
 
@@ -101,5 +104,8 @@ fn values_stand_in_front(rt: HostRuntime) -> Result<(), Fail> {
         Some(first) => assert!(rt; first.is(&value)),
         None => panic!(rt; "no argument"),
     }
+    let mut out = Vec::new(alloc);
+    push_values(&mut out, &args)?;
+    assert_eq!(rt; out.as_slice(), b"(o0.1 10)".as_slice());
     Ok(())
 }

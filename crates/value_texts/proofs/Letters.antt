@@ -2,7 +2,7 @@
 use Rattle.std.proofs.Common.{◌≡◌, ℕ, zero, suc, ◌+◌, ◌<◌, ◌≤◌, Bool, true, false, cond, eqb, List, [], ◌∷◌, ◌++◌, length, get_or, take, drop, Option, Some, None, refl, sym, ap, subst, ◌∙◌, arith}
 use Rattle.std.proofs.lemmas.Bool.{eqb-true}
 use Rattle.std.proofs.lemmas.Bool.Decides.{nat_tests}
-use Rattle.std.proofs.lemmas.List.{drop_more}
+use Rattle.std.proofs.lemmas.List.{drop_all, drop_more}
 use Rattle.orca_base.specs.declared.refusal.Refusal.{Refusal}
 use Rattle.orca_base.specs.declared.refusal.Refusal.TheVariants.{Because, NoMemory}
 use Rattle.value_texts.specs.declared.fault.Misspelled.{Misspelled}
@@ -59,3 +59,7 @@ word_stops word i text total lt h so_far =
 pub word_goes_on : (word : List ℕ) (i : ℕ) (text : List ℕ) (total : Option (List ℕ)) → i < length word → begins (get_or word i 0) text ≡ true → word_at (drop i word) text ≡ total → word_at (drop (i + 1) word) (drop 1 text) ≡ total
 word_goes_on word i text total lt h so_far =
     sym (word_step word i text lt ∙ ap (λ r. r >>= λ rest. word_at (drop (i + 1) word) rest) (after_sign (get_or word i 0) text h)) ∙ so_far
+
+pub word_done : (word : List ℕ) (i : ℕ) (text : List ℕ) (total : Option (List ℕ)) → length word ≤ i → word_at (drop i word) text ≡ total → Some text ≡ total
+unfolding word_at
+word_done word i text total le so_far = sym (ap (λ (w : List ℕ). word_at w text) (drop_all i word le)) ∙ so_far

@@ -5,6 +5,7 @@ pub mod Escapes
 pub mod Items
 pub mod Orders
 pub mod Values
+pub mod Levels
 pub mod Turns
 pub mod Facts
 pub mod Printing

@@ -1,6 +1,7 @@
 -- Parts that are printed so far, and those that are left.
-use Rattle.std.proofs.Common.{◌≡◌, ℕ, zero, suc, ◌+◌, ◌<◌, ◌≤◌, cond, eqb, List, [], ◌∷◌, ◌++◌, All, length, map, drop, get_or, refl, sym, ap, subst, ◌∙◌, append_assoc, arith}
+use Rattle.std.proofs.Common.{◌≡◌, ℕ, zero, suc, ◌+◌, ◌<◌, ◌≤◌, cond, eqb, false, List, [], ◌∷◌, ◌++◌, All, length, map, drop, get_or, refl, sym, ap, subst, ◌∙◌, append_assoc, arith}
 use Rattle.std.specs.List.{AllByRecursion}
+use Rattle.std.proofs.lemmas.Bool.Decides.{nat_tests}
 use Rattle.std.proofs.lemmas.List.{append-nil, drop_all, drop_more}
 use Rattle.std.proofs.lemmas.List.Elements.{All-from_recursion}
 use Rattle.value_core.specs.Datum.{Datum, Data, data_of, data_of-list_of, list_of}
@@ -26,7 +27,8 @@ left_first : (place : ℕ) (v : Value) (items : List Value) → left_text place 
 left_first zero v items = refl
 left_first (suc place) v items =
     let e : suc place + 1 ≡ suc (place + 1) = omega arith in
-    rw e refl
+    let apart : eqb (suc place) 0 ≡ false = grind (arith, nat_tests) in
+    rw (e, apart) refl
 
 -- one part more
 pub left_more : (items : List Value) (place : ℕ) (v : Value) (out spaced now total : List ℕ) → place < length items → get_or items place v ≡ v → out ++ left_text place (drop place items) ≡ total →
@@ -43,7 +45,7 @@ left_more items place v out spaced now total lt is so_far first second =
     ∙ so_far
 
 -- at the end nothing is left
-none_left : (place : ℕ) → left_text place [] ≡ []
+pub none_left : (place : ℕ) → left_text place [] ≡ []
 none_left zero = refl
 none_left (suc place) = refl
 

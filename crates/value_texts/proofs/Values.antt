@@ -19,7 +19,7 @@ use Rattle.value_core.specs.Sound.{AreSound, AreWellFormed, IsCode, IsShort, IsW
 use Rattle.value_texts.specs.declared.brackets.Brackets.{Brackets}
 use Rattle.value_texts.specs.declared.brackets.Brackets.TheVariants.{Square, Round, Curly, Pointed}
 use Rattle.value_texts.specs.Spelling.{BeginsWithNoDigit, escaped, more_text, parts_text, value_text}
-use Rattle.value_texts.specs.Reading.{◌>>=◌, Reads, begins, char_at, character_at, closing, content_at, enumerated_at, int_at, integer_at, list_at, may_follow, natural_at, natural_below, negative_at, object_at, object_id_at, opened_at, opened_by, part_at, sign_at, text_at, truth_at, until_at, value_at, values_at, whole_at, within, word_at}
+use Rattle.value_texts.specs.Reading.{◌>>=◌, Reads, begins, char_at, character_at, closing, content_at, enumerated_at, first_at, int_at, integer_at, list_at, may_follow, natural_at, natural_below, negative_at, object_at, object_id_at, opened_at, opened_by, part_at, sign_at, text_at, truth_at, until_at, value_at, values_at, whole_at, within, word_at}
 use Rattle.value_texts.proofs.Steps.{bind_some, bound, some_is, guarded, chosen, no_is, both}
 use Rattle.value_texts.proofs.Numerals.{below_again, below_takes, digits_only, natural_again, natural_takes}
 use Rattle.value_texts.proofs.Letters.{sign_again, sign_takes, word_again, word_takes}
@@ -98,21 +98,24 @@ enumerated_takes levels text x e =
     subst (λ (y : Datum × List ℕ). Stands (suc levels) (101 ∷ text) y) (some_is (datum.enumerated b.0.0, b.0.1) x b.2)
     (ap (λ (s : List ℕ). 101 ∷ s) t.0, (t.1, omega arith))
 
+abbrev pub object_of : ℕ → ℕ → ObjectId
+object_of p n = record { process = p; number = n }
+
 abbrev pub object_text : ObjectId → List ℕ
 object_text o = decimal o.process ++ 46 ∷ decimal o.number
 
 pub object_id_takes : (text : List ℕ) (o : ObjectId × List ℕ) → object_id_at text ≡ Some o → (text ≡ object_text o.0 ++ o.1) × (o.0.process < 2 ^ 16) × (o.0.number < 2 ^ 32)
 unfolding object_id_at
 object_id_takes text o e =
-    let a = bind_some (natural_below (2 ^ 16) text) (λ p. sign_at 46 p.1 >>= λ rest. natural_below (2 ^ 32) rest >>= λ n. Some (record { process = p.0; number = n.0 }, n.1)) o e in
-    let s = bind_some (sign_at 46 a.0.1) (λ rest. natural_below (2 ^ 32) rest >>= λ n. Some (record { process = a.0.0; number = n.0 }, n.1)) o a.2 in
-    let b = bind_some (natural_below (2 ^ 32) s.0) (λ n. Some (record { process = a.0.0; number = n.0 }, n.1)) o s.2 in
+    let a = bind_some (natural_below (2 ^ 16) text) (λ p. sign_at 46 p.1 >>= λ rest. natural_below (2 ^ 32) rest >>= λ n. Some (object_of p.0 n.0, n.1)) o e in
+    let s = bind_some (sign_at 46 a.0.1) (λ rest. natural_below (2 ^ 32) rest >>= λ n. Some (object_of a.0.0 n.0, n.1)) o a.2 in
+    let b = bind_some (natural_below (2 ^ 32) s.0) (λ n. Some (object_of a.0.0 n.0, n.1)) o s.2 in
     let t = below_takes (2 ^ 16) text a.0 a.1 in
     let u = below_takes (2 ^ 32) s.0 b.0 b.1 in
     let behind : a.0.1 ≡ 46 ∷ (decimal b.0.0 ++ b.0.1) = sign_takes 46 a.0.1 s.0 s.1 ∙ ap (λ (r : List ℕ). 46 ∷ r) u.0 in
     let whole : text ≡ (decimal a.0.0 ++ 46 ∷ decimal b.0.0) ++ b.0.1 =
     t.0 ∙ ap (λ (r : List ℕ). decimal a.0.0 ++ r) behind ∙ sym (append_assoc (decimal a.0.0) (46 ∷ decimal b.0.0) b.0.1) in
-    subst (λ (y : ObjectId × List ℕ). (text ≡ object_text y.0 ++ y.1) × (y.0.process < 2 ^ 16) × (y.0.number < 2 ^ 32)) (some_is (record { process = a.0.0; number = b.0.0 }, b.0.1) o b.2) (whole, t.1, u.1)
+    subst (λ (y : ObjectId × List ℕ). (text ≡ object_text y.0 ++ y.1) × (y.0.process < 2 ^ 16) × (y.0.number < 2 ^ 32)) (some_is (object_of a.0.0 b.0.0, b.0.1) o b.2) (whole, t.1, u.1)
 
 object_takes : (levels : ℕ) (text : List ℕ) (x : Datum × List ℕ) → object_at text ≡ Some x → Stands (suc levels) (111 ∷ text) x
 unfolding object_at
@@ -252,7 +255,7 @@ digit_first : (ds : List ℕ) → list_all is_ascii_digit ds ≡ true → 0 < le
 digit_first [] all some = absurd (omega (arith, some))
 digit_first (d ∷ ds) all some = record { first = d; others = ds; parts = refl; digit = (both (is_ascii_digit d) (list_all is_ascii_digit ds) all).0 }
 
-number_first : (n : ℕ) → n < 2 ^ 64 → BeginsWithDigit (decimal n)
+pub number_first : (n : ℕ) → n < 2 ^ 64 → BeginsWithDigit (decimal n)
 number_first n small = digit_first (decimal n) (digits_decimal digits_only n small) (decimal_nonempty n small)
 
 digit_opens : (brackets : Brackets) (d : ℕ) → is_ascii_digit d ≡ true → eqb d (closing brackets) ≡ false
@@ -442,15 +445,15 @@ object_id_again o rest small lt ends =
     let p = o.process in
     let n = o.number in
     ap object_id_at (append_assoc (decimal p) (46 ∷ decimal n) rest)
-    ∙ bound (natural_below (2 ^ 16) (decimal p ++ 46 ∷ (decimal n ++ rest))) (λ p. sign_at 46 p.1 >>= λ rest. natural_below (2 ^ 32) rest >>= λ n. Some (record { process = p.0; number = n.0 }, n.1)) (p, 46 ∷ (decimal n ++ rest))
+    ∙ bound (natural_below (2 ^ 16) (decimal p ++ 46 ∷ (decimal n ++ rest))) (λ p. sign_at 46 p.1 >>= λ rest. natural_below (2 ^ 32) rest >>= λ n. Some (object_of p.0 n.0, n.1)) (p, 46 ∷ (decimal n ++ rest))
     (below_again (2 ^ 16) p (46 ∷ (decimal n ++ rest)) small (omega (arith, small)) refl)
-    ∙ bound (sign_at 46 (46 ∷ (decimal n ++ rest))) (λ rest. natural_below (2 ^ 32) rest >>= λ n. Some (record { process = p; number = n.0 }, n.1)) (decimal n ++ rest) (sign_again 46 (decimal n ++ rest))
-    ∙ bound (natural_below (2 ^ 32) (decimal n ++ rest)) (λ n. Some (record { process = p; number = n.0 }, n.1)) (n, rest) (below_again (2 ^ 32) n rest lt (omega (arith, lt)) ends)
+    ∙ bound (sign_at 46 (46 ∷ (decimal n ++ rest))) (λ rest. natural_below (2 ^ 32) rest >>= λ n. Some (object_of p n.0, n.1)) (decimal n ++ rest) (sign_again 46 (decimal n ++ rest))
+    ∙ bound (natural_below (2 ^ 32) (decimal n ++ rest)) (λ n. Some (object_of p n.0, n.1)) (n, rest) (below_again (2 ^ 32) n rest lt (omega (arith, lt)) ends)
 
 object_again : (p n : ℕ) (rest : List ℕ) → p < 2 ^ 16 → n < 2 ^ 32 → BeginsWithNoDigit rest → object_at ((decimal p ++ 46 ∷ decimal n) ++ rest) ≡ Some (datum.object p n, rest)
 unfolding object_at
 object_again p n rest small lt ends =
-    let o : ObjectId = record { process = p; number = n } in
+    let o : ObjectId = object_of p n in
     bound (object_id_at (object_text o ++ rest)) (λ o. Some (datum.object o.0.process o.0.number, o.1)) (o, rest) (object_id_again o rest small lt ends)
 
 text_again : (t rest : List ℕ) → All IsCode t → text_at ((flat_map escaped t ++ 34 ∷ []) ++ rest) ≡ Some (datum.text t, rest)
@@ -511,7 +514,7 @@ unfolding content_at opened_at
 digit_content read d text a = rw (a.char, a.enumerated, a.object, a.quote, a.yes, a.no_, opens_none d a) refl
 
 by_first : (levels : ℕ) (first : ℕ) (text : List ℕ) → value_at (suc levels) (first ∷ text) ≡ content_at (value_at levels) first (first ∷ text)
-unfolding value_at
+unfolding value_at first_at
 by_first levels first text = refl
 
 number_again : (levels n : ℕ) (rest : List ℕ) → n < 2 ^ 63 → BeginsWithNoDigit rest → value_at (suc levels) (decimal n ++ rest) ≡ Some (datum.int (pos n), rest)
@@ -537,7 +540,7 @@ nests (datum.bag w) = omega arith
 nests (datum.object p n) = omega arith
 
 again_more : (levels : ℕ) → ReadsValues levels (value_at levels) → (v : Datum) (rest : List ℕ) → Is (suc levels) v → BeginsWithNoDigit rest → value_at (suc levels) (value_text v ++ rest) ≡ Some (v, rest)
-unfolding value_at content_at opened_by opened_at
+unfolding value_at first_at content_at opened_by opened_at
 again_more levels one (datum.int (pos n)) rest is ends = number_again levels n rest is.0.sfits ends
 again_more levels one (datum.int (negsuc n)) rest is ends = int_again (negsuc n) rest is.0 ends
 again_more levels one (datum.truth true) rest is ends = truth_again true (codes "true") rest
@@ -552,7 +555,7 @@ again_more levels one (datum.bag w) rest is ends = list_again levels (value_at l
 again_more levels one (datum.object p n) rest is ends = object_again p n rest is.0.0 is.0.1 ends
 
 takes_more : (levels : ℕ) → ReadsValues levels (value_at levels) → (text : List ℕ) (x : Datum × List ℕ) → Fits text → value_at (suc levels) text ≡ Some x → Stands (suc levels) text x
-unfolding value_at
+unfolding value_at first_at
 takes_more levels one [] x fits e = absurd cc
 takes_more levels one (first ∷ text) x fits e = content_takes levels (value_at levels) one first text x (omega (arith, fits)) e
 

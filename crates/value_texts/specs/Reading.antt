@@ -204,11 +204,14 @@ content_at read first text =
     else (if first == 102 then truth_at false (codes "false") text
     else opened_at read (opened_by first) text)))))
 
+unfoldable pub first_at : (List ℕ → Reads Datum) → List ℕ → Reads Datum
+first_at read [] = None
+first_at read (first ∷ text) = content_at read first (first ∷ text)
+
 -- a value, where values may nest so many levels more
 unfoldable pub value_at : ℕ → List ℕ → Reads Datum
 value_at zero text = None
-value_at (suc levels) [] = None
-value_at (suc levels) (first ∷ text) = content_at (value_at levels) first (first ∷ text)
+value_at (suc levels) text = first_at (value_at levels) text
 
 -- values in round brackets
 unfoldable pub values_at : List ℕ → Reads (List Datum)

@@ -1,14 +1,14 @@
 //! Reading values.
 
-ghost use Rattle.std.specs.Prelude.{◌≡◌, ◌<◌, ◌^◌, ◌++◌, List, ℕ, None, length, map, IfOk};
+ghost use Rattle.std.specs.Prelude.{◌≡◌, ◌<◌, ◌^◌, ◌++◌, ◌∷◌, List, ℕ, None, length, map, IfOk};
 ghost use Rattle.std.specs.Str.{IsAscii};
 ghost use Rattle.orca_base.specs.Refusal.{MatchRefusal};
 ghost use Rattle.orca_base.specs.declared.limits.TheConstants.{VALUE_NESTING};
-ghost use Rattle.value_core.specs.Datum.{Datum, list_of};
-ghost use Rattle.value_core.specs.Sound.{IsSound};
+ghost use Rattle.value_core.specs.Datum.{Data, Datum, list_of};
+ghost use Rattle.value_core.specs.Sound.{AreSound, IsSound};
 ghost use Rattle.value_core.specs.View.{datum_of};
-ghost use Rattle.value_texts.specs.Reading.{Gives, char_at, closing, content_at, enumerated_at, int_at, integer_at, last_of, list_at, negative_at, object_at, object_id_at, part_at, text_at, truth_at, until_at, value_at, values_at, whole_at};
-ghost use Rattle.value_texts.specs.Spelling.{BeginsWithNoDigit, value_text};
+ghost use Rattle.value_texts.specs.Reading.{Gives, char_at, closing, content_at, enumerated_at, first_at, int_at, integer_at, last_of, list_at, negative_at, object_at, object_id_at, part_at, text_at, truth_at, until_at, value_at, values_at, whole_at};
+ghost use Rattle.value_texts.specs.Spelling.{BeginsWithNoDigit, parts_text, value_text};
 
 use crate::brackets::Brackets;
 use crate::fault::Misspelled;
@@ -203,6 +203,18 @@ fn content_in(alloc: Global, levels: u32, first: u8, text: &[u8]) -> Read<'_, Va
     }
 }
 
+// A value whose parts may nest so many levels.
+#[cycle(values)]
+#[tactic(auto, unfolding(crate::specs::Reading::first_at))]
+fn first_in(alloc: Global, levels: u32, text: &[u8]) -> Read<'_, Value>
+    ensures { Gives (λ x. (datum_of x.0, x.1.now)) result (first_at (value_at levels) text.now) }
+{
+    match text {
+        [] => refuse(Misspelled),
+        [first, ..] => content_in(alloc, levels, *first, text),
+    }
+}
+
 // A value, where values may nest so many levels more.
 #[cycle(values)]
 fn value_in(alloc: Global, levels: u32, text: &[u8]) -> Read<'_, Value>
@@ -211,10 +223,7 @@ fn value_in(alloc: Global, levels: u32, text: &[u8]) -> Read<'_, Value>
     if levels == 0 {
         return refuse(Misspelled);
     }
-    match text {
-        [] => refuse(Misspelled),
-        [first, ..] => content_in(alloc, levels - 1, *first, text),
-    }
+    first_in(alloc, levels - 1, text)
 }
 
 /// The value in front of a text, and the text behind it. A number ends where no more digits stand.
@@ -230,14 +239,28 @@ pub fn value_in_front(alloc: Global, text: &[u8]) -> Read<'_, Value>
     value_in(alloc, VALUE_NESTING, text)
 }
 
-/// The values in round brackets in front of a text, and the text behind them.
+// The values in round brackets in front of a text.
 #[tactic(auto, unfolding(crate::specs::Reading::values_at))]
-pub fn values_in_front(alloc: Global, text: &[u8]) -> Read<'_, Parts>
+fn values_in(alloc: Global, text: &[u8]) -> Read<'_, Parts>
     ensures { Gives (λ x. (list_of x.0, x.1.now)) result (values_at text.now) }
 {
     let rest = sign(b'(', text)?;
     let (values, rest) = parts_in(alloc, VALUE_NESTING, Brackets::Round, rest)?;
     Ok((Parts::from_vec(values), rest))
+}
+
+/// The values in round brackets in front of a text, with one space between two, and the text behind them.
+pub fn values_in_front(alloc: Global, text: &[u8]) -> Read<'_, Parts>
+    // The values are sound, and stand there. Of fewer than 2^32 bytes each list fits.
+    ensures found { length text.now < 2 ^ 32 →
+        IfOk result (λ x. AreSound x.0 × (text.now ≡ 40 ∷ (parts_text x.0 ++ 41 ∷ x.1.now))) }
+    // Sound values that stand there are read.
+    ensures only { (values : Data) (behind : List ℕ) → AreSound values → text.now ≡ 40 ∷ (parts_text values ++ 41 ∷ behind) →
+        MatchRefusal result (λ x. (x.0 ≡ values) × (x.1.now ≡ behind)) (λ cause. ⊥) }
+    // The same in one equation, for readers of longer forms.
+    ensures exact { Gives (λ x. (list_of x.0, x.1.now)) result (values_at text.now) }
+{
+    values_in(alloc, text)
 }
 
 /// The value that a whole text spells. There are fewer than 2^32 bytes.

@@ -118,11 +118,13 @@ pub(crate) fn characters(alloc: Global, text: &[u8]) -> Read<'_, Vec<u8>>
         if begins(b'"', rest) {
             return Ok((characters, behind(rest)));
         }
-        let Some((character, after)) = character_in(rest) else {
-            return refuse(Misspelled);
-        };
-        characters.push(character)?;
-        rest = after;
+        match character_in(rest) {
+            None => return refuse(Misspelled),
+            Some((character, after)) => {
+                characters.push(character)?;
+                rest = after;
+            }
+        }
     }
     refuse(Misspelled)
 }

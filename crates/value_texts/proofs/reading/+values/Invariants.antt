@@ -11,16 +11,19 @@ invariant-parts_in-loop l =
     ≡ until_at (part_at (value_at l.levels) l.brackets) (closing l.brackets) (length l.text) None l.text
 
 abbrev pub decreases-value_in : goal.decreases-value_in
-decreases-value_in l = 5 * l.levels
+decreases-value_in l = 6 * l.levels
 
 abbrev pub decreases-part_in : goal.decreases-part_in
-decreases-part_in l = 5 * l.levels + 1
+decreases-part_in l = 6 * l.levels + 1
 
 abbrev pub decreases-parts_in : goal.decreases-parts_in
-decreases-parts_in l = 5 * l.levels + 2
+decreases-parts_in l = 6 * l.levels + 2
 
 abbrev pub decreases-list_in : goal.decreases-list_in
-decreases-list_in l = 5 * l.levels + 3
+decreases-list_in l = 6 * l.levels + 3
 
 abbrev pub decreases-content_in : goal.decreases-content_in
-decreases-content_in l = 5 * l.levels + 4
+decreases-content_in l = 6 * l.levels + 4
+
+abbrev pub decreases-first_in : goal.decreases-first_in
+decreases-first_in l = 6 * l.levels + 5
