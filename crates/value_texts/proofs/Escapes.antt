@@ -25,8 +25,8 @@ hex_takes c n e =
     elim (chosen (nat_le 48 c && nat_le c 57) (Some (c - 48)) (cond (nat_le 97 c && nat_le c 102) (Some (c - 87)) None) (Some n) e) [
       | inl d ↦ subst (λ (k : ℕ). IsHex c k) (some_is (c - 48) n d.1) (low_hex c d.0)
       | inr l ↦
-        let g = guarded (nat_le 97 c && nat_le c 102) (c - 87) n l.1 in
-        subst (λ (k : ℕ). IsHex c k) g.1 (high_hex c g.0)
+          let g = guarded (nat_le 97 c && nat_le c 102) (c - 87) n l.1 in
+          subst (λ (k : ℕ). IsHex c k) g.1 (high_hex c g.0)
     ]
 
 pub hex_again : (n : ℕ) → n < 16 → hex_value (hex_digit n) ≡ Some n
@@ -176,8 +176,8 @@ escape_takes (c ∷ rest) x e =
       ]
     ]
   where
-  none_is : (x : ℕ × List ℕ) → None ≡ Some x → ⊥
-  none_is x e = cc
+    none_is : (x : ℕ × List ℕ) → None ≡ Some x → ⊥
+    none_is x e = cc
 
 pub character_takes : (text : List ℕ) (x : ℕ × List ℕ) → character_at text ≡ Some x → CharacterIs text x
 unfolding character_at
@@ -186,8 +186,8 @@ character_takes (c ∷ rest) x e =
     elim (chosen (eqb c 92) _ _ _ e) [
       | inl d ↦ subst (λ (k : ℕ). CharacterIs (k ∷ rest) x) (sym (eqb-true c 92 d.0)) (escape_takes rest x d.1)
       | inr d1 ↦
-        let g = guarded (is_plain c) (c, rest) x d1.1 in
-        subst (λ (y : ℕ × List ℕ). CharacterIs (c ∷ rest) y) g.1 (ap (λ (t : List ℕ). t ++ rest) (sym (plain_escaped c g.0)), (plain_parts c g.0).small)
+          let g = guarded (is_plain c) (c, rest) x d1.1 in
+          subst (λ (y : ℕ × List ℕ). CharacterIs (c ∷ rest) y) g.1 (ap (λ (t : List ℕ). t ++ rest) (sym (plain_escaped c g.0)), (plain_parts c g.0).small)
     ]
 
 -- ---- what is written is read

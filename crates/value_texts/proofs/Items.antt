@@ -44,13 +44,13 @@ until_takes {X} item spell P closing reader (suc turns) last text x fits e =
     elim (chosen (begins closing text) _ _ _ e) [
       | inl d ↦ subst (λ (y : List X × List ℕ). AreTaken spell P closing last text y) (some_is ([], drop 1 text) x d.1) (closed closing text d.0, tt)
       | inr d ↦
-        let a = bind_some (item last text) (λ first. until_at item closing turns (Some first.0) first.1 >>= λ others. Some (first.0 ∷ others.0, others.1)) x d.1 in
-        let b = bind_some (until_at item closing turns (Some a.0.0) a.0.1) (λ others. Some (a.0.0 ∷ others.0, others.1)) x a.2 in
-        let t = reader.takes last text a.0 fits a.1 in
-        let u = until_takes item spell P closing reader turns (Some a.0.0) a.0.1 b.0 (rest_fits (spell last a.0.0) a.0.1 (subst Fits t.0 fits)) b.1 in
-        let whole : text ≡ (spell last a.0.0 ++ joined spell (Some a.0.0) b.0.0) ++ closing ∷ b.0.1 =
-        t.0 ∙ ap (λ (s : List ℕ). spell last a.0.0 ++ s) u.0 ∙ sym (append_assoc (spell last a.0.0) (joined spell (Some a.0.0) b.0.0) (closing ∷ b.0.1)) in
-        subst (λ (y : List X × List ℕ). AreTaken spell P closing last text y) (some_is (a.0.0 ∷ b.0.0, b.0.1) x b.2) (whole, (t.1, u.1))
+          let a = bind_some (item last text) (λ first. until_at item closing turns (Some first.0) first.1 >>= λ others. Some (first.0 ∷ others.0, others.1)) x d.1 in
+          let b = bind_some (until_at item closing turns (Some a.0.0) a.0.1) (λ others. Some (a.0.0 ∷ others.0, others.1)) x a.2 in
+          let t = reader.takes last text a.0 fits a.1 in
+          let u = until_takes item spell P closing reader turns (Some a.0.0) a.0.1 b.0 (rest_fits (spell last a.0.0) a.0.1 (subst Fits t.0 fits)) b.1 in
+          let whole : text ≡ (spell last a.0.0 ++ joined spell (Some a.0.0) b.0.0) ++ closing ∷ b.0.1 =
+          t.0 ∙ ap (λ (s : List ℕ). spell last a.0.0 ++ s) u.0 ∙ sym (append_assoc (spell last a.0.0) (joined spell (Some a.0.0) b.0.0) (closing ∷ b.0.1)) in
+          subst (λ (y : List X × List ℕ). AreTaken spell P closing last text y) (some_is (a.0.0 ∷ b.0.0, b.0.1) x b.2) (whole, (t.1, u.1))
     ]
 
 pub until_again : {X : Type 0} (item : Option X → List ℕ → Reads X) (spell : Option X → X → List ℕ) (P : Option X → X → Type 0) (closing : ℕ) → IsReader item spell P closing →
@@ -72,8 +72,8 @@ until_again {X} item spell P closing reader (x ∷ xs) (suc turns) last rest lt 
 some_bytes : (closing : ℕ) (text : List ℕ) → begins closing (text ++ closing ∷ []) ≡ false → 0 < length text
 some_bytes closing [] h = absurd (both_ways (eqb closing closing) (itself closing) h)
   where
-  both_ways : (b : Bool) → b ≡ true → b ≡ false → ⊥
-  both_ways b p q = cc
+    both_ways : (b : Bool) → b ≡ true → b ≡ false → ⊥
+    both_ways b p q = cc
 some_bytes closing (c ∷ text) h = omega arith
 
 pub few : {X : Type 0} (item : Option X → List ℕ → Reads X) (spell : Option X → X → List ℕ) (P : Option X → X → Type 0) (closing : ℕ) → IsReader item spell P closing →

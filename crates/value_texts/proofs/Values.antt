@@ -167,9 +167,9 @@ until_codes (suc turns) last text x e =
     elim (chosen (begins 34 text) _ _ _ e) [
       | inl d ↦ subst (λ (y : List ℕ × List ℕ). AllByRecursion IsCode y.0) (some_is ([], drop 1 text) x d.1) tt
       | inr d ↦
-        let a = bind_some (character_at text) (λ first. until_at (λ last. character_at) 34 turns (Some first.0) first.1 >>= λ others. Some (first.0 ∷ others.0, others.1)) x d.1 in
-        let b = bind_some (until_at (λ last. character_at) 34 turns (Some a.0.0) a.0.1) (λ others. Some (a.0.0 ∷ others.0, others.1)) x a.2 in
-        subst (λ (y : List ℕ × List ℕ). AllByRecursion IsCode y.0) (some_is (a.0.0 ∷ b.0.0, b.0.1) x b.2) ((character_takes text a.0 a.1).1, until_codes turns (Some a.0.0) a.0.1 b.0 b.1)
+          let a = bind_some (character_at text) (λ first. until_at (λ last. character_at) 34 turns (Some first.0) first.1 >>= λ others. Some (first.0 ∷ others.0, others.1)) x d.1 in
+          let b = bind_some (until_at (λ last. character_at) 34 turns (Some a.0.0) a.0.1) (λ others. Some (a.0.0 ∷ others.0, others.1)) x a.2 in
+          subst (λ (y : List ℕ × List ℕ). AllByRecursion IsCode y.0) (some_is (a.0.0 ∷ b.0.0, b.0.1) x b.2) ((character_takes text a.0 a.1).1, until_codes turns (Some a.0.0) a.0.1 b.0 b.1)
     ]
 
 pub text_codes : (text : List ℕ) (x : List ℕ × List ℕ) → until_at (λ last. character_at) 34 (length text) None text ≡ Some x → AllByRecursion IsCode x.0
@@ -359,15 +359,16 @@ opened_takes : (levels : ℕ) (read : List ℕ → Reads Datum) → ReadsValues 
 unfolding opened_at opened_by
 opened_takes levels read one first text x fits e = by_tests (eqb first 91) (eqb first 40) (eqb first 123) (eqb first 60) refl refl refl refl e
   where
-  listed : (brackets : Brackets) → first ≡ opening brackets → list_at read brackets text ≡ Some x → Stands (suc levels) (first ∷ text) x
-  listed brackets is h = subst (λ (c : ℕ). Stands (suc levels) (c ∷ text) x) (sym is) (list_takes levels read brackets (parts_read levels read one brackets) text x fits h)
-  by_tests : (s r c p : Bool) → eqb first 91 ≡ s → eqb first 40 ≡ r → eqb first 123 ≡ c → eqb first 60 ≡ p →
-      opened_at read (cond s (Some Square) (cond r (Some Round) (cond c (Some Curly) (cond p (Some Pointed) None)))) (first ∷ text) ≡ Some x → Stands (suc levels) (first ∷ text) x
-  by_tests true r c p es er ec ep h = listed Square (eqb-true first 91 es) h
-  by_tests false true c p es er ec ep h = listed Round (eqb-true first 40 er) h
-  by_tests false false true p es er ec ep h = listed Curly (eqb-true first 123 ec) h
-  by_tests false false false true es er ec ep h = listed Pointed (eqb-true first 60 ep) h
-  by_tests false false false false es er ec ep h = int_takes levels (first ∷ text) x h
+    listed : (brackets : Brackets) → first ≡ opening brackets → list_at read brackets text ≡ Some x → Stands (suc levels) (first ∷ text) x
+    listed brackets is h = subst (λ (c : ℕ). Stands (suc levels) (c ∷ text) x) (sym is) (list_takes levels read brackets (parts_read levels read one brackets) text x fits h)
+
+    by_tests : (s r c p : Bool) → eqb first 91 ≡ s → eqb first 40 ≡ r → eqb first 123 ≡ c → eqb first 60 ≡ p →
+        opened_at read (cond s (Some Square) (cond r (Some Round) (cond c (Some Curly) (cond p (Some Pointed) None)))) (first ∷ text) ≡ Some x → Stands (suc levels) (first ∷ text) x
+    by_tests true r c p es er ec ep h = listed Square (eqb-true first 91 es) h
+    by_tests false true c p es er ec ep h = listed Round (eqb-true first 40 er) h
+    by_tests false false true p es er ec ep h = listed Curly (eqb-true first 123 ec) h
+    by_tests false false false true es er ec ep h = listed Pointed (eqb-true first 60 ep) h
+    by_tests false false false false es er ec ep h = int_takes levels (first ∷ text) x h
 
 content_takes : (levels : ℕ) (read : List ℕ → Reads Datum) → ReadsValues levels read → (first : ℕ) (text : List ℕ) (x : Datum × List ℕ) → Fits text → content_at read first (first ∷ text) ≡ Some x → Stands (suc levels) (first ∷ text) x
 unfolding content_at
@@ -590,9 +591,10 @@ values_take text x fits e =
     let u = until_takes item part_text (IsPart levels Round) 41 reader (length s.0) None s.0 x small s.2 in
     let many = few item part_text (IsPart levels Round) 41 reader x.0 None u.1 in
     let f = parts_formed levels Round None x.0 u.1 in
-    let short : IsShort x.0 = omega (arith, many, ap length u.0, length-append (joined part_text None x.0) (41 ∷ x.1), small) in
-    (is ∙ ap (λ (t : List ℕ). 40 ∷ t) (u.0 ∙ ap (λ (t : List ℕ). t ++ 41 ∷ x.1) (joined-parts x.0)),
-    record { well_formed = f.0; shallow = f.1; short = subst (λ (ws : List Datum). IsShort ws) (sym (list_of-data_of x.0)) short })
+    let short : IsShort x.0 = omega (arith, many, ap length u.0, length-append (joined part_text None x.0) (41 ∷ x.1), small) in (
+      is ∙ ap (λ (t : List ℕ). 40 ∷ t) (u.0 ∙ ap (λ (t : List ℕ). t ++ 41 ∷ x.1) (joined-parts x.0)),
+      record { well_formed = f.0; shallow = f.1; short = subst (λ (ws : List Datum). IsShort ws) (sym (list_of-data_of x.0)) short },
+    )
 
 pub values_again : (w : Data) (rest : List ℕ) → AreSound w → values_at (40 ∷ (parts_text w ++ 41 ∷ rest)) ≡ Some (list_of w, rest)
 unfolding values_at

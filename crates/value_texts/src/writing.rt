@@ -103,7 +103,13 @@ fn put_space(out: &mut Vec<u8>, index: usize) -> Result<(), NoMemory>
 
 // Adds parts with one space between two, and the bytes around them.
 #[cycle(writes)]
-fn put_parts(out: &mut Vec<u8>, levels: u32, opens: u8, parts: &Parts, closes: u8) -> Result<(), NoMemory>
+fn put_parts(
+    out: &mut Vec<u8>,
+    levels: u32,
+    opens: u8,
+    parts: &Parts,
+    closes: u8,
+) -> Result<(), NoMemory>
     requires { nesting_of_all parts.now ≤ levels }
     ensures { OnOk result (out.new.items ≡ out.old.items ++ opens ∷ (parts_text parts.now ++ closes ∷ [])) }
 {

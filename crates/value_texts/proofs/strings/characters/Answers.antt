@@ -15,7 +15,7 @@ returns-in-None c =
 
 pub loop-preserved : goal.loop-preserved
 loop-preserved c =
-    rw c.in_ok-push.ensures.items (goes_on (λ last. character_at) 34 c.loop.characters.items (length c.args.text.now) c.loop.counter c.loop.rest.now c.in-Some.character c.in-Some.after.now
+    rw c.in_ok-push-in-Some.ensures.items (goes_on (λ last. character_at) 34 c.loop.characters.items (length c.args.text.now) c.loop.counter c.loop.rest.now c.in-Some.character c.in-Some.after.now
     (until_at (λ last. character_at) 34 (length c.args.text.now) None c.args.text.now) c.loop-test.true (sym c.begins.ensures ∙ c.if-begins.false) (sym c.in-Some.ensures) c.loop.invariant)
 
 pub returns : goal.returns
