@@ -1,11 +1,11 @@
 -- A character of a string that is read is the one that stands there, and what is written is read again.
-use Rattle.std.proofs.Common.{◌≡◌, ℕ, zero, suc, ◌+◌, ◌-◌, ◌*◌, ◌<◌, ◌≤◌, Bool, true, false, cond, eqb, List, [], ◌∷◌, ◌++◌, Option, Some, None, refl, sym, ap, subst, ◌∙◌, arith, inl, inr}
-use Rattle.std.specs.Prelude.{◌&&◌, ◌||◌, ◌/◌, ◌%◌, nat_le, nat_lt, not}
+use Rattle.std.proofs.Common.{◌≡◌, ℕ, zero, suc, ◌+◌, ◌-◌, ◌*◌, ◌<◌, ◌≤◌, Bool, true, false, cond, eqb, List, [], ◌∷◌, ◌++◌, Some, None, refl, sym, ap, subst, ◌∙◌, arith, inl, inr}
+use Rattle.std.specs.Prelude.{◌&&◌, ◌||◌, ◌/◌, ◌%◌, nat_le}
 use Rattle.std.proofs.lemmas.Bool.{eqb-true}
 use Rattle.std.proofs.lemmas.Bool.Decides.{nat_tests}
 use Rattle.value_texts.specs.Spelling.{escaped, hex_digit, is_plain}
 use Rattle.value_texts.specs.Reading.{◌>>=◌, begins, character_at, code_at, escape_at, hex_value, is_coded}
-use Rattle.value_texts.proofs.Steps.{bind_some, bound, some_is, guarded, chosen, no_is, yes_is}
+use Rattle.value_texts.proofs.Steps.{bind_some, bound, some_is, guarded, chosen, no_is}
 
 -- ---- digits in base 16
 

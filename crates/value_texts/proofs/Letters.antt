@@ -1,12 +1,9 @@
 -- Single bytes and words.
-use Rattle.std.proofs.Common.{◌≡◌, ℕ, zero, suc, ◌+◌, ◌<◌, ◌≤◌, Bool, true, false, cond, eqb, List, [], ◌∷◌, ◌++◌, length, get_or, take, drop, Option, Some, None, refl, sym, ap, subst, ◌∙◌, arith}
+use Rattle.std.proofs.Common.{◌≡◌, ℕ, ◌+◌, ◌<◌, ◌≤◌, Bool, true, false, cond, eqb, List, [], ◌∷◌, ◌++◌, length, get_or, drop, Option, Some, None, refl, sym, ap, ◌∙◌, arith}
 use Rattle.std.proofs.lemmas.Bool.{eqb-true}
 use Rattle.std.proofs.lemmas.Bool.Decides.{nat_tests}
 use Rattle.std.proofs.lemmas.List.{drop_all, drop_more}
-use Rattle.orca_base.specs.declared.refusal.Refusal.{Refusal}
-use Rattle.orca_base.specs.declared.refusal.Refusal.TheVariants.{Because, NoMemory}
-use Rattle.value_texts.specs.declared.fault.Misspelled.{Misspelled}
-use Rattle.value_texts.specs.Reading.{◌>>=◌, Fails, begins, sign_at, word_at}
+use Rattle.value_texts.specs.Reading.{◌>>=◌, begins, sign_at, word_at}
 use Rattle.value_texts.proofs.Steps.{bind_some, bound, guarded}
 
 pub itself : (c : ℕ) → eqb c c ≡ true

@@ -1,5 +1,5 @@
 -- A value by its first byte, and a list by its parts.
-use Rattle.std.proofs.Common.{◌≡◌, ℕ, zero, suc, ◌-◌, ◌<◌, List, [], ◌∷◌, length, Option, Some, None, refl, sym, ap, ◌∙◌, arith}
+use Rattle.std.proofs.Common.{◌≡◌, ℕ, zero, suc, ◌-◌, ◌<◌, List, length, Some, None, refl, sym, ap, ◌∙◌, arith}
 use Rattle.value_core.specs.Datum.{Datum, Data, data_of, data_of-list_of, list_of}
 use Rattle.value_texts.specs.declared.brackets.Brackets.{Brackets}
 use Rattle.value_texts.specs.Reading.{◌>>=◌, Reads, closing, first_at, list_at, part_at, until_at, value_at, within}

@@ -1,5 +1,5 @@
 -- Steps of readers: what a step that did not fail gave.
-use Rattle.std.proofs.Common.{◌≡◌, ℕ, Bool, true, false, cond, List, ◌⊎◌, Option, Some, None, refl, sym, ap, ◌∙◌, inl, inr}
+use Rattle.std.proofs.Common.{◌≡◌, Bool, true, false, cond, ◌⊎◌, Option, Some, None, refl, ap, inl, inr}
 use Rattle.std.specs.Prelude.{◌&&◌}
 use Rattle.value_texts.specs.Reading.{◌>>=◌}
 

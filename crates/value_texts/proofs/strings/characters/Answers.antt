@@ -1,4 +1,4 @@
-use Rattle.std.proofs.Common.{◌≡◌, ◌∙◌, sym, length, None}
+use Rattle.std.proofs.Common.{◌∙◌, sym, length, None}
 use Rattle.value_texts.specs.Reading.{character_at, until_at}
 use Rattle.value_texts.proofs.Turns.{closes, goes_on, runs_out, stops}
 use Rattle.value_texts.proofs.strings.characters.Goals as goal

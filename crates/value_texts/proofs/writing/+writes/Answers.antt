@@ -1,7 +1,5 @@
-use Rattle.std.proofs.Common.{◌≤◌, ◌++◌, ◌∷◌, length, arith}
-use Rattle.value_core.specs.View.{datum_of}
-use Rattle.value_texts.specs.Spelling.{parts_text}
-use Rattle.value_texts.proofs.Printing.{begun, left_more, left_none, parts_shallow}
+use Rattle.std.proofs.Common.{arith}
+use Rattle.value_texts.proofs.Printing.{begun, parts_shallow}
 use Rattle.value_texts.proofs.writing.+writes.Goals as goal
 
 pub put_parts-loop-index-init : goal.put_parts-loop-index-init
