@@ -5,7 +5,9 @@ use std::alloc::Global;
 use std::process::Abort;
 use std::test::Fail;
 use value_core::{BoxedParts, Parts, TextValue, Value};
-use value_texts::{Misspelled, print_value, push_value, push_values, read_value, value_in_front, values_in_front};
+use value_texts::{
+    Misspelled, print_value, push_value, push_values, read_value, value_in_front, values_in_front,
+};
 
 // Each of the tests' texts has fewer bytes.
 const MOST: usize = 1_000;
@@ -61,10 +63,7 @@ fn strings_both_ways(rt: HostRuntime) -> Result<(), Fail> {
 
 // A record of these values.
 fn record(alloc: Global, values: Vec<Value>) -> Result<Value, Fail> {
-    Ok(Value::Fields(BoxedParts::new(
-        alloc,
-        Parts::from_vec(values),
-    )?))
+    Ok(Value::Fields(BoxedParts::new(alloc, Parts::from_vec(values))?))
 }
 
 #[test]
@@ -79,7 +78,8 @@ fn a_graph_both_ways(rt: HostRuntime) -> Result<(), Fail> {
 
 #[test]
 fn other_texts_are_refused(rt: HostRuntime) {
-    let texts = "00 -0 +1 - 9223372036854775808 c128 e65536 o0 o0.01 true1 [1,2] \"\\x41\" \"\\x7F\" [1";
+    let texts =
+        "00 -0 +1 - 9223372036854775808 c128 e65536 o0 o0.01 true1 [1,2] \"\\x41\" \"\\x7F\" [1";
     for text in texts.split(' ') {
         assert!(rt; is_refused(rt.alloc(), text), "{text}");
     }
@@ -91,9 +91,7 @@ fn other_texts_are_refused(rt: HostRuntime) {
 #[test]
 fn values_stand_in_front(rt: HostRuntime) -> Result<(), Fail> {
     let alloc = rt.alloc();
-    let (value, rest) = value_in_front(alloc, b"o0.1 none")
-        .ok()
-        .ok_or("no object")?;
+    let (value, rest) = value_in_front(alloc, b"o0.1 none").ok().ok_or("no object")?;
     assert_eq!(rt; rest, b" none".as_slice());
     let (args, rest) = values_in_front(alloc, b"(o0.1 10) on 1")
         .ok()
