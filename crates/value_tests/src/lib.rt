@@ -11,4 +11,6 @@ mod operators;
 #[cfg(test)]
 mod paths;
 #[cfg(test)]
+mod texts;
+#[cfg(test)]
 mod values;

@@ -1,0 +1,11 @@
+pub mod Steps
+pub mod Numerals
+pub mod Letters
+pub mod Escapes
+pub mod Items
+pub mod Orders
+pub mod Values
+pub mod Levels
+pub mod Turns
+pub mod Facts
+pub mod Printing
