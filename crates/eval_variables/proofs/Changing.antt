@@ -1,0 +1,112 @@
+-- Variables that are changed where they stand.
+use Rattle.std.proofs.Common.{◌≡◌, ℕ, zero, suc, List, [], ◌∷◌, Result, Ok, Err, refl, ap, sym, ◌∙◌, subst}
+use Rattle.std.specs.Prelude.{ok_or, slice_get, slice_set}
+use Rattle.orca_base.specs.declared.fault.FaultKind.{FaultKind}
+use Rattle.orca_base.specs.declared.fault.FaultKind.TheVariants.{IndexOutside}
+use Rattle.value_core.specs.Datum.{Datum}
+use Rattle.value_core.specs.View.{datum_of}
+use Rattle.value_core.specs.declared.value.Value.{Value}
+use Rattle.value_paths.specs.declared.step.Step.{Step as ValueStep}
+use Rattle.value_paths.specs.Paths.{part_at, with_part}
+use Rattle.meaning_rules.specs.States.{State, Out, Goes, after, gives}
+use Rattle.meaning_rules.specs.Operators.{and_then, fitting}
+use Rattle.meaning_rules.specs.Variables.{Target, change, changed_at, changed_whole, enlarge, held, stored, whole_at}
+use Rattle.eval_variables.specs.declared.stop.Stop.{Stop}
+use Rattle.eval_variables.specs.Exchanges.{Exchanges, IsPut, PutsBack}
+use Rattle.eval_variables.specs.Gives.{Fails, Gives}
+use Rattle.eval_variables.proofs.Stopping.{fails_first, fails_then, goes_not, same_fault}
+
+-- ---- where nothing stands
+
+pub changed_fails : (to : Target) (by : Datum → Result Datum FaultKind) (s : State) (why : Stop) → Fails why (held to s) → Fails why (gives (changed_whole to by s) s)
+changed_fails to by s why h = by_whole (whole_at to s) h
+  where
+    by_part : (w : Datum) (p : Result Datum FaultKind) → Fails why (gives p s) → Fails why (gives (and_then p (λ old. and_then (by old) (λ new. Ok (with_part to.path w new)))) s)
+    by_part w (Err fault) k = k
+    by_part w (Ok x) k = goes_not why x s k (gives (and_then (by x) (λ new. Ok (with_part to.path w new))) s)
+
+    by_whole : (q : Result Datum FaultKind) → Fails why (gives (and_then q (part_at to.path)) s) → Fails why (gives (and_then q (changed_at to.path by)) s)
+    by_whole (Err fault) k = k
+    by_whole (Ok w) k = by_part w (part_at to.path w) k
+
+pub change_fails : (to : Target) (by : Datum → Result Datum FaultKind) (s : State) (why : Stop) → Fails why (held to s) → Fails why (change to by s)
+change_fails to by s why h = fails_then why (gives (changed_whole to by s) s) (λ whole s1. Goes tt (stored to.slot whole s1)) (changed_fails to by s why h)
+
+pub enlarge_fails : (to : Target) (by : Datum → Result Datum FaultKind) (s : State) (why : Stop) → Fails why (held to s) → Fails why (enlarge to by s)
+enlarge_fails to by s why h =
+    fails_then why (gives (and_then (changed_whole to by s) fitting) s) (λ whole s1. Goes tt (stored to.slot whole s1))
+    (fails_first why (changed_whole to by s) fitting s (changed_fails to by s why h))
+
+-- ---- where something stands
+
+-- by gives what is put
+changed_is : (to : Target) (by : Datum → Result Datum FaultKind) (old new : Datum) (s s1 : State) (p : IsPut to old new s s1) → by old ≡ Ok new →
+    changed_whole to by s ≡ Ok (with_part to.path p.whole new)
+changed_is to by old new s s1 p given =
+    ap (λ q. and_then q (changed_at to.path by)) p.is
+    ∙ ap (λ q. and_then q (λ x. and_then (by x) (λ y. Ok (with_part to.path p.whole y)))) p.stood
+    ∙ ap (λ q. and_then q (λ y. Ok (with_part to.path p.whole y))) given
+
+pub changes : (to : Target) (by : Datum → Result Datum FaultKind) (old new : Datum) (s s1 : State) → IsPut to old new s s1 → by old ≡ Ok new → change to by s ≡ Goes tt s1
+changes to by old new s s1 p given =
+    ap (λ q. after (gives q s) (λ whole s2. Goes tt (stored to.slot whole s2))) (changed_is to by old new s s1 p given) ∙ ap (Goes tt) (sym p.stands)
+
+-- and the variable is then no larger than one may be
+pub enlarges : (to : Target) (by : Datum → Result Datum FaultKind) (old new : Datum) (s s1 : State) (r : Result (Unit {0}) Stop) (p : IsPut to old new s s1) → by old ≡ Ok new →
+    Gives (λ u. with_part to.path p.whole new) r s1 (gives (fitting (with_part to.path p.whole new)) s1) → Gives (λ u. u) r s1 (enlarge to by s)
+enlarges to by old new s s1 r p given fits =
+    subst (Gives (λ u. u) r s1) (sym (ap (λ q. after (gives (and_then q fitting) s) (λ whole s2. Goes tt (stored to.slot whole s2))) (changed_is to by old new s s1 p given)))
+    (by_size (fitting whole) r fits)
+  where
+    whole = with_part to.path p.whole new
+
+    by_size : (q : Result Datum FaultKind) (r : Result (Unit {0}) Stop) → Gives (λ u. whole) r s1 (gives q s1) → Gives (λ u. u) r s1 (after (gives q s) (λ w s2. Goes tt (stored to.slot w s2)))
+    by_size (Ok w) (Ok u) h = let same : w ≡ whole = cc in ap (λ v. Goes tt (stored to.slot v s)) same ∙ ap (Goes tt) (sym p.stands)
+    by_size (Err fault) (Ok u) h = absurd cc
+    by_size (Ok w) (Err why) h = goes_not why w s1 h (Goes tt (stored to.slot w s))
+    by_size (Err fault) (Err why) h = same_fault why fault h
+
+-- ---- the variable of a target
+
+set_there : (xs : List Datum) (i : ℕ) (v w : Datum) → ok_or (slice_get xs i) IndexOutside ≡ Ok v → ok_or (slice_get (slice_set xs i w) i) IndexOutside ≡ Ok w
+set_there [] i v w h = absurd cc
+set_there (x ∷ xs) zero v w h = refl
+set_there (x ∷ xs) (suc i) v w h = set_there xs i v w h
+
+set_twice : (xs : List Datum) (i : ℕ) (v w : Datum) → slice_set (slice_set xs i v) i w ≡ slice_set xs i w
+set_twice [] i v w = refl
+set_twice (x ∷ xs) zero v w = refl
+set_twice (x ∷ xs) (suc i) v w = ap (λ ys. x ∷ ys) (set_twice xs i v w)
+
+pub whole_put : (to : Target) (old new : Datum) (s s1 : State) (p : IsPut to old new s s1) → whole_at to s1 ≡ Ok (with_part to.path p.whole new)
+whole_put to old new s s1 p = ap (whole_at to) p.stands ∙ set_there s.frame to.slot p.whole (with_part to.path p.whole new) p.is
+
+-- ---- what was taken out for a while, with zero in its place
+
+-- the laws of paths that this takes
+pub record Walks : Type 0 where
+  pub stands : (path : List ValueStep) (v p x : Datum) → part_at path v ≡ Ok p → part_at path (with_part path v x) ≡ Ok x
+  pub again : (path : List ValueStep) (v p x y : Datum) → part_at path v ≡ Ok p → with_part path (with_part path v x) y ≡ with_part path v y
+
+pub put_again : Walks → (to : Target) (old other x y : Datum) (s s1 s2 : State) → IsPut to old x s s1 → IsPut to other y s1 s2 → IsPut to old y s s2
+put_again laws to old other x y s s1 s2 p q =
+    let whole_is : Ok q.whole ≡ Ok (with_part to.path p.whole x) = sym q.is ∙ whole_put to old x s s1 p in
+    let same : q.whole ≡ with_part to.path p.whole x = cc in
+    record {
+      whole = p.whole;
+      is = p.is;
+      stood = p.stood;
+      stands = q.stands
+        ∙ ap (λ w. stored to.slot (with_part to.path w y) s1) same
+        ∙ ap (λ w. stored to.slot w s1) (laws.again to.path p.whole old x y p.stood)
+        ∙ ap (λ t. stored to.slot (with_part to.path p.whole y) t) p.stands
+        ∙ ap (λ xs. record s { frame = xs }) (set_twice s.frame to.slot (with_part to.path p.whole x) (with_part to.path p.whole y));
+    }
+
+held_put : Walks → (to : Target) (old x : Datum) (s s1 : State) → IsPut to old x s s1 → held to s1 ≡ Goes x s1
+held_put laws to old x s s1 p =
+    ap (λ q. gives (and_then q (part_at to.path)) s1) (whole_put to old x s s1 p)
+    ∙ ap (λ q. gives q s1) (laws.stands to.path p.whole old x p.stood)
+
+pub lacks_only : Walks → (to : Target) (old x : Datum) (s s1 : State) (why : Stop) → IsPut to old x s s1 → Fails why (held to s1) → (out : Out Datum) → Fails why out
+lacks_only laws to old x s s1 why p h out = goes_not why x s1 (subst (Fails why) (held_put laws to old x s s1 p) h) out
