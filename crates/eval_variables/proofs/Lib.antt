@@ -3,3 +3,4 @@ mod Changing
 mod Placing
 mod Putting
 mod Sizing
+mod Pairing

@@ -1,9 +1,10 @@
 -- Places of elements and of nodes: of the first that passes a test.
 use Rattle.std.proofs.Common.{◌≡◌, ◌+◌, ◌<◌, ◌≤◌, ℕ, zero, suc, Bool, true, false, cond, ℤ, List, [], ◌∷◌, length, drop, map, Option, Some, None, refl, ap, sym, ◌∙◌, subst, arith}
-use Rattle.std.specs.Prelude.{insert, not, remove, slice_get, slice_set}
+use Rattle.std.specs.Prelude.{insert, is_some, nat_lt, not, position, remove, slice_get, slice_set, unwrap_or}
 use Rattle.std.specs.List.{position_or_len}
+use Rattle.std.proofs.lemmas.Bool.{ltb-false, ltb-true}
 use Rattle.std.specs.Ordering.{is_eq, is_lt}
-use Rattle.value_core.specs.Datum.{Datum}
+use Rattle.value_core.specs.Datum.{Datum, Data, data_of, list_of, data_of-list_of}
 use Rattle.value_core.specs.Order.{datum_cmp}
 use Rattle.value_core.specs.View.{datum_of}
 use Rattle.value_core.specs.declared.value.Value.{Value}
@@ -114,3 +115,81 @@ node_none name (x ∷ xs) h = by_test (is_named name x) (node_none name xs) h
     by_test : (b : Bool) → (length xs ≤ node_place name xs → value_at name xs ≡ None) → suc (length xs) ≤ cond (not b) (1 + node_place name xs) 0 → cond b (Some (value_in x)) (value_at name xs) ≡ None
     by_test true rest within = absurd (omega (arith, within))
     by_test false rest within = rest (omega (arith, within))
+
+-- ---- a place, as code finds it
+
+within : {X : Type 0} (test : X → Bool) (xs : List X) → position_or_len test xs ≤ length xs
+within test [] = omega arith
+within test (x ∷ xs) = by_pass (not (test x)) (within test xs)
+  where
+    by_pass : (b : Bool) → position_or_len test xs ≤ length xs → cond b (1 + position_or_len test xs) 0 ≤ suc (length xs)
+    by_pass true rest = omega (arith, rest)
+    by_pass false rest = omega arith
+
+some_at : {X : Type 0} (test : X → Bool) (xs : List X) (i : ℕ) → Some i ≡ position test xs → (i < length xs) × (i ≡ position_or_len test xs)
+some_at test xs i is = by_test (nat_lt (position_or_len test xs) (length xs)) refl is
+  where
+    by_test : (b : Bool) → nat_lt (position_or_len test xs) (length xs) ≡ b → Some i ≡ cond b (Some (position_or_len test xs)) None → (i < length xs) × (i ≡ position_or_len test xs)
+    by_test true low h =
+        let same : i ≡ position_or_len test xs = cc in
+        (subst (λ n. n < length xs) (sym same) (ltb-true (position_or_len test xs) (length xs) low), same)
+    by_test false low h = absurd cc
+
+none_at : {X : Type 0} (test : X → Bool) (xs : List X) → None ≡ position test xs → length xs ≤ position_or_len test xs
+none_at test xs is = by_test (nat_lt (position_or_len test xs) (length xs)) refl is
+  where
+    by_test : (b : Bool) → nat_lt (position_or_len test xs) (length xs) ≡ b → None ≡ cond b (Some (position_or_len test xs)) None → length xs ≤ position_or_len test xs
+    by_test true low h = absurd cc
+    by_test false low h = let past = ltb-false (position_or_len test xs) (length xs) low in omega (arith, past)
+
+-- the same of what values show
+pub found_some : (test : Datum → Bool) (vs : List Value) (xs : List Datum) (i : ℕ) → Some i ≡ position (λ v. test (datum_of v)) vs → map datum_of vs ≡ xs → (i < length xs) × (i ≡ position_or_len test xs)
+found_some test vs xs i is shown =
+    let at_values = some_at (λ v. test (datum_of v)) vs i is in
+    let longer : length vs ≡ length xs = sym (length_shown vs) ∙ ap length shown in
+    (subst (λ n. i < n) longer at_values.0, at_values.1 ∙ sym (place_shown test vs) ∙ ap (position_or_len test) shown)
+
+pub found_none : (test : Datum → Bool) (vs : List Value) (xs : List Datum) → None ≡ position (λ v. test (datum_of v)) vs → map datum_of vs ≡ xs → length xs ≤ position_or_len test xs
+found_none test vs xs is shown =
+    let past = none_at (λ v. test (datum_of v)) vs is in
+    let longer : length vs ≡ length xs = sym (length_shown vs) ∙ ap length shown in
+    let same : position_or_len (λ v. test (datum_of v)) vs ≡ position_or_len test xs = sym (place_shown test vs) ∙ ap (position_or_len test) shown in
+    subst (λ n. n ≤ position_or_len test xs) longer (subst (λ n. length vs ≤ n) same past)
+
+-- ---- elements, as code puts them and takes them out
+
+place_or : (test : Datum → Bool) (vs : List Value) (xs : List Datum) (o : Option ℕ) (n place : ℕ) → o ≡ position (λ v. test (datum_of v)) vs → map datum_of vs ≡ xs → n ≡ length xs → place ≡ unwrap_or o n →
+    place ≡ position_or_len test xs
+place_or test vs xs (Some i) n place is shown all found = found ∙ (found_some test vs xs i is shown).1
+place_or test vs xs None n place is shown all found = let past = found_none test vs xs is shown in let low = within test xs in omega (arith, past, low, all, found)
+
+pub put_found : (e : Datum) (vs : List Value) (w w' : Data) (o : Option ℕ) (n place : ℕ) → o ≡ position (λ v. not (is_lt (datum_cmp (datum_of v) e))) vs → map datum_of vs ≡ list_of w → n ≡ length (list_of w) →
+    place ≡ unwrap_or o n → list_of w' ≡ insert (list_of w) place e → w' ≡ data_of (put_in e (list_of w))
+put_found e vs w w' o n place is shown all found put =
+    sym (data_of-list_of w')
+    ∙ ap data_of (put ∙ ap (λ i. insert (list_of w) i e) (place_or (λ x. not (is_lt (datum_cmp x e))) vs (list_of w) o n place is shown all found) ∙ sym (put_at e (list_of w)))
+
+pub may_put : (e : Datum) (vs : List Value) (w : Data) (o : Option ℕ) (n place : ℕ) → o ≡ position (λ v. not (is_lt (datum_cmp (datum_of v) e))) vs → map datum_of vs ≡ list_of w → n ≡ length (list_of w) →
+    place ≡ unwrap_or o n → place ≤ length (list_of w)
+may_put e vs w o n place is shown all found =
+    subst (λ i. i ≤ length (list_of w)) (sym (place_or (λ x. not (is_lt (datum_cmp x e))) vs (list_of w) o n place is shown all found)) (for_within e (list_of w))
+
+pub gone_found : (e : Datum) (vs : List Value) (w w' : Data) (place : ℕ) → Some place ≡ position (λ v. is_eq (datum_cmp (datum_of v) e)) vs → map datum_of vs ≡ list_of w →
+    list_of w' ≡ remove (list_of w) place → w' ≡ data_of (without e (list_of w))
+gone_found e vs w w' place is shown gone =
+    let found = found_some (λ x. is_eq (datum_cmp x e)) vs (list_of w) place is shown in
+    sym (data_of-list_of w') ∙ ap data_of (gone ∙ ap (remove (list_of w)) found.1 ∙ sym (gone_at e (list_of w) (subst (λ n. n < length (list_of w)) found.1 found.0)))
+
+pub none_found : (e : Datum) (vs : List Value) (w : Data) → None ≡ position (λ v. is_eq (datum_cmp (datum_of v) e)) vs → map datum_of vs ≡ list_of w → w ≡ data_of (without e (list_of w))
+none_found e vs w is shown =
+    sym (data_of-list_of w) ∙ ap data_of (sym (none_gone e (list_of w) (found_none (λ x. is_eq (datum_cmp x e)) vs (list_of w) is shown)))
+
+-- ---- nodes, as code finds them
+
+pub stands : (xs : List Datum) (i : ℕ) → i < length xs → (x : Datum) × (slice_get xs i ≡ Some x)
+stands [] i h = absurd (omega (arith, h))
+stands (x ∷ xs) zero h = (x, refl)
+stands (x ∷ xs) (suc i) h = stands xs i (omega (arith, h))
+
+pub is_there : (name : ℤ) (xs : List Datum) → node_place name xs < length xs → is_some (value_at name xs) ≡ true
+is_there name xs h = let found = stands xs (node_place name xs) h in ap is_some (node_value name xs found.0 found.1)

@@ -1,13 +1,13 @@
 -- One step, and the rest of a path behind it.
 use Rattle.std.proofs.Common.{◌≡◌, ℕ, zero, suc, ◌<◌, ℤ, pos, negsuc, List, [], ◌∷◌, length, Option, Some, None, Result, Ok, Err, refl, ap, sym, ◌∙◌, subst}
-use Rattle.std.specs.Prelude.{slice_get, slice_set}
+use Rattle.std.specs.Prelude.{map, position, slice_get, slice_set}
 use Rattle.orca_base.specs.declared.fault.FaultKind.{FaultKind}
 use Rattle.value_core.specs.Datum.{Datum, Data, data_of, list_of}
 use Rattle.value_core.specs.Datum as datum
 use Rattle.value_core.specs.View.{datum_of}
 use Rattle.value_core.specs.declared.value.Value.{Value}
 use Rattle.value_ops.specs.Sizes.{place_of}
-use Rattle.graph_values.specs.Graphs.{graph_of, name_in, node_in, node_of, nodes_in, value_at, value_in, with_node}
+use Rattle.graph_values.specs.Graphs.{graph_of, is_named, name_in, node_in, node_of, nodes_in, value_at, value_in, with_node}
 use Rattle.value_paths.specs.declared.step.Step.{Step as ValueStep}
 use Rattle.value_paths.specs.declared.step.Step.TheVariants.{Index, Field, Node}
 use Rattle.value_paths.specs.Paths.{and_then, at_place, found, part_at, part_to, set_place, where_found, with_part, with_step}
@@ -15,6 +15,7 @@ use Rattle.meaning_rules.specs.States.{State, gives}
 use Rattle.eval_variables.specs.declared.stop.Stop.{Stop}
 use Rattle.eval_variables.specs.Exchanges.{PutsPart}
 use Rattle.eval_variables.specs.Gives.{Fails}
+use Rattle.eval_variables.proofs.Placing.{found_some, node_place, node_set, node_value}
 
 -- what is put behind a step is put at the end of both
 pub puts_behind : (step : ValueStep) (path : List ValueStep) (x old new c c' : Datum) (r : Result Value Stop) → part_to step old ≡ Ok c → new ≡ with_step step old c' →
@@ -58,3 +59,21 @@ pub set_again : (xs : List Datum) (i : ℕ) (v w : Datum) → slice_set (slice_s
 set_again [] i v w = refl
 set_again (x ∷ xs) zero v w = refl
 set_again (x ∷ xs) (suc i) v w = ap (λ ys. x ∷ ys) (set_again xs i v w)
+
+-- a graph, as code takes it apart and puts it together
+pub node_puts : (name : ℤ) (path : List ValueStep) (x old node inside inside' : Datum) (vs : List Value) (xs : List Datum) (place : ℕ) (r : Result Value Stop) → xs ≡ nodes_in old → map datum_of vs ≡ xs →
+    Some place ≡ position (λ v. is_named name (datum_of v)) vs → slice_get xs place ≡ Some node → inside ≡ value_in node → PutsPart path x inside r inside' →
+    PutsPart (Node name ∷ path) x old r (graph_of (name_in old) (slice_set xs place (node_of name inside')))
+node_puts name path x old node inside inside' vs xs place r nodes shown is stood value put =
+    let found = found_some (is_named name) vs xs place is shown in
+    let at_place : place ≡ node_place name xs = found.1 in
+    graph_puts name path x old inside inside' xs place r nodes
+    (node_value name xs node (subst (λ n. slice_get xs n ≡ Some node) at_place stood) ∙ ap Some (sym value))
+    (node_set name (node_of name inside') xs (subst (λ n. n < length xs) at_place found.0) ∙ ap (λ n. slice_set xs n (node_of name inside')) (sym at_place))
+    put
+
+pub together : (name next next' : ℤ) (xs xs1 xs2 : List Datum) (place : ℕ) (other node inside' new : Datum) → next ≡ next' → xs1 ≡ slice_set xs place other → xs2 ≡ slice_set xs1 place node → node ≡ node_of name inside' →
+    new ≡ graph_of next xs2 → new ≡ graph_of next' (slice_set xs place (node_of name inside'))
+together name next next' xs xs1 xs2 place other node inside' new same first second node_is is =
+    is ∙ ap (λ n. graph_of n xs2) same
+    ∙ ap (graph_of next') (second ∙ ap (λ ys. slice_set ys place node) first ∙ set_again xs place other node ∙ ap (slice_set xs place) node_is)

@@ -31,3 +31,17 @@ fails_then stop.Busy o next h = ap (λ q. after q next) h
 pub fails_first : {A B : Type 0} (why : Stop) (q : Result A FaultKind) (next : A → Result B FaultKind) (s : State) → Fails why (gives q s) → Fails why (gives (and_then q next) s)
 fails_first why (Ok x) next s h = goes_not why x s h (gives (next x) s)
 fails_first why (Err fault) next s h = same_fault why fault h
+
+-- what goes on lacks nothing but memory where it stops
+pub lacks : {X : Type 0} (why : Stop) (x : X) (s : State) → Fails why (Goes x s) → why ≡ stop.NoMemory
+lacks stop.NoMemory x s h = refl
+lacks (stop.Needs action) x s h = absurd cc
+lacks (stop.Faults fault) x s h = absurd cc
+lacks stop.Busy x s h = absurd cc
+
+pub fails_without : {X : Type 0} (why : Stop) (out : Out X) → why ≡ stop.NoMemory → Fails why out
+fails_without why out is = subst (λ w. Fails w out) (sym is) tt
+
+pub gives_ok : {X : Type 0} (q : Result X FaultKind) (s : State) (x : X) → gives q s ≡ Goes x s → q ≡ Ok x
+gives_ok (Ok y) s x h = let same : y ≡ x = cc in ap Ok same
+gives_ok (Err fault) s x h = absurd cc

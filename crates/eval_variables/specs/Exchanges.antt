@@ -5,9 +5,10 @@ use Rattle.value_core.specs.View.{datum_of}
 use Rattle.value_core.specs.declared.value.Value.{Value}
 use Rattle.value_paths.specs.declared.step.Step.{Step as ValueStep}
 use Rattle.value_paths.specs.Paths.{part_at, with_part}
-use Rattle.meaning_rules.specs.States.{State, Out, gives}
+use Rattle.meaning_rules.specs.States.{State, gives}
 use Rattle.meaning_rules.specs.Variables.{Target, held, stored, whole_at}
 use Rattle.eval_variables.specs.declared.stop.Stop.{Stop}
+use Rattle.eval_variables.specs.declared.stop.Stop.TheVariants as stop
 use Rattle.eval_variables.specs.Gives.{Fails}
 
 -- of a value: x is put at the end of a path
@@ -30,4 +31,4 @@ Exchanges to x s (Err why) s1 = Fails why (held to s)
 -- x is put at a target from which old was taken out for a while: only memory may lack
 abbrev pub PutsBack : Target → Datum → Datum → State → Result (Unit {0}) Stop → State → Type 0
 PutsBack to old x s (Ok u) s1 = IsPut to old x s s1
-PutsBack to old x s (Err why) s1 = (out : Out Datum) → Fails why out
+PutsBack to old x s (Err why) s1 = why ≡ stop.NoMemory

@@ -1,7 +1,6 @@
 //! The elements of sets and bags, looked for one after the other.
 
-ghost use Rattle.std.specs.Prelude.{◌≡◌, OnOk, map, not};
-ghost use Rattle.std.specs.List.{position_or_len};
+ghost use Rattle.std.specs.Prelude.{◌≡◌, OnOk, map, not, position};
 ghost use Rattle.std.specs.Ordering.{is_eq, is_lt};
 ghost use Rattle.value_core.specs.Datum.{data_of, list_of};
 ghost use Rattle.value_core.specs.Order.{datum_cmp};
@@ -41,31 +40,29 @@ pub fn is_in(element: &Value, all: &Value) -> bool
     has(elements_of(all), element)
 }
 
-// How many values stand in front of the first that isn't below this one.
-fn place_for(values: &[Value], element: &Value) -> usize
-    ensures { result ≡ position_or_len (λ v. not (is_lt (datum_cmp (datum_of v) (datum_of element.now)))) values.now }
+// The place of the first value that isn't below this one.
+fn place_for(values: &[Value], element: &Value) -> Option<usize>
+    ensures { result ≡ position (λ v. not (is_lt (datum_cmp (datum_of v) (datum_of element.now)))) values.now }
 {
     values
         .iter()
         .position(|value| !value.compare(element).is_lt())
-        .unwrap_or(values.len())
 }
 
-// How many values stand in front of the first that is this one.
-fn place_of(values: &[Value], element: &Value) -> usize
-    ensures { result ≡ position_or_len (λ v. is_eq (datum_cmp (datum_of v) (datum_of element.now))) values.now }
+// The place of the first value that is this one.
+fn place_of(values: &[Value], element: &Value) -> Option<usize>
+    ensures { result ≡ position (λ v. is_eq (datum_cmp (datum_of v) (datum_of element.now))) values.now }
 {
     values
         .iter()
         .position(|value| value.compare(element).is_eq())
-        .unwrap_or(values.len())
 }
 
 // Adds an element.
 fn insert_again(all: &mut Parts, element: Value) -> Result<(), NoMemory>
     ensures { OnOk result (all.new ≡ data_of (put_in (datum_of element) (list_of all.old))) }
 {
-    let place = place_for(all.as_slice(), &element);
+    let place = place_for(all.as_slice(), &element).unwrap_or(all.len());
     all.insert(place, element)
 }
 
@@ -97,9 +94,11 @@ pub fn insert(all: &mut Value, element: Value) -> Result<(), NoMemory>
 fn delete_once(all: &mut Parts, element: &Value)
     ensures { all.new ≡ data_of (without (datum_of element.now) (list_of all.old)) }
 {
-    let place = place_of(all.as_slice(), element);
-    if place < all.len() {
-        all.remove(place);
+    match place_of(all.as_slice(), element) {
+        Some(place) => {
+            all.remove(place);
+        }
+        None => {}
     }
 }
 

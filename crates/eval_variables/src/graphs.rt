@@ -1,7 +1,7 @@
 //! Graphs, taken apart and put together again.
 
-ghost use Rattle.std.specs.Prelude.{◌≡◌, IfOk, Some, map, pos, slice_get, unwrap_or};
-ghost use Rattle.std.specs.List.{position_or_len};
+ghost use Rattle.std.specs.Int.{w64};
+ghost use Rattle.std.specs.Prelude.{◌≡◌, FitsSigned, IfOk, Some, map, pos, position, slice_get, unwrap_or};
 ghost use Rattle.value_core.specs.Datum as datum;
 ghost use Rattle.value_core.specs.Datum.{list_of};
 ghost use Rattle.value_core.specs.View.{datum_of};
@@ -48,14 +48,11 @@ pub fn nodes_of(value: &Value) -> &[Value]
     }
 }
 
-/// How many nodes stand in front of the first with this name. It looks at one node after the other.
-pub fn place_of(nodes: &[Value], name: i64) -> usize
-    ensures { result ≡ position_or_len (λ v. is_named name (datum_of v)) nodes.now }
+/// The place of the first node with this name. It looks at one node after the other.
+pub fn place_of(nodes: &[Value], name: i64) -> Option<usize>
+    ensures { result ≡ position (λ v. is_named name (datum_of v)) nodes.now }
 {
-    nodes
-        .iter()
-        .position(|node| name_of(node) == name)
-        .unwrap_or(nodes.len())
+    nodes.iter().position(|node| name_of(node) == name)
 }
 
 // The fields of a record; of any other value none.
@@ -108,6 +105,7 @@ impl Graph {
     ///
     /// # Errors
     /// Want of memory.
+    #[tactic(auto, using(crate::proofs::Pairing::whole_data))]
     pub fn value(self, alloc: Global) -> Result<Value, NoMemory>
         ensures { IfOk result (λ v. datum_of v ≡ graph_of self.next (list_of self.nodes)) }
     {
@@ -148,7 +146,8 @@ pub fn value_of(alloc: Global, node: Value) -> Value
 /// # Errors
 /// `Overflow` where the graph has given its last name, and want of memory.
 pub fn added(alloc: Global, fresh: Value, value: Value) -> Result<(i64, Value), Stop>
-    ensures { (s : State) → Gives (λ p. (p.0, datum_of p.1)) result s (gives (rules.added (datum_of fresh) (datum_of value)) s) }
+    ensures given { (s : State) → Gives (λ p. (p.0, datum_of p.1)) result s (gives (rules.added (datum_of fresh) (datum_of value)) s) }
+    ensures range { IfOk result (λ p. FitsSigned w64 p.0) }
 {
     let mut graph = Graph::of(alloc, value);
     let name = graph.next;
@@ -170,12 +169,13 @@ pub fn deleted(alloc: Global, name: i64, value: Value) -> Result<Value, Stop>
     ensures { (s : State) → Gives datum_of result s (gives (rules.deleted name (datum_of value)) s) }
 {
     let mut graph = Graph::of(alloc, value);
-    let place = place_of(graph.nodes.as_slice(), name);
-    if place >= graph.nodes.len() {
-        return Err(Stop::Faults {
+    match place_of(graph.nodes.as_slice(), name) {
+        None => Err(Stop::Faults {
             fault: FaultKind::IndexOutside,
-        });
+        }),
+        Some(place) => {
+            graph.nodes.remove(place);
+            Ok(graph.value(alloc)?)
+        }
     }
-    graph.nodes.remove(place);
-    Ok(graph.value(alloc)?)
 }

@@ -83,8 +83,8 @@ fn part_of_graph<'a>(value: &'a Value, name: i64, zero: &'a Value) -> Result<&'a
         (λ f. part_to (value_step.Node name) (datum_of value.now) ≡ Err f) }
 {
     let nodes = nodes_of(value);
-    match nodes.get(node_place(nodes, name)) {
-        Some(node) => Ok(second_field(node, zero)),
+    match node_place(nodes, name) {
+        Some(place) => Ok(second_field(&nodes[place], zero)),
         None => Err(FaultKind::IndexOutside),
     }
 }
@@ -184,12 +184,11 @@ fn put_in_graph(
     ensures { PutsPart (value_step.Node name ∷ path_of (drop from path.now)) (datum_of part) (datum_of value.old) result (datum_of value.new) }
 {
     let mut graph = Graph::of(alloc, mem::replace(value, Value::Int(0)));
-    let place = node_place(graph.nodes.as_slice(), name);
-    if place >= graph.nodes.len() {
+    let Some(place) = node_place(graph.nodes.as_slice(), name) else {
         return Err(Stop::Faults {
             fault: FaultKind::IndexOutside,
         });
-    }
+    };
     let mut inside = value_of(alloc, graph.nodes.replace(place, Value::Int(0)));
     let old = put_from(alloc, &mut inside, path, from, part)?;
     graph.nodes.set(place, node(alloc, name, inside)?);

@@ -6,6 +6,7 @@ ghost use Rattle.eval_variables.specs.declared.stop.Stop.TheVariants.{Faults, No
 ghost use Rattle.eval_variables.specs.Gives.{refused};
 
 use orca_base::{FaultKind, NoMemory, Refusal};
+use std::alloc::AllocError;
 use value_core::Action;
 
 /// Why an evaluation goes no further.
@@ -25,6 +26,14 @@ impl From<NoMemory> for Stop {
     ghost from_gives = { λ _ stop. stop ≡ Without };
 
     fn from(_: NoMemory) -> Stop {
+        Stop::NoMemory
+    }
+}
+
+impl From<AllocError> for Stop {
+    ghost from_gives = { λ _ stop. stop ≡ Without };
+
+    fn from(_: AllocError) -> Stop {
         Stop::NoMemory
     }
 }

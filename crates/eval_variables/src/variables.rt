@@ -15,13 +15,14 @@ use crate::graphs::{added, deleted};
 use crate::operators::integer_in;
 use crate::parts::{exchange_part, part};
 use crate::run::Run;
-use crate::sizes::fitting;
+use crate::sizes::fitting as fits;
 use crate::steps::Target;
 use crate::stop::Stop;
 use orca_base::FaultKind;
 use std::alloc::Global;
 use value_core::Value;
 use value_ops::take_least;
+use value_paths::paths_law;
 
 /// What stands at a target, once more. Nothing that holds it is copied.
 ///
@@ -63,6 +64,7 @@ fn lower(alloc: Global, to: &Target, value: Value, run: &mut Run<'_>) -> Result<
     ensures lowered { (s : State) (old : Datum) → IsPut (target_of to.now) old (datum.int (pos 0)) s (state_of run.old) →
         PutsBack (target_of to.now) old (datum_of value) s result (state_of run.new) }
 {
+    paths_law();
     exchange(alloc, to, value, run)?;
     Ok(())
 }
@@ -73,7 +75,7 @@ fn check(to: &Target, run: &Run<'_>) -> Result<(), Stop>
         Gives (λ _. whole) result (state_of run.now) (gives (fitting whole) (state_of run.now)) }
 {
     match run.frame.get(to.slot) {
-        Some(whole) => fitting(whole),
+        Some(whole) => fits(whole),
         None => Ok(()),
     }
 }
