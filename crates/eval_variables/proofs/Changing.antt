@@ -21,16 +21,17 @@ use Rattle.eval_variables.proofs.Stopping.{fails_first, fails_then, fails_withou
 
 -- ---- where nothing stands
 
-pub changed_fails : (to : Target) (by : Datum → Result Datum FaultKind) (s : State) (why : Stop) → Fails why (held to s) → Fails why (gives (changed_whole to by s) s)
-changed_fails to by s why h = by_whole (whole_at to s) h
-  where
-    by_part : (w : Datum) (p : Result Datum FaultKind) → Fails why (gives p s) → Fails why (gives (and_then p (λ old. and_then (by old) (λ new. Ok (with_part to.path w new)))) s)
-    by_part w (Err fault) k = k
-    by_part w (Ok x) k = goes_not why x s k (gives (and_then (by x) (λ new. Ok (with_part to.path w new))) s)
+part_fails : (path : List ValueStep) (by : Datum → Result Datum FaultKind) (s : State) (why : Stop) (w : Datum) (p : Result Datum FaultKind) → Fails why (gives p s) →
+    Fails why (gives (and_then p (λ old. and_then (by old) (λ new. Ok (with_part path w new)))) s)
+part_fails path by s why w (Err fault) h = h
+part_fails path by s why w (Ok x) h = goes_not why x s h (gives (and_then (by x) (λ new. Ok (with_part path w new))) s)
 
-    by_whole : (q : Result Datum FaultKind) → Fails why (gives (and_then q (part_at to.path)) s) → Fails why (gives (and_then q (changed_at to.path by)) s)
-    by_whole (Err fault) k = k
-    by_whole (Ok w) k = by_part w (part_at to.path w) k
+whole_fails : (path : List ValueStep) (by : Datum → Result Datum FaultKind) (s : State) (why : Stop) (q : Result Datum FaultKind) → Fails why (gives (and_then q (part_at path)) s) → Fails why (gives (and_then q (changed_at path by)) s)
+whole_fails path by s why (Err fault) h = h
+whole_fails path by s why (Ok w) h = part_fails path by s why w (part_at path w) h
+
+pub changed_fails : (to : Target) (by : Datum → Result Datum FaultKind) (s : State) (why : Stop) → Fails why (held to s) → Fails why (gives (changed_whole to by s) s)
+changed_fails to by s why h = whole_fails to.path by s why (whole_at to s) h
 
 pub change_fails : (to : Target) (by : Datum → Result Datum FaultKind) (s : State) (why : Stop) → Fails why (held to s) → Fails why (change to by s)
 change_fails to by s why h = fails_then why (gives (changed_whole to by s) s) (λ whole s1. Goes tt (stored to.slot whole s1)) (changed_fails to by s why h)
@@ -55,19 +56,18 @@ changes to by old new s s1 p given =
     ap (λ q. after (gives q s) (λ whole s2. Goes tt (stored to.slot whole s2))) (changed_is to by old new s s1 p given) ∙ ap (Goes tt) (sym p.stands)
 
 -- and the variable is then no larger than one may be
+sized : (whole : Datum) (slot : ℕ) (s s1 : State) → s1 ≡ stored slot whole s → (q : Result Datum FaultKind) (r : Result (Unit {0}) Stop) → Gives (λ u. whole) r s1 (gives q s1) →
+    Gives (λ u. u) r s1 (after (gives q s) (λ w s2. Goes tt (stored slot w s2)))
+sized whole slot s s1 stands (Ok w) (Ok u) h = let same : w ≡ whole = cc in ap (λ v. Goes tt (stored slot v s)) same ∙ ap (Goes tt) (sym stands)
+sized whole slot s s1 stands (Err fault) (Ok u) h = absurd cc
+sized whole slot s s1 stands (Ok w) (Err why) h = goes_not why w s1 h (Goes tt (stored slot w s))
+sized whole slot s s1 stands (Err fault) (Err why) h = same_fault why fault h
+
 pub enlarges : (to : Target) (by : Datum → Result Datum FaultKind) (old new : Datum) (s s1 : State) (r : Result (Unit {0}) Stop) (p : IsPut to old new s s1) → by old ≡ Ok new →
     Gives (λ u. with_part to.path p.whole new) r s1 (gives (fitting (with_part to.path p.whole new)) s1) → Gives (λ u. u) r s1 (enlarge to by s)
 enlarges to by old new s s1 r p given fits =
     subst (Gives (λ u. u) r s1) (sym (ap (λ q. after (gives (and_then q fitting) s) (λ whole s2. Goes tt (stored to.slot whole s2))) (changed_is to by old new s s1 p given)))
-    (by_size (fitting whole) r fits)
-  where
-    whole = with_part to.path p.whole new
-
-    by_size : (q : Result Datum FaultKind) (r : Result (Unit {0}) Stop) → Gives (λ u. whole) r s1 (gives q s1) → Gives (λ u. u) r s1 (after (gives q s) (λ w s2. Goes tt (stored to.slot w s2)))
-    by_size (Ok w) (Ok u) h = let same : w ≡ whole = cc in ap (λ v. Goes tt (stored to.slot v s)) same ∙ ap (Goes tt) (sym p.stands)
-    by_size (Err fault) (Ok u) h = absurd cc
-    by_size (Ok w) (Err why) h = goes_not why w s1 h (Goes tt (stored to.slot w s))
-    by_size (Err fault) (Err why) h = same_fault why fault h
+    (sized (with_part to.path p.whole new) to.slot s s1 p.stands (fitting (with_part to.path p.whole new)) r fits)
 
 -- ---- the variable of a target
 
@@ -93,7 +93,7 @@ pub record Walks : Type 0 where
 
 pub put_again : Walks → (to : Target) (old other x y : Datum) (s s1 s2 : State) → IsPut to old x s s1 → IsPut to other y s1 s2 → IsPut to old y s s2
 put_again laws to old other x y s s1 s2 p q =
-    let whole_is : Ok q.whole ≡ Ok (with_part to.path p.whole x) = sym q.is ∙ whole_put to old x s s1 p in
+    let whole_is = sym q.is ∙ whole_put to old x s s1 p in
     let same : q.whole ≡ with_part to.path p.whole x = cc in
     record {
       whole = p.whole;

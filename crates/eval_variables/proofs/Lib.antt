@@ -2,5 +2,4 @@ mod Stopping
 mod Changing
 mod Placing
 mod Putting
-mod Sizing
 mod Pairing

@@ -15,7 +15,7 @@ goes_not (stop.Faults fault) x s h out = absurd cc
 goes_not stop.Busy x s h out = absurd cc
 
 -- a fault is a fault of whatever result
-pub same_fault : {X Y : Type 0} (why : Stop) (fault : FaultKind) → Fails why (Stops {A = X} (Faults fault)) → Fails why (Stops {A = Y} (Faults fault))
+pub same_fault : {X Y : Type 0} (why : Stop) (fault : FaultKind) → Fails {Y = X} why (Stops (Faults fault)) → Fails {Y = Y} why (Stops (Faults fault))
 same_fault stop.NoMemory fault h = tt
 same_fault (stop.Needs action) fault h = absurd cc
 same_fault (stop.Faults other) fault h = let same : fault ≡ other = cc in ap (λ f. Stops (Faults f)) same
