@@ -61,7 +61,7 @@ sized : (whole : Datum) (slot : ℕ) (s s1 : State) → s1 ≡ stored slot whole
 sized whole slot s s1 stands (Ok w) (Ok u) h = let same : w ≡ whole = cc in ap (λ v. Goes tt (stored slot v s)) same ∙ ap (Goes tt) (sym stands)
 sized whole slot s s1 stands (Err fault) (Ok u) h = absurd cc
 sized whole slot s s1 stands (Ok w) (Err why) h = goes_not why w s1 h (Goes tt (stored slot w s))
-sized whole slot s s1 stands (Err fault) (Err why) h = same_fault why fault h
+sized whole slot s s1 stands (Err fault) (Err why) h = same_fault Datum (Unit {0}) why fault h
 
 pub enlarges : (to : Target) (by : Datum → Result Datum FaultKind) (old new : Datum) (s s1 : State) (r : Result (Unit {0}) Stop) (p : IsPut to old new s s1) → by old ≡ Ok new →
     Gives (λ u. with_part to.path p.whole new) r s1 (gives (fitting (with_part to.path p.whole new)) s1) → Gives (λ u. u) r s1 (enlarge to by s)
@@ -100,10 +100,10 @@ put_again laws to old other x y s s1 s2 p q =
       is = p.is;
       stood = p.stood;
       stands = q.stands
-        ∙ ap (λ w. stored to.slot (with_part to.path w y) s1) same
-        ∙ ap (λ w. stored to.slot w s1) (laws.again to.path p.whole old x y p.stood)
-        ∙ ap (λ t. stored to.slot (with_part to.path p.whole y) t) p.stands
-        ∙ ap (λ xs. record s { frame = xs }) (set_twice s.frame to.slot (with_part to.path p.whole x) (with_part to.path p.whole y));
+          ∙ ap (λ w. stored to.slot (with_part to.path w y) s1) same
+          ∙ ap (λ w. stored to.slot w s1) (laws.again to.path p.whole old x y p.stood)
+          ∙ ap (λ t. stored to.slot (with_part to.path p.whole y) t) p.stands
+          ∙ ap (λ xs. record s { frame = xs }) (set_twice s.frame to.slot (with_part to.path p.whole x) (with_part to.path p.whole y));
     }
 
 held_put : Walks → (to : Target) (old x : Datum) (s s1 : State) → IsPut to old x s s1 → held to s1 ≡ Goes x s1

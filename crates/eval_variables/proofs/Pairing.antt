@@ -49,6 +49,6 @@ is_deleted name name' g v vs xs ys place next s same next_is nodes shown is gone
     let within : node_place name' xs < length xs = subst (λ n. n < length xs) found.1 found.0 in
     let there : is_some (node_in name g) ≡ true = ap (λ ys. is_some (value_at name ys)) (sym nodes) ∙ ap (λ n. is_some (value_at n xs)) (sym same) ∙ is_there name' xs within in
     let left : ys ≡ without_node name (nodes_in g) =
-        gone ∙ ap (remove xs) found.1 ∙ sym (node_gone name' xs within) ∙ ap (λ n. without_node n xs) same ∙ ap (without_node name) nodes in
+    gone ∙ ap (remove xs) found.1 ∙ sym (node_gone name' xs within) ∙ ap (λ n. without_node n xs) same ∙ ap (without_node name) nodes in
     ap (λ b. gives (cond b (Ok (graph_of (name_in g) (without_node name (nodes_in g)))) (Err IndexOutside)) s) there
     ∙ ap (λ d. Goes d s) (sym (v_is ∙ ap (λ n. graph_of n ys) next_is ∙ ap (graph_of (name_in g)) left))

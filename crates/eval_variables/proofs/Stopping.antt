@@ -15,11 +15,11 @@ goes_not (stop.Faults fault) x s h out = absurd cc
 goes_not stop.Busy x s h out = absurd cc
 
 -- a fault is a fault of whatever result
-pub same_fault : {X Y : Type 0} (why : Stop) (fault : FaultKind) → Fails {Y = X} why (Stops (Faults fault)) → Fails {Y = Y} why (Stops (Faults fault))
-same_fault stop.NoMemory fault h = tt
-same_fault (stop.Needs action) fault h = absurd cc
-same_fault (stop.Faults other) fault h = let same : fault ≡ other = cc in ap (λ f. Stops (Faults f)) same
-same_fault stop.Busy fault h = absurd cc
+pub same_fault : (X Y : Type 0) (why : Stop) (fault : FaultKind) → Fails {Y = X} why (Stops (Faults fault)) → Fails {Y = Y} why (Stops (Faults fault))
+same_fault X Y stop.NoMemory fault h = tt
+same_fault X Y (stop.Needs action) fault h = absurd cc
+same_fault X Y (stop.Faults other) fault h = let same : fault ≡ other = cc in ap (λ f. Stops (Faults f)) same
+same_fault X Y stop.Busy fault h = absurd cc
 
 -- what stops first
 pub fails_then : {A B : Type 0} (why : Stop) (o : Out A) (next : A → State → Out B) → Fails why o → Fails why (after o next)
@@ -29,8 +29,8 @@ fails_then (stop.Faults fault) o next h = ap (λ q. after q next) h
 fails_then stop.Busy o next h = ap (λ q. after q next) h
 
 pub fails_first : {A B : Type 0} (why : Stop) (q : Result A FaultKind) (next : A → Result B FaultKind) (s : State) → Fails why (gives q s) → Fails why (gives (and_then q next) s)
-fails_first why (Ok x) next s h = goes_not why x s h (gives (next x) s)
-fails_first why (Err fault) next s h = same_fault why fault h
+fails_first {A} {B} why (Ok x) next s h = goes_not why x s h (gives (next x) s)
+fails_first {A} {B} why (Err fault) next s h = same_fault A B why fault h
 
 -- what goes on lacks nothing but memory where it stops
 pub lacks : {X : Type 0} (why : Stop) (x : X) (s : State) → Fails why (Goes x s) → why ≡ stop.NoMemory

@@ -16,13 +16,20 @@ use value_core::Value;
 ///
 /// # Errors
 /// `IndexOutside`, `TooLarge`, and want of memory.
-pub fn hand_back(alloc: Global, passed: &[Passed], frame: &[Value], run: &mut Run<'_>) -> Result<(), Stop>
+pub fn hand_back(
+    alloc: Global,
+    passed: &[Passed],
+    frame: &[Value],
+    run: &mut Run<'_>,
+) -> Result<(), Stop>
     ensures left { run.new.left ≤ run.old.left }
     ensures gives { Gives (λ u. u) result (state_of run.new)
         (rules.hand_back (map passed_of passed.now) (map datum_of frame.now) (state_of run.old)) }
 {
     match (passed, frame) {
-        ([Passed::Given { .. }, passed @ ..], [_, frame @ ..]) => hand_back(alloc, passed, frame, run),
+        ([Passed::Given { .. }, passed @ ..], [_, frame @ ..]) => hand_back(
+            alloc, passed, frame, run,
+        ),
         ([Passed::Lent { to }, passed @ ..], [value, frame @ ..]) => {
             store(alloc, to, value.copy(alloc)?, run)?;
             hand_back(alloc, passed, frame, run)

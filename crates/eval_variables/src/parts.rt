@@ -55,10 +55,7 @@ fn part_of_record(value: &Value, place: usize) -> Result<&Value, FaultKind>
         (λ f. part_to (value_step.Field place) (datum_of value.now) ≡ Err f) }
 {
     match value {
-        Value::Fields(fields) => fields
-            .as_parts()
-            .get(place)
-            .ok_or(FaultKind::IndexOutside),
+        Value::Fields(fields) => fields.as_parts().get(place).ok_or(FaultKind::IndexOutside),
         _ => Err(FaultKind::IndexOutside),
     }
 }
@@ -198,13 +195,27 @@ fn put_in_graph(
 
 // Puts a part at the end of what a path has from here on.
 #[cycle(puts)]
-fn put_from(alloc: Global, value: &mut Value, path: &[Step], from: usize, part: Value) -> Result<Value, Stop>
+fn put_from(
+    alloc: Global,
+    value: &mut Value,
+    path: &[Step],
+    from: usize,
+    part: Value,
+) -> Result<Value, Stop>
     ensures { PutsPart (path_of (drop from path.now)) (datum_of part) (datum_of value.old) result (datum_of value.new) }
 {
     match path.get(from) {
         None => Ok(mem::replace(value, part)),
         Some(step) => match *step {
-            Step::Index { low, index } => put_in_array(alloc, value, low, index, path, from + 1, part),
+            Step::Index { low, index } => put_in_array(
+                alloc,
+                value,
+                low,
+                index,
+                path,
+                from + 1,
+                part,
+            ),
             Step::Field { place } => put_in_record(alloc, value, place, path, from + 1, part),
             Step::Node { name } => put_in_graph(alloc, value, name, path, from + 1, part),
         },
@@ -215,7 +226,12 @@ fn put_from(alloc: Global, value: &mut Value, path: &[Step], from: usize, part: 
 ///
 /// # Errors
 /// `IndexOutside` where a step leads nowhere, and want of memory.
-pub fn exchange_part(alloc: Global, value: &mut Value, path: &[Step], part: Value) -> Result<Value, Stop>
+pub fn exchange_part(
+    alloc: Global,
+    value: &mut Value,
+    path: &[Step],
+    part: Value,
+) -> Result<Value, Stop>
     ensures { PutsPart (path_of path.now) (datum_of part) (datum_of value.old) result (datum_of value.new) }
 {
     put_from(alloc, value, path, 0, part)

@@ -110,7 +110,12 @@ pub fn put(alloc: Global, to: &Target, element: Value, run: &mut Run<'_>) -> Res
 ///
 /// # Errors
 /// `IndexOutside`, and want of memory.
-pub fn drop_element(alloc: Global, to: &Target, element: &Value, run: &mut Run<'_>) -> Result<(), Stop>
+pub fn drop_element(
+    alloc: Global,
+    to: &Target,
+    element: &Value,
+    run: &mut Run<'_>,
+) -> Result<(), Stop>
     ensures left { run.new.left ≤ run.old.left }
     ensures gives { Gives (λ u. u) result (state_of run.new) (rules.drop_element (target_of to.now) (datum_of element.now) (state_of run.old)) }
 {
@@ -137,7 +142,12 @@ pub fn take(alloc: Global, to: &Target, run: &mut Run<'_>) -> Result<Value, Stop
 ///
 /// # Errors
 /// `IndexOutside`, `Overflow` where the graph has given its last name, `TooLarge`, and want of memory.
-pub fn add_node(alloc: Global, to: &Target, fresh: Value, run: &mut Run<'_>) -> Result<Option<Value>, Stop>
+pub fn add_node(
+    alloc: Global,
+    to: &Target,
+    fresh: Value,
+    run: &mut Run<'_>,
+) -> Result<Option<Value>, Stop>
     ensures left { run.new.left ≤ run.old.left }
     ensures gives { Gives (option_map datum_of) result (state_of run.new) (rules.add_node (target_of to.now) (datum_of fresh) (state_of run.old)) }
 {
@@ -152,7 +162,12 @@ pub fn add_node(alloc: Global, to: &Target, fresh: Value, run: &mut Run<'_>) -> 
 ///
 /// # Errors
 /// `IndexOutside`, and want of memory.
-pub fn delete_node(alloc: Global, to: &Target, name: &Value, run: &mut Run<'_>) -> Result<Option<Value>, Stop>
+pub fn delete_node(
+    alloc: Global,
+    to: &Target,
+    name: &Value,
+    run: &mut Run<'_>,
+) -> Result<Option<Value>, Stop>
     ensures left { run.new.left ≤ run.old.left }
     ensures gives { Gives (option_map datum_of) result (state_of run.new) (rules.delete_node (target_of to.now) (datum_of name.now) (state_of run.old)) }
 {

@@ -35,7 +35,7 @@ put_in_graph-returns t c =
     let at_place = subst (λ n. Some c.in-Some.place ≡ position (λ v. is_named n (datum_of v)) c.as_slice.result.now) back (sym c.in-Some.is ∙ c.place_of.ensures) in
     let node = (c.in_ok-node.ensures {u = tt}) ∙ ap (λ n. node_of n (datum_of c.put_from.new.value)) back in
     let put = node_puts c.args.name (path_of (drop c.args.from c.args.path.now)) (datum_of c.args.part) (datum_of c.args.value.now) (datum_of c.replace-2.result) (datum_of c.value_of-inside.result) (datum_of c.put_from.new.value)
-        c.as_slice.result.now (list_of c.of-graph.result.nodes) c.in-Some.place (Ok c.in_ok-old.old) nodes c.as_slice.ensures at_place c.replace-2.ensures.old c.value_of-inside.ensures (c.in_ok-old.ensures {u = tt}) in
+    c.as_slice.result.now (list_of c.of-graph.result.nodes) c.in-Some.place (Ok c.in_ok-old.old) nodes c.as_slice.ensures at_place c.replace-2.ensures.old c.value_of-inside.ensures (c.in_ok-old.ensures {u = tt}) in
     let new = together c.args.name c.of-graph.result.next (name_in (datum_of c.args.value.now)) (list_of c.of-graph.result.nodes) (list_of c.replace-2.new.self) (list_of c.set.new.self) c.in-Some.place _ (datum_of c.in_ok-node.field-0) (datum_of c.put_from.new.value) (datum_of c.in_ok-value.field-0)
-        next c.replace-2.ensures.new c.set.ensures node (c.in_ok-value.ensures {u = tt}) in
+    next c.replace-2.ensures.new c.set.ensures node (c.in_ok-value.ensures {u = tt}) in
     (put.0, new ∙ put.1)
