@@ -10,7 +10,7 @@ use Rattle.value_core.specs.View.{datum_of}
 use Rattle.value_core.specs.declared.value.Value.{Value}
 use Rattle.value_paths.specs.declared.step.Step.{Step as ValueStep}
 use Rattle.value_paths.specs.Paths.{part_at, with_part}
-use Rattle.meaning_rules.specs.States.{State, Out, Goes, after, gives}
+use Rattle.meaning_rules.specs.States.{State, Goes, after, gives}
 use Rattle.meaning_rules.specs.Operators.{and_then, fitting}
 use Rattle.meaning_rules.specs.Variables.{Target, add_node, change, changed_at, changed_whole, enlarge, held, store, stored, whole_at}
 use Rattle.eval_variables.specs.declared.stop.Stop.{Stop}
@@ -19,31 +19,8 @@ use Rattle.eval_variables.specs.Exchanges.{Exchanges, IsPut, PutsBack, PutsPart}
 use Rattle.eval_variables.specs.Gives.{Fails, Gives}
 use Rattle.eval_variables.proofs.Stopping.{fails_first, fails_then, fails_without, goes_not, lacks, same_fault}
 
--- ---- where nothing stands
+-- ---- where something stands, and by gives what is put
 
-part_fails : (path : List ValueStep) (by : Datum → Result Datum FaultKind) (s : State) (why : Stop) (w : Datum) (p : Result Datum FaultKind) → Fails why (gives p s) →
-    Fails why (gives (and_then p (λ old. and_then (by old) (λ new. Ok (with_part path w new)))) s)
-part_fails path by s why w (Err fault) h = h
-part_fails path by s why w (Ok x) h = goes_not why x s h (gives (and_then (by x) (λ new. Ok (with_part path w new))) s)
-
-whole_fails : (path : List ValueStep) (by : Datum → Result Datum FaultKind) (s : State) (why : Stop) (q : Result Datum FaultKind) → Fails why (gives (and_then q (part_at path)) s) → Fails why (gives (and_then q (changed_at path by)) s)
-whole_fails path by s why (Err fault) h = h
-whole_fails path by s why (Ok w) h = part_fails path by s why w (part_at path w) h
-
-pub changed_fails : (to : Target) (by : Datum → Result Datum FaultKind) (s : State) (why : Stop) → Fails why (held to s) → Fails why (gives (changed_whole to by s) s)
-changed_fails to by s why h = whole_fails to.path by s why (whole_at to s) h
-
-pub change_fails : (to : Target) (by : Datum → Result Datum FaultKind) (s : State) (why : Stop) → Fails why (held to s) → Fails why (change to by s)
-change_fails to by s why h = fails_then why (gives (changed_whole to by s) s) (λ whole s1. Goes tt (stored to.slot whole s1)) (changed_fails to by s why h)
-
-pub enlarge_fails : (to : Target) (by : Datum → Result Datum FaultKind) (s : State) (why : Stop) → Fails why (held to s) → Fails why (enlarge to by s)
-enlarge_fails to by s why h =
-    fails_then why (gives (and_then (changed_whole to by s) fitting) s) (λ whole s1. Goes tt (stored to.slot whole s1))
-    (fails_first why (changed_whole to by s) fitting s (changed_fails to by s why h))
-
--- ---- where something stands
-
--- by gives what is put
 changed_is : (to : Target) (by : Datum → Result Datum FaultKind) (old new : Datum) (s s1 : State) (p : IsPut to old new s s1) → by old ≡ Ok new →
     changed_whole to by s ≡ Ok (with_part to.path p.whole new)
 changed_is to by old new s s1 p given =

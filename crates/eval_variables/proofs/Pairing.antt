@@ -1,5 +1,5 @@
 -- Records of two fields: nodes and graphs.
-use Rattle.std.proofs.Common.{◌≡◌, ◌<◌, zero, suc, get_or, arith, Bool, true, false, cond, ℤ, ℕ, List, [], ◌∷◌, ◌++◌, Option, Some, None, Ok, Err, length, map, refl, ap, sym, ◌∙◌, subst}
+use Rattle.std.proofs.Common.{◌≡◌, ◌<◌, zero, suc, get_or, arith, true, cond, ℤ, ℕ, List, [], ◌∷◌, ◌++◌, Some, None, Ok, Err, length, map, refl, ap, sym, ◌∙◌, subst}
 use Rattle.std.specs.Prelude.{is_some, position, remove, slice_get}
 use Rattle.orca_base.specs.declared.fault.FaultKind.TheVariants.{IndexOutside}
 use Rattle.value_core.specs.Datum.{Datum, Data, data_of, list_of, data_of-list_of}

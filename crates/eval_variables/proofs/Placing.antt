@@ -1,5 +1,5 @@
 -- Places of elements and of nodes: of the first that passes a test.
-use Rattle.std.proofs.Common.{◌≡◌, ◌+◌, ◌<◌, ◌≤◌, ℕ, zero, suc, Bool, true, false, cond, ℤ, List, [], ◌∷◌, length, drop, map, Option, Some, None, refl, ap, sym, ◌∙◌, subst, arith}
+use Rattle.std.proofs.Common.{◌≡◌, ◌+◌, ◌<◌, ◌≤◌, ℕ, zero, suc, Bool, true, false, cond, ℤ, List, [], ◌∷◌, length, map, Option, Some, None, refl, ap, sym, ◌∙◌, subst, arith}
 use Rattle.std.specs.Prelude.{insert, is_some, nat_lt, not, position, remove, slice_get, slice_set, unwrap_or}
 use Rattle.std.specs.List.{position_or_len}
 use Rattle.std.proofs.lemmas.Bool.{ltb-false, ltb-true}
@@ -50,14 +50,6 @@ put_at e (x ∷ xs) = by_test (is_lt (datum_cmp x e)) (put_at e xs)
     by_test : (b : Bool) → put_in e xs ≡ insert xs (place_for e xs) e → cond b (x ∷ put_in e xs) (e ∷ x ∷ xs) ≡ insert (x ∷ xs) (cond (not (not b)) (1 + place_for e xs) 0) e
     by_test true rest = ap (λ ys. x ∷ ys) rest ∙ sym (insert_more x e xs (place_for e xs) (1 + place_for e xs) (omega arith))
     by_test false rest = refl
-
-pub for_within : (e : Datum) (xs : List Datum) → place_for e xs ≤ length xs
-for_within e [] = omega arith
-for_within e (x ∷ xs) = by_test (not (not (is_lt (datum_cmp x e)))) (for_within e xs)
-  where
-    by_test : (b : Bool) → place_for e xs ≤ length xs → cond b (1 + place_for e xs) 0 ≤ suc (length xs)
-    by_test true rest = omega (arith, rest)
-    by_test false rest = omega arith
 
 pub gone_at : (e : Datum) (xs : List Datum) → place_of e xs < length xs → without e xs ≡ remove xs (place_of e xs)
 gone_at e [] h = absurd (omega (arith, h))
@@ -168,11 +160,6 @@ pub put_found : (e : Datum) (vs : List Value) (w w' : Data) (o : Option ℕ) (n 
 put_found e vs w w' o n place is shown all found put =
     sym (data_of-list_of w')
     ∙ ap data_of (put ∙ ap (λ i. insert (list_of w) i e) (place_or (λ x. not (is_lt (datum_cmp x e))) vs (list_of w) o n place is shown all found) ∙ sym (put_at e (list_of w)))
-
-pub may_put : (e : Datum) (vs : List Value) (w : Data) (o : Option ℕ) (n place : ℕ) → o ≡ position (λ v. not (is_lt (datum_cmp (datum_of v) e))) vs → map datum_of vs ≡ list_of w → n ≡ length (list_of w) →
-    place ≡ unwrap_or o n → place ≤ length (list_of w)
-may_put e vs w o n place is shown all found =
-    subst (λ i. i ≤ length (list_of w)) (sym (place_or (λ x. not (is_lt (datum_cmp x e))) vs (list_of w) o n place is shown all found)) (for_within e (list_of w))
 
 pub gone_found : (e : Datum) (vs : List Value) (w w' : Data) (place : ℕ) → Some place ≡ position (λ v. is_eq (datum_cmp (datum_of v) e)) vs → map datum_of vs ≡ list_of w →
     list_of w' ≡ remove (list_of w) place → w' ≡ data_of (without e (list_of w))

@@ -1,17 +1,14 @@
 -- One step, and the rest of a path behind it.
-use Rattle.std.proofs.Common.{◌≡◌, ℕ, zero, suc, ◌<◌, ℤ, pos, negsuc, List, [], ◌∷◌, length, Option, Some, None, Result, Ok, Err, refl, ap, sym, ◌∙◌, subst}
+use Rattle.std.proofs.Common.{◌≡◌, ℕ, zero, suc, ◌<◌, ℤ, List, [], ◌∷◌, length, Some, Result, Ok, Err, refl, ap, sym, ◌∙◌, subst}
 use Rattle.std.specs.Prelude.{map, position, slice_get, slice_set}
-use Rattle.orca_base.specs.declared.fault.FaultKind.{FaultKind}
-use Rattle.value_core.specs.Datum.{Datum, Data, data_of, list_of}
-use Rattle.value_core.specs.Datum as datum
+use Rattle.value_core.specs.Datum.{Datum}
 use Rattle.value_core.specs.View.{datum_of}
 use Rattle.value_core.specs.declared.value.Value.{Value}
-use Rattle.value_ops.specs.Sizes.{place_of}
-use Rattle.graph_values.specs.Graphs.{graph_of, is_named, name_in, node_in, node_of, nodes_in, value_at, value_in, with_node}
+use Rattle.graph_values.specs.Graphs.{graph_of, is_named, name_in, node_of, nodes_in, value_at, value_in, with_node}
 use Rattle.value_paths.specs.declared.step.Step.{Step as ValueStep}
-use Rattle.value_paths.specs.declared.step.Step.TheVariants.{Index, Field, Node}
-use Rattle.value_paths.specs.Paths.{and_then, at_place, found, part_at, part_to, set_place, where_found, with_part, with_step}
-use Rattle.meaning_rules.specs.States.{State, gives}
+use Rattle.value_paths.specs.declared.step.Step.TheVariants.{Node}
+use Rattle.value_paths.specs.Paths.{and_then, found, part_at, part_to, where_found, with_part, with_step}
+use Rattle.meaning_rules.specs.States.{gives}
 use Rattle.eval_variables.specs.declared.stop.Stop.{Stop}
 use Rattle.eval_variables.specs.Exchanges.{PutsPart}
 use Rattle.eval_variables.specs.Gives.{Fails}
@@ -25,26 +22,6 @@ puts_behind step path x old new c c' (Ok part) leads left put = (
   left ∙ ap (with_step step old) put.1 ∙ sym (ap (λ q. where_found q old (λ p. with_step step old (with_part path p x))) leads),
 )
 puts_behind step path x old new c c' (Err why) leads left put = λ s. subst (λ q. Fails why (gives q s)) (sym (ap (λ q. and_then q (part_at path)) leads)) (put s)
-
--- what leads nowhere, with whatever behind it
-pub puts_nowhere : (step : ValueStep) (path : List ValueStep) (old : Datum) (fault : FaultKind) → part_to step old ≡ Err fault → part_at (step ∷ path) old ≡ Err fault
-puts_nowhere step path old fault leads = ap (λ q. and_then q (part_at path)) leads
-
--- an array
-pub array_puts : (low index : ℤ) (path : List ValueStep) (x old c c' : Datum) (w u : Data) (place : ℕ) (r : Result Value Stop) → old ≡ datum.array w → u ≡ w → place_of (length (list_of u)) low index ≡ Ok place →
-    slice_get (list_of u) place ≡ Some c → PutsPart path x c r c' → PutsPart (Index low index ∷ path) x old r (datum.array (data_of (slice_set (list_of u) place c')))
-array_puts low index path x old c c' w u place r is same placed stands put =
-    subst (λ v. PutsPart (Index low index ∷ path) x v r (datum.array (data_of (slice_set (list_of u) place c')))) (ap datum.array same ∙ sym is)
-    (puts_behind (Index low index) path x (datum.array u) (datum.array (data_of (slice_set (list_of u) place c'))) c c' r
-    (ap (λ q. at_place q (list_of u)) placed ∙ ap found stands)
-    (sym (ap (λ q. datum.array (data_of (set_place q (list_of u) c'))) placed)) put)
-
--- a record
-pub record_puts : (field : ℕ) (path : List ValueStep) (x old c c' : Datum) (w u : Data) (r : Result Value Stop) → old ≡ datum.fields w → u ≡ w → slice_get (list_of u) field ≡ Some c → PutsPart path x c r c' →
-    PutsPart (Field field ∷ path) x old r (datum.fields (data_of (slice_set (list_of u) field c')))
-record_puts field path x old c c' w u r is same stands put =
-    subst (λ v. PutsPart (Field field ∷ path) x v r (datum.fields (data_of (slice_set (list_of u) field c')))) (ap datum.fields same ∙ sym is)
-    (puts_behind (Field field) path x (datum.fields u) (datum.fields (data_of (slice_set (list_of u) field c'))) c c' r (ap found stands) refl put)
 
 -- a graph, by the place of its node
 pub graph_puts : (name : ℤ) (path : List ValueStep) (x old c c' : Datum) (xs : List Datum) (place : ℕ) (r : Result Value Stop) → xs ≡ nodes_in old → value_at name xs ≡ Some c →

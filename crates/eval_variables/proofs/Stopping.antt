@@ -1,11 +1,11 @@
 -- Results, faults, and stops of what comes first.
-use Rattle.std.proofs.Common.{◌≡◌, Result, Ok, Err, refl, ap, sym, ◌∙◌, subst}
+use Rattle.std.proofs.Common.{◌≡◌, Result, Ok, Err, refl, ap, sym, subst}
 use Rattle.orca_base.specs.declared.fault.FaultKind.{FaultKind}
 use Rattle.meaning_rules.specs.States.{State, Out, Goes, Stops, Faults, after, gives}
 use Rattle.meaning_rules.specs.Operators.{and_then}
 use Rattle.eval_variables.specs.declared.stop.Stop.{Stop}
 use Rattle.eval_variables.specs.declared.stop.Stop.TheVariants as stop
-use Rattle.eval_variables.specs.Gives.{Fails, Gives}
+use Rattle.eval_variables.specs.Gives.{Fails}
 
 -- what goes on doesn't stop, but for want of memory
 pub goes_not : {X Y : Type 0} (why : Stop) (x : X) (s : State) → Fails why (Goes x s) → (out : Out Y) → Fails why out
