@@ -1,0 +1,5 @@
+mod Stopping
+mod Changing
+mod Placing
+mod Putting
+mod Pairing

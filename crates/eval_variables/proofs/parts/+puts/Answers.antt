@@ -1,0 +1,41 @@
+use Rattle.std.proofs.Common.{◌≡◌, drop, ap, ◌∙◌, sym, subst, Some, Ok, Err}
+use Rattle.std.specs.Int.{w64}
+use Rattle.std.specs.Prelude.{position}
+use Rattle.std.proofs.lemmas.Int.{to_z-of_z}
+use Rattle.std.proofs.lemmas.Result.{err_from_is_err_and}
+use Rattle.value_core.specs.Datum.{list_of}
+use Rattle.value_core.specs.View.{datum_of}
+use Rattle.graph_values.specs.Graphs.{is_named, name_in, node_of, nodes_in}
+use Rattle.value_paths.specs.Paths.{and_then, found, part_at}
+use Rattle.meaning_rules.specs.States.{gives}
+use Rattle.eval_variables.specs.Gives.{path_of}
+use Rattle.eval_variables.proofs.Pairing.{node_nowhere}
+use Rattle.eval_variables.proofs.Putting.{node_puts, together}
+use Rattle.eval_variables.proofs.parts.+puts.Goals as goal
+
+pub put_in_graph-returns-in_default : goal.put_in_graph-returns-in_default
+put_in_graph-returns-in_default t c s =
+    let nodes = c.of-graph.ensures.nodes ∙ ap (λ x. nodes_in (datum_of x)) c.replace.ensures.value in
+    ap (λ o. gives (and_then (found o) (part_at (path_of (drop c.args.from c.args.path.now)))) s)
+    (node_nowhere c.args.name _ (datum_of c.args.value.now) c.as_slice.result.now (list_of c.of-graph.result.nodes) (to_z-of_z w64 c.args.name c.ranges.name) nodes c.as_slice.ensures (sym c.in_default.is ∙ c.place_of.ensures))
+
+pub put_in_graph-returns-in_err-old : goal.put_in_graph-returns-in_err-old
+put_in_graph-returns-in_err-old t c =
+    let p = err_from_is_err_and c.from_residual.result c.from_residual.ensures.1 in
+    let nodes = c.of-graph.ensures.nodes ∙ ap (λ x. nodes_in (datum_of x)) c.replace.ensures.value in
+    let at_place = subst (λ n. Some c.in-Some.place ≡ position (λ v. is_named n (datum_of v)) c.as_slice.result.now) (to_z-of_z w64 c.args.name c.ranges.name) (sym c.in-Some.is ∙ c.place_of.ensures) in
+    rw (p.1, p.2) (node_puts c.args.name (path_of (drop c.args.from c.args.path.now)) (datum_of c.args.part) (datum_of c.args.value.now) (datum_of c.replace-2.result) (datum_of c.value_of-inside.result) (datum_of c.put_from.new.value)
+    c.as_slice.result.now (list_of c.of-graph.result.nodes) c.in-Some.place (Err c.in_err-old.field-0.0) nodes c.as_slice.ensures at_place c.replace-2.ensures.old c.value_of-inside.ensures (c.in_err-old.ensures {u = tt}))
+
+pub put_in_graph-returns : goal.put_in_graph-returns
+put_in_graph-returns t c =
+    let nodes = c.of-graph.ensures.nodes ∙ ap (λ x. nodes_in (datum_of x)) c.replace.ensures.value in
+    let next = c.of-graph.ensures.next ∙ ap (λ x. name_in (datum_of x)) c.replace.ensures.value in
+    let back = to_z-of_z w64 c.args.name c.ranges.name in
+    let at_place = subst (λ n. Some c.in-Some.place ≡ position (λ v. is_named n (datum_of v)) c.as_slice.result.now) back (sym c.in-Some.is ∙ c.place_of.ensures) in
+    let node = (c.in_ok-node.ensures {u = tt}) ∙ ap (λ n. node_of n (datum_of c.put_from.new.value)) back in
+    let put = node_puts c.args.name (path_of (drop c.args.from c.args.path.now)) (datum_of c.args.part) (datum_of c.args.value.now) (datum_of c.replace-2.result) (datum_of c.value_of-inside.result) (datum_of c.put_from.new.value)
+    c.as_slice.result.now (list_of c.of-graph.result.nodes) c.in-Some.place (Ok c.in_ok-old.old) nodes c.as_slice.ensures at_place c.replace-2.ensures.old c.value_of-inside.ensures (c.in_ok-old.ensures {u = tt}) in
+    let new = together c.args.name c.of-graph.result.next (name_in (datum_of c.args.value.now)) (list_of c.of-graph.result.nodes) (list_of c.replace-2.new.self) (list_of c.set.new.self) c.in-Some.place _ (datum_of c.in_ok-node.field-0) (datum_of c.put_from.new.value) (datum_of c.in_ok-value.field-0)
+    next c.replace-2.ensures.new c.set.ensures node (c.in_ok-value.ensures {u = tt}) in
+    (put.0, new ∙ put.1)

@@ -1,0 +1,39 @@
+use Rattle.std.proofs.Common.{ap, sym, ◌∙◌, refl, subst, Ok, Some}
+use Rattle.std.specs.Int.{w64}
+use Rattle.std.proofs.lemmas.Int.{to_z-of_z}
+use Rattle.std.proofs.lemmas.Result.{err_from_is_err_and}
+use Rattle.value_core.specs.Datum as datum
+use Rattle.value_core.specs.View.{datum_of}
+use Rattle.meaning_rules.specs.States.{Goes}
+use Rattle.meaning_rules.specs.Variables as rules
+use Rattle.eval_variables.specs.Gives.{Gives, state_of, target_of}
+use Rattle.eval_variables.proofs.Changing.{added_fails, added_goes, checked_enlarges}
+use Rattle.eval_variables.proofs.Stopping.{fails_without}
+use Rattle.eval_variables.proofs.variables.add_node.Goals as goal
+
+pub returns-in_err-lower-clause-gives : goal.returns-in_err-lower-clause-gives
+returns-in_err-lower-clause-gives c =
+    let p = err_from_is_err_and c.from_residual-in_err-lower.result c.from_residual-in_err-lower.ensures.1 in
+    let s = state_of c.args.run.now in
+    rw (p.1, p.2) (fails_without c.in_err-lower.field-0.0 (rules.add_node (target_of c.args.to.now) (datum_of c.args.fresh) s)
+    ((c.in_err-lower.ensures {u = tt}).lowered s (datum_of c.in_ok-old.old) (c.in_ok-old.ensures {u = tt}).lifted))
+
+pub returns-in_err-check-clause-gives : goal.returns-in_err-check-clause-gives
+returns-in_err-check-clause-gives c =
+    let p = err_from_is_err_and c.from_residual-in_err-check.result c.from_residual-in_err-check.ensures.1 in
+    let s = state_of c.args.run.now in
+    let to = target_of c.args.to.now in
+    let put = (c.in_ok-lower.ensures {u = tt}).lowered s (datum_of c.in_ok-old.old) (c.in_ok-old.ensures {u = tt}).lifted in
+    let stored = checked_enlarges to (λ old. Ok (datum_of c.in_ok-name.graph)) (datum_of c.in_ok-old.old) (datum_of c.in_ok-name.graph) s (state_of c.lower.new.run) c.check.result put refl c.check.ensures in
+    rw (p.1, p.2) (added_fails to (datum_of c.args.fresh) (datum_of c.in_ok-old.old) (datum_of c.in_ok-name.graph) c.in_ok-name.name s (state_of c.lower.new.run) c.in_err-check.field-0.0 put ((c.in_ok-name.ensures {u = tt}).given s)
+    (subst (λ r. Gives (λ u. u) r (state_of c.lower.new.run) (rules.store to (datum_of c.in_ok-name.graph) s)) (c.in_err-check.was {u = tt}) stored))
+
+pub returns-clause-gives : goal.returns-clause-gives
+returns-clause-gives c =
+    let s = state_of c.args.run.now in
+    let to = target_of c.args.to.now in
+    let put = (c.in_ok-lower.ensures {u = tt}).lowered s (datum_of c.in_ok-old.old) (c.in_ok-old.ensures {u = tt}).lifted in
+    let stored = checked_enlarges to (λ old. Ok (datum_of c.in_ok-name.graph)) (datum_of c.in_ok-old.old) (datum_of c.in_ok-name.graph) s (state_of c.lower.new.run) c.check.result put refl c.check.ensures in
+    added_goes to (datum_of c.args.fresh) (datum_of c.in_ok-old.old) (datum_of c.in_ok-name.graph) c.in_ok-name.name s (state_of c.lower.new.run) put ((c.in_ok-name.ensures {u = tt}).given s)
+    (subst (λ r. Gives (λ u. u) r (state_of c.lower.new.run) (rules.store to (datum_of c.in_ok-name.graph) s)) (c.in_ok-check.was {u = tt}) stored)
+    ∙ ap (λ n. Goes (Some (datum.int n)) (state_of c.lower.new.run)) (sym (to_z-of_z w64 c.in_ok-name.name (c.in_ok-name.ensures {u = tt}).range))

@@ -1,0 +1,181 @@
+//! Graphs, taken apart and put together again.
+
+ghost use Rattle.std.specs.Int.{w64};
+ghost use Rattle.std.specs.Prelude.{◌≡◌, FitsSigned, IfOk, Some, map, pos, position, slice_get, unwrap_or};
+ghost use Rattle.value_core.specs.Datum as datum;
+ghost use Rattle.value_core.specs.Datum.{list_of};
+ghost use Rattle.value_core.specs.View.{datum_of};
+ghost use Rattle.graph_values.specs.Graphs as rules;
+ghost use Rattle.graph_values.specs.Graphs.{graph_of, is_named, name_in, node_of, nodes_in, value_in};
+ghost use Rattle.meaning_rules.specs.States.{State, gives};
+ghost use Rattle.eval_variables.specs.Gives.{Gives};
+
+use crate::stop::Stop;
+use orca_base::{FaultKind, NoMemory};
+use std::alloc::Global;
+use value_core::{BoxedParts, Parts, Value};
+
+/// A graph's next name and its nodes, or what the definitions take for these of any other value.
+#[derive(Drop)]
+pub struct Graph {
+    pub next: i64,
+    pub nodes: Parts,
+}
+
+// The name of a node, or the next name of a graph; 0 of any other value.
+fn name_of(value: &Value) -> i64
+    ensures { result ≡ name_in (datum_of value.now) }
+{
+    match value {
+        Value::Fields(fields) => match fields.as_parts().get(0) {
+            Some(Value::Int(name)) => *name,
+            _ => 0,
+        },
+        _ => 0,
+    }
+}
+
+/// The nodes of a graph; of any other value none.
+pub fn nodes_of(value: &Value) -> &[Value]
+    ensures { map datum_of result.now ≡ nodes_in (datum_of value.now) }
+{
+    match value {
+        Value::Fields(fields) => match fields.as_parts().get(1) {
+            Some(Value::Set(nodes)) => nodes.as_parts().as_slice(),
+            _ => &[],
+        },
+        _ => &[],
+    }
+}
+
+/// The place of the first node with this name. It looks at one node after the other.
+pub fn place_of(nodes: &[Value], name: i64) -> Option<usize>
+    ensures { result ≡ position (λ v. is_named name (datum_of v)) nodes.now }
+{
+    nodes.iter().position(|node| name_of(node) == name)
+}
+
+// The fields of a record; of any other value none.
+fn fields_in(alloc: Global, value: Value) -> Parts
+    ensures { list_of result ≡ rules.fields_in (datum_of value) }
+{
+    match value {
+        Value::Fields(fields) => fields.into_parts(),
+        _ => Parts::new(alloc),
+    }
+}
+
+// The part at a place from 0, taken out, and 0 where there is none.
+fn taken(parts: Parts, place: usize) -> Value
+    ensures { datum_of result ≡ unwrap_or (slice_get (list_of parts) place) (datum.int (pos 0)) }
+{
+    let mut parts = parts;
+    if place < parts.len() {
+        parts.remove(place)
+    } else {
+        Value::Int(0)
+    }
+}
+
+// The elements of a set; of any other value none.
+fn set_in(alloc: Global, value: Value) -> Parts
+    ensures { list_of result ≡ rules.nodes_of (Some (datum_of value)) }
+{
+    match value {
+        Value::Set(parts) => parts.into_parts(),
+        _ => Parts::new(alloc),
+    }
+}
+
+impl Graph {
+    /// A graph, taken apart. It takes no memory.
+    pub fn of(alloc: Global, value: Value) -> Graph
+        ensures next { result.next ≡ name_in (datum_of value) }
+        ensures nodes { list_of result.nodes ≡ nodes_in (datum_of value) }
+    {
+        let next = name_of(&value);
+        let second = taken(fields_in(alloc, value), 1);
+        Graph {
+            next,
+            nodes: set_in(alloc, second),
+        }
+    }
+
+    /// The graph, put together.
+    ///
+    /// # Errors
+    /// Want of memory.
+    #[tactic(auto, using(crate::proofs::Pairing::whole_data))]
+    pub fn value(self, alloc: Global) -> Result<Value, NoMemory>
+        ensures { IfOk result (λ v. datum_of v ≡ graph_of self.next (list_of self.nodes)) }
+    {
+        let nodes = BoxedParts::new(alloc, self.nodes)?;
+        pair_of(alloc, self.next, Value::Set(nodes))
+    }
+}
+
+// A record of an integer and a value.
+fn pair_of(alloc: Global, first: i64, second: Value) -> Result<Value, NoMemory>
+    ensures { IfOk result (λ v. datum_of v ≡ node_of first (datum_of second)) }
+{
+    let mut fields = Parts::new(alloc);
+    fields.push(Value::Int(first))?;
+    fields.push(second)?;
+    Ok(Value::Fields(BoxedParts::new(alloc, fields)?))
+}
+
+/// A node of this name and value.
+///
+/// # Errors
+/// Want of memory.
+pub fn node(alloc: Global, name: i64, value: Value) -> Result<Value, NoMemory>
+    ensures { IfOk result (λ v. datum_of v ≡ node_of name (datum_of value)) }
+{
+    pair_of(alloc, name, value)
+}
+
+/// The value of a node, taken out of it, and 0 of what has none.
+pub fn value_of(alloc: Global, node: Value) -> Value
+    ensures { datum_of result ≡ value_in (datum_of node) }
+{
+    taken(fields_in(alloc, node), 1)
+}
+
+/// A graph with one node more, and the node's name: `addnode`.
+///
+/// # Errors
+/// `Overflow` where the graph has given its last name, and want of memory.
+pub fn added(alloc: Global, fresh: Value, value: Value) -> Result<(i64, Value), Stop>
+    ensures given { (s : State) → Gives (λ p. (p.0, datum_of p.1)) result s (gives (rules.added (datum_of fresh) (datum_of value)) s) }
+    ensures range { IfOk result (λ p. FitsSigned w64 p.0) }
+{
+    let mut graph = Graph::of(alloc, value);
+    let name = graph.next;
+    if name == i64::MAX {
+        return Err(Stop::Faults {
+            fault: FaultKind::Overflow,
+        });
+    }
+    graph.nodes.push(node(alloc, name, fresh)?)?;
+    graph.next = name + 1;
+    Ok((name, graph.value(alloc)?))
+}
+
+/// A graph without the node of this name: `deletenode`.
+///
+/// # Errors
+/// `IndexOutside` where it has none, and want of memory.
+pub fn deleted(alloc: Global, name: i64, value: Value) -> Result<Value, Stop>
+    ensures { (s : State) → Gives datum_of result s (gives (rules.deleted name (datum_of value)) s) }
+{
+    let mut graph = Graph::of(alloc, value);
+    match place_of(graph.nodes.as_slice(), name) {
+        None => Err(Stop::Faults {
+            fault: FaultKind::IndexOutside,
+        }),
+        Some(place) => {
+            graph.nodes.remove(place);
+            Ok(graph.value(alloc)?)
+        }
+    }
+}

@@ -1,0 +1,33 @@
+//! Variables, values and turns of an evaluation: what the evaluator does that is no phrase.
+//!
+//! The floors above use `Run`, where an evaluation stands, and `Stop`, why one goes no further; what operators give; the values at
+//! the ends of paths, read and changed; actions and turns. Each call gives what the definition of its name gives (meaning_rules), in
+//! the form of `Gives` (specs/Gives.antt), of any values and paths: none asks that anything is of a type, since the definitions have
+//! an answer for all, and code follows them. So elements and nodes are looked for one after the other. It stands on the crates of
+//! values and on meaning_rules, and knows nothing of phrases, names and types.
+#![tactic(auto)]
+
+mod actions;
+mod calls;
+mod elements;
+mod frames;
+mod graphs;
+mod operators;
+mod parts;
+mod run;
+mod sizes;
+mod steps;
+mod stop;
+mod variables;
+
+pub use actions::{act, turn};
+pub use calls::hand_back;
+pub use elements::is_in;
+pub use frames::{add_name, drop_name};
+pub use operators::{applied, decides, integer_in, negated, truth_in};
+pub use parts::part;
+pub use run::Run;
+pub use sizes::{fitting, fitting_all, fitting_passed};
+pub use steps::{Passed, Step, Target};
+pub use stop::Stop;
+pub use variables::{add_node, delete_node, drop_element, held, put, store, take};

@@ -1,0 +1,178 @@
+//! What is read from variables and done to them.
+
+ghost use Rattle.std.specs.Prelude.{◌≡◌, ◌≤◌, Ok, option_map, pos};
+ghost use Rattle.value_core.specs.Datum as datum;
+ghost use Rattle.value_core.specs.Datum.{Datum};
+ghost use Rattle.value_core.specs.View.{datum_of};
+ghost use Rattle.meaning_rules.specs.Operators.{fitting};
+ghost use Rattle.meaning_rules.specs.States.{State, gives};
+ghost use Rattle.meaning_rules.specs.Variables as rules;
+ghost use Rattle.eval_variables.specs.Exchanges.{Exchanges, IsPut, PutsBack};
+ghost use Rattle.eval_variables.specs.Gives.{Gives, state_of, target_of};
+
+use crate::elements::{delete, insert};
+use crate::graphs::{added, deleted};
+use crate::operators::integer_in;
+use crate::parts::{exchange_part, part};
+use crate::run::Run;
+use crate::sizes::fitting as fits;
+use crate::steps::Target;
+use crate::stop::Stop;
+use orca_base::FaultKind;
+use std::alloc::Global;
+use value_core::Value;
+use value_ops::take_least;
+use value_paths::paths_law;
+
+/// What stands at a target, once more. Nothing that holds it is copied.
+///
+/// # Errors
+/// `IndexOutside`, and want of memory.
+pub fn held(alloc: Global, to: &Target, run: &Run<'_>) -> Result<Value, Stop>
+    ensures { Gives datum_of result (state_of run.now) (rules.held (target_of to.now) (state_of run.now)) }
+{
+    let whole = run.frame.get(to.slot).ok_or(FaultKind::IndexOutside)?;
+    let zero = Value::Int(0);
+    let found = part(whole, &to.path, &zero)?;
+    Ok(found.copy(alloc)?)
+}
+
+// Puts a value at a target, and gives what stood there.
+fn exchange(alloc: Global, to: &Target, value: Value, run: &mut Run<'_>) -> Result<Value, Stop>
+    ensures left { run.new.left ≡ run.old.left }
+    ensures put { Exchanges (target_of to.now) (datum_of value) (state_of run.old) result (state_of run.new) }
+{
+    if to.slot >= run.frame.len() {
+        return Err(Stop::Faults {
+            fault: FaultKind::IndexOutside,
+        });
+    }
+    exchange_part(alloc, run.frame.part_mut(to.slot), &to.path, value)
+}
+
+// Takes what stands at a target out of its variable for a while, where 0 stands then.
+fn lift(alloc: Global, to: &Target, run: &mut Run<'_>) -> Result<Value, Stop>
+    ensures left { run.new.left ≡ run.old.left }
+    ensures lifted { Exchanges (target_of to.now) (datum.int (pos 0)) (state_of run.old) result (state_of run.new) }
+{
+    exchange(alloc, to, Value::Int(0), run)
+}
+
+// Puts a value at a target from which what stood there was taken out.
+fn lower(alloc: Global, to: &Target, value: Value, run: &mut Run<'_>) -> Result<(), Stop>
+    ensures left { run.new.left ≡ run.old.left }
+    ensures lowered { (s : State) (old : Datum) → IsPut (target_of to.now) old (datum.int (pos 0)) s (state_of run.old) →
+        PutsBack (target_of to.now) old (datum_of value) s result (state_of run.new) }
+{
+    paths_law();
+    exchange(alloc, to, value, run)?;
+    Ok(())
+}
+
+// Whether the variable of a target is no larger than one may be.
+fn check(to: &Target, run: &Run<'_>) -> Result<(), Stop>
+    ensures { (whole : Datum) → rules.whole_at (target_of to.now) (state_of run.now) ≡ Ok whole →
+        Gives (λ _. whole) result (state_of run.now) (gives (fitting whole) (state_of run.now)) }
+{
+    match run.frame.get(to.slot) {
+        Some(whole) => fits(whole),
+        None => Ok(()),
+    }
+}
+
+/// Stores a value at a target.
+///
+/// # Errors
+/// `IndexOutside`, `TooLarge` where the variable would be larger than one may be, and want of memory.
+pub fn store(alloc: Global, to: &Target, value: Value, run: &mut Run<'_>) -> Result<(), Stop>
+    ensures left { run.new.left ≤ run.old.left }
+    ensures gives { Gives (λ u. u) result (state_of run.new) (rules.store (target_of to.now) (datum_of value) (state_of run.old)) }
+{
+    exchange(alloc, to, value, run)?;
+    check(to, run)
+}
+
+/// `insert`: adds an element to the set or bag at a target.
+///
+/// # Errors
+/// `IndexOutside`, `TooLarge`, and want of memory.
+pub fn put(alloc: Global, to: &Target, element: Value, run: &mut Run<'_>) -> Result<(), Stop>
+    ensures left { run.new.left ≤ run.old.left }
+    ensures gives { Gives (λ u. u) result (state_of run.new) (rules.put (target_of to.now) (datum_of element) (state_of run.old)) }
+{
+    let mut all = lift(alloc, to, run)?;
+    insert(&mut all, element)?;
+    lower(alloc, to, all, run)?;
+    check(to, run)
+}
+
+/// `delete`: takes an element out of the set or bag at a target, where it is there.
+///
+/// # Errors
+/// `IndexOutside`, and want of memory.
+pub fn drop_element(
+    alloc: Global,
+    to: &Target,
+    element: &Value,
+    run: &mut Run<'_>,
+) -> Result<(), Stop>
+    ensures left { run.new.left ≤ run.old.left }
+    ensures gives { Gives (λ u. u) result (state_of run.new) (rules.drop_element (target_of to.now) (datum_of element.now) (state_of run.old)) }
+{
+    let mut all = lift(alloc, to, run)?;
+    delete(&mut all, element);
+    lower(alloc, to, all, run)
+}
+
+/// `from`: takes the least element out of the set or bag at a target.
+///
+/// # Errors
+/// `IndexOutside`, `FromEmpty`, and want of memory.
+pub fn take(alloc: Global, to: &Target, run: &mut Run<'_>) -> Result<Value, Stop>
+    ensures left { run.new.left ≤ run.old.left }
+    ensures gives { Gives datum_of result (state_of run.new) (rules.take (target_of to.now) (state_of run.old)) }
+{
+    let mut all = lift(alloc, to, run)?;
+    let least = take_least(&mut all)?;
+    lower(alloc, to, all, run)?;
+    Ok(least)
+}
+
+/// `addnode`: adds a node with this value to the graph at a target, and gives its name.
+///
+/// # Errors
+/// `IndexOutside`, `Overflow` where the graph has given its last name, `TooLarge`, and want of memory.
+pub fn add_node(
+    alloc: Global,
+    to: &Target,
+    fresh: Value,
+    run: &mut Run<'_>,
+) -> Result<Option<Value>, Stop>
+    ensures left { run.new.left ≤ run.old.left }
+    ensures gives { Gives (option_map datum_of) result (state_of run.new) (rules.add_node (target_of to.now) (datum_of fresh) (state_of run.old)) }
+{
+    let old = lift(alloc, to, run)?;
+    let (name, graph) = added(alloc, fresh, old)?;
+    lower(alloc, to, graph, run)?;
+    check(to, run)?;
+    Ok(Some(Value::Int(name)))
+}
+
+/// `deletenode`: takes the node with this name out of the graph at a target.
+///
+/// # Errors
+/// `IndexOutside`, and want of memory.
+pub fn delete_node(
+    alloc: Global,
+    to: &Target,
+    name: &Value,
+    run: &mut Run<'_>,
+) -> Result<Option<Value>, Stop>
+    ensures left { run.new.left ≤ run.old.left }
+    ensures gives { Gives (option_map datum_of) result (state_of run.new) (rules.delete_node (target_of to.now) (datum_of name.now) (state_of run.old)) }
+{
+    let old = lift(alloc, to, run)?;
+    let graph = deleted(alloc, integer_in(name), old)?;
+    lower(alloc, to, graph, run)?;
+    Ok(None)
+}
