@@ -4,9 +4,8 @@ use Rattle.group_member.specs.StandsFor.{StandsFor}
 use Rattle.group_rules.specs.Member.{Member as RulesMember}
 use Rattle.value_core.specs.declared.message.Message.{Message}
 use Rattle.world_rules.specs.Frame.{Frame, group}
-use Rattle.world_rules.specs.Nodes as nodes
 use Rattle.node_core.specs.Shown.{IsPlayedIf, Left, Stood, on_errand, on_given}
-use Rattle.node_core.specs.Stands.{StandsAlike, StandsAs}
+use Rattle.node_core.specs.Stands.{StandsAlike}
 use Rattle.node_core.specs.declared.errand.Errand.{Errand}
 use Rattle.node_core.specs.declared.errand.Given.{Given}
 use Rattle.node_core.specs.declared.node.Node.{Node}

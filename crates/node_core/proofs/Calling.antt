@@ -1,5 +1,5 @@
 -- Calls on single objects at work: what is sent and kept, and lines that are handed on.
-use Rattle.std.proofs.Common.{◌≡◌, ◌≤◌, ◌<◌, ◌++◌, ◌∷◌, ◌==◌, ℕ, Bool, true, false, List, [], length, map, Option, Some, None, refl, sym, ap, ◌∙◌, subst, arith, slice_index_or, if◌then◌else◌}
+use Rattle.std.proofs.Common.{◌≡◌, ◌++◌, ◌∷◌, ◌==◌, ℕ, Bool, true, false, List, [], map, Option, Some, None, refl, sym, ap, ◌∙◌, subst, if◌then◌else◌}
 use Rattle.std.proofs.lemmas.Bool.{eq-eqb, ne_eqb}
 use Rattle.std.proofs.lemmas.List.{map-append}
 use Rattle.orca_base.specs.declared.ids.CallNo.{CallNo}
@@ -14,7 +14,6 @@ use Rattle.object_manager.specs.After.{Copied}
 use Rattle.object_manager.specs.Applies.{AppliesSingle, CopiesBlocked, CopiesFit}
 use Rattle.object_manager.specs.Singles.{after_single, lines_single}
 use Rattle.book_law.specs.Fitness.{ReplyFits}
-use Rattle.book_law.specs.declared.placing.Placed.{Placed}
 use Rattle.group_member.specs.StandsFor.{StandsFor}
 use Rattle.group_member.specs.declared.sends.Letter.{Letter}
 use Rattle.group_packets.specs.declared.packet.Packet.{Packet}
@@ -26,7 +25,7 @@ use Rattle.world_rules.specs.Nodes as nodes
 use Rattle.world_rules.specs.Nodes.{Deed, NodeWork, becomes, changes, does, known, mails_of}
 use Rattle.world_rules.specs.Nodes.Deed.{Mails, Performs}
 use Rattle.world_rules.specs.Owners.{hands, hands_all, performs_call, sends, sends_given}
-use Rattle.world_rules.specs.Played.{Played, receives}
+use Rattle.world_rules.specs.Played.{receives}
 use Rattle.world_rules.specs.Processes.{Begun, home_in}
 use Rattle.node_rules.specs.Conditions.{Fitness}
 use Rattle.node_core.specs.Calls.{HasKept, MayPerformCall, given_at, gives_kept}
@@ -36,7 +35,6 @@ use Rattle.node_core.specs.Stands.{IsMoved, IsWork, StandsAs, on_known, sent}
 use Rattle.node_core.specs.declared.errand.Given.{Given}
 use Rattle.node_core.specs.declared.moved.Moved.{Moved}
 use Rattle.node_core.specs.declared.node.Node.{Node}
-use Rattle.node_core.specs.declared.resident.Resident.{Resident}
 use Rattle.node_core.specs.declared.work.Work.{Work}
 use Rattle.node_core.proofs.Handing.{MayHandRest, hand_first, hand_from, hand_rest, one_hands}
 use Rattle.node_core.proofs.Trying.{performed}

@@ -1,17 +1,16 @@
 -- The next entry, and what a member knows of the processes.
-use Rattle.std.proofs.Common.{◌≡◌, ◌≤◌, ◌<◌, ◌+◌, ◌^◌, ℕ, suc, zero, Bool, false, List, [], ◌∷◌, map, length, get_or, slice_get, nat_le, Option, Some, None, refl, sym, ap, ◌∙◌, subst, arith, if◌then◌else◌}
+use Rattle.std.proofs.Common.{◌≡◌, ◌≤◌, ◌<◌, ◌+◌, ℕ, suc, zero, Bool, false, List, [], ◌∷◌, map, length, get_or, slice_get, Option, Some, None, refl, sym, ap, ◌∙◌, arith, if◌then◌else◌}
 use Rattle.std.proofs.lemmas.Bool.{lt-leb}
 use Rattle.std.proofs.lemmas.Option.{slice_get_past, slice_get_read}
 use Rattle.value_core.specs.declared.action.Reply.{Reply}
 use Rattle.value_core.specs.declared.message.Message.{Message}
-use Rattle.history_buffer.specs.declared.history.Slot.{Slot}
 use Rattle.history_buffer.specs.declared.history.Slot.TheVariants.{Purged}
 use Rattle.history_buffer.specs.Slots.{slot_at, slot_of}
 use Rattle.object_manager.specs.After.{Copied}
 use Rattle.group_member.specs.Laws.{EntryLaw}
 use Rattle.orca_base.specs.declared.what.Choice.{Choice}
 use Rattle.world_rules.specs.Frame.{Frame, chooses_single, group}
-use Rattle.world_rules.specs.Processes.{Begun, home_in, home_or_first, single_by}
+use Rattle.world_rules.specs.Processes.{Begun, home_in, single_by}
 use Rattle.node_rules.specs.Conditions.{Fitness}
 use Rattle.node_rules.specs.Moments.{IsDue, Moment}
 use Rattle.node_rules.specs.Moments.Walks.{Stays}

@@ -1,5 +1,5 @@
 -- A member notes to its group how many entries it applied.
-use Rattle.std.proofs.Common.{◌≡◌, ◌≤◌, ◌<◌, ◌+◌, ◌^◌, ◌++◌, ◌∷◌, ◌==◌, nat_lt, ℕ, Bool, true, false, List, [], length, map, append_assoc, append-nil, slice_index_or, Option, Some, None, refl, sym, ap, ◌∙◌, subst, arith, if◌then◌else◌}
+use Rattle.std.proofs.Common.{◌≡◌, ◌≤◌, ◌<◌, ◌^◌, ◌++◌, ◌∷◌, ℕ, Bool, List, [], map, append_assoc, append-nil, slice_index_or, None, refl, sym, ap, ◌∙◌, subst, arith, if◌then◌else◌}
 use Rattle.std.proofs.lemmas.List.{map-append}
 use Rattle.value_core.specs.declared.action.Reply.{Reply}
 use Rattle.value_core.specs.declared.message.Message.{Message}
@@ -10,7 +10,7 @@ use Rattle.group_member.specs.StandsFor.{IsMember, StandsFor}
 use Rattle.group_rules.specs.Steps.{note}
 use Rattle.world_rules.specs.Applying.{notes}
 use Rattle.node_rules.specs.Conditions.{Fitness}
-use Rattle.node_rules.specs.Moments.{Goes, Moment, Walks, works}
+use Rattle.node_rules.specs.Moments.{Goes, Moment, works}
 use Rattle.node_rules.specs.Moments.Goes.{Notes}
 use Rattle.node_rules.specs.Moments.Walks.{Stays, Then}
 use Rattle.node_core.specs.declared.errand.Errand.{Errand}
@@ -20,11 +20,11 @@ use Rattle.group_rules.specs.Work as group_work
 use Rattle.group_rules.specs.Work.{Act}
 use Rattle.world_rules.specs.Frame.{Frame, group}
 use Rattle.world_rules.specs.Mail.{Mail}
-use Rattle.world_rules.specs.Nodes.{Deed, NodeWork, aside_of, entries_of as known_entries, joins, known, mails_of}
+use Rattle.world_rules.specs.Nodes.{Deed, NodeWork, aside_of, entries_of as known_entries, joins, mails_of}
 use Rattle.world_rules.specs.Nodes.Deed.{Acts}
-use Rattle.world_rules.specs.Processes.{Begun, processes_in}
+use Rattle.world_rules.specs.Processes.{processes_in}
 use Rattle.node_core.specs.Shown.{IsPlayedIf, Left, Stood, on_errand, on_given}
-use Rattle.node_core.specs.Stands.{IsAt, IsMoved, IsWork, StandsAs, entries_of, on_known, sent}
+use Rattle.node_core.specs.Stands.{IsAt, IsWork, entries_of, on_known, sent}
 use Rattle.node_core.specs.declared.moved.Moved.{Moved}
 use Rattle.node_core.specs.declared.node.Node.{Node}
 use Rattle.node_core.specs.declared.work.Work.{Work}

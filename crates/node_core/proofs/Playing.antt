@@ -1,8 +1,5 @@
 -- A process here, as it stands for one of the world.
-use Rattle.std.proofs.Common.{◌≡◌, ◌≤◌, ◌<◌, ◌+◌, ◌++◌, ◌∷◌, ℕ, List, [], length, length-append, Option, Some, None, refl, sym, ap, ◌∙◌, subst, arith}
-use Rattle.orca_base.specs.declared.ids.ProcessNo.{ProcessNo}
-use Rattle.orca_base.specs.declared.ids.TextNo.{TextNo}
-use Rattle.value_core.specs.Datum.{Data}
+use Rattle.std.proofs.Common.{◌≡◌, ◌+◌, ◌++◌, ◌∷◌, ℕ, [], length-append, Some, sym, ap, ◌∙◌, subst}
 use Rattle.value_core.specs.declared.action.Action.{Action}
 use Rattle.value_core.specs.declared.action.Reply.{Reply}
 use Rattle.world_rules.specs.Played.{Played, Stage, receives}

@@ -1,5 +1,5 @@
 -- Asks and Answers whose place is reached are taken one by one, in a walk.
-use Rattle.std.proofs.Common.{◌≡◌, ◌≤◌, ◌<◌, ◌++◌, ◌∷◌, ℕ, Bool, true, false, ◌||◌, ◌+◌, List, [], Option, Some, None, MatchOption, drop, get_or, length, map, refl, sym, ap, ◌∙◌, subst, arith, if◌then◌else◌}
+use Rattle.std.proofs.Common.{◌≡◌, ◌≤◌, ◌<◌, ◌++◌, ◌∷◌, ℕ, Bool, true, false, ◌||◌, ◌+◌, List, [], Option, Some, None, MatchOption, drop, get_or, length, map, refl, sym, ap, ◌∙◌, subst, if◌then◌else◌}
 use Rattle.std.proofs.lemmas.Bool.{le-leb, lt-leb}
 use Rattle.std.proofs.lemmas.List.{at_drop_all, at_drop_more, map-append}
 use Rattle.object_manager.specs.After.{Copied}
@@ -9,7 +9,7 @@ use Rattle.world_rules.specs.Mail.{place_of, same_errand}
 use Rattle.world_rules.specs.Nodes.{NodeWork}
 use Rattle.world_rules.specs.Owners.{arrives, holds, is_held, takes, takes_each, takes_reached}
 use Rattle.node_rules.specs.Conditions.{Conditions, Fitness}
-use Rattle.node_rules.specs.Moments.{Goes, Moment, Walks, holds_none, works}
+use Rattle.node_rules.specs.Moments.{Goes, Moment, holds_none, works}
 use Rattle.node_rules.specs.Moments.Goes.{Holds, Opens, Takes}
 use Rattle.node_rules.specs.Moments.Walks.{Stays, Then}
 use Rattle.node_core.specs.Calls.{GoesFree, IsFree, MayTakeNext}

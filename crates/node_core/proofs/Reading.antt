@@ -1,11 +1,11 @@
 -- A member tries the read of one of its processes.
-use Rattle.std.proofs.Common.{◌≡◌, ◌<◌, ◌++◌, ◌∷◌, ◌^◌, ℕ, Bool, true, false, List, [], length, Option, Some, None, refl, sym, ap, ◌∙◌, subst, if◌then◌else◌}
+use Rattle.std.proofs.Common.{◌≡◌, ◌<◌, ◌^◌, ℕ, Bool, false, length, Option, Some, None, refl, sym, ap, ◌∙◌, subst, if◌then◌else◌}
 use Rattle.orca_base.specs.declared.ids.KindNo.{KindNo}
 use Rattle.orca_base.specs.declared.ids.OpNo.{OpNo}
 use Rattle.orca_base.specs.declared.ids.ObjectId.{ObjectId}
 use Rattle.value_core.specs.Datum.{Data}
 use Rattle.value_core.specs.Fits.{Kinds, RepliesWell}
-use Rattle.value_core.specs.History.{Objects, object_at}
+use Rattle.value_core.specs.History.{Objects}
 use Rattle.value_core.specs.Lawful.{FitsAction}
 use Rattle.value_core.specs.Meaning.{Performs}
 use Rattle.value_core.specs.declared.action.Action.{Action}
@@ -24,12 +24,12 @@ use Rattle.book_law.specs.Fitness.{ArgsFit, ReplyFits, StateFits}
 use Rattle.world_rules.specs.Applying.{performs_read, tries_as, tries_of}
 use Rattle.world_rules.specs.Bursts.{if_reads, read_line, read_on}
 use Rattle.world_rules.specs.Frame.{Frame}
-use Rattle.world_rules.specs.Nodes.{Deed, NodeWork, does, if_played, plays}
+use Rattle.world_rules.specs.Nodes.{Deed, NodeWork, does, if_played}
 use Rattle.world_rules.specs.Played.{Played, Stage as RulesStage, receives}
 use Rattle.world_rules.specs.Played.Stage.{Reading}
 use Rattle.node_rules.specs.Handing.{MayReceive, waits_with}
-use Rattle.node_core.specs.Pieces.{CanReceive, MayBeHanded, MayRead, MayReadAs, MayReadAt, line_as, line_if, line_read}
-use Rattle.node_core.specs.Shown.{IsPlayed, IsPlayedIf, Left, Stood, on_stage}
+use Rattle.node_core.specs.Pieces.{MayBeHanded, MayRead, MayReadAs, MayReadAt, line_as, line_if, line_read}
+use Rattle.node_core.specs.Shown.{IsPlayedIf, Left, Stood, on_stage}
 use Rattle.node_core.specs.declared.resident.Resident.{Resident}
 use Rattle.node_core.specs.declared.resident.Stage.{Stage}
 use Rattle.node_core.specs.declared.resident.Stage.TheVariants as at_stage

@@ -1,5 +1,5 @@
 -- Asks that go to an owner, and the call or the read that a process begins with.
-use Rattle.std.proofs.Common.{◌≡◌, ◌≤◌, ◌<◌, ◌++◌, ◌∷◌, ◌==◌, ℕ, suc, Bool, true, false, List, [], length, map, Option, Some, None, refl, sym, ap, ◌∙◌, subst, arith, slice_index_or, if◌then◌else◌}
+use Rattle.std.proofs.Common.{◌≡◌, ◌++◌, ◌∷◌, ◌==◌, ℕ, suc, Bool, true, false, List, [], length, map, Option, Some, None, refl, sym, ap, ◌∙◌, subst, if◌then◌else◌}
 use Rattle.std.proofs.Math.Bool.{Bool-set}
 use Rattle.std.proofs.lemmas.Bool.{eq-eqb, ne_eqb}
 use Rattle.orca_base.specs.declared.ids.CallNo.{CallNo}
@@ -14,31 +14,29 @@ use Rattle.value_core.specs.declared.action.Reply.{Reply}
 use Rattle.value_core.specs.declared.message.Message.{Message}
 use Rattle.guard_queue.specs.declared.queue.Suspended.{Suspended}
 use Rattle.group_packets.specs.declared.packet.Packet.{Packet}
-use Rattle.group_rules.specs.Sets.{with_at}
 use Rattle.object_manager.specs.After.{Copied}
 use Rattle.object_manager.specs.State.{message_of}
 use Rattle.world_rules.specs.Applying.{tries_read}
 use Rattle.world_rules.specs.Frame.{Frame}
-use Rattle.world_rules.specs.Mail.{Errand, errand_packet}
+use Rattle.world_rules.specs.Mail.{errand_packet}
 use Rattle.world_rules.specs.Mail.Errand.{Ask}
 use Rattle.world_rules.specs.Nodes.{NodeWork, known, plays}
 use Rattle.world_rules.specs.Owners.{performs_call, sends}
-use Rattle.world_rules.specs.Parts.{asks, asks_again, asks_again_at, asks_again_by, asks_again_of, asks_below, reads}
+use Rattle.world_rules.specs.Parts.{asks_again, asks_again_at, asks_again_by, asks_again_of, asks_below}
 use Rattle.world_rules.specs.Played.{Played, Stage as RulesStage, moves_to, next_call}
 use Rattle.world_rules.specs.Processes.{Begun, home_in, owner_in}
 use Rattle.node_rules.specs.Conditions.{Fitness}
 use Rattle.node_core.specs.Calls.{Asks, HasMoved, IsCallOf, MayAsk, MayPerformCall, MayReadFirst, ReadsFirst, asked_as, asked_at, asked_by}
-use Rattle.node_core.specs.Pieces.{Becomes, BecomesIn, HasPut, MayCallHere, MayTryRead, resident_at}
+use Rattle.node_core.specs.Pieces.{Becomes, BecomesIn, MayCallHere, MayTryRead, resident_at}
 use Rattle.node_core.specs.Shown.{IsPlayed, IsPlayedIf, Left, LeftAt, Stood, on_stage}
 use Rattle.node_core.specs.Stands.{IsMoved, IsWork, on_known}
 use Rattle.node_core.specs.declared.moved.Moved.{Moved}
 use Rattle.node_core.specs.declared.resident.Resident.{Resident}
 use Rattle.node_core.specs.declared.resident.Stage.{Stage}
 use Rattle.node_core.specs.declared.resident.Stage.TheVariants as at_stage
-use Rattle.node_core.specs.declared.node.Node.{Node}
 use Rattle.node_core.specs.declared.work.Work.{Work}
 use Rattle.node_core.proofs.Calling.{mailed}
-use Rattle.node_core.proofs.Working.{none_here, some_here, stands_put}
+use Rattle.node_core.proofs.Working.{none_here, stands_put}
 
 -- ---- what a process asks, as the world has it
 

@@ -1,5 +1,5 @@
 -- Asks and Answers that are taken.
-use Rattle.std.proofs.Common.{◌≡◌, ◌≤◌, ◌<◌, ◌+◌, ◌++◌, ◌∷◌, ◌==◌, ◌||◌, ℕ, suc, zero, Bool, true, false, nat_lt, List, [], length, map, slice_index_or, Option, Some, None, refl, sym, ap, ◌∙◌, subst, arith, if◌then◌else◌}
+use Rattle.std.proofs.Common.{◌≡◌, ◌<◌, ◌∷◌, ◌==◌, ◌||◌, ℕ, suc, zero, Bool, true, false, List, [], length, Option, Some, None, refl, sym, ap, ◌∙◌, subst, arith, if◌then◌else◌}
 use Rattle.std.proofs.lemmas.Bool.{and_parts, eq-eqb, eqb-true, eqb-false, le-ltb, lt-ltb, ne_eqb}
 use Rattle.orca_base.specs.declared.ids.CallNo.{CallNo}
 use Rattle.orca_base.specs.declared.ids.ProcessNo.{ProcessNo}
@@ -18,11 +18,11 @@ use Rattle.world_rules.specs.Nodes as nodes
 use Rattle.world_rules.specs.Nodes.{NodeWork, changes, if_played, plays}
 use Rattle.world_rules.specs.Owners.{hears_as, hears_of, is_this_call, performs_call, takes, takes_answer, takes_ask, takes_asked, takes_call, waits_here}
 use Rattle.world_rules.specs.Played.{Played, Stage as RulesStage, receives}
-use Rattle.node_rules.specs.Conditions.{AreSmall, Fitness, MayTakeCall, is_later}
+use Rattle.node_rules.specs.Conditions.{AreSmall, Fitness, is_later}
 use Rattle.node_rules.specs.Handing.{MayHear, MayReceive, waits_with}
-use Rattle.node_core.specs.Calls.{IsReady, MayPerformCall, MayTakeNew, MayTakeNext, asks_as, asks_call, call_given, given_at, gives_kept}
+use Rattle.node_core.specs.Calls.{MayPerformCall, MayTakeNew, MayTakeNext, asks_as, asks_call, call_given, given_at, gives_kept}
 use Rattle.node_core.specs.Pieces.{Becomes, BecomesIn, MayBeHanded, resident_at}
-use Rattle.node_core.specs.Shown.{IsPlayed, IsPlayedIf, Left, Stood, on_errand, on_given, on_stage}
+use Rattle.node_core.specs.Shown.{IsPlayedIf, Left, Stood, on_errand, on_given, on_stage}
 use Rattle.node_core.specs.Stands.{IsWork}
 use Rattle.node_core.specs.declared.errand.Errand.{Errand}
 use Rattle.node_core.specs.declared.errand.Errand.TheVariants as errands

@@ -1,9 +1,8 @@
 -- A try of a read at work: what it asks, and that it is the rules'.
-use Rattle.std.proofs.Common.{◌≡◌, ◌++◌, ◌∷◌, ℕ, suc, List, [], Option, Some, None, refl, sym, ap, ◌∙◌, subst}
+use Rattle.std.proofs.Common.{◌≡◌, ◌++◌, ◌∷◌, ℕ, suc, List, [], Some, None, refl, sym, ap, ◌∙◌, subst}
 use Rattle.value_core.specs.Meaning.{Performs}
 use Rattle.value_core.specs.declared.action.Line.{Line}
 use Rattle.value_core.specs.declared.action.Reply.{Reply}
-use Rattle.book_law.specs.Fitness.{ArgsFit, ReplyFits, StateFits}
 use Rattle.book_law.specs.declared.placing.Placed.{Placed}
 use Rattle.object_manager.specs.After.{Copied}
 use Rattle.world_rules.specs.Applying.{tries_read, tries_reads}
@@ -11,16 +10,14 @@ use Rattle.world_rules.specs.Frame.{Frame}
 use Rattle.world_rules.specs.Nodes.{Deed, NodeWork, aside_of, changes, does}
 use Rattle.world_rules.specs.Played.{receives}
 use Rattle.node_rules.specs.Conditions.{Fitness}
-use Rattle.node_rules.specs.Moments.{Moment, works}
+use Rattle.node_rules.specs.Moments.{works}
 use Rattle.node_rules.specs.Moments.Goes.{Tries_read}
 use Rattle.node_rules.specs.Moments.Walks.{Stays}
 use Rattle.node_core.specs.Pieces.{Becomes, BecomesIn, GoesOn, IsSomewhere, MayBeHanded, MayReadAt, MayTryRead, line_read, resident_at}
 use Rattle.node_core.specs.Shown.{Left, Stood}
 use Rattle.node_core.specs.Stands.{IsAt, IsWork, StandsAs}
-use Rattle.node_core.specs.declared.errand.Errand.{Errand}
 use Rattle.node_core.specs.declared.moved.Moved.{Moved}
 use Rattle.node_core.specs.declared.node.Node.{Node}
-use Rattle.node_core.specs.declared.resident.Resident.{Resident}
 use Rattle.node_core.specs.declared.work.Work.{Work}
 use Rattle.node_core.proofs.Noting.{goes_at}
 use Rattle.node_core.proofs.Reading.{RepliesFit, may_be_handed, may_read_at, reads_none, reads_some}

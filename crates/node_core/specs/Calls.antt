@@ -1,6 +1,6 @@
 -- What a member's private calls ask and do of calls on single objects, while it is at work in an event: at the owner, and the Asks and
 -- Answers that bring them there and their replies back.
-use Rattle.std.specs.Prelude.{◌≡◌, ◌==◌, ◌&&◌, ℕ, Bool, true, false, List, [], ◌∷◌, Option, None, Some, slice_index_or}
+use Rattle.std.specs.Prelude.{◌≡◌, ◌==◌, ℕ, Bool, false, [], Option, None, Some, slice_index_or}
 use Rattle.orca_base.specs.declared.ids.CallNo.{CallNo}
 use Rattle.orca_base.specs.declared.ids.ObjectId.{ObjectId}
 use Rattle.orca_base.specs.declared.ids.ProcessNo.{ProcessNo}
@@ -10,7 +10,6 @@ use Rattle.value_core.specs.declared.message.Message.{Message}
 use Rattle.guard_queue.specs.declared.queue.Suspended.{Suspended}
 use Rattle.object_manager.specs.Applies.{CopiesBlocked, CopiesFit}
 use Rattle.object_manager.specs.State.{message_of}
-use Rattle.object_manager.specs.Viewed.{ReadFits}
 use Rattle.group_rules.specs.Sets.{with_at}
 use Rattle.world_rules.specs.Frame.{Frame}
 use Rattle.world_rules.specs.Mail as mail
@@ -24,9 +23,8 @@ use Rattle.world_rules.specs.Processes.{home_in, owner_in}
 use Rattle.node_rules.specs.Conditions.{AreSmall, Fitness, MayTake, MayTakeCall}
 use Rattle.node_rules.specs.Moments.{Moment, works}
 use Rattle.node_core.specs.Pieces.{HasPut, MayCallHere, MayTry}
-use Rattle.node_core.specs.Shown.{Left, Stood, on_errand}
+use Rattle.node_core.specs.Shown.{Left, Stood}
 use Rattle.node_core.specs.Stands.{IsAt, IsWork}
-use Rattle.node_core.specs.declared.errand.Errand.{Errand}
 use Rattle.node_core.specs.declared.errand.Given.{Given}
 use Rattle.node_core.specs.declared.node.Node.{Node}
 use Rattle.node_core.specs.declared.resident.Resident.{Resident}

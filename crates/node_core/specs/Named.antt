@@ -1,5 +1,5 @@
 -- Laws of names: all machines under one name are one.
-use Rattle.std.specs.Prelude.{◌≡◌, Option, None, Some}
+use Rattle.std.specs.Prelude.{◌≡◌, Option, Some}
 use Rattle.std.proofs.Common.{ap, subst, sym}
 use Rattle.node_core.specs.Names.{IfNamed}
 

@@ -1,5 +1,5 @@
 -- What a member's private calls ask and do, while it is at work in an event: each is a piece of the world's rules.
-use Rattle.std.specs.Prelude.{◌≡◌, ◌+◌, if◌then◌else◌, ◌<◌, ◌≤◌, ◌++◌, ◌∷◌, ◌^◌, ℕ, Bool, true, suc, List, [], length, map, Option, None, Some, slice_index_or}
+use Rattle.std.specs.Prelude.{◌≡◌, ◌+◌, if◌then◌else◌, ◌<◌, ◌^◌, ℕ, List, length, Option, None, Some, slice_index_or}
 use Rattle.orca_base.specs.declared.ids.KindNo.{KindNo}
 use Rattle.orca_base.specs.declared.ids.OpNo.{OpNo}
 use Rattle.orca_base.specs.declared.ids.ObjectId.{ObjectId}
@@ -29,7 +29,7 @@ use Rattle.node_rules.specs.Conditions.{AreSmall, Fitness, MayPerform}
 use Rattle.node_rules.specs.Handing.{MayReceive}
 use Rattle.node_rules.specs.Moments.{Moment, works}
 use Rattle.node_core.specs.Shown.{IsPlayed, Left, Stood}
-use Rattle.node_core.specs.Stands.{IsAt, IsWork, StandsAs}
+use Rattle.node_core.specs.Stands.{IsAt, IsWork}
 use Rattle.node_core.specs.declared.errand.Errand.{Errand}
 use Rattle.node_core.specs.declared.node.Node.{Node}
 use Rattle.node_core.specs.declared.resident.Resident.{Resident}

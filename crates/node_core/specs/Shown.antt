@@ -1,5 +1,5 @@
 -- What a member's code keeps, as the definitions of the world have it.
-use Rattle.std.specs.Prelude.{◌≡◌, ℕ, List, length, map, Option, None, Some, slice_index_or}
+use Rattle.std.specs.Prelude.{◌≡◌, ℕ, List, length, Option, None, Some}
 use Rattle.orca_base.specs.declared.ids.ProcessNo.{ProcessNo}
 use Rattle.orca_base.specs.declared.ids.TextNo.{TextNo}
 use Rattle.value_core.specs.Datum.{Data}

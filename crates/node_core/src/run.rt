@@ -43,7 +43,7 @@ pub trait OneRun: Processor {
 
     ghost left_halted: { (m : Self) (state : Self.State) (act : Action) → left state act → Self.halted m state act };
 
-    /// And so are which states fit, and which arguments of operations.
+    /// And so is what fits.
     ghost states_alike: { (m n : Self) (kinds : Kinds) (kind : KindNo) (state : Data) →
         Self.fits_state m kinds kind state → Self.fits_state n kinds kind state };
 

@@ -1,4 +1,4 @@
-use Rattle.std.proofs.Common.{◌≡◌, arith}
+use Rattle.std.proofs.Common.{arith}
 use Rattle.node_core.proofs.Reaching.{held_next, held_none, held_this}
 use Rattle.node_core.proofs.owning.is_held.Goals as goal
 

@@ -1,8 +1,5 @@
-use Rattle.std.proofs.Common.{◌≡◌, ◌++◌, ◌∷◌, [], ℕ, List, ap, sym, subst, refl, ◌∙◌}
+use Rattle.std.proofs.Common.{◌++◌, ◌∷◌, [], ap, sym, subst, ◌∙◌}
 use Rattle.std.proofs.lemmas.Result.{IfOk-weaker}
-use Rattle.orca_base.specs.declared.ids.ProcessNo.{ProcessNo}
-use Rattle.orca_base.specs.declared.ids.TextNo.{TextNo}
-use Rattle.value_core.specs.Datum.{Data}
 use Rattle.value_core.specs.declared.action.Reply.{Reply}
 use Rattle.value_core.specs.declared.meaning.Doing.TheVariants as doing
 use Rattle.value_core.specs.Lawful.{FitsAction}

@@ -1,4 +1,4 @@
-use Rattle.std.proofs.Common.{◌≡◌, ap, sym, subst, refl, ◌∙◌}
+use Rattle.std.proofs.Common.{◌∙◌}
 use Rattle.node_core.proofs.Alike.{alike}
 use Rattle.node_core.proofs.node.Node.copy.Goals as goal
 

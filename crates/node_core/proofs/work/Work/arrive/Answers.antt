@@ -1,4 +1,4 @@
-use Rattle.std.proofs.Common.{◌≡◌, refl}
+use Rattle.std.proofs.Common.{refl}
 use Rattle.node_core.proofs.Reaching.{arrives_held, arrives_not, refused_held, refused_none, refused_outside}
 use Rattle.node_core.proofs.work.Work.arrive.Goals as goal
 use Rattle.node_core.proofs.work.Work.arrive.Goals.{then-is_outside-via-else-is_outside+then-is_held, then-is_outside-via-then-is_outside}

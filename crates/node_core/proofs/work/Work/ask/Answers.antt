@@ -1,4 +1,4 @@
-use Rattle.std.proofs.Common.{◌≡◌, refl}
+use Rattle.std.proofs.Common.{refl}
 use Rattle.node_core.specs.Stands.{fitness_of}
 use Rattle.node_core.proofs.Sending.{ask_here, ask_may, ask_there}
 use Rattle.node_core.proofs.Working.{ok_map}

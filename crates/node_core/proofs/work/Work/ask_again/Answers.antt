@@ -1,4 +1,4 @@
-use Rattle.std.proofs.Common.{◌≡◌, ◌+◌, arith}
+use Rattle.std.proofs.Common.{◌+◌, arith}
 use Rattle.node_core.proofs.Sending.{asks_all, asks_more, asks_outside}
 use Rattle.node_core.proofs.work.Work.ask_again.Goals as goal
 

@@ -1,4 +1,4 @@
-use Rattle.std.proofs.Common.{◌≡◌, ◌∙◌, ℕ, ap, sym}
+use Rattle.std.proofs.Common.{◌∙◌, ℕ, ap, sym}
 use Rattle.value_core.specs.declared.message.Message.{Message}
 use Rattle.group_packets.specs.declared.packet.Packet.TheVariants as packet
 use Rattle.node_core.proofs.Sending.{ask_sent}

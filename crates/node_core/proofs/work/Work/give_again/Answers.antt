@@ -1,4 +1,4 @@
-use Rattle.std.proofs.Common.{◌≡◌, ◌∙◌, ℕ, ap, sym}
+use Rattle.std.proofs.Common.{◌∙◌, ℕ, ap, sym}
 use Rattle.std.specs.Option.{option_copied}
 use Rattle.world_rules.specs.Mail.{errand_packet}
 use Rattle.world_rules.specs.Mail.Errand.{Answer}

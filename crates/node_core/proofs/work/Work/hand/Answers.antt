@@ -1,4 +1,4 @@
-use Rattle.std.proofs.Common.{◌≡◌, refl}
+use Rattle.std.proofs.Common.{refl}
 use Rattle.node_core.specs.declared.errand.Given.{Given}
 use Rattle.node_core.proofs.Calling.{hands_away, hands_here}
 use Rattle.node_core.proofs.Working.{ok_map}

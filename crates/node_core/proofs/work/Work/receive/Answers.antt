@@ -1,4 +1,4 @@
-use Rattle.std.proofs.Common.{◌≡◌, Option, ap, sym, subst, refl, ◌∙◌}
+use Rattle.std.proofs.Common.{Option, ap, sym, subst, refl, ◌∙◌}
 use Rattle.std.specs.Option.{option_copied}
 use Rattle.node_core.specs.Pieces.{MayBeHanded}
 use Rattle.world_rules.specs.Played.{receives}

@@ -1,4 +1,4 @@
-use Rattle.std.proofs.Common.{◌≡◌, ◌∙◌, ap, sym, subst, refl}
+use Rattle.std.proofs.Common.{◌∙◌, ap, sym}
 use Rattle.node_rules.specs.Starts.Start.{Suspects}
 use Rattle.node_core.specs.Stands.{fitness_of}
 use Rattle.node_core.specs.declared.node.Node.{Node}

@@ -1,4 +1,4 @@
-use Rattle.std.proofs.Common.{◌≡◌, ◌∙◌, [], ap, sym, subst, refl}
+use Rattle.std.proofs.Common.{[], refl}
 use Rattle.node_core.proofs.Beginning.{started}
 use Rattle.node_core.proofs.Working.{ok_map}
 use Rattle.node_core.proofs.work.Work.start.Goals as goal

@@ -1,4 +1,3 @@
-use Rattle.std.proofs.Common.{◌≡◌}
 use Rattle.node_core.specs.Stands.{fitness_of}
 use Rattle.node_core.proofs.Taking.{answer_taken, ask_taken, take_answer_may, take_ask_may}
 use Rattle.node_core.proofs.Working.{ok_map}

@@ -1,4 +1,4 @@
-use Rattle.std.proofs.Common.{◌≡◌, refl, sym, ◌∙◌}
+use Rattle.std.proofs.Common.{sym, ◌∙◌}
 use Rattle.node_core.specs.Stands.{fitness_of}
 use Rattle.node_core.proofs.Taking.{heard_none, heard_some, may_hear}
 use Rattle.node_core.proofs.Working.{ok_map}

@@ -1,4 +1,4 @@
-use Rattle.std.proofs.Common.{◌≡◌, ◌∙◌, sym, arith}
+use Rattle.std.proofs.Common.{◌∙◌, sym, arith}
 use Rattle.node_core.specs.Stands.{fitness_of}
 use Rattle.node_core.proofs.Taking.{asked_again, asked_before, asked_late, asked_none, new_none, new_some}
 use Rattle.node_core.proofs.Working.{ok_map}

@@ -1,4 +1,4 @@
-use Rattle.std.proofs.Common.{◌≡◌, refl, sym, ◌∙◌, true, false}
+use Rattle.std.proofs.Common.{◌≡◌, sym, ◌∙◌, true, false}
 use Rattle.node_core.specs.Stands.{fitness_of}
 use Rattle.node_core.proofs.Working.{ok_map}
 use Rattle.node_core.proofs.Taking.{call_performed, may_perform, waits_on}

@@ -1,4 +1,4 @@
-use Rattle.std.proofs.Common.{◌≡◌, ◌∙◌, ap, refl, arith}
+use Rattle.std.proofs.Common.{◌∙◌, ap, refl, arith}
 use Rattle.std.specs.Vec.Iter.{into_iter_items}
 use Rattle.node_core.specs.Stands.{fitness_of}
 use Rattle.node_core.proofs.Reaching.{empty_left, none_left, reached_begin, reached_held, reached_next, reached_outside, reached_over, reached_taken, some_left}

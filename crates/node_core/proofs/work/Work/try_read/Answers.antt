@@ -1,7 +1,7 @@
-use Rattle.std.proofs.Common.{◌≡◌, ◌∙◌, Option, Some, None, ap, sym, subst, refl}
+use Rattle.std.proofs.Common.{◌∙◌, sym}
 use Rattle.node_core.specs.Stands.{fitness_of}
 use Rattle.node_core.proofs.Working.{ok_map}
-use Rattle.node_core.proofs.Trying.{line_handed, may_try, tried_none, tried_some}
+use Rattle.node_core.proofs.Trying.{line_handed, may_try, tried_some}
 use Rattle.node_core.proofs.work.Work.try_read.Goals as goal
 
 pub read_of-requires : goal.read_of-requires

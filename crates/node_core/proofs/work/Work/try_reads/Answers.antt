@@ -1,4 +1,4 @@
-use Rattle.std.proofs.Common.{◌≡◌, ◌∙◌, ◌≤◌, ◌+◌, ℕ, ap, sym, subst, refl, arith}
+use Rattle.std.proofs.Common.{◌+◌, arith}
 use Rattle.node_core.specs.Stands.{fitness_of}
 use Rattle.node_core.proofs.Trying.{reads_all, reads_more, try_after}
 use Rattle.node_core.proofs.work.Work.try_reads.Goals as goal
