@@ -1,6 +1,6 @@
 -- What a type's outer arrays stand round, and lists of equal values.
-use Rattle.std.proofs.Common.{◌≡◌, ℕ, ◌+◌, List, [], ◌∷◌, ◌++◌, drop, map, replicate, refl, sym, ap, ◌∙◌}
-use Rattle.std.proofs.lemmas.List.{map-append, replicate_more}
+use Rattle.std.proofs.Common.{◌≡◌, ℕ, ◌+◌, ◌<◌, List, [], ◌∷◌, ◌++◌, length, get_or, take, drop, map, replicate, sym, ap, ◌∙◌}
+use Rattle.std.proofs.lemmas.List.{map-append, replicate_more, take_more}
 use Rattle.type_rules.specs.declared.types.Layer.{Layer}
 use Rattle.value_core.specs.declared.value.Value.{Value}
 use Rattle.value_core.specs.Datum.{Datum}
@@ -21,3 +21,9 @@ copied xs ys x value k e is before =
     ∙ ap (λ (l : List Datum). l ++ datum_of x ∷ []) before
     ∙ ap (λ (v : Value). replicate k (datum_of value) ++ datum_of v ∷ []) is
     ∙ replicate_more k (datum_of value)
+
+-- one more of what a function gives
+pub mapped_more : {A B : Type 0} (f : A → B) (xs : List A) (k : ℕ) (x : A) → k < length xs → x ≡ get_or xs k x →
+    map f (take (k + 1) xs) ≡ map f (take k xs) ++ f x ∷ []
+mapped_more {A} f xs k x lt is =
+    ap (map f) (take_more xs k x lt ∙ ap (λ (v : A). take k xs ++ v ∷ []) (sym is)) ∙ map-append f (take k xs) (x ∷ [])

@@ -14,11 +14,11 @@ use std::alloc::Global;
 use type_rules::Chain;
 
 // The number that a chain of constants ends at, which has 64 bits, or 0 where it ends at none.
-fn value_of(chain: Chain) -> i64
-    ensures { ((z : ℤ) → chain ≡ EndsAt z → IsWord z) → datum.int result ≡ constant chain }
+fn value_of(chain: &Chain) -> i64
+    ensures { ((z : ℤ) → chain.now ≡ EndsAt z → IsWord z) → datum.int result ≡ constant chain.now }
 {
     match chain {
-        Chain::EndsAt { value } => i64::try_from(value).unwrap_or(0),
+        Chain::EndsAt { value } => i64::try_from(*value).unwrap_or(0),
         Chain::GoesRound | Chain::Fails => 0,
     }
 }
@@ -29,7 +29,8 @@ pub fn constants_of(alloc: Global, chains: &[Chain]) -> Result<Vec<i64>, NoMemor
 {
     let mut all = Vec::new(alloc);
     'chains: for chain in chains {
-        all.push(value_of(*chain))?;
+        let value = value_of(chain);
+        all.push(value)?;
     }
     Ok(all)
 }

@@ -23,7 +23,8 @@ use value_core::{BoxedParts, Parts, TextValue, Value};
 fn nothing(alloc: Global) -> Result<BoxedParts, NoMemory>
     ensures { IfOk result (λ b. b ≡ datum.none) }
 {
-    BoxedParts::new(alloc, Parts::new(alloc))
+    let none = Parts::new(alloc);
+    Ok(BoxedParts::new(alloc, none)?)
 }
 
 // The set, bag or graph that stands in a type's outer arrays, empty; none where these arrays are all of its layers.

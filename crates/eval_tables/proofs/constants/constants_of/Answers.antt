@@ -1,4 +1,4 @@
-use Rattle.std.proofs.Common.{◌≡◌, ℕ, ◌+◌, ◌<◌, ℤ, List, [], ◌∷◌, ◌++◌, length, get_or, map, Option, Some, None, refl, sym, ap, subst, ◌∙◌, arith}
+use Rattle.std.proofs.Common.{rules, ◌≡◌, ℕ, ◌+◌, ◌<◌, ℤ, List, [], ◌∷◌, ◌++◌, length, get_or, map, Option, Some, None, refl, sym, ap, subst, ◌∙◌, arith}
 use Rattle.std.specs.Prelude.{pos, option_map, slice_get, unwrap_or}
 use Rattle.std.proofs.lemmas.List.{length-append, length-map, map-append}
 use Rattle.std.proofs.lemmas.Option.{get_or_from_slice_get, slice_get-map}
@@ -37,7 +37,9 @@ more us chains xs ys z x k are words lt is e value before =
     (value (λ w h. words k w (sym from ∙ h)) ∙ ap constant from ∙ ap (λ (i : ℕ). constant (chain_from us i)) (sym (seen ∙ long)))))
 
 pub chains-preserved : goal.chains-preserved
-chains-preserved c = ?
+chains-preserved c = λ us are words.
+    more us c.args.chains.now c.chains.all.items _ _ _ c.chains.chain-index are words c.chains-test.true ?
+    (c.in_ok-push.ensures.items ∙ ap (λ (z : ℤ). c.chains.all.items ++ z ∷ []) ?) c.value_of-value.ensures (c.chains.invariant us are words)
 
 shown : (o : Option ℤ) → as_int (unwrap_or o (pos 0)) ≡ unwrap_or (option_map as_int o) (as_int (pos 0))
 shown None = refl

@@ -1,0 +1,11 @@
+use Rattle.std.proofs.Common.{◌≡◌, ◌<◌, ◌^◌, ℕ, sym, ap, subst, ◌∙◌}
+use Rattle.orca_base.specs.declared.ids.OpNo.{OpNo}
+use Rattle.eval_tables.proofs.tables.CodeTables.operation.Goals as goal
+
+abbrev numbered : ℕ → OpNo
+numbered k = record { 0 = k }
+
+pub returns : goal.returns
+returns c = λ us t.
+    let same = c.operation_at.ensures ∙ t.operations c.args.number c.args.name.now in
+    ap numbered (c.as_short.ensures (subst (λ (k : ℕ). k < 2 ^ 16) (sym same) (t.coded.ops c.args.number c.args.name.now)) ∙ same)
