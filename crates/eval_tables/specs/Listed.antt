@@ -24,7 +24,8 @@ use Rattle.eval_tables.specs.declared.records.Record.{Record}
 -- the specifications, and how many of them stand before each name
 pub record AreKinds (us : List Source) (k : Kinds) : Type 0 where
   pub specifications : map top k.specifications.items ≡ specifications us
-  pub before : (i : ℕ) → unwrap_or (slice_get k.before.items i) (length k.specifications.items) ≡ length (filter is_specification (take i (top_names us)))
+  pub before : (i : ℕ) → unwrap_or (slice_get k.before.items i) (length k.specifications.items) ≡
+      length (filter is_specification (take i (top_names us)))
 
 -- the place of an operation in a specification
 abbrev pub operation_places : TopName → List ℕ → Option ℕ

@@ -1,6 +1,6 @@
 //! The values of constants.
 
-ghost use Rattle.std.specs.Prelude.{◌≡◌, ℕ, ℤ, List, IfOk};
+ghost use Rattle.std.specs.Prelude.{◌≡◌, ℕ, ℤ, List, IfOk, pos, slice_get, unwrap_or};
 ghost use Rattle.link_rules.specs.Units.{Source};
 ghost use Rattle.type_rules.specs.declared.names.Chain.TheVariants.{EndsAt};
 ghost use Rattle.value_core.specs.Datum as datum;
@@ -33,4 +33,14 @@ pub fn constants_of(alloc: Global, chains: &[Chain]) -> Result<Vec<i64>, NoMemor
         all.push(value)?;
     }
     Ok(all)
+}
+
+/// The value of the constant with this number, or 0 where there is none.
+pub fn value_at(constants: &[i64], number: usize) -> i64
+    ensures { result ≡ unwrap_or (slice_get constants.now number) (pos 0) }
+{
+    match constants.get(number) {
+        None => 0,
+        Some(value) => *value,
+    }
 }

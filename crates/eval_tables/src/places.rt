@@ -31,10 +31,7 @@ pub fn as_short(number: usize) -> u16
 }
 
 /// The places of a record's fields.
-pub fn field_places<'p>(
-    alloc: Global,
-    fields: &'p [TypedName],
-) -> Result<Places<'p>, NoMemory>
+pub fn field_places<'p>(alloc: Global, fields: &'p [TypedName]) -> Result<Places<'p>, NoMemory>
     ensures { IfOk result (λ v. (n : List ℕ) → entry v n ≡ position (λ f. bytes_eq f.name.text n) (map typed_name fields.now)) }
 {
     let mut places = BTreeMap::new(alloc);

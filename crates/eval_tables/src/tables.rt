@@ -13,7 +13,7 @@ ghost use Rattle.type_forms.specs.Seen.{top};
 ghost use Rattle.eval_tables.specs.Layers.{type_seen};
 ghost use Rattle.eval_tables.specs.Tables.{AreCoded, IsTables};
 
-use crate::constants::constants_of;
+use crate::constants::{constants_of, value_at};
 use crate::objects::{Kinds, kinds_of, operation_at, operations_of, specified_before};
 use crate::openings::opening;
 use crate::places::{Places, as_short, place_or_zero};
@@ -105,10 +105,7 @@ impl<'p> CodeTables<'p> {
     pub fn constant(&self, number: usize) -> i64
         ensures { (us : List Source) → IsTables us self.now → datum.int result ≡ constant (chain_from us number) }
     {
-        match self.constants.get(number) {
-            None => 0,
-            Some(value) => *value,
-        }
+        value_at(&self.constants, number)
     }
 
     /// The types of the fields of the record that is this one of the top level's names, in order of declaration.

@@ -23,12 +23,13 @@ more tops specified xs ys k e long are has =
 
 pub tops-preserved : goal.tops-preserved
 tops-preserved c =
-    let counted_all : vec_len c.tops.specifications ≡ length c.tops.specifications.items = search rules in
-    ((c.in_ok-add.ensures {u = tt})
-    ∙ ap (λ (l : List TopName). l ++ cond (is_specification (top c.item-item.result)) (top c.item-item.result ∷ []) []) c.tops.invariant.0
-    ∙ sym (passed_more top is_specification c.tops-tops.result.now c.tops.item-index c.item-item.result c.tops-test.true c.item-item.is),
-    one_more c.tops.before.items _ _ c.tops.item-index c.in_ok-push.ensures.items c.tops.invariant.1,
-    more c.tops-tops.result.now c.tops.specifications.items c.tops.before.items _ c.tops.item-index (c.in_ok-push.ensures.items ∙ ap (λ (n : ℕ). c.tops.before.items ++ n ∷ []) (c.len.ensures ∙ counted_all)) c.tops.invariant.1 c.tops.invariant.0 c.tops.invariant.2)
+    let counted_all : vec_len c.tops.specifications ≡ length c.tops.specifications.items = search rules in (
+      (c.in_ok-add.ensures {u = tt})
+          ∙ ap (λ (l : List TopName). l ++ cond (is_specification (top c.item-item.result)) (top c.item-item.result ∷ []) []) c.tops.invariant.0
+          ∙ sym (passed_more top is_specification c.tops-tops.result.now c.tops.item-index c.item-item.result c.tops-test.true c.item-item.is),
+      one_more c.tops.before.items _ _ c.tops.item-index c.in_ok-push.ensures.items c.tops.invariant.1,
+      more c.tops-tops.result.now c.tops.specifications.items c.tops.before.items _ c.tops.item-index (c.in_ok-push.ensures.items ∙ ap (λ (n : ℕ). c.tops.before.items ++ n ∷ []) (c.len.ensures ∙ counted_all)) c.tops.invariant.1 c.tops.invariant.0 c.tops.invariant.2,
+    )
 
 past : (tops specified : List Top) (k i : ℕ) → length tops ≤ k → map top specified ≡ filter is_specification (take k (map top tops)) → k ≤ i →
     length specified ≡ counted tops i
@@ -45,8 +46,8 @@ returns c = λ us t.
     let i0 = c.tops.invariant.1 in
     record {
       specifications = c.tops.invariant.0
-      ∙ ap (filter is_specification) (take_all c.tops.item-index (map top tops) (omega (arith, long, c.tops-test.false)) ∙ c.tops-tops.ensures us t);
+          ∙ ap (filter is_specification) (take_all c.tops.item-index (map top tops) (omega (arith, long, c.tops-test.false)) ∙ c.tops-tops.ensures us t);
       before = λ i. told (counted tops) c.tops.before.items (length c.tops.specifications.items) c.tops.invariant.2
-      (λ j le. past tops c.tops.specifications.items c.tops.item-index j (omega (arith, c.tops-test.false)) c.tops.invariant.0 (omega (arith, i0, le))) i
-      ∙ ap (λ (l : List TopName). length (filter is_specification (take i l))) (c.tops-tops.ensures us t);
+          (λ j le. past tops c.tops.specifications.items c.tops.item-index j (omega (arith, c.tops-test.false)) c.tops.invariant.0 (omega (arith, i0, le))) i
+          ∙ ap (λ (l : List TopName). length (filter is_specification (take i l))) (c.tops-tops.ensures us t);
     }

@@ -10,5 +10,5 @@ pub returns : goal.returns
 returns c = λ none us t. record {
   places = λ n. (c.in_ok-places.ensures {u = tt}) n ∙ ap (λ (fs : List syn.TypedName). position (λ f. bytes_eq f.name.text n) fs) c.fields_of-fields.ensures;
   types = (c.in_ok-types.ensures {u = tt}) us t (whole_module us (top c.args.item.now)) (record { program = refl; home = refl; names = none })
-  ∙ ap (map (λ (f : syn.TypedName). type_of (data_found (whole_module us (top c.args.item.now)) f.kind))) c.fields_of-fields.ensures;
+      ∙ ap (map (λ (f : syn.TypedName). type_of (data_found (whole_module us (top c.args.item.now)) f.kind))) c.fields_of-fields.ensures;
 }

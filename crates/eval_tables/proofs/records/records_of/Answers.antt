@@ -12,13 +12,14 @@ use Rattle.eval_tables.proofs.records.records_of.Goals as goal
 
 pub tops-preserved : goal.tops-preserved
 tops-preserved c = λ us t.
-    let own : IsRecord us (top c.item-item.result) c.in_ok-own.own = (c.in_ok-own.ensures {u = tt}) (λ n. search rules) us t in
-    (ap (map (λ (r : Record). entry r.places)) c.in_ok-push.ensures.items
-    ∙ tabled top field_places (λ (r : Record). entry r.places) c.tops-tops.result.now c.tops.item-index c.item-item.result c.tops.all.items c.in_ok-own.own c.tops-test.true c.item-item.is
-    (c.tops.invariant us t).0 (fun_ext own.places),
-    ap (map (λ (r : Record). r.types.items)) c.in_ok-push.ensures.items
-    ∙ tabled top (types_in us) (λ (r : Record). r.types.items) c.tops-tops.result.now c.tops.item-index c.item-item.result c.tops.all.items c.in_ok-own.own c.tops-test.true c.item-item.is
-    (c.tops.invariant us t).1 own.types)
+    let own : IsRecord us (top c.item-item.result) c.in_ok-own.own = (c.in_ok-own.ensures {u = tt}) (λ n. search rules) us t in (
+      ap (map (λ (r : Record). entry r.places)) c.in_ok-push.ensures.items
+          ∙ tabled top field_places (λ (r : Record). entry r.places) c.tops-tops.result.now c.tops.item-index c.item-item.result c.tops.all.items c.in_ok-own.own c.tops-test.true c.item-item.is
+          (c.tops.invariant us t).0 (fun_ext own.places),
+      ap (map (λ (r : Record). r.types.items)) c.in_ok-push.ensures.items
+          ∙ tabled top (types_in us) (λ (r : Record). r.types.items) c.tops-tops.result.now c.tops.item-index c.item-item.result c.tops.all.items c.in_ok-own.own c.tops-test.true c.item-item.is
+          (c.tops.invariant us t).1 own.types,
+    )
 
 pub returns : goal.returns
 returns c = λ us t.

@@ -33,6 +33,6 @@ returns-in_ok-push c = λ ts lists.
     record {
       processes = processes ts c.args.texts.now c.args.item.now _ _ is lists c.in_ok-push.ensures.items;
       places = λ n. places ts c.args.texts.now c.args.item.now _ c.note.new.table n is lists
-      ((c.in_ok-note.ensures {u = tt}) n
-      ∙ ap (λ (k : ℕ). or_other (entry c.args.texts.now.places n) (cond (bytes_eq c.args.item.now.name.now n) (Some k) None)) (c.len.ensures ∙ counted));
+          ((c.in_ok-note.ensures {u = tt}) n
+          ∙ ap (λ (k : ℕ). or_other (entry c.args.texts.now.places n) (cond (bytes_eq c.args.item.now.name.now n) (Some k) None)) (c.len.ensures ∙ counted));
     }
