@@ -7,8 +7,7 @@ use Rattle.std.proofs.lemmas.Option.{slice_get-map, slice_get_past}
 use Rattle.link_rules.specs.Units.{Source}
 use Rattle.type_rules.specs.declared.types.DataType.{DataType}
 use Rattle.type_rules.specs.TopLevel.{TopName, top_names}
-use Rattle.type_rules.specs.Constants.{chain_from, chain_within, numbered_chain}
-use Rattle.type_rules.specs.declared.names.Chain.{Chain}
+use Rattle.type_rules.specs.Constants.{chain_from, chain_within}
 use Rattle.value_core.specs.Datum.{Datum}
 use Rattle.value_core.specs.Datum as datum
 use Rattle.meaning_rules.specs.Designators.{constant}

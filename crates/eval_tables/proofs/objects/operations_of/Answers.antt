@@ -1,4 +1,4 @@
-use Rattle.std.proofs.Common.{List, map, take, ap, ◌∙◌, arith}
+use Rattle.std.proofs.Common.{List, map, ap, ◌∙◌, arith}
 use Rattle.std.proofs.Math.Path.{fun_ext}
 use Rattle.std.proofs.lemmas.List.{take_all}
 use Rattle.type_forms.specs.declared.tops.Top.{Top}

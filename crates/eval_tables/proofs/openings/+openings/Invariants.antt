@@ -1,4 +1,4 @@
-use Rattle.std.proofs.Common.{◌≡◌, ℕ, ◌+◌, ◌*◌, List, map, take}
+use Rattle.std.proofs.Common.{◌≡◌, ◌+◌, ◌*◌, List, map, take}
 use Rattle.link_rules.specs.Units.{Source}
 use Rattle.value_core.specs.Datum.{list_of}
 use Rattle.meaning_rules.specs.Openings.{record_opening, type_opening}

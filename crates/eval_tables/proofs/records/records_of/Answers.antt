@@ -1,4 +1,4 @@
-use Rattle.std.proofs.Common.{rules, List, map, take, ap, ◌∙◌, arith}
+use Rattle.std.proofs.Common.{rules, List, map, ap, ◌∙◌, arith}
 use Rattle.std.proofs.Math.Path.{fun_ext}
 use Rattle.std.proofs.lemmas.List.{take_all}
 use Rattle.meaning_rules.specs.Openings.{types_in}

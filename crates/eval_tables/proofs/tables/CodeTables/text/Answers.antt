@@ -1,4 +1,4 @@
-use Rattle.std.proofs.Common.{◌≡◌, ◌<◌, ◌^◌, ℕ, sym, ap, subst, ◌∙◌}
+use Rattle.std.proofs.Common.{◌<◌, ◌^◌, ℕ, sym, ap, subst, ◌∙◌}
 use Rattle.orca_base.specs.declared.ids.TextNo.{TextNo}
 use Rattle.eval_tables.proofs.tables.CodeTables.text.Goals as goal
 
