@@ -3,7 +3,7 @@
 ghost use Rattle.std.specs.Prelude.{◌≡◌, IfOk, Ok, Err};
 ghost use Rattle.orca_base.specs.Refusal.{MatchRefusal};
 ghost use Rattle.value_core.specs.View.{datum_of};
-ghost use Rattle.value_ops.specs.Texts.{IsTellable, joined, text_of, truth_text};
+ghost use Rattle.value_ops.specs.Texts.{joined, text_of, truth_text};
 
 use orca_base::{FaultKind, NoMemory, Refusal, TEXT_LENGTH, Text, refuse};
 use std::alloc::Global;
@@ -31,12 +31,11 @@ pub fn join_texts(
 }
 
 /// What `WriteLine` writes of a value, with the names of the values of its enumeration. Of arrays, records, sets, bags and
-/// objects it writes nothing.
+/// objects it writes nothing, nor of a number that is no char's code.
 ///
 /// # Errors
 /// Want of memory.
 pub fn text_of(alloc: Global, value: &Value, names: &[TextValue]) -> Result<TextValue, NoMemory>
-    requires { IsTellable (datum_of value.now) }
     ensures { IfOk result (λ t. t ≡ text_of names.now (datum_of value.now)) }
 {
     match value {
@@ -45,7 +44,7 @@ pub fn text_of(alloc: Global, value: &Value, names: &[TextValue]) -> Result<Text
             TextValue::new(alloc, Text::new(text))
         }
         Value::Truth(truth) => TextValue::from_str(alloc, truth_text(*truth)),
-        Value::Char(code) => {
+        Value::Char(code) if *code < 128 => {
             let mut text = String::new(alloc);
             text.push(char::from(*code))?;
             TextValue::new(alloc, Text::new(text))
