@@ -3,7 +3,7 @@ use Rattle.std.proofs.Common.{refl, ap, sym, ◌∙◌, subst, arith}
 use Rattle.std.specs.Prelude.{◌≡◌, ◌≤◌, ◌<◌, ℕ, zero, suc, pos, Bool, true, false, List, [], ◌∷◌, ◌++◌, length, slice_get, unwrap_or, Option, Some, None, option_map}
 use Rattle.std.specs.Option.{option_map_or}
 use Rattle.std.specs.List.{All, AllByRecursion}
-use Rattle.std.proofs.lemmas.List.Elements.{All-nil, All-cons, recursion_from_All}
+use Rattle.std.proofs.lemmas.List.Elements.{All-nil, recursion_from_All}
 use Rattle.orca_base.specs.declared.limits.TheConstants.{VALUE_NESTING, VALUE_SIZE}
 use Rattle.orca_base.specs.declared.place.Place.{Place}
 use Rattle.orca_tree.specs.declared.tree.Name.{Name}
@@ -212,7 +212,7 @@ module _ (us : List Source) (kinds : Kinds) (facts : IsAccepted us) where
   text_of_type : (laws : Laws us) (names : List (List ℕ)) (x : Datum) (t : DataType) → All (All IsCode) names → IsOf us kinds x t → All IsCode (text_of names x)
   text_of_type laws names (datum.int z) t all h = laws.told names (datum.int z) all (record { well_formed = h.1; shallow = omega arith })
   text_of_type laws names (datum.truth b) t all h = laws.told names (datum.truth b) all (record { well_formed = tt; shallow = omega arith })
-  text_of_type laws names (datum.char c) t all h = All-cons IsCode c [] h.1 (All-nil IsCode)
+  text_of_type laws names (datum.char c) t all h = laws.told names (datum.char c) all (record { well_formed = h.1; shallow = omega arith })
   text_of_type laws names (datum.enumerated n) t all h = codes_at names n (recursion_from_All (All IsCode) names all)
   text_of_type laws names (datum.text s) t all h = h.1
   text_of_type laws names (datum.array w) t all h = All-nil IsCode
