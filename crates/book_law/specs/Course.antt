@@ -38,7 +38,7 @@ pub record Course : Type 0 where
 abbrev pub with_at : {A : Type 0} → (ℕ → A) → ℕ → A → ℕ → A
 with_at f k v x = if x == k then v else f x
 
--- process 0 on this member, with the program's first text
+-- process 0 on this member, with the text that begins
 abbrev pub opening_course : Computes → ℕ → Course
 opening_course q member = record {
   list = [];

@@ -12,14 +12,12 @@ pub const SCRIPT_BYTES: u32 = 1_000_000;
 pub const HISTORY_BYTES: u32 = 64_000_000;
 
 /// Files, and so modules, of one program.
-/// Nothing uses it yet.
 pub const MODULES: u32 = 64;
 
 /// Levels of nesting of a text, so that recursion over a tree is shallow.
 pub const NESTING: u32 = 64;
 
 /// Length of a program's code, at 20 for each token and declared name.
-/// Nothing uses it yet.
 pub const CODE_LENGTH: u32 = 2_000_000;
 
 /// Objects of one run, the output object not counted.
@@ -29,25 +27,21 @@ pub const OBJECTS: u32 = 4_096;
 pub const PROCESSES: u32 = 256;
 
 /// Lines of one history.
-/// Nothing uses it yet.
 pub const HISTORY_LINES: u32 = 2_000_000;
 
 /// Size of a value: 1, or for a list 1 and the sizes of its parts.
 pub const VALUE_SIZE: u32 = 10_000;
 
 /// Characters of a string, whose size is then at most `VALUE_SIZE`.
-/// Nothing uses it yet.
 pub const TEXT_LENGTH: u32 = 9_999;
 
 /// Levels of nesting of a value.
 pub const VALUE_NESTING: u32 = 16;
 
 /// Turns of one guard, operation body or making, so that applying an entry ends.
-/// Nothing uses it yet.
 pub const OPERATION_TURNS: u32 = 10_000;
 
 /// Turns of one burst, so that other processes' bursts come between.
-/// Nothing uses it yet.
 pub const BURST_TURNS: u32 = 10_000;
 
 /// Parameters of one function, process or operation, whose number is one byte in a packet.
@@ -81,7 +75,6 @@ pub const ENTRIES_SENT_AGAIN: u32 = 16;
 pub const PATIENCE: u32 = 6;
 
 /// Idle ticks after which a group that lost too many members is given up.
-/// Nothing uses it yet.
 pub const IDLE_TICKS: u32 = 200;
 
 /// The greatest number of turns that a run may be allowed.

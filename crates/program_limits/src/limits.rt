@@ -22,7 +22,7 @@ const LENGTH_OF_WORD: u64 = 20;
 /// A limit that a program passes.
 #[derive(Clone, Copy, Debug, PartialEq, Eq)]
 pub enum PassedLimit {
-    /// That of parameters of one function, process or operation.
+    /// That of parameters of one function, process or operation. It is told as the limit of nesting, with the number 255.
     Parameters,
     /// That of the code's length, at 20 for each token and declared name.
     CodeLength,

@@ -62,7 +62,7 @@ output_object = record { process = 0; number = 0 }
 abbrev pub output_kind : KindNo
 output_kind = record { 0 = 0 }
 
--- before the first line: the output object, and process 0 with the program's first text
+-- before the first line: the output object, and process 0 with the text that begins
 abbrev pub opening : Computes → Configuration
 opening q = record {
   objects = (output_object, record { kind = output_kind; state = datum.none }) ∷ [];
