@@ -15,7 +15,10 @@ use value_core::{Message, Reply};
 #[derive(Drop)]
 pub enum Errand {
     /// A call, with its process's place.
-    Ask { place: u64, message: Shared<Message> },
+    Ask {
+        place: u64,
+        message: Shared<Message>,
+    },
     /// A reply, with how many entries the owner had applied.
     Answer {
         place: u64,
@@ -52,7 +55,13 @@ impl Errand {
         ensures { result ≡ same_errand (on_errand self.now) (on_errand other.now) }
     {
         match (self, other) {
-            (Errand::Ask { message, .. }, Errand::Ask { message: second, .. }) => {
+            (
+                Errand::Ask { message, .. },
+                Errand::Ask {
+                    message: second,
+                    ..
+                },
+            ) => {
                 let name = message.id();
                 let other = second.id();
                 name.process.0 == other.process.0 && name.call.0 == other.call.0

@@ -23,6 +23,3 @@ pub use node::{Known, Node};
 pub use resident::{Resident, Stage};
 pub use run::OneRun;
 pub use task::{CheckedIn, Done, Stray, Task};
-
-#[cfg(test)]
-mod tests;

@@ -10,7 +10,7 @@ returns-then-is_outside g c =
       | then-is_outside-via-then-is_outside w ↦ refused_outside c.args.errand c.args.self.now c.is_outside.result c.is_outside.ensures w.if-is_outside.true
       | then-is_outside-via-else-is_outside+then-is_held w ↦
           refused_held c.args.errand c.args.self.now c.is_outside.result w.is_held.result w.as_slice.result.now c.is_outside.ensures w.if-is_outside.false
-              w.as_slice.ensures.value w.is_held.ensures w.if-is_held.true
+          w.as_slice.ensures.value w.is_held.ensures w.if-is_held.true
     ])
 
 pub returns : goal.returns

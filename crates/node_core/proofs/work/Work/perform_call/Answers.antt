@@ -11,9 +11,9 @@ pub call_single-requires : goal.call_single-requires
 call_single-requires g c =
     let m = c.args.machine.now in
     let may =
-        may_call g.P.OneRun.stood g.P.OneRun.left g.P.OneRun.run.frame
-        (fitness_of (g.P.Performer.fits_state m) (g.P.Performer.fits_args m) (g.P.Performer.fits_text m) (g.P.Performer.fits_reply m))
-        (g.P.Performer.performs m) c.args.message.now c.args.self.now (g.met.P.OneRun.performs_run m) c.requires
+    may_call g.P.OneRun.stood g.P.OneRun.left g.P.OneRun.run.frame
+    (fitness_of (g.P.Performer.fits_state m) (g.P.Performer.fits_args m) (g.P.Performer.fits_text m) (g.P.Performer.fits_reply m))
+    (g.P.Performer.performs m) c.args.message.now c.args.self.now (g.met.P.OneRun.performs_run m) c.requires
     in record { fits = may.fits; blocked = may.blocked; call = may.call }
 
 pub lines-init : goal.lines-init
