@@ -70,7 +70,7 @@ impl<P: OneRun> Node<P> {
         })
     }
 
-    /// An equal node, which shares what it can: it stands for whatever this one stands for.
+    /// A node that stands for whatever this one stands for, and shares with it what it can.
     pub fn copy(&self, alloc: Global) -> Result<Node<P>, NoMemory>
         ensures { IfOk result (StandsAlike P.stood P.left self.now) }
     {

@@ -32,7 +32,7 @@ use value_core::{Action, Class, Message};
 impl<P: OneRun> Node<P> {
     /// The action at which a process is, is carried out: a make, a fork or a call of a replicated object that may change it is submitted
     /// to the group, a read of one is performed or waits, and a call on a single object is performed or waits at its owner, to which
-    /// it goes as an Ask. Then the member applies what is accepted.
+    /// it goes as an Ask. Then the member applies what is accepted, and takes the Asks and Answers whose place it has reached.
     ///
     /// Where there is no memory, the node is as it was.
     pub fn act(&mut self, alloc: Global, machine: &P, process: ProcessNo) -> Result<Moved, NoMemory>
@@ -47,7 +47,7 @@ impl<P: OneRun> Node<P> {
         Ok(work.moved)
     }
 
-    /// A packet came from this member. Then the member applies what is accepted.
+    /// A packet came from this member. Then the member applies what is accepted, and takes the Asks and Answers whose place it has reached.
     ///
     /// Where there is no memory, the node is as it was.
     pub fn deliver(
@@ -68,7 +68,8 @@ impl<P: OneRun> Node<P> {
         Ok(work.moved)
     }
 
-    /// Time passes: its timer runs, and it asks again for the Answers that it lacks. Then the member applies what is accepted.
+    /// Time passes: its timer runs, and it asks again for the Answers that it lacks. Then the member applies what is accepted, and takes
+    /// the Asks and Answers whose place it has reached.
     ///
     /// Where there is no memory, the node is as it was.
     pub fn tick(&mut self, alloc: Global, machine: &P) -> Result<Moved, NoMemory>
@@ -84,7 +85,8 @@ impl<P: OneRun> Node<P> {
         Ok(work.moved)
     }
 
-    /// It suspects its sequencer, and coordinates a reset. Then the member applies what is accepted.
+    /// It suspects its sequencer, and coordinates a reset. Then the member applies what is accepted, and takes the Asks and Answers whose
+    /// place it has reached.
     ///
     /// Where there is no memory, the node is as it was.
     pub fn suspect(&mut self, alloc: Global, machine: &P) -> Result<Moved, NoMemory>

@@ -43,7 +43,7 @@ pub trait OneRun: Processor {
 
     ghost left_halted: { (m : Self) (state : Self.State) (act : Action) → left state act → Self.halted m state act };
 
-    /// And so is what fits.
+    /// And so are which states fit, and which arguments of operations.
     ghost states_alike: { (m n : Self) (kinds : Kinds) (kind : KindNo) (state : Data) →
         Self.fits_state m kinds kind state → Self.fits_state n kinds kind state };
 

@@ -335,7 +335,7 @@ impl<P: OneRun> Node<P> {
         self.task_on(alloc, machine, process, view, budget)
     }
 
-    /// The same with another view: what the member's objects were at an earlier place.
+    /// The same with another view, over which such a burst fits; whoever calls knows what it shows.
     pub fn task_on(
         &mut self,
         alloc: Global,
@@ -386,7 +386,8 @@ impl<P: OneRun> Node<P> {
 
     /// A burst that was computed is checked in: its reads are performed at its view's place, and the process stands where it ended.
     ///
-    /// Stray comes where no task of the process is out, or the start or the view that was handed out is another.
+    /// Stray comes exactly where no task of the process is out, its state or the number of its replies isn't the start's, or the view that
+    /// is out is another. The node is then as it was.
     pub fn check_in(&mut self, done: Done<P>) -> Result<CheckedIn, Stray<P>>
         ensures ok { IfOk result (λ checked. HasCheckedIn P.stood P.left P.run.frame done checked self.old self.new) }
         ensures stray { IfErr result (λ stray. IsStray done stray.done self.old self.new) }
