@@ -1,5 +1,5 @@
 -- Entries are applied again, to opening copies.
-use Rattle.std.proofs.Common.{◌≡◌, ◌≤◌, ℕ, suc, zero, Bool, true, false, List, [], ◌∷◌, length, take, slice_get, Some, None, Option, refl, sym, ap, ◌∙◌, subst, arith, if◌then◌else◌}
+use Rattle.std.proofs.Common.{◌≡◌, ℕ, suc, zero, Bool, true, false, List, [], ◌∷◌, length, take, slice_get, Some, None, Option, refl, sym, ap, ◌∙◌, subst, arith, if◌then◌else◌}
 use Rattle.std.proofs.lemmas.List.{take_all}
 use Rattle.value_core.specs.Meaning.{Performs}
 use Rattle.value_core.specs.declared.action.Action.{Action}
@@ -18,13 +18,11 @@ use Rattle.book_law.proofs.Books.{copies_applied, copies_next}
 use Rattle.book_law.proofs.Replicated.{entries_stand}
 use Rattle.world_rules.specs.Frame.{Frame}
 use Rattle.world_rules.specs.Nodes as nodes
-use Rattle.world_rules.specs.Nodes.{entries_of, known}
+use Rattle.world_rules.specs.Nodes.{known}
 use Rattle.world_rules.specs.Processes.{Begun, singles_of}
-use Rattle.world_rules.specs.Steps.{objects_after}
 use Rattle.node_core.specs.Earlier.{HasViewed, MayTakeAgain, MayViewAfter}
-use Rattle.node_core.specs.Entries.{KnowsAs, MayTakeEntry}
+use Rattle.node_core.specs.Entries.{KnowsAs}
 use Rattle.node_core.specs.Shown.{Left, Stood}
-use Rattle.node_core.specs.Stands.{StandsAs}
 use Rattle.node_core.specs.declared.node.Node.{Node}
 
 -- ---- one entry

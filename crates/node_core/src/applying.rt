@@ -1,17 +1,16 @@
 //! How a member applies its accepted entries, and tries the reads that wait here.
 
-ghost use Rattle.std.specs.Prelude.{◌≡◌, ◌<◌, ◌≤◌, ◌++◌, IfErr, IfOk, List, OnErr, OnOk, map, true};
+ghost use Rattle.std.specs.Prelude.{◌≡◌, ◌<◌, ◌≤◌, ◌++◌, IfErr, IfOk, List, OnErr, OnOk, map};
 ghost use Rattle.value_core.specs.Fits.{Kinds};
 ghost use Rattle.value_core.specs.declared.message.Message.{Message};
 ghost use Rattle.guard_queue.specs.Settles.{lines_of};
 ghost use Rattle.object_manager.specs.Limits.{IfLimit, too_many};
 ghost use Rattle.world_rules.specs.Applying.{answers, applies, applies_all, notes, tries_read, tries_reads};
 ghost use Rattle.world_rules.specs.Bursts.{read_on};
-ghost use Rattle.world_rules.specs.Frame.{Frame};
 ghost use Rattle.world_rules.specs.Nodes.{does, plays};
 ghost use Rattle.world_rules.specs.Nodes.Deed.{Applies};
-ghost use Rattle.world_rules.specs.Processes.{Begun, home_in, member_named, singles_of};
-ghost use Rattle.node_core.specs.Entries.{AppliesNext, Begins, HasTaken, IsBorn, KnowsAs, MayAnswerHere, MayBegin, MayTakeEntry, Took, listed, newborn_at};
+ghost use Rattle.world_rules.specs.Processes.{Begun, home_in, member_named};
+ghost use Rattle.node_core.specs.Entries.{AppliesNext, Begins, HasTaken, IsBorn, MayAnswerHere, MayBegin, MayTakeEntry, Took, listed, newborn_at};
 ghost use Rattle.node_core.specs.Pieces.{Becomes, BecomesIn, GoesOn, IsNext, IsSomewhere, MayRead, MayReadAt, MayTryRead, line_read, resident_at};
 ghost use Rattle.node_core.specs.Stands.{fitness_of, on_known};
 
