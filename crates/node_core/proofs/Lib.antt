@@ -10,6 +10,7 @@ pub mod Knowing
 pub mod Beginning
 pub mod NextEntry
 pub mod TakingEntry
+pub mod ApplyingAgain
 pub mod CatchingUp
 pub mod Handing
 pub mod Calling

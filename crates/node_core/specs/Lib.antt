@@ -5,6 +5,7 @@ pub mod Shown
 pub mod Stands
 pub mod Pieces
 pub mod Entries
+pub mod Earlier
 pub mod Events
 pub mod Calls
 pub mod Tasks

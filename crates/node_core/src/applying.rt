@@ -1,19 +1,16 @@
 //! How a member applies its accepted entries, and tries the reads that wait here.
 
-ghost use Rattle.std.specs.Prelude.{◌≡◌, ◌<◌, ◌≤◌, ◌++◌, IfErr, IfOk, List, OnErr, OnOk, map, true};
+ghost use Rattle.std.specs.Prelude.{◌≡◌, ◌<◌, ◌≤◌, ◌++◌, IfErr, IfOk, List, OnErr, OnOk, map};
 ghost use Rattle.value_core.specs.Fits.{Kinds};
 ghost use Rattle.value_core.specs.declared.message.Message.{Message};
 ghost use Rattle.guard_queue.specs.Settles.{lines_of};
 ghost use Rattle.object_manager.specs.Limits.{IfLimit, too_many};
-ghost use Rattle.object_manager.specs.Singles.{IsMake};
-ghost use Rattle.book_law.specs.Passes.{is_passed};
 ghost use Rattle.world_rules.specs.Applying.{answers, applies, applies_all, notes, tries_read, tries_reads};
 ghost use Rattle.world_rules.specs.Bursts.{read_on};
-ghost use Rattle.world_rules.specs.Frame.{Frame};
 ghost use Rattle.world_rules.specs.Nodes.{does, plays};
 ghost use Rattle.world_rules.specs.Nodes.Deed.{Applies};
-ghost use Rattle.world_rules.specs.Processes.{Begun, home_in, member_named, singles_of};
-ghost use Rattle.node_core.specs.Entries.{AppliesNext, Begins, HasTaken, IsBorn, KnowsAs, MayAnswerHere, MayBegin, MayTakeEntry, Took, listed, newborn_at};
+ghost use Rattle.world_rules.specs.Processes.{Begun, home_in, member_named};
+ghost use Rattle.node_core.specs.Entries.{AppliesNext, Begins, HasTaken, IsBorn, MayAnswerHere, MayBegin, MayTakeEntry, Took, listed, newborn_at};
 ghost use Rattle.node_core.specs.Pieces.{Becomes, BecomesIn, GoesOn, IsNext, IsSomewhere, MayRead, MayReadAt, MayTryRead, line_read, resident_at};
 ghost use Rattle.node_core.specs.Stands.{fitness_of, on_known};
 
@@ -133,22 +130,11 @@ impl<P: OneRun> Work<P> {
         ensures limit { IfErr result (λ e. IfLimit e (too_many (P.performs machine.now) self.old.node.copies message.now.action)) }
         ensures err { OnErr result (self.new.node.copies ≡ self.old.node.copies) }
     {
-        if self.is_passed(&message.action) {
+        if self.node.is_passed(&message.action) {
             let keeps = self.node.home_of(message.process.0) == self.node.me();
             self.node.copies.pass_make(alloc, machine, message, keeps)
         } else {
             self.node.copies.apply(alloc, machine, message)
-        }
-    }
-
-    // Whether the action makes a single object.
-    fn is_passed(&self, action: &Action) -> bool
-        ensures make { result ≡ true → IsMake action.now }
-        ensures single { (f : Frame) (processes : List Begun) → KnowsAs f processes self.now.node → result ≡ is_passed (singles_of f processes) action.now }
-    {
-        match action {
-            Action::Make { object, .. } => self.node.is_single(*object),
-            _ => false,
         }
     }
 

@@ -8,10 +8,12 @@
 //! node_rules (`EventFits`, `BurstFits`), which world_calls proves of every run.
 //!
 //! It stands on the member of the group, the copies and the rules of a member of a run. It knows nothing of packets in flight, of
-//! bytes, threads or the text of a program. Nothing is said of which tasks an event leaves out, nor of `Moved::messages`.
+//! bytes, threads or the text of a program. A view at an earlier place is `view_after` (specs/Earlier.antt). Nothing is said of which
+//! tasks an event leaves out, nor of `Moved::messages`.
 #![tactic(auto)]
 
 mod applying;
+mod earlier;
 mod errand;
 mod kept;
 mod moved;

@@ -1,11 +1,14 @@
 //! One member with its copies and processes.
 
-ghost use Rattle.std.specs.Prelude.{◌≡◌, ◌<◌, ◌*◌, ℕ, IfOk, List, OnOk, length, map, None, Some, slice_get, slice_index_or};
+ghost use Rattle.std.specs.Prelude.{◌≡◌, ◌<◌, ◌*◌, ℕ, IfOk, List, OnOk, length, map, None, Some, slice_get, slice_index_or, true};
 ghost use Rattle.std.specs.Option.{option_copied};
+ghost use Rattle.object_manager.specs.Singles.{IsMake};
+ghost use Rattle.book_law.specs.Passes.{is_passed};
 ghost use Rattle.world_rules.specs.Frame.{Frame, choice_in, is_single};
 ghost use Rattle.world_rules.specs.Nodes.{opening_node, opening_processes};
 ghost use Rattle.world_rules.specs.Processes.{Begun, home_in, singles_of};
 ghost use Rattle.node_core.specs.Calls.{HasMoved, given_at};
+ghost use Rattle.node_core.specs.Entries.{KnowsAs};
 ghost use Rattle.node_core.specs.Pieces.{HasPut, resident_at};
 ghost use Rattle.node_core.specs.Shown.{IsPlayedIf};
 ghost use Rattle.node_core.specs.Stands.{StandsAlike, StandsAs, on_known};
@@ -19,7 +22,7 @@ use history_buffer::Shared;
 use object_manager::Copies;
 use orca_base::{Choice, Items, NoMemory, ObjectId, ProcessNo, TextNo};
 use std::alloc::Global;
-use value_core::{Message, Parts};
+use value_core::{Action, Message, Parts};
 
 /// What a member knows of a process: its text, and the member at which it began.
 #[derive(Clone, Copy, Debug, PartialEq, Eq)]
@@ -161,6 +164,17 @@ impl<P: OneRun> Node<P> {
                 object.number,
             ),
             None => false,
+        }
+    }
+
+    // Whether the action makes a single object.
+    pub(crate) fn is_passed(&self, action: &Action) -> bool
+        ensures make { result ≡ true → IsMake action.now }
+        ensures single { (f : Frame) (processes : List Begun) → KnowsAs f processes self.now → result ≡ is_passed (singles_of f processes) action.now }
+    {
+        match action {
+            Action::Make { object, .. } => self.is_single(*object),
+            _ => false,
         }
     }
 
