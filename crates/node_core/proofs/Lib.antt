@@ -21,3 +21,4 @@ pub mod Starting
 pub mod CarryingOut
 pub mod Running
 pub mod TakingIn
+pub mod Keeping

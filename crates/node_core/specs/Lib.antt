@@ -9,3 +9,4 @@ pub mod Events
 pub mod Calls
 pub mod Tasks
 pub mod CheckingIn
+pub mod Keeping
