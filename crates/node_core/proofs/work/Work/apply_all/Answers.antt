@@ -22,9 +22,10 @@ apply_due-requires-in-rounds g c =
 
 pub rounds-preserved : goal.rounds-preserved
 rounds-preserved g c =
-    let m = c.args.machine.now in
-    (rounds_more g.P.OneRun.stood g.P.OneRun.left g.P.OneRun.run.frame (fitness_of (g.P.Performer.fits_state m) (g.P.Performer.fits_args m) (g.P.Performer.fits_text m) (g.P.Performer.fits_reply m)) c.args.self.now c.rounds.self c.note.new.self c.apply_due-in-rounds.new.self c.rounds.invariant.0 (c.in_ok-note.ensures {u = tt}).goes (c.in_ok-apply_due-2.ensures {u = tt}).does,
-    keeps_on _ _ _ c.rounds.invariant.1 (keeps_on _ _ _ (c.in_ok-note.ensures {u = tt}).tasks (c.in_ok-apply_due-2.ensures {u = tt}).tasks))
+    let m = c.args.machine.now in (
+      rounds_more g.P.OneRun.stood g.P.OneRun.left g.P.OneRun.run.frame (fitness_of (g.P.Performer.fits_state m) (g.P.Performer.fits_args m) (g.P.Performer.fits_text m) (g.P.Performer.fits_reply m)) c.args.self.now c.rounds.self c.note.new.self c.apply_due-in-rounds.new.self c.rounds.invariant.0 (c.in_ok-note.ensures {u = tt}).goes (c.in_ok-apply_due-2.ensures {u = tt}).does,
+      keeps_on _ _ _ c.rounds.invariant.1 (keeps_on _ _ _ (c.in_ok-note.ensures {u = tt}).tasks (c.in_ok-apply_due-2.ensures {u = tt}).tasks),
+    )
 
 pub rounds-smaller : goal.rounds-smaller
 rounds-smaller g c =

@@ -18,10 +18,11 @@ apply_next-requires-clause-due g c = omega arith
 
 pub entries-preserved : goal.entries-preserved
 entries-preserved g c =
-    let m = c.args.machine.now in
-    (far_more g.P.OneRun.stood g.P.OneRun.left g.P.OneRun.run.frame (fitness_of (g.P.Performer.fits_state m) (g.P.Performer.fits_args m) (g.P.Performer.fits_text m) (g.P.Performer.fits_reply m)) c.args.self.now c.entries.self c.apply_next.new.self (λ h which s k stands. whole_length stands) c.entries.invariant.0 (omega arith)
-    (subst (AppliesNext g.P.OneRun.stood g.P.OneRun.left g.P.OneRun.run.frame (fitness_of (g.P.Performer.fits_state m) (g.P.Performer.fits_args m) (g.P.Performer.fits_text m) (g.P.Performer.fits_reply m)) c.entries.self c.apply_next.new.self) c.if-not-branch.false (c.in_ok-apply_next.ensures {u = tt}).does),
-    keeps_on _ _ _ c.entries.invariant.1 (c.in_ok-apply_next.ensures {u = tt}).tasks)
+    let m = c.args.machine.now in (
+      far_more g.P.OneRun.stood g.P.OneRun.left g.P.OneRun.run.frame (fitness_of (g.P.Performer.fits_state m) (g.P.Performer.fits_args m) (g.P.Performer.fits_text m) (g.P.Performer.fits_reply m)) c.args.self.now c.entries.self c.apply_next.new.self (λ h which s k stands. whole_length stands) c.entries.invariant.0 (omega arith)
+          (subst (AppliesNext g.P.OneRun.stood g.P.OneRun.left g.P.OneRun.run.frame (fitness_of (g.P.Performer.fits_state m) (g.P.Performer.fits_args m) (g.P.Performer.fits_text m) (g.P.Performer.fits_reply m)) c.entries.self c.apply_next.new.self) c.if-not-branch.false (c.in_ok-apply_next.ensures {u = tt}).does),
+      keeps_on _ _ _ c.entries.invariant.1 (c.in_ok-apply_next.ensures {u = tt}).tasks,
+    )
 
 pub entries-smaller : goal.entries-smaller
 entries-smaller g c =

@@ -10,9 +10,11 @@ pub processes-init : goal.processes-init
 processes-init g c = ((λ f m v work. work), keeps_none _ _)
 
 pub processes-preserved : goal.processes-preserved
-processes-preserved g c =
-    (asks_more g.P.OneRun.stood g.P.OneRun.left c.processes.process (c.processes.process + 1) c.args.self.now c.processes.self c.ask_of.new.self (omega arith) c.processes.invariant.0
-    (c.in_ok-ask_of.ensures {u = tt}).does, keeps_on _ _ _ c.processes.invariant.1 (c.in_ok-ask_of.ensures {u = tt}).tasks)
+processes-preserved g c = (
+  asks_more g.P.OneRun.stood g.P.OneRun.left c.processes.process (c.processes.process + 1) c.args.self.now c.processes.self c.ask_of.new.self (omega arith) c.processes.invariant.0
+      (c.in_ok-ask_of.ensures {u = tt}).does,
+  keeps_on _ _ _ c.processes.invariant.1 (c.in_ok-ask_of.ensures {u = tt}).tasks,
+)
 
 pub returns-clause-does : goal.returns-clause-does
 returns-clause-does g c =

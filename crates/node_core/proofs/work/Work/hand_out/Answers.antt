@@ -18,10 +18,11 @@ receive-requires g c =
     (slice_get_read c.args.lines.now (length c.args.lines.now) c.lines.line-index c.line-item.result refl (omega arith) c.line-item.is)
 
 pub lines-preserved : goal.lines-preserved
-lines-preserved g c =
-    (lines_more g.P.OneRun.stood g.P.OneRun.left g.P.OneRun.run.frame c.args.lines.now c.applied-place.result c.lines.line-index (c.lines.line-index + 1) c.line-item.result c.args.self.now c.lines.self c.receive.new.self (omega arith)
-    c.lines.invariant.0 (slice_get_read c.args.lines.now (length c.args.lines.now) c.lines.line-index c.line-item.result refl (omega arith) c.line-item.is) (c.in_ok-receive.ensures {u = tt}).does,
-    keeps_on _ _ _ c.lines.invariant.1 (c.in_ok-receive.ensures {u = tt}).tasks)
+lines-preserved g c = (
+  lines_more g.P.OneRun.stood g.P.OneRun.left g.P.OneRun.run.frame c.args.lines.now c.applied-place.result c.lines.line-index (c.lines.line-index + 1) c.line-item.result c.args.self.now c.lines.self c.receive.new.self (omega arith)
+      c.lines.invariant.0 (slice_get_read c.args.lines.now (length c.args.lines.now) c.lines.line-index c.line-item.result refl (omega arith) c.line-item.is) (c.in_ok-receive.ensures {u = tt}).does,
+  keeps_on _ _ _ c.lines.invariant.1 (c.in_ok-receive.ensures {u = tt}).tasks,
+)
 
 pub returns-clause-does : goal.returns-clause-does
 returns-clause-does g c =

@@ -22,12 +22,13 @@ pub lines-init : goal.lines-init
 lines-init g c =
     let m = c.args.machine.now in
     let does = c.in_ok-answered.ensures {u = tt} in
-    let all : into_iter_items c.into_iter-one-iterator.result ≡ c.in_ok-answered.answered.items = search rules in
-    (hands_begin g.P.OneRun.stood g.P.OneRun.left g.P.OneRun.run.frame
-    (fitness_of (g.P.Performer.fits_state m) (g.P.Performer.fits_args m) (g.P.Performer.fits_text m) (g.P.Performer.fits_reply m))
-    (g.P.Performer.performs m) c.args.message.now c.args.self.now _ _ (g.met.P.OneRun.performs_run m) refl does.after
-    (ap (λ (l : List Answered). lines_of l) all ∙ does.lines) c.requires,
-    keeps_still _ _ _ refl (ap (λ (d : Copied). d.processes) does.after))
+    let all : into_iter_items c.into_iter-one-iterator.result ≡ c.in_ok-answered.answered.items = search rules in (
+      hands_begin g.P.OneRun.stood g.P.OneRun.left g.P.OneRun.run.frame
+          (fitness_of (g.P.Performer.fits_state m) (g.P.Performer.fits_args m) (g.P.Performer.fits_text m) (g.P.Performer.fits_reply m))
+          (g.P.Performer.performs m) c.args.message.now c.args.self.now _ _ (g.met.P.OneRun.performs_run m) refl does.after
+          (ap (λ (l : List Answered). lines_of l) all ∙ does.lines) c.requires,
+      keeps_still _ _ _ refl (ap (λ (d : Copied). d.processes) does.after),
+    )
 
 pub hand-requires : goal.hand-requires
 hand-requires g c =
@@ -35,10 +36,11 @@ hand-requires g c =
     ((some_left c.next.result c.in-Some.one _ _ c.in-Some.is c.next.ensures.steps).0) c.lines.invariant.0
 
 pub lines-preserved : goal.lines-preserved
-lines-preserved g c =
-    (hands_more g.P.OneRun.stood g.P.OneRun.left g.P.OneRun.run.frame (g.P.Performer.fits_reply c.args.machine.now) c.args.message.now c.args.self.now c.lines.self c.hand.new.self _ _ c.in-Some.one
-    ((some_left c.next.result c.in-Some.one _ _ c.in-Some.is c.next.ensures.steps).0) (c.in_ok-hand.ensures {u = tt}).does c.lines.invariant.0,
-    keeps_on _ _ _ c.lines.invariant.1 (c.in_ok-hand.ensures {u = tt}).tasks)
+lines-preserved g c = (
+  hands_more g.P.OneRun.stood g.P.OneRun.left g.P.OneRun.run.frame (g.P.Performer.fits_reply c.args.machine.now) c.args.message.now c.args.self.now c.lines.self c.hand.new.self _ _ c.in-Some.one
+      ((some_left c.next.result c.in-Some.one _ _ c.in-Some.is c.next.ensures.steps).0) (c.in_ok-hand.ensures {u = tt}).does c.lines.invariant.0,
+  keeps_on _ _ _ c.lines.invariant.1 (c.in_ok-hand.ensures {u = tt}).tasks,
+)
 
 pub returns-clause-does : goal.returns-clause-does
 returns-clause-does g c =

@@ -16,11 +16,12 @@ try_read-requires g c =
 
 pub processes-preserved : goal.processes-preserved
 processes-preserved g c =
-    let m = c.args.machine.now in
-    (reads_more g.P.OneRun.stood g.P.OneRun.left g.P.OneRun.run.frame
-    (fitness_of (g.P.Performer.fits_state m) (g.P.Performer.fits_args m) (g.P.Performer.fits_text m) (g.P.Performer.fits_reply m))
-    c.processes.process (c.processes.process + 1) c.args.self.now c.processes.self c.try_read.new.self (omega arith) c.processes.invariant.0 (c.in_ok-try_read.ensures {u = tt}).does,
-    keeps_on _ _ _ c.processes.invariant.1 (c.in_ok-try_read.ensures {u = tt}).tasks)
+    let m = c.args.machine.now in (
+      reads_more g.P.OneRun.stood g.P.OneRun.left g.P.OneRun.run.frame
+          (fitness_of (g.P.Performer.fits_state m) (g.P.Performer.fits_args m) (g.P.Performer.fits_text m) (g.P.Performer.fits_reply m))
+          c.processes.process (c.processes.process + 1) c.args.self.now c.processes.self c.try_read.new.self (omega arith) c.processes.invariant.0 (c.in_ok-try_read.ensures {u = tt}).does,
+      keeps_on _ _ _ c.processes.invariant.1 (c.in_ok-try_read.ensures {u = tt}).tasks,
+    )
 
 pub returns-clause-does : goal.returns-clause-does
 returns-clause-does g c =
