@@ -4,7 +4,7 @@ use Rattle.value_core.specs.Datum.{Data}
 use Rattle.value_core.specs.Datum as datum
 use Rattle.value_core.specs.Meaning.{Computes}
 use Rattle.node_core.specs.declared.resident.Resident.{Resident}
-use Rattle.node_core.proofs.Keeping.{empty_none, opened_none}
+use Rattle.node_core.proofs.Keeping.{opened_none}
 use Rattle.node_core.proofs.TakingIn.{no_values, opens_here}
 use Rattle.node_core.proofs.node.opening_residents.Goals as goal
 
@@ -25,9 +25,6 @@ returns-clause-opens g c i =
     (subst (λ (t : TextNo). g.P.OneRun.stood c.in_ok-state.state t (record { 0 = 0 }) datum.none [] 0) (c.requires ∙ ap (λ (q : Computes). q.main) (g.met.P.OneRun.computes_run m))
     (subst (λ (d : Data). g.P.OneRun.stood c.in_ok-state.state c.args.text (record { 0 = 0 }) d [] 0) (no_values c.new-args.result c.new-args.ensures)
     (g.met.P.OneRun.stands_stood m c.in_ok-state.state c.args.text (record { 0 = 0 }) c.new-args.result [] 0 (c.in_ok-state.ensures {u = tt}))))
-
-pub returns-then-me-clause-out : goal.returns-then-me-clause-out
-returns-then-me-clause-out g c = empty_none _ c.new-residents.ensures.items
 
 pub returns-clause-out : goal.returns-clause-out
 returns-clause-out g c =
