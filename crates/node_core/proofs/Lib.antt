@@ -22,3 +22,4 @@ pub mod Starting
 pub mod CarryingOut
 pub mod Running
 pub mod TakingIn
+pub mod Keeping

@@ -305,6 +305,11 @@ pub halted_by : (at_halt : Halt) (P Q : Action → Type 0) → ((act : Action) �
 halted_by (halt.At act) P Q f h = f act h
 halted_by halt.Paused P Q f h = tt
 
+-- it halts by the last turn
+halts_most : (f : Frame) (i : ProcessNo) (u : Played) (last used : ℕ) (at_halt : Halt) → u.turns < last → Halts f i u last used at_halt → used ≤ last
+halts_most f i u last used (halt.At act) some halts = (let below = halts.2 in let exact = halts.4 in omega (arith, some, below, exact))
+halts_most f i u last used halt.Paused some halts = (let exact = halts.1 in omega (arith, some, exact))
+
 pub burst_ends : {S : Type 0} (stood : Stood S) (left : Left S) (f : Frame) (fitness : Fitness) (task : Tasked S) (done : Computed S) (last call : ℕ) (state : S) (p : Performs) (at_halt : Halt) (stage : Stage)
     → p ≡ f.performs → MayRun stood f fitness task → InBurst stood f task last call state done.reads → ComesTo stood f task.process last state done.end at_halt → IfAt at_halt (left done.end)
     → IsCame (record f { performs = p }) task.view.objects task.process (record { 0 = call }) at_halt (came.End stage)
@@ -324,6 +329,9 @@ burst_ends {S} stood left f fitness task done last call state p at_halt stage is
     let come = here.1 in
     let came_to = comes u come.is come.some in
     let used = came_to.0 in
+    let begun_by = come.turns in
+    let grows = came_to.3 in
+    let most = halts_most f task.process u last used at_halt come.some came_to.1 in
     let until = burst.until r here_is in
     let first = burst.until may.played may.is in
     let may_turns = may.turns in
@@ -340,6 +348,8 @@ burst_ends {S} stood left f fitness task done last call state p at_halt stage is
         state = subst (λ (k : ProcessNo). stood done.end u.text k u.args u.replies used) (sym process) came_to.2;
         halts = left_halted left done.end at_halt at;
         turns = of u.text task.process u.args u.replies used came_to.2;
+        least = omega (arith, begun_by, grows);
+        most = omega (arith, most, last_is);
         stage = ap on_stage stage_is ∙ shown;
       },
     )

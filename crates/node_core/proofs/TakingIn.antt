@@ -111,6 +111,29 @@ out_runs {P} {S} stood left f fitness i view budget s a start may at same =
       turns = may.turns;
     }
 
+-- with a task out it stands for the same
+out_is : {S : Type 0} (stood : Stood S) (left : Left S) (i : ℕ) (a : Resident S) (view : Viewed) (p : Option Played) → IsPlayedIf stood left i (Some a) p
+    → IsPlayedIf stood left i (Some (record a { out = Some view })) p
+out_is stood left i a view None is = is
+out_is stood left i a view (Some r) is = record { state = is.state; halts = is.halts; turns = is.turns; place = is.place; calls = is.calls; stage = is.stage }
+
+pub out_alike : {P S : Type 0} (stood : Stood S) (left : Left S) (k : ℕ) (a : Resident S) (view : Viewed) (old new : Node P S) → resident_at old k ≡ Some a
+    → HasChanged k (record a { out = Some view }) old new → StandsAlike stood left old new
+out_alike {P} {S} stood left k a view old new at changed f m v stands = record {
+  member = subst (λ (n : Node P S). StandsFor (group f) m n.member v.member) (sym changed.put.others) stands.member;
+  copies = ap (λ (n : Node P S). n.copies) changed.put.others ∙ stands.copies;
+  known = ap (λ (n : Node P S). n.known.items) changed.put.others ∙ stands.known;
+  residents = λ i. subst (λ (o : Option (Resident S)). IsPlayedIf stood left i o (v.played i)) (sym (changed.put.put i)) (go i (i == k) refl);
+  held = ap (λ (n : Node P S). map on_errand n.held.items) changed.put.others ∙ stands.held;
+  given = λ i. ap (λ (n : Node P S). on_given (slice_index_or n.given.items i None)) changed.put.others ∙ stands.given i;
+  choices = ap (λ (n : Node P S). n.choices) changed.put.others ∙ stands.choices;
+}
+  where
+    go : (i : ℕ) (t : Bool) → (i == k) ≡ t → IsPlayedIf stood left i (if t then Some (record a { out = Some view }) else resident_at old i) (v.played i)
+    go i true e = out_is stood left i a view (v.played i)
+        (subst (λ (o : Option (Resident S)). IsPlayedIf stood left i o (v.played i)) (ap (resident_at old) (eqb-true i k e) ∙ at) (stands.residents i))
+    go i false e = stands.residents i
+
 -- over an equal view it is the same
 pub handed_over : {S : Type 0} (s a : Resident S) (copied view : Viewed) → a ≡ record s { out = Some copied } → copied ≡ view → a ≡ record s { out = Some view }
 handed_over {S} s a copied view is same = is ∙ ap (λ (v : Viewed). let out : Resident S = record s { out = Some v } in out) same

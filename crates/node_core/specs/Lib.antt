@@ -10,3 +10,4 @@ pub mod Events
 pub mod Calls
 pub mod Tasks
 pub mod CheckingIn
+pub mod Keeping

@@ -1,5 +1,5 @@
 -- Bursts as tasks: what is handed out to be computed on, what was computed, and what the types of both keep.
-use Rattle.std.specs.Prelude.{◌≡◌, ◌+◌, ℕ, IsTrue, List, length, Option, None, Some, is_some}
+use Rattle.std.specs.Prelude.{◌≡◌, ◌≤◌, ◌+◌, ℕ, IsTrue, List, length, Option, None, Some, is_some}
 use Rattle.orca_base.specs.declared.ids.CallNo.{CallNo}
 use Rattle.orca_base.specs.declared.ids.ProcessNo.{ProcessNo}
 use Rattle.value_core.specs.History.{Objects, object_at}
@@ -75,6 +75,8 @@ pub record HasEnded {S : Type 0} (stood : Stood S) (left : Left S) (f : Frame) (
   pub state : stood done.end ended.text done.process ended.args ended.replies ended.turns
   pub halts : LeftAt left done.end ended.stage
   pub turns : done.turns ≡ ended.turns
+  pub least : r.turns ≤ ended.turns
+  pub most : ended.turns ≤ last_turn f r
   pub stage : on_stage done.stage ≡ ended.stage
 
 -- so did whichever process the start stands for

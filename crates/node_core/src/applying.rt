@@ -11,6 +11,7 @@ ghost use Rattle.world_rules.specs.Nodes.{does, plays};
 ghost use Rattle.world_rules.specs.Nodes.Deed.{Applies};
 ghost use Rattle.world_rules.specs.Processes.{Begun, home_in, member_named};
 ghost use Rattle.node_core.specs.Entries.{AppliesNext, Begins, HasTaken, IsBorn, MayAnswerHere, MayBegin, MayTakeEntry, Took, listed, newborn_at};
+ghost use Rattle.node_core.specs.Keeping.{KeepsBelow, KeepsTasks};
 ghost use Rattle.node_core.specs.Pieces.{Becomes, BecomesIn, GoesOn, IsNext, IsSomewhere, MayRead, MayReadAt, MayTryRead, line_read, resident_at};
 ghost use Rattle.node_core.specs.Stands.{fitness_of, on_known};
 
@@ -29,7 +30,8 @@ impl<P: OneRun> Work<P> {
     // It applies its entries up to the accepted number and notes them, as long as that note lets more be accepted.
     pub(crate) fn apply_all(&mut self, alloc: Global, machine: &P) -> Result<(), NoMemory>
         requires { IsSomewhere P.stood P.left P.run.frame (fitness_of (P.fits_state machine.now) (P.fits_args machine.now) (P.fits_text machine.now) (P.fits_reply machine.now)) self.old }
-        ensures { OnOk result (GoesOn P.stood P.left P.run.frame (fitness_of (P.fits_state machine.now) (P.fits_args machine.now) (P.fits_text machine.now) (P.fits_reply machine.now)) self.old self.new (applies_all P.run.frame)) }
+        ensures does { OnOk result (GoesOn P.stood P.left P.run.frame (fitness_of (P.fits_state machine.now) (P.fits_args machine.now) (P.fits_text machine.now) (P.fits_reply machine.now)) self.old self.new (applies_all P.run.frame)) }
+        ensures tasks { OnOk result (KeepsTasks self.old.node self.new.node) }
     {
         self.apply_due(alloc, machine)?;
         'rounds: while self.node.member.applied() < self.node.copies.applied() {
@@ -42,7 +44,8 @@ impl<P: OneRun> Work<P> {
     // It applies its entries up to the accepted number, but none from the first one on that passes a limit.
     fn apply_due(&mut self, alloc: Global, machine: &P) -> Result<(), NoMemory>
         requires { IsSomewhere P.stood P.left P.run.frame (fitness_of (P.fits_state machine.now) (P.fits_args machine.now) (P.fits_text machine.now) (P.fits_reply machine.now)) self.old }
-        ensures { OnOk result (GoesOn P.stood P.left P.run.frame (fitness_of (P.fits_state machine.now) (P.fits_args machine.now) (P.fits_text machine.now) (P.fits_reply machine.now)) self.old self.new (applies P.run.frame)) }
+        ensures does { OnOk result (GoesOn P.stood P.left P.run.frame (fitness_of (P.fits_state machine.now) (P.fits_args machine.now) (P.fits_text machine.now) (P.fits_reply machine.now)) self.old self.new (applies P.run.frame)) }
+        ensures tasks { OnOk result (KeepsTasks self.old.node self.new.node) }
     {
         'entries: while self.node.copies.applied() < self.node.member.accepted() {
             if !self.apply_next(alloc, machine)? {
@@ -57,6 +60,7 @@ impl<P: OneRun> Work<P> {
         requires { IsSomewhere P.stood P.left P.run.frame (fitness_of (P.fits_state machine.now) (P.fits_args machine.now) (P.fits_text machine.now) (P.fits_reply machine.now)) self.old }
         ensures goes { OnOk result (GoesOn P.stood P.left P.run.frame (fitness_of (P.fits_state machine.now) (P.fits_args machine.now) (P.fits_text machine.now) (P.fits_reply machine.now)) self.old self.new (notes P.run.frame)) }
         ensures noted { OnOk result (self.old.node.copies.applied ≤ self.new.node.member.applied) }
+        ensures tasks { OnOk result (KeepsTasks self.old.node self.new.node) }
     {
         let applied = self.node.copies.applied();
         if applied <= self.node.member.applied() {
@@ -70,7 +74,8 @@ impl<P: OneRun> Work<P> {
     fn apply_next(&mut self, alloc: Global, machine: &P) -> Result<bool, NoMemory>
         requires somewhere { IsSomewhere P.stood P.left P.run.frame (fitness_of (P.fits_state machine.now) (P.fits_args machine.now) (P.fits_text machine.now) (P.fits_reply machine.now)) self.old }
         requires due { self.old.node.copies.applied < self.old.node.member.accepted }
-        ensures { IfOk result (AppliesNext P.stood P.left P.run.frame (fitness_of (P.fits_state machine.now) (P.fits_args machine.now) (P.fits_text machine.now) (P.fits_reply machine.now)) self.old self.new) }
+        ensures does { IfOk result (AppliesNext P.stood P.left P.run.frame (fitness_of (P.fits_state machine.now) (P.fits_args machine.now) (P.fits_text machine.now) (P.fits_reply machine.now)) self.old self.new) }
+        ensures tasks { OnOk result (KeepsTasks self.old.node self.new.node) }
     {
         let message = self.next_entry(alloc)?;
         let number = self.node.copies.processes();
@@ -188,7 +193,8 @@ impl<P: OneRun> Work<P> {
         answered: Vec<Answered>,
     ) -> Result<(), NoMemory>
         requires { MayAnswerHere P.stood P.left P.run.frame (P.fits_reply machine.now) (lines_of answered.items) self.old }
-        ensures { OnOk result (BecomesIn P.stood P.left P.run.frame self.old self.new (λ m v. answers self.old.node.copies.applied (lines_of answered.items) (does (Applies (lines_of answered.items)) v))) }
+        ensures does { OnOk result (BecomesIn P.stood P.left P.run.frame self.old self.new (λ m v. answers self.old.node.copies.applied (lines_of answered.items) (does (Applies (lines_of answered.items)) v))) }
+        ensures tasks { OnOk result (KeepsTasks self.old.node self.new.node) }
     {
         let lines = plain_lines(alloc, answered)?;
         self.hand_out(alloc, machine, lines.as_slice())?;
@@ -199,7 +205,8 @@ impl<P: OneRun> Work<P> {
     // The replies of these lines go to the processes here.
     fn hand_out(&mut self, alloc: Global, machine: &P, lines: &[Line]) -> Result<(), NoMemory>
         requires { MayAnswerHere P.stood P.left P.run.frame (P.fits_reply machine.now) lines.now self.old }
-        ensures { OnOk result (BecomesIn P.stood P.left P.run.frame self.old self.new (λ m. answers self.old.node.copies.applied lines.now)) }
+        ensures does { OnOk result (BecomesIn P.stood P.left P.run.frame self.old self.new (λ m. answers self.old.node.copies.applied lines.now)) }
+        ensures tasks { OnOk result (KeepsTasks self.old.node self.new.node) }
     {
         let place = self.node.copies.applied();
         'lines: for line in lines {
@@ -218,7 +225,8 @@ impl<P: OneRun> Work<P> {
         action: &Action,
     ) -> Result<(), NoMemory>
         requires { MayBegin (P.fits_text machine.now) self.old.node.member.me action.now (listed born) }
-        ensures { OnOk result (Begins P.stood P.left P.run.frame number (listed born) action.now self.old self.new) }
+        ensures does { OnOk result (Begins P.stood P.left P.run.frame number (listed born) action.now self.old self.new) }
+        ensures tasks { OnOk result (KeepsBelow number self.old.node self.new.node) }
     {
         let Action::Fork { args, .. } = action else {
             return Ok(());
@@ -242,7 +250,8 @@ impl<P: OneRun> Work<P> {
         args: &Parts,
     ) -> Result<(), NoMemory>
         requires { (kinds : Kinds) × P.fits_text machine.now kinds text args.now }
-        ensures { OnOk result (Becomes P.stood P.left self.old self.new (λ f m v. plays number (newborn_at text args.now v.node.copies.applied) v)) }
+        ensures does { OnOk result (Becomes P.stood P.left self.old self.new (λ f m v. plays number (newborn_at text args.now v.node.copies.applied) v)) }
+        ensures tasks { OnOk result (KeepsBelow number self.old.node self.new.node) }
     {
         let state = machine.start(alloc, text, ProcessNo(number), args)?;
         let place = self.node.copies.applied();
@@ -253,7 +262,8 @@ impl<P: OneRun> Work<P> {
     // Each read that waits here is tried, in order of process.
     fn try_reads(&mut self, alloc: Global, machine: &P) -> Result<(), NoMemory>
         requires { IsSomewhere P.stood P.left P.run.frame (fitness_of (P.fits_state machine.now) (P.fits_args machine.now) (P.fits_text machine.now) (P.fits_reply machine.now)) self.old }
-        ensures { OnOk result (GoesOn P.stood P.left P.run.frame (fitness_of (P.fits_state machine.now) (P.fits_args machine.now) (P.fits_text machine.now) (P.fits_reply machine.now)) self.old self.new (λ m v. tries_reads P.run.frame v.node.copies.processes v)) }
+        ensures does { OnOk result (GoesOn P.stood P.left P.run.frame (fitness_of (P.fits_state machine.now) (P.fits_args machine.now) (P.fits_text machine.now) (P.fits_reply machine.now)) self.old self.new (λ m v. tries_reads P.run.frame v.node.copies.processes v)) }
+        ensures tasks { OnOk result (KeepsTasks self.old.node self.new.node) }
     {
         'processes: for process in 0..self.node.copies.processes() {
             self.try_read(alloc, machine, process)?;
@@ -269,7 +279,8 @@ impl<P: OneRun> Work<P> {
         process: u16,
     ) -> Result<(), NoMemory>
         requires { MayTryRead P.stood P.left P.run.frame (fitness_of (P.fits_state machine.now) (P.fits_args machine.now) (P.fits_text machine.now) (P.fits_reply machine.now)) process self.old }
-        ensures { OnOk result (BecomesIn P.stood P.left P.run.frame self.old self.new (λ m. tries_read P.run.frame process)) }
+        ensures does { OnOk result (BecomesIn P.stood P.left P.run.frame self.old self.new (λ m. tries_read P.run.frame process)) }
+        ensures tasks { OnOk result (KeepsTasks self.old.node self.new.node) }
     {
         let Some(line) = self.read_of(alloc, machine, process)? else {
             return Ok(());

@@ -9,9 +9,11 @@ ghost use Rattle.world_rules.specs.Nodes.{opening_node, opening_processes};
 ghost use Rattle.world_rules.specs.Processes.{Begun, home_in, singles_of};
 ghost use Rattle.node_core.specs.Calls.{HasMoved, given_at};
 ghost use Rattle.node_core.specs.Entries.{KnowsAs};
+ghost use Rattle.node_core.specs.Keeping.{IsCopy};
 ghost use Rattle.node_core.specs.Pieces.{HasPut, resident_at};
 ghost use Rattle.node_core.specs.Shown.{IsPlayedIf};
 ghost use Rattle.node_core.specs.Stands.{StandsAlike, StandsAs, on_known};
+ghost use Rattle.node_core.specs.declared.resident.Resident.{Resident};
 
 use crate::errand::{Errand, Given};
 use crate::kept::Kept;
@@ -55,9 +57,10 @@ impl<P: OneRun> Node<P> {
     ) -> Result<Node<P>, NoMemory>
         requires me { me < config.nodes }
         requires few { 2 * config.resilience < config.nodes }
-        ensures { config.nodes ≡ P.run.frame.settings.nodes → config.resilience ≡ P.run.frame.settings.resilience →
+        ensures opens { config.nodes ≡ P.run.frame.settings.nodes → config.resilience ≡ P.run.frame.settings.resilience →
             choices ≡ P.run.frame.settings.choices →
             IfOk result (λ node. StandsAs P.stood P.left P.run.frame me node (opening_node P.run.frame me)) }
+        ensures out { IfOk result (λ node. (i : ℕ) (s : Resident P.State) → resident_at node i ≡ Some s → s.out ≡ None) }
     {
         let text = machine.main_text();
         let mut known = Vec::new(alloc);
@@ -75,7 +78,8 @@ impl<P: OneRun> Node<P> {
 
     /// A node that stands for whatever this one stands for, and shares with it what it can.
     pub fn copy(&self, alloc: Global) -> Result<Node<P>, NoMemory>
-        ensures { IfOk result (StandsAlike P.stood P.left self.now) }
+        ensures alike { IfOk result (StandsAlike P.stood P.left self.now) }
+        ensures same { IfOk result (IsCopy self.now) }
     {
         Ok(Node {
             member: self.member.copy(alloc)?,
@@ -231,8 +235,9 @@ fn opening_residents<P: OneRun>(
     me: u8,
 ) -> Result<Vec<Option<Resident<P::State>>>, NoMemory>
     requires { text ≡ (P.computes machine.now).main }
-    ensures { IfOk result (λ residents. (i : ℕ) →
+    ensures opens { IfOk result (λ residents. (i : ℕ) →
         IsPlayedIf P.stood P.left i (slice_index_or residents.items i None) (opening_processes P.run.frame me i)) }
+    ensures out { IfOk result (λ residents. (i : ℕ) (s : Resident P.State) → slice_index_or residents.items i None ≡ Some s → s.out ≡ None) }
 {
     let mut residents = Vec::new(alloc);
     if me != 0 {

@@ -5,6 +5,7 @@ ghost use Rattle.world_rules.specs.Mail.Errand.{Answer, Ask};
 ghost use Rattle.world_rules.specs.Owners.{arrives, hands, is_held as held_among, performs_call, takes, takes_answer, takes_ask, takes_call, takes_reached};
 ghost use Rattle.world_rules.specs.Parts.{asks_again, asks_again_of};
 ghost use Rattle.node_core.specs.Calls.{GoesFree, HasKept, IsFree, MayPerformCall, MayTakeNew, MayTakeNext, asked_at, asks_as, asks_call, call_given, given_at, gives_kept};
+ghost use Rattle.node_core.specs.Keeping.{KeepsTasks};
 ghost use Rattle.node_core.specs.Pieces.{Becomes, BecomesIn, GoesOn, MayBeHanded, resident_at};
 ghost use Rattle.node_core.specs.Shown.{on_errand};
 ghost use Rattle.node_core.specs.Stands.{fitness_of};
@@ -24,7 +25,8 @@ impl<P: OneRun> Work<P> {
     // The Asks and Answers whose place is reached are taken, in order of arrival; the others wait on. An outside member takes none.
     pub(crate) fn take_reached(&mut self, alloc: Global, machine: &P) -> Result<(), NoMemory>
         requires { IsFree P.stood P.left P.run.frame (fitness_of (P.fits_state machine.now) (P.fits_args machine.now) (P.fits_text machine.now) (P.fits_reply machine.now)) self.old }
-        ensures { OnOk result (GoesFree P.stood P.left P.run.frame (fitness_of (P.fits_state machine.now) (P.fits_args machine.now) (P.fits_text machine.now) (P.fits_reply machine.now)) self.old self.new (λ m. takes_reached P.run.frame m)) }
+        ensures does { OnOk result (GoesFree P.stood P.left P.run.frame (fitness_of (P.fits_state machine.now) (P.fits_args machine.now) (P.fits_text machine.now) (P.fits_reply machine.now)) self.old self.new (λ m. takes_reached P.run.frame m)) }
+        ensures tasks { OnOk result (KeepsTasks self.old.node self.new.node) }
     {
         if self.node.member.is_outside() {
             return Ok(());
@@ -42,7 +44,8 @@ impl<P: OneRun> Work<P> {
 
     // One that comes waits, but for a repeat of one that waits. An outside member takes none.
     pub(crate) fn arrive(&mut self, errand: Errand) -> Result<(), NoMemory>
-        ensures { OnOk result (Becomes P.stood P.left self.old self.new (λ f m. arrives (on_errand errand))) }
+        ensures does { OnOk result (Becomes P.stood P.left self.old self.new (λ f m. arrives (on_errand errand))) }
+        ensures tasks { OnOk result (KeepsTasks self.old.node self.new.node) }
     {
         if self.node.member.is_outside() || is_held(&errand, self.node.held.as_slice()) {
             return Ok(());
@@ -54,7 +57,8 @@ impl<P: OneRun> Work<P> {
     // One is taken, whose place is reached.
     fn take(&mut self, alloc: Global, machine: &P, errand: Errand) -> Result<(), NoMemory>
         requires { MayTakeNext P.stood P.left P.run.frame (fitness_of (P.fits_state machine.now) (P.fits_args machine.now) (P.fits_text machine.now) (P.fits_reply machine.now)) (on_errand errand) self.old }
-        ensures { OnOk result (BecomesIn P.stood P.left P.run.frame self.old self.new (λ m. takes P.run.frame m (on_errand errand))) }
+        ensures does { OnOk result (BecomesIn P.stood P.left P.run.frame self.old self.new (λ m. takes P.run.frame m (on_errand errand))) }
+        ensures tasks { OnOk result (KeepsTasks self.old.node self.new.node) }
     {
         match errand {
             Errand::Ask { message, .. } => self.take_ask(alloc, machine, message.message()),
@@ -70,7 +74,8 @@ impl<P: OneRun> Work<P> {
     // An Ask: a call that was answered gets its Answer again, and an earlier one nothing.
     fn take_ask(&mut self, alloc: Global, machine: &P, message: &Message) -> Result<(), NoMemory>
         requires { MayTakeNext P.stood P.left P.run.frame (fitness_of (P.fits_state machine.now) (P.fits_args machine.now) (P.fits_text machine.now) (P.fits_reply machine.now)) (Ask 0 message.now) self.old }
-        ensures { OnOk result (BecomesIn P.stood P.left P.run.frame self.old self.new (λ m. takes_ask P.run.frame m message.now)) }
+        ensures does { OnOk result (BecomesIn P.stood P.left P.run.frame self.old self.new (λ m. takes_ask P.run.frame m message.now)) }
+        ensures tasks { OnOk result (KeepsTasks self.old.node self.new.node) }
     {
         let Some(last) = self.last_given(message.process) else {
             return self.take_call(alloc, machine, message);
@@ -87,7 +92,8 @@ impl<P: OneRun> Work<P> {
     // A call that wasn't answered: one that waits here is taken once.
     fn take_call(&mut self, alloc: Global, machine: &P, message: &Message) -> Result<(), NoMemory>
         requires { MayTakeNew P.stood P.left P.run.frame (fitness_of (P.fits_state machine.now) (P.fits_args machine.now) (P.fits_text machine.now) (P.fits_reply machine.now)) message.now self.old }
-        ensures { OnOk result (BecomesIn P.stood P.left P.run.frame self.old self.new (λ m. takes_call P.run.frame m message.now)) }
+        ensures does { OnOk result (BecomesIn P.stood P.left P.run.frame self.old self.new (λ m. takes_call P.run.frame m message.now)) }
+        ensures tasks { OnOk result (KeepsTasks self.old.node self.new.node) }
     {
         if self.node.copies.is_waiting(message.process) {
             return Ok(());
@@ -107,7 +113,8 @@ impl<P: OneRun> Work<P> {
 
     // The kept Answer goes out again.
     fn give_again(&mut self, alloc: Global, process: ProcessNo) -> Result<(), NoMemory>
-        ensures { OnOk result (Becomes P.stood P.left self.old self.new (λ f m v. gives_kept f m process (v.node.given process.0) v)) }
+        ensures does { OnOk result (Becomes P.stood P.left self.old self.new (λ f m v. gives_kept f m process (v.node.given process.0) v)) }
+        ensures tasks { OnOk result (KeepsTasks self.old.node self.new.node) }
     {
         let incarnation = self.node.member.installed();
         let packet = match self.node.answer_to(process) {
@@ -126,7 +133,8 @@ impl<P: OneRun> Work<P> {
         message: &Message,
     ) -> Result<(), NoMemory>
         requires { MayPerformCall P.stood P.left P.run.frame (fitness_of (P.fits_state machine.now) (P.fits_args machine.now) (P.fits_text machine.now) (P.fits_reply machine.now)) message.now self.old }
-        ensures { OnOk result (BecomesIn P.stood P.left P.run.frame self.old self.new (λ m. performs_call P.run.frame m message.now)) }
+        ensures does { OnOk result (BecomesIn P.stood P.left P.run.frame self.old self.new (λ m. performs_call P.run.frame m message.now)) }
+        ensures tasks { OnOk result (KeepsTasks self.old.node self.new.node) }
     {
         let answered = self.node.copies.call_single(alloc, machine, message)?;
         'lines: for one in answered {
@@ -138,7 +146,8 @@ impl<P: OneRun> Work<P> {
     // A performed line stands beside the list, and its reply goes to its process here, or as an Answer to the member of its process.
     fn hand(&mut self, alloc: Global, machine: &P, line: Line) -> Result<(), NoMemory>
         requires { MayBeHanded P.stood P.left (P.fits_reply machine.now) line.process.0 line.reply (resident_at self.old.node line.process.0) }
-        ensures { OnOk result (Becomes P.stood P.left self.old self.new (λ f m. hands f m line)) }
+        ensures does { OnOk result (Becomes P.stood P.left self.old self.new (λ f m. hands f m line)) }
+        ensures tasks { OnOk result (KeepsTasks self.old.node self.new.node) }
     {
         let process = line.process;
         let call = line.call;
@@ -174,7 +183,8 @@ impl<P: OneRun> Work<P> {
         reply: &Reply,
     ) -> Result<(), NoMemory>
         requires { MayTakeNext P.stood P.left P.run.frame (fitness_of (P.fits_state machine.now) (P.fits_args machine.now) (P.fits_text machine.now) (P.fits_reply machine.now)) (Answer 0 process call reply.now) self.old }
-        ensures { OnOk result (BecomesIn P.stood P.left P.run.frame self.old self.new (λ m. takes_answer place process call reply.now)) }
+        ensures does { OnOk result (BecomesIn P.stood P.left P.run.frame self.old self.new (λ m. takes_answer place process call reply.now)) }
+        ensures tasks { OnOk result (KeepsTasks self.old.node self.new.node) }
     {
         if !self.asks(process, call) {
             return Ok(());
@@ -194,7 +204,8 @@ impl<P: OneRun> Work<P> {
 
     // The Asks of the processes that lack their Answers go out again, in order of process. An outside member sends none.
     pub(crate) fn ask_again(&mut self, alloc: Global) -> Result<(), NoMemory>
-        ensures { OnOk result (Becomes P.stood P.left self.old self.new (λ f m. asks_again f m)) }
+        ensures does { OnOk result (Becomes P.stood P.left self.old self.new (λ f m. asks_again f m)) }
+        ensures tasks { OnOk result (KeepsTasks self.old.node self.new.node) }
     {
         if self.node.member.is_outside() {
             return Ok(());
@@ -207,7 +218,8 @@ impl<P: OneRun> Work<P> {
 
     // The Ask of a process that lacks its Answer goes to the owner, which is another member.
     pub(crate) fn ask_of(&mut self, alloc: Global, process: ProcessNo) -> Result<(), NoMemory>
-        ensures { OnOk result (Becomes P.stood P.left self.old self.new (λ f m v. asks_again_of f m process.0 (v.node.played process.0) v)) }
+        ensures does { OnOk result (Becomes P.stood P.left self.old self.new (λ f m v. asks_again_of f m process.0 (v.node.played process.0) v)) }
+        ensures tasks { OnOk result (KeepsTasks self.old.node self.new.node) }
     {
         let Some((place, object, message)) = self.asked(alloc, process)? else {
             return Ok(());

@@ -1,6 +1,6 @@
 //! One member's part of each event.
 
-ghost use Rattle.std.specs.Prelude.{◌≡◌, ◌<◌, ◌^◌, IfOk, List, OnErr, OnOk};
+ghost use Rattle.std.specs.Prelude.{◌≡◌, ◌<◌, ◌^◌, IfOk, List, OnErr, OnOk, Some};
 ghost use Rattle.group_rules.specs.Steps.{timer};
 ghost use Rattle.group_member.specs.AtWork.{Does as MemberDoes};
 ghost use Rattle.group_member.specs.StandsFor.{IsMember};
@@ -12,6 +12,7 @@ ghost use Rattle.node_rules.specs.Starts.Start.{Acts, Suspects, Ticks};
 ghost use Rattle.node_core.specs.Calls.{Asks, GoesFree, IsFree, MayAsk, MayReadFirst, ReadsFirst};
 ghost use Rattle.node_core.specs.Entries.{KnowsAs};
 ghost use Rattle.node_core.specs.Events.{HasCome, HasStarted, HasSubmitted, MayBeTaken, MayComeFrom, MayStart, TakesGrouped, acting_at, called_single, is_read_by};
+ghost use Rattle.node_core.specs.Keeping.{KeepsTasks};
 ghost use Rattle.node_core.specs.Pieces.{resident_at};
 ghost use Rattle.node_core.specs.Stands.{Does, MayDo, MayTakePacket, TakesPacket, fitness_of};
 
@@ -38,6 +39,7 @@ impl<P: OneRun> Node<P> {
     pub fn act(&mut self, alloc: Global, machine: &P, process: ProcessNo) -> Result<Moved, NoMemory>
         requires { MayDo P.stood P.left P.run.frame (fitness_of (P.fits_state machine.now) (P.fits_args machine.now) (P.fits_text machine.now) (P.fits_reply machine.now)) self.old (Acts process.0) }
         ensures does { IfOk result (λ moved. Does P.stood P.left P.run.frame (fitness_of (P.fits_state machine.now) (P.fits_args machine.now) (P.fits_text machine.now) (P.fits_reply machine.now)) self.old self.new moved (Acts process.0)) }
+        ensures tasks { OnOk result (KeepsTasks self.old self.new) }
         ensures err { OnErr result (self.new ≡ self.old) }
     {
         let mut work = Work::on(alloc, self)?;
@@ -59,6 +61,7 @@ impl<P: OneRun> Node<P> {
     ) -> Result<Moved, NoMemory>
         requires { MayTakePacket P.stood P.left P.run.frame (fitness_of (P.fits_state machine.now) (P.fits_args machine.now) (P.fits_text machine.now) (P.fits_reply machine.now)) from packet self.old }
         ensures does { IfOk result (λ moved. TakesPacket P.stood P.left P.run.frame (fitness_of (P.fits_state machine.now) (P.fits_args machine.now) (P.fits_text machine.now) (P.fits_reply machine.now)) from packet self.old self.new moved) }
+        ensures tasks { OnOk result (KeepsTasks self.old self.new) }
         ensures err { OnErr result (self.new ≡ self.old) }
     {
         let mut work = Work::on(alloc, self)?;
@@ -75,6 +78,7 @@ impl<P: OneRun> Node<P> {
     pub fn tick(&mut self, alloc: Global, machine: &P) -> Result<Moved, NoMemory>
         requires { MayDo P.stood P.left P.run.frame (fitness_of (P.fits_state machine.now) (P.fits_args machine.now) (P.fits_text machine.now) (P.fits_reply machine.now)) self.old Ticks }
         ensures does { IfOk result (λ moved. Does P.stood P.left P.run.frame (fitness_of (P.fits_state machine.now) (P.fits_args machine.now) (P.fits_text machine.now) (P.fits_reply machine.now)) self.old self.new moved Ticks) }
+        ensures tasks { OnOk result (KeepsTasks self.old self.new) }
         ensures err { OnErr result (self.new ≡ self.old) }
     {
         let mut work = Work::on(alloc, self)?;
@@ -92,6 +96,7 @@ impl<P: OneRun> Node<P> {
     pub fn suspect(&mut self, alloc: Global, machine: &P) -> Result<Moved, NoMemory>
         requires { MayDo P.stood P.left P.run.frame (fitness_of (P.fits_state machine.now) (P.fits_args machine.now) (P.fits_text machine.now) (P.fits_reply machine.now)) self.old Suspects }
         ensures does { IfOk result (λ moved. Does P.stood P.left P.run.frame (fitness_of (P.fits_state machine.now) (P.fits_args machine.now) (P.fits_text machine.now) (P.fits_reply machine.now)) self.old self.new moved Suspects) }
+        ensures tasks { OnOk result (KeepsTasks self.old self.new) }
         ensures err { OnErr result (self.new ≡ self.old) }
     {
         let mut work = Work::on(alloc, self)?;
@@ -106,7 +111,8 @@ impl<P: OneRun> Work<P> {
     // It applies its entries, and then takes the Asks and Answers whose place it has reached.
     fn catch_up(&mut self, alloc: Global, machine: &P) -> Result<(), NoMemory>
         requires { IsFree P.stood P.left P.run.frame (fitness_of (P.fits_state machine.now) (P.fits_args machine.now) (P.fits_text machine.now) (P.fits_reply machine.now)) self.old }
-        ensures { OnOk result (GoesFree P.stood P.left P.run.frame (fitness_of (P.fits_state machine.now) (P.fits_args machine.now) (P.fits_text machine.now) (P.fits_reply machine.now)) self.old self.new (catches_up P.run.frame)) }
+        ensures does { OnOk result (GoesFree P.stood P.left P.run.frame (fitness_of (P.fits_state machine.now) (P.fits_args machine.now) (P.fits_text machine.now) (P.fits_reply machine.now)) self.old self.new (catches_up P.run.frame)) }
+        ensures tasks { OnOk result (KeepsTasks self.old.node self.new.node) }
     {
         self.apply_all(alloc, machine)?;
         self.take_reached(alloc, machine)
@@ -115,7 +121,8 @@ impl<P: OneRun> Work<P> {
     // The action of a process that wasn't carried out, is.
     fn carry_out(&mut self, alloc: Global, machine: &P, process: ProcessNo) -> Result<(), NoMemory>
         requires { MayStart P.stood P.left P.run.frame (fitness_of (P.fits_state machine.now) (P.fits_args machine.now) (P.fits_text machine.now) (P.fits_reply machine.now)) (Acts process.0) self.old }
-        ensures { OnOk result (HasStarted P.stood P.left P.run.frame (fitness_of (P.fits_state machine.now) (P.fits_args machine.now) (P.fits_text machine.now) (P.fits_reply machine.now)) (Acts process.0) self.old self.new) }
+        ensures does { OnOk result (HasStarted P.stood P.left P.run.frame (fitness_of (P.fits_state machine.now) (P.fits_args machine.now) (P.fits_text machine.now) (P.fits_reply machine.now)) (Acts process.0) self.old self.new) }
+        ensures tasks { OnOk result (KeepsTasks self.old.node self.new.node) }
     {
         let Some(message) = self.acting(alloc, process)? else {
             return Ok(());
@@ -160,8 +167,10 @@ impl<P: OneRun> Work<P> {
         process: ProcessNo,
         message: Message,
     ) -> Result<(), NoMemory>
-        requires { IsMember self.old.node.member }
-        ensures { OnOk result (HasSubmitted P.stood P.left P.run.frame process.0 message self.old self.new) }
+        requires member { IsMember self.old.node.member }
+        requires acting { acting_at process.0 (resident_at self.old.node process.0) ≡ Some message }
+        ensures does { OnOk result (HasSubmitted P.stood P.left P.run.frame process.0 message self.old self.new) }
+        ensures tasks { OnOk result (KeepsTasks self.old.node self.new.node) }
     {
         let action = message.action.copy(alloc)?;
         self.node.move_to(process.0, Stage::Submitted { action })?;
@@ -179,7 +188,8 @@ impl<P: OneRun> Work<P> {
         action: Action,
     ) -> Result<(), NoMemory>
         requires { MayReadFirst P.stood P.left P.run.frame (fitness_of (P.fits_state machine.now) (P.fits_args machine.now) (P.fits_text machine.now) (P.fits_reply machine.now)) process.0 action self.old }
-        ensures { OnOk result (ReadsFirst P.stood P.left P.run.frame process.0 action self.old self.new) }
+        ensures does { OnOk result (ReadsFirst P.stood P.left P.run.frame process.0 action self.old self.new) }
+        ensures tasks { OnOk result (KeepsTasks self.old.node self.new.node) }
     {
         self.node.move_to(process.0, Stage::Reading { action })?;
         self.try_read(alloc, machine, process.0)
@@ -195,7 +205,8 @@ impl<P: OneRun> Work<P> {
         message: Message,
     ) -> Result<(), NoMemory>
         requires { MayAsk P.stood P.left P.run.frame (fitness_of (P.fits_state machine.now) (P.fits_args machine.now) (P.fits_text machine.now) (P.fits_reply machine.now)) process.0 object message self.old }
-        ensures { OnOk result (Asks P.stood P.left P.run.frame process.0 object message self.old self.new) }
+        ensures does { OnOk result (Asks P.stood P.left P.run.frame process.0 object message self.old self.new) }
+        ensures tasks { OnOk result (KeepsTasks self.old.node self.new.node) }
     {
         let action = message.action.copy(alloc)?;
         self.node.move_to(process.0, Stage::Asking { action })?;
@@ -215,7 +226,8 @@ impl<P: OneRun> Work<P> {
         packet: Packet<Shared<Message>>,
     ) -> Result<(), NoMemory>
         requires { MayComeFrom P.stood P.left P.run.frame (fitness_of (P.fits_state machine.now) (P.fits_args machine.now) (P.fits_text machine.now) (P.fits_reply machine.now)) from packet self.old }
-        ensures { OnOk result (HasCome P.stood P.left P.run.frame (fitness_of (P.fits_state machine.now) (P.fits_args machine.now) (P.fits_text machine.now) (P.fits_reply machine.now)) from packet self.old self.new) }
+        ensures does { OnOk result (HasCome P.stood P.left P.run.frame (fitness_of (P.fits_state machine.now) (P.fits_args machine.now) (P.fits_text machine.now) (P.fits_reply machine.now)) from packet self.old self.new) }
+        ensures tasks { OnOk result (KeepsTasks self.old.node self.new.node) }
     {
         match packet {
             Packet::Ask { place, message, .. } => self.arrive(Errand::Ask { place, message }),
@@ -241,7 +253,8 @@ impl<P: OneRun> Work<P> {
     // Its timer runs; where it is due, it coordinates.
     fn time(&mut self, alloc: Global, machine: &P) -> Result<(), NoMemory>
         requires { MayStart P.stood P.left P.run.frame (fitness_of (P.fits_state machine.now) (P.fits_args machine.now) (P.fits_text machine.now) (P.fits_reply machine.now)) Ticks self.old }
-        ensures { OnOk result (HasStarted P.stood P.left P.run.frame (fitness_of (P.fits_state machine.now) (P.fits_args machine.now) (P.fits_text machine.now) (P.fits_reply machine.now)) Ticks self.old self.new) }
+        ensures does { OnOk result (HasStarted P.stood P.left P.run.frame (fitness_of (P.fits_state machine.now) (P.fits_args machine.now) (P.fits_text machine.now) (P.fits_reply machine.now)) Ticks self.old self.new) }
+        ensures tasks { OnOk result (KeepsTasks self.old.node self.new.node) }
     {
         let sends = timed(&mut self.node.member, alloc)?;
         self.post(sends)
@@ -250,7 +263,8 @@ impl<P: OneRun> Work<P> {
     // It coordinates a reset.
     fn reset(&mut self, alloc: Global, machine: &P) -> Result<(), NoMemory>
         requires { MayStart P.stood P.left P.run.frame (fitness_of (P.fits_state machine.now) (P.fits_args machine.now) (P.fits_text machine.now) (P.fits_reply machine.now)) Suspects self.old }
-        ensures { OnOk result (HasStarted P.stood P.left P.run.frame (fitness_of (P.fits_state machine.now) (P.fits_args machine.now) (P.fits_text machine.now) (P.fits_reply machine.now)) Suspects self.old self.new) }
+        ensures does { OnOk result (HasStarted P.stood P.left P.run.frame (fitness_of (P.fits_state machine.now) (P.fits_args machine.now) (P.fits_text machine.now) (P.fits_reply machine.now)) Suspects self.old self.new) }
+        ensures tasks { OnOk result (KeepsTasks self.old.node self.new.node) }
     {
         let sends = coordinate(&mut self.node.member, alloc)?;
         self.post(sends)

@@ -329,6 +329,7 @@ impl<P: OneRun> Node<P> {
         ensures out { IfOk result (λ task.
             HandsOut process (record { objects = self.old.copies.objects; place = self.old.copies.applied }) budget task
             self.old self.new) }
+        ensures alike { StandsAlike P.stood P.left self.old self.new }
         ensures err { OnErr result (self.new ≡ self.old) }
     {
         let view = self.copies.view(alloc)?;
@@ -348,6 +349,7 @@ impl<P: OneRun> Node<P> {
             (fitness_of (P.fits_state _machine.now) (P.fits_args _machine.now) (P.fits_text _machine.now) (P.fits_reply _machine.now))
             process view budget self.old }
         ensures out { IfOk result (λ task. HandsOut process view budget task self.old self.new) }
+        ensures alike { StandsAlike P.stood P.left self.old self.new }
         ensures err { OnErr result (self.new ≡ self.old) }
     {
         let resident = self.here(process);

@@ -1,9 +1,10 @@
 //! A member at work in an event: a copy of the node, which takes the node's place once all is done.
 
-ghost use Rattle.std.specs.Prelude.{◌≡◌, ◌++◌, ◌∷◌, [], IfOk, OnOk};
+ghost use Rattle.std.specs.Prelude.{◌≡◌, ◌++◌, ◌∷◌, [], IfOk, None, OnOk};
 ghost use Rattle.world_rules.specs.Nodes.{changes};
 ghost use Rattle.world_rules.specs.Played.{receives};
 ghost use Rattle.node_core.specs.Events.{IsIdle, message_by};
+ghost use Rattle.node_core.specs.Keeping.{IsCopy, KeepsTasks};
 ghost use Rattle.node_core.specs.Pieces.{Becomes, CanReceive, MayBeHanded, Received, resident_at};
 
 use crate::moved::Moved;
@@ -28,7 +29,8 @@ pub(crate) struct Work<P: OneRun> {
 impl<P: OneRun> Work<P> {
     // The node, which did nothing yet.
     pub(crate) fn on(alloc: Global, node: &Node<P>) -> Result<Work<P>, NoMemory>
-        ensures { IfOk result (IsIdle P.stood P.left node.now) }
+        ensures idle { IfOk result (IsIdle P.stood P.left node.now) }
+        ensures same { IfOk result (λ work. IsCopy node.now work.node) }
     {
         Ok(Work {
             node: node.copy(alloc)?,
@@ -79,7 +81,8 @@ impl<P: OneRun> Work<P> {
         reply: &Reply,
     ) -> Result<(), NoMemory>
         requires { MayBeHanded P.stood P.left (P.fits_reply machine.now) process reply.now (resident_at self.old.node process) }
-        ensures { OnOk result (Becomes P.stood P.left self.old self.new (λ f m. changes (receives place reply.now) process)) }
+        ensures does { OnOk result (Becomes P.stood P.left self.old self.new (λ f m. changes (receives place reply.now) process)) }
+        ensures tasks { OnOk result (KeepsTasks self.old.node self.new.node) }
     {
         let after = match self.node.resident(ProcessNo(process)) {
             Some(resident) => replied(alloc, machine, resident, place, reply)?,
@@ -98,7 +101,8 @@ fn replied<P: OneRun>(
     reply: &Reply,
 ) -> Result<Resident<P::State>, NoMemory>
     requires { CanReceive P.stood P.left (P.fits_reply machine.now) resident.now reply.now }
-    ensures { IfOk result (Received P.stood P.left place reply.now resident.now) }
+    ensures received { IfOk result (Received P.stood P.left place reply.now resident.now) }
+    ensures out { IfOk result (λ after. after.out ≡ None) }
 {
     let state = machine.copy(alloc, resident.state.value())?;
     let state = machine.reply(state, reply.copy(alloc)?);

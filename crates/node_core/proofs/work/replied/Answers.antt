@@ -33,8 +33,8 @@ reply-state-requires-clause-fits g c =
       subst (λ (x : Reply). FitsAction (g.P.Performer.fits_reply m) (doing.At act) x) (sym (c.in_ok-copy.ensures {u = tt})) c.requires.may.fits,
     )
 
-pub returns : goal.returns
-returns g c =
+pub returns-clause-received : goal.returns-clause-received
+returns-clause-received g c =
     let m = c.args.machine.now in
     let same = c.in_ok-state.ensures {u = tt} ∙ c.value.ensures in
     IfOk-weaker c.after_reply.result _ _
@@ -48,3 +48,6 @@ returns g c =
     (g.met.P.OneRun.stood_stands m c.args.resident.now.state r.text (record { 0 = i }) r.args r.replies r.turns played.state))))))
     (ap (λ a. a.turns) is) (ap (λ a. a.place) is) (ap (λ a. a.calls) is) (ap (λ a. a.stage) is))
     c.after_reply.ensures
+
+pub returns-clause-out : goal.returns-clause-out
+returns-clause-out g c = IfOk-weaker c.after_reply.result _ _ (λ after is. ap (λ a. a.out) is) c.after_reply.ensures

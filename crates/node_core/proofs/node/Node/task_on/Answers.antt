@@ -3,7 +3,7 @@ use Rattle.node_core.specs.CheckingIn.{HasChanged}
 use Rattle.node_core.specs.Stands.{fitness_of}
 use Rattle.node_core.specs.Tasks.{Tasked}
 use Rattle.node_core.specs.declared.resident.Resident.{Resident}
-use Rattle.node_core.proofs.TakingIn.{handed_over, out_computing, out_here, out_runs, within_of}
+use Rattle.node_core.proofs.TakingIn.{handed_over, out_alike, out_computing, out_here, out_runs, within_of}
 use Rattle.node_core.proofs.node.Node.task_on.Goals as goal
 
 pub here-resident-requires : goal.here-resident-requires
@@ -43,3 +43,10 @@ returns-clause-out g c =
       out = subst (λ (a : Resident g.row.P-State.Denot). HasChanged c.args.process.0 a c.args.self.now c.change.new.self)
           (handed_over s c.in_ok-out.out c.in_ok-copy.field-0 c.args.view (c.in_ok-out.ensures {u = tt}) (c.in_ok-copy.ensures {u = tt})) c.change.ensures;
     }
+
+pub returns-clause-alike : goal.returns-clause-alike
+returns-clause-alike g c =
+    let s = c.here-resident.result.now in
+    out_alike g.P.OneRun.stood g.P.OneRun.left c.args.process.0 s c.args.view c.args.self.now c.change.new.self c.here-resident.ensures
+    (subst (λ (a : Resident g.row.P-State.Denot). HasChanged c.args.process.0 a c.args.self.now c.change.new.self)
+    (handed_over s c.in_ok-out.out c.in_ok-copy.field-0 c.args.view (c.in_ok-out.ensures {u = tt}) (c.in_ok-copy.ensures {u = tt})) c.change.ensures)

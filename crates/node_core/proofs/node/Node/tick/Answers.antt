@@ -2,19 +2,23 @@ use Rattle.std.proofs.Common.{refl}
 use Rattle.node_rules.specs.Starts.Start.{Ticks}
 use Rattle.node_core.specs.Stands.{fitness_of}
 use Rattle.node_core.proofs.Starting.{ticks_done, may_start, asked_free}
+use Rattle.node_core.proofs.Keeping.{keeps_copy, keeps_on}
 use Rattle.node_core.proofs.node.Node.tick.Goals as goal
 
 pub time-requires : goal.time-requires
-time-requires g c = (let m = c.args.machine.now in may_start g.P.OneRun.stood g.P.OneRun.left g.P.OneRun.run.frame (fitness_of (g.P.Performer.fits_state m) (g.P.Performer.fits_args m) (g.P.Performer.fits_text m) (g.P.Performer.fits_reply m)) Ticks c.args.self.now c.in_ok-work.work (c.in_ok-work.ensures {u = tt}) c.requires)
+time-requires g c = (let m = c.args.machine.now in may_start g.P.OneRun.stood g.P.OneRun.left g.P.OneRun.run.frame (fitness_of (g.P.Performer.fits_state m) (g.P.Performer.fits_args m) (g.P.Performer.fits_text m) (g.P.Performer.fits_reply m)) Ticks c.args.self.now c.in_ok-work.work (c.in_ok-work.ensures {u = tt}).idle c.requires)
 
 pub catch_up-requires : goal.catch_up-requires
 catch_up-requires g c =
     let m = c.args.machine.now in
-    asked_free g.P.OneRun.stood g.P.OneRun.left g.P.OneRun.run.frame (fitness_of (g.P.Performer.fits_state m) (g.P.Performer.fits_args m) (g.P.Performer.fits_text m) (g.P.Performer.fits_reply m)) c.args.self.now c.in_ok-work.work c.time.new.self c.ask_again.new.self (c.in_ok-work.ensures {u = tt}) c.requires (c.in_ok-time.ensures {u = tt})
-    (c.in_ok-ask_again.ensures {u = tt})
+    asked_free g.P.OneRun.stood g.P.OneRun.left g.P.OneRun.run.frame (fitness_of (g.P.Performer.fits_state m) (g.P.Performer.fits_args m) (g.P.Performer.fits_text m) (g.P.Performer.fits_reply m)) c.args.self.now c.in_ok-work.work c.time.new.self c.ask_again.new.self (c.in_ok-work.ensures {u = tt}).idle c.requires (c.in_ok-time.ensures {u = tt}).does
+    (c.in_ok-ask_again.ensures {u = tt}).does
 
 pub returns-clause-does : goal.returns-clause-does
 returns-clause-does g c =
     let m = c.args.machine.now in
-    ticks_done g.P.OneRun.stood g.P.OneRun.left g.P.OneRun.run.frame (fitness_of (g.P.Performer.fits_state m) (g.P.Performer.fits_args m) (g.P.Performer.fits_text m) (g.P.Performer.fits_reply m)) c.args.self.now _ c.in_ok-work.work c.time.new.self c.ask_again.new.self c.catch_up.new.self _ (c.in_ok-work.ensures {u = tt}) (c.in_ok-time.ensures {u = tt})
-    (c.in_ok-ask_again.ensures {u = tt}) (c.in_ok-catch_up.ensures {u = tt}) refl refl
+    ticks_done g.P.OneRun.stood g.P.OneRun.left g.P.OneRun.run.frame (fitness_of (g.P.Performer.fits_state m) (g.P.Performer.fits_args m) (g.P.Performer.fits_text m) (g.P.Performer.fits_reply m)) c.args.self.now _ c.in_ok-work.work c.time.new.self c.ask_again.new.self c.catch_up.new.self _ (c.in_ok-work.ensures {u = tt}).idle (c.in_ok-time.ensures {u = tt}).does
+    (c.in_ok-ask_again.ensures {u = tt}).does (c.in_ok-catch_up.ensures {u = tt}).does refl refl
+
+pub returns-clause-tasks : goal.returns-clause-tasks
+returns-clause-tasks g c = keeps_on _ _ _ (keeps_on _ _ _ (keeps_on _ _ _ (keeps_copy _ _ (c.in_ok-work.ensures {u = tt}).same) (c.in_ok-time.ensures {u = tt}).tasks) (c.in_ok-ask_again.ensures {u = tt}).tasks) (c.in_ok-catch_up.ensures {u = tt}).tasks

@@ -2,6 +2,7 @@ use Rattle.world_rules.specs.Applying.{applies_all}
 use Rattle.node_core.specs.Stands.{fitness_of}
 use Rattle.node_core.proofs.Starting.{caught_up, free_on, free_somewhere}
 use Rattle.node_core.proofs.Working.{ok_map}
+use Rattle.node_core.proofs.Keeping.{keeps_on}
 use Rattle.node_core.proofs.work.Work.catch_up.Goals as goal
 
 pub apply_all-requires : goal.apply_all-requires
@@ -9,9 +10,12 @@ apply_all-requires g c = (let m = c.args.machine.now in free_somewhere g.P.OneRu
 
 pub take_reached-requires : goal.take_reached-requires
 take_reached-requires g c =
-    (let m = c.args.machine.now in free_on g.P.OneRun.stood g.P.OneRun.left g.P.OneRun.run.frame (fitness_of (g.P.Performer.fits_state m) (g.P.Performer.fits_args m) (g.P.Performer.fits_text m) (g.P.Performer.fits_reply m)) c.args.self.now c.apply_all.new.self (applies_all g.P.OneRun.run.frame) c.requires (c.in_ok-apply_all.ensures {u = tt}))
+    (let m = c.args.machine.now in free_on g.P.OneRun.stood g.P.OneRun.left g.P.OneRun.run.frame (fitness_of (g.P.Performer.fits_state m) (g.P.Performer.fits_args m) (g.P.Performer.fits_text m) (g.P.Performer.fits_reply m)) c.args.self.now c.apply_all.new.self (applies_all g.P.OneRun.run.frame) c.requires (c.in_ok-apply_all.ensures {u = tt}).does)
 
-pub returns : goal.returns
-returns g c =
+pub returns-clause-does : goal.returns-clause-does
+returns-clause-does g c =
     let m = c.args.machine.now in
-    ok_map c.take_reached.result _ _ (λ taken. caught_up g.P.OneRun.stood g.P.OneRun.left g.P.OneRun.run.frame (fitness_of (g.P.Performer.fits_state m) (g.P.Performer.fits_args m) (g.P.Performer.fits_text m) (g.P.Performer.fits_reply m)) c.args.self.now c.apply_all.new.self c.take_reached.new.self (c.in_ok-apply_all.ensures {u = tt}) taken) c.take_reached.ensures
+    ok_map c.take_reached.result _ _ (λ taken. caught_up g.P.OneRun.stood g.P.OneRun.left g.P.OneRun.run.frame (fitness_of (g.P.Performer.fits_state m) (g.P.Performer.fits_args m) (g.P.Performer.fits_text m) (g.P.Performer.fits_reply m)) c.args.self.now c.apply_all.new.self c.take_reached.new.self (c.in_ok-apply_all.ensures {u = tt}).does taken) c.take_reached.ensures.does
+
+pub returns-clause-tasks : goal.returns-clause-tasks
+returns-clause-tasks g c = ok_map c.take_reached.result _ _ (λ keeps. keeps_on _ _ _ (c.in_ok-apply_all.ensures {u = tt}).tasks keeps) c.take_reached.ensures.tasks

@@ -1,7 +1,8 @@
 use Rattle.std.proofs.Common.{ap, sym, ◌∙◌, arith}
 use Rattle.node_core.specs.declared.node.Node.{Node}
 use Rattle.node_core.proofs.Working.{ok_map, ok_so}
-use Rattle.node_core.proofs.Noting.{can_note, note_goes}
+use Rattle.node_core.proofs.Noting.{CanNote, can_note, note_goes, notes_none}
+use Rattle.node_core.proofs.Keeping.{keeps_member, keeps_none}
 use Rattle.node_core.proofs.work.Work.note.Goals as goal
 
 pub note_applied-requires-clause-member : goal.note_applied-requires-clause-member
@@ -47,3 +48,9 @@ returns-clause-noted g c =
     let noted = (c.in_ok-sends.ensures {u = tt}).applied in
     let here = c.applied-applied.ensures in
     ok_so c.post.result _ (omega (arith, kept, noted, here))
+
+pub returns-then-applied-clause-tasks : goal.returns-then-applied-clause-tasks
+returns-then-applied-clause-tasks g c = keeps_none _ _
+
+pub returns-clause-tasks : goal.returns-clause-tasks
+returns-clause-tasks g c = ok_so c.post.result _ (keeps_member _ _ _ c.post.ensures.node)

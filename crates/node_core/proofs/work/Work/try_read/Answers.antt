@@ -1,7 +1,8 @@
 use Rattle.std.proofs.Common.{◌∙◌, sym}
 use Rattle.node_core.specs.Stands.{fitness_of}
 use Rattle.node_core.proofs.Working.{ok_map}
-use Rattle.node_core.proofs.Trying.{line_handed, may_try, tried_some}
+use Rattle.node_core.proofs.Trying.{line_handed, may_try, tried_none, tried_some}
+use Rattle.node_core.proofs.Keeping.{keeps_none, keeps_on, keeps_same}
 use Rattle.node_core.proofs.work.Work.try_read.Goals as goal
 
 pub read_of-requires : goal.read_of-requires
@@ -19,8 +20,8 @@ receive-requires g c =
     c.args.process c.args.self.now c.perform.new.self (g.P.Performer.performs m) c.in-Some.line c.in_ok-reply.reply (g.met.P.Performer.replies_fit m) c.requires
     (sym (c.in_ok-line.ensures {u = tt}) ∙ c.in-Some.is) c.perform.ensures.node (c.in_ok-reply.ensures {u = tt})
 
-pub returns : goal.returns
-returns g c =
+pub returns-clause-does : goal.returns-clause-does
+returns-clause-does g c =
     let m = c.args.machine.now in
     ok_map c.receive.result _ _
     (λ becomes k v work.
@@ -28,4 +29,11 @@ returns g c =
     (g.P.Performer.performs m) c.in-Some.line c.applied-place.result c.in_ok-reply.reply (g.met.P.OneRun.performs_run m)
     (sym (c.in_ok-line.ensures {u = tt}) ∙ c.in-Some.is) c.perform.ensures.node ((c.in_ok-perform.ensures {u = tt}).aside) c.perform.ensures.others
     c.applied-place.ensures (c.in_ok-reply.ensures {u = tt}) becomes work)
-    c.receive.ensures
+    c.receive.ensures.does
+
+pub returns-in_default-clause-tasks : goal.returns-in_default-clause-tasks
+returns-in_default-clause-tasks g c = keeps_none _ _
+
+pub returns-clause-tasks : goal.returns-clause-tasks
+returns-clause-tasks g c =
+    ok_map c.receive.result _ _ (λ keeps. keeps_on c.args.self.now.node c.perform.new.self.node c.receive.new.self.node (keeps_same _ _ _ c.perform.ensures.node) keeps) c.receive.ensures.tasks
