@@ -17,7 +17,6 @@ use Rattle.book_law.specs.Passes.{after, after_all, is_passed}
 use Rattle.book_law.proofs.Books.{copies_applied, copies_next}
 use Rattle.book_law.proofs.Replicated.{entries_stand}
 use Rattle.world_rules.specs.Frame.{Frame}
-use Rattle.world_rules.specs.Nodes as nodes
 use Rattle.world_rules.specs.Nodes.{known}
 use Rattle.world_rules.specs.Processes.{Begun, singles_of}
 use Rattle.node_core.specs.Earlier.{HasViewed, MayTakeAgain, MayViewAfter}

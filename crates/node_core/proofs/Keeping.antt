@@ -1,5 +1,5 @@
 -- Whose task is out, after each kind of change.
-use Rattle.std.proofs.Common.{◌≡◌, ◌≤◌, ◌<◌, ◌+◌, ◌==◌, ◌∷◌, ℕ, zero, suc, Bool, true, false, List, [], Vec, Option, Some, None, refl, sym, ap, ◌∙◌, subst, arith, slice_index_or, if◌then◌else◌}
+use Rattle.std.proofs.Common.{◌≡◌, ◌≤◌, ◌<◌, ◌==◌, ◌∷◌, ℕ, zero, suc, Bool, true, false, List, [], Vec, Option, Some, None, refl, sym, ap, ◌∙◌, subst, arith, slice_index_or, if◌then◌else◌}
 use Rattle.std.proofs.lemmas.Bool.{eqb-true}
 use Rattle.std.specs.declared.alloc.Global.{Global}
 use Rattle.orca_base.specs.declared.ids.ObjectId.{ObjectId}
@@ -27,7 +27,7 @@ use Rattle.node_core.specs.Calls.{HasKept, HasMoved, MayAsk, MayReadFirst}
 use Rattle.node_core.specs.Entries.{HasTaken, Refused}
 use Rattle.node_core.specs.Events.{acting_as, acting_at}
 use Rattle.node_core.specs.Keeping.{IsCopy, KeepsBelow, KeepsTasks}
-use Rattle.node_core.specs.Pieces.{CanReceive, HasPut, IsSomewhere, MayBeHanded, resident_at}
+use Rattle.node_core.specs.Pieces.{HasPut, IsSomewhere, MayBeHanded, resident_at}
 use Rattle.node_core.specs.Shown.{IsPlayedIf, Left, Stood, on_stage}
 use Rattle.node_core.specs.declared.errand.Given.{Given}
 use Rattle.node_core.specs.declared.node.Known.{Known}

@@ -1,5 +1,5 @@
 -- What a member's calls leave of its processes: all of them, in a copy; and whose task is out, in an event.
-use Rattle.std.specs.Prelude.{◌≡◌, ◌<◌, ◌≤◌, ℕ, Option, Some}
+use Rattle.std.specs.Prelude.{◌≡◌, ◌<◌, ◌≤◌, ℕ, Some}
 use Rattle.object_manager.specs.Viewed.{Viewed}
 use Rattle.node_core.specs.Pieces.{resident_at}
 use Rattle.node_core.specs.declared.node.Node.{Node}

@@ -1,7 +1,7 @@
 use Rattle.std.proofs.Common.{ap, sym, ◌∙◌, arith}
 use Rattle.node_core.specs.declared.node.Node.{Node}
 use Rattle.node_core.proofs.Working.{ok_map, ok_so}
-use Rattle.node_core.proofs.Noting.{CanNote, can_note, note_goes, notes_none}
+use Rattle.node_core.proofs.Noting.{can_note, note_goes}
 use Rattle.node_core.proofs.Keeping.{keeps_member, keeps_none}
 use Rattle.node_core.proofs.work.Work.note.Goals as goal
 

@@ -1,4 +1,4 @@
-use Rattle.std.proofs.Common.{◌≡◌, ◌∙◌, [], ap, sym, subst, refl, arith}
+use Rattle.std.proofs.Common.{[], ap, refl, arith}
 use Rattle.node_core.proofs.Beginning.{started}
 use Rattle.node_core.proofs.Working.{ok_map}
 use Rattle.node_core.proofs.Keeping.{keeps_put}

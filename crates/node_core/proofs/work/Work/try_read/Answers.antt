@@ -1,7 +1,7 @@
 use Rattle.std.proofs.Common.{◌∙◌, sym}
 use Rattle.node_core.specs.Stands.{fitness_of}
 use Rattle.node_core.proofs.Working.{ok_map}
-use Rattle.node_core.proofs.Trying.{line_handed, may_try, tried_none, tried_some}
+use Rattle.node_core.proofs.Trying.{line_handed, may_try, tried_some}
 use Rattle.node_core.proofs.Keeping.{keeps_none, keeps_on, keeps_same}
 use Rattle.node_core.proofs.work.Work.try_read.Goals as goal
 
