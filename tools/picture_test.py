@@ -300,10 +300,12 @@ class WorkedHistories(PictureTest):
         history = made_program(5, 142)
         picture = self.drawn(history)
         self.assertEqual(picture.numbers(), list(range(1, 201)))
-        self.assertTrue(picture.told().startswith("lines 1 to 200 of 1439 "))
+        self.assertEqual(picture.told(), "lines 1 to 200 of 1439; time runs down")
         picture = self.drawn(history, "--from", "1001", "--to", "1010", "--nodes", "5")
         self.assertEqual(picture.numbers(), list(range(1001, 1011)))
         self.assertEqual((picture.bars(), picture.arrows()), ([(7, 1429)], []))
+        (bar,), rows = picture.having("rect", "bar"), picture.rows()
+        self.assertTrue(float(bar.get("y")) < rows[1001] < rows[1010] < float(bar.get("y")) + float(bar.get("height")))
         picture = self.drawn(history, "--from", "1425")
         self.assertEqual(picture.numbers(), list(range(1425, 1440)))
         self.assertEqual(picture.bars(), [(7, 1429), (1429, 1431), (1431, 1433), (1433, 1435), (1435, 1437)])
@@ -316,7 +318,8 @@ class WorkedHistories(PictureTest):
 
 
 class Members(PictureTest):
-    FORKS = "".join(f"0 {it} fork P () on {where} none\n" for it, where in enumerate(["5", "-1", "parent", "3"])) + "1 0 fork P () on parent none\n"
+    FORKS = "".join(f"0 {it} fork P () on {where} none\n" for it, where in enumerate(["5", "-1", "parent", "3"]))
+    FORKS += "1 0 fork P () on parent none\n"
 
     def test_a_member_is_the_remainder(self):
         """Of three members 5 and -1 are 2, and 3 is 0; a process without a number is where its parent is."""
@@ -381,6 +384,7 @@ class Suspended(PictureTest):
 
     def test_not_behind_a_read(self):
         self.assertEqual(self.bars((1, "Look", "o0.1", 0), (0, "Take", "o0.1", 1)), [])
+        self.assertEqual(self.bars((1, "Look", "o0.1", 0), (0, "Await", "o0.1", 1)), [])
 
     def test_not_behind_a_fault(self):
         self.assertEqual(self.bars((1, "Set", "o0.1", 0, "fault TooLong"), (0, "Take", "o0.1", 1)), [])
@@ -388,6 +392,10 @@ class Suspended(PictureTest):
     def test_behind_a_fault_of_another_that_was_suspended(self):
         acts = (1, "Set", "o0.1", 0), (2, "Take", "o0.1", 1, "fault TooLong"), (0, "Take", "o0.1", 1)
         self.assertEqual(self.bars(*acts), [(4, 6), (4, 7)])
+
+    def test_not_behind_a_fault_that_stands_apart_from_the_change(self):
+        acts = (1, "Set", "o0.1", 0), (2, "Set", "o0.2", 0), (1, "Take", "o0.1", 1, "fault TooLong"), (0, "Take", "o0.1", 1)
+        self.assertEqual(self.bars(*acts), [])
 
     def test_a_write_not_behind_a_read_that_stands_between(self):
         self.assertEqual(self.bars((1, "Set", "o0.1", 0), (2, "Look", "o0.1", 0), (0, "Take", "o0.1", 1)), [])
@@ -411,7 +419,7 @@ class ReadsAndWrites(PictureTest):
 
     PROGRAM = """# operation Ghost(); begin x := 1; end;
     type R = record f: integer; g: array [1..2] of integer; end;
-    function Inc(a: integer; n: out integer; m: integer); begin n := a; end;
+    function Inc(about: integer; n: out integer; m: integer); begin n := about; end;
     object specification S; operation W01(); end;
     object implementation S;
       x, y: integer;
@@ -451,6 +459,50 @@ class ReadsAndWrites(PictureTest):
         self.refused("0 0 make S o0.1 none\n0 1 call S$Ghost o0.1 () guard 0 none\n", 2, self.program(self.PROGRAM))
 
 
+# None of these is the second line of a history of one cell, nor of any.
+CHANGED_LINES = [
+    "0 1 call",
+    "0 1 call ",
+    "0 1 call Cell$Assign o0.1 (6) guard 0",
+    "0 1 call Cell$Assign o0.1 (6) guard 0 ",
+    "0 1 call Cell$Assign o0.1 (6) guard 0 none ",
+    "0 1 call Cell$Assign o0.1 (6) guard 0 none\r",
+    " 0 1 call Cell$Assign o0.1 (6) guard 0 none",
+    "0  1 call Cell$Assign o0.1 (6) guard 0 none",
+    "0 1 Call Cell$Assign o0.1 (6) guard 0 none",
+    "0 01 call Cell$Assign o0.1 (6) guard 0 none",
+    "+0 1 call Cell$Assign o0.1 (6) guard 0 none",
+    "0 1 call Cell$Assign o0.1 (6) guard 00 none",
+    "0 1 call Cell$Assign o0.1 (6) guard 65536 none",
+    "0 1 call Cell$Assign o0.1 (6 ) guard 0 none",
+    "0 1 call Cell$Assign o0.1 ( 6) guard 0 none",
+    "0 1 call Cell$Assign o0.1 (6  6) guard 0 none",
+    "0 1 call Cell$Assign o0.1 (6,6) guard 0 none",
+    "0 1 call Cell$Assign o0.1 [6] guard 0 none",
+    "0 1 call Cell.Assign o0.1 (6) guard 0 none",
+    "0 1 call Cell$2 o0.1 (6) guard 0 none",
+    "0 1 call Cell$end o0.1 (6) guard 0 none",
+    "0 1 call Cell$Assign o0.01 (6) guard 0 none",
+    "0 1 call Cell$Assign 0.1 (6) guard 0 none",
+    "0 1 call Cell$Assign o0.1 (6) guard 0 fault",
+    "0 1 call Cell$Assign o0.1 (6) guard 0 fault Unknown",
+    "0 1 call Cell$Assign o0.1 (6) guard 0 fault Overflow 1",
+    "0 1 call Output$Assign o0.0 (6) guard 0 none",
+    "0 1 fork P () on none",
+    "0 1 fork P () on 01 none",
+    "0 1 fork P () on -0 none",
+    "0 1 fork P () on 9223372036854775808 none",
+    "0 1 fork P on 1 none",
+    "0 1 fork process () on 1 none",
+    "0 1 make Cell o0.2",
+    "0 1 make Cell o65536.2 none",
+    "0 1 make Cell o0.4294967296 none",
+    "",
+    "é",
+    "\0",
+]
+
+
 class Refusals(PictureTest):
     def test_cut_at_every_byte(self):
         """A front of a history is one where it ends behind a line; else the line that is cut is the first that is none."""
@@ -462,47 +514,7 @@ class Refusals(PictureTest):
                 self.refused(front, front.count("\n") + 1)
 
     def test_changed_lines(self):
-        for changed in [
-            "0 1 call",
-            "0 1 call ",
-            "0 1 call Cell$Assign o0.1 (6) guard 0",
-            "0 1 call Cell$Assign o0.1 (6) guard 0 ",
-            "0 1 call Cell$Assign o0.1 (6) guard 0 none ",
-            "0 1 call Cell$Assign o0.1 (6) guard 0 none\r",
-            " 0 1 call Cell$Assign o0.1 (6) guard 0 none",
-            "0  1 call Cell$Assign o0.1 (6) guard 0 none",
-            "0 1 Call Cell$Assign o0.1 (6) guard 0 none",
-            "0 01 call Cell$Assign o0.1 (6) guard 0 none",
-            "+0 1 call Cell$Assign o0.1 (6) guard 0 none",
-            "0 1 call Cell$Assign o0.1 (6) guard 00 none",
-            "0 1 call Cell$Assign o0.1 (6) guard 65536 none",
-            "0 1 call Cell$Assign o0.1 (6 ) guard 0 none",
-            "0 1 call Cell$Assign o0.1 ( 6) guard 0 none",
-            "0 1 call Cell$Assign o0.1 (6  6) guard 0 none",
-            "0 1 call Cell$Assign o0.1 (6,6) guard 0 none",
-            "0 1 call Cell$Assign o0.1 [6] guard 0 none",
-            "0 1 call Cell.Assign o0.1 (6) guard 0 none",
-            "0 1 call Cell$2 o0.1 (6) guard 0 none",
-            "0 1 call Cell$end o0.1 (6) guard 0 none",
-            "0 1 call Cell$Assign o0.01 (6) guard 0 none",
-            "0 1 call Cell$Assign 0.1 (6) guard 0 none",
-            "0 1 call Cell$Assign o0.1 (6) guard 0 fault",
-            "0 1 call Cell$Assign o0.1 (6) guard 0 fault Unknown",
-            "0 1 call Cell$Assign o0.1 (6) guard 0 fault Overflow 1",
-            "0 1 call Output$Assign o0.0 (6) guard 0 none",
-            "0 1 fork P () on none",
-            "0 1 fork P () on 01 none",
-            "0 1 fork P () on -0 none",
-            "0 1 fork P () on 9223372036854775808 none",
-            "0 1 fork P on 1 none",
-            "0 1 fork process () on 1 none",
-            "0 1 make Cell o0.2",
-            "0 1 make Cell o65536.2 none",
-            "0 1 make Cell o0.4294967296 none",
-            "",
-            "é",
-            "\0",
-        ]:
+        for changed in CHANGED_LINES:
             with self.subTest(changed):
                 self.refused(ONE_CELL.replace("0 1 call Cell$Assign o0.1 (6) guard 0 none", changed), 2)
 
