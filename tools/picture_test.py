@@ -420,35 +420,35 @@ class ReadsAndWrites(PictureTest):
     PROGRAM = """# operation Ghost(); begin x := 1; end;
     type R = record f: integer; g: array [1..2] of integer; end;
     function Inc(about: integer; n: out integer; m: integer); begin n := about; end;
-    object specification S; operation W01(); end;
+    object specification S; operation Write01(); end;
     object implementation S;
       x, y: integer;
       r: array [1..3] of R;
       s: set of integer;
       c: array [1..graph] of R;
-      operation W01(); begin x := 1; end;
-      operation W02(); begin if y = 0 then r[x].f := 2; fi; end;
-      operation W03(); begin r[r[1].g[2]].g[x + 1] := 2; end;
-      operation W04(); begin insert(1, s); end;
-      operation W05(); begin delete(y, s); end;
-      operation W06(): integer; n: integer; begin n := 1 + from(s); return n; end;
-      operation W07(); begin guard y > 0 do y := 0; od; end;
-      operation W08(); begin Inc((1), y, 2); end;
-      operation W09(); n: nodename; begin n := addnode(c); end;
-      operation W10(); begin deletenode(nil, c); end;
-      operation R01(): integer; begin return x; end;
-      operation R02(v: integer): integer; n: integer; begin n := x; v := n + y; return v; end;
-      operation R03(): integer; t: set of integer; begin insert(x, t); delete(y, t); return from(t); end;
-      operation R04(); n: integer; begin Inc(x, n, y); end;
-      operation R05(): string; begin return "x := 1; from(s)"; end;
-      operation R06(); d: array [1..graph] of R; n: nodename; begin n := addnode(d); deletenode(n, d); end;
-      operation R07(); q: array [1..3] of integer; begin q[x] := y; for i in 1..x do q[i] := 0; od; end;
-      operation R08(); begin guard size(s) > 0 do od; end;
+      operation Write01(); begin x := 1; end;
+      operation Write02(); begin if y = 0 then r[x].f := 2; fi; end;
+      operation Write03(); begin r[r[1].g[2]].g[x + 1] := 2; end;
+      operation Write04(); begin insert(1, s); end;
+      operation Write05(); begin delete(y, s); end;
+      operation Write06(): integer; n: integer; begin n := 1 + from(s); return n; end;
+      operation Write07(); begin guard y > 0 do y := 0; od; end;
+      operation Write08(); begin Inc((1), y, 2); end;
+      operation Write09(); n: nodename; begin n := addnode(c); end;
+      operation Write10(); begin deletenode(nil, c); end;
+      operation Read01(): integer; begin return x; end;
+      operation Read02(v: integer): integer; n: integer; begin n := x; v := n + y; return v; end;
+      operation Read03(): integer; t: set of integer; begin insert(x, t); delete(y, t); return from(t); end;
+      operation Read04(); n: integer; begin Inc(x, n, y); end;
+      operation Read05(): string; begin return "x := 1; from(s)"; end;
+      operation Read06(); d: array [1..graph] of R; n: nodename; begin n := addnode(d); deletenode(n, d); end;
+      operation Read07(); q: array [1..3] of integer; begin q[x] := y; for i in 1..x do q[i] := 0; od; end;
+      operation Read08(); begin guard size(s) > 0 do od; end;
     begin x := 0; y := 1; end;
     """
 
     def test_each(self):
-        names = [f"W{it:02}" for it in range(1, 11)] + [f"R{it:02}" for it in range(1, 9)]
+        names = [f"Write{it:02}" for it in range(1, 11)] + [f"Read{it:02}" for it in range(1, 9)]
         calls = "".join(f"0 {call} call S${name} o0.1 () guard 0 none\n" for call, name in enumerate(names, 1))
         picture = self.drawn("0 0 make S o0.1 none\n" + calls, self.program(self.PROGRAM))
         self.assertEqual(picture.kinds(), ["make"] + ["write"] * 10 + ["read"] * 8)
