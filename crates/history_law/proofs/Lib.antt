@@ -1,0 +1,4 @@
+pub mod Entries
+pub mod Running
+pub mod Fits
+pub mod Carrying
