@@ -26,13 +26,7 @@ pub(crate) fn next(place: u8, reply: &Reply) -> u8
     ensures { result ≡ next place reply.now }
 {
     match reply {
-        Reply::Done | Reply::Gave { .. } => {
-            if place < LAST {
-                place + 1
-            } else {
-                LAST
-            }
-        }
+        Reply::Done | Reply::Gave { .. } => { if place < LAST { place + 1 } else { LAST } }
         Reply::Broke { .. } => LAST,
     }
 }

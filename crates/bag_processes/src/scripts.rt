@@ -4,9 +4,7 @@ use crate::actor::{Actor, next};
 use bag_performer::Bags;
 use orca_base::{KindNo, NoMemory, OpNo, ProcessNo, TextNo};
 use std::alloc::Global;
-use value_core::{
-    Class, Halt, Making, ObjectState, Parts, Performer, Processor, Reply, Tried,
-};
+use value_core::{Class, Halt, Making, ObjectState, Parts, Performer, Processor, Reply, Tried};
 
 /// What performs operations on pools and flags, and computes the processes of specs/Scripts.antt.
 #[derive(Clone, Copy, Debug)]
@@ -111,12 +109,7 @@ impl Processor for Scripts {
     }
 
     // No script takes a turn, so it never pauses.
-    fn go(
-        &self,
-        alloc: Global,
-        state: Actor,
-        _budget: u32,
-    ) -> Result<(Actor, Halt), NoMemory> {
+    fn go(&self, alloc: Global, state: Actor, _budget: u32) -> Result<(Actor, Halt), NoMemory> {
         let action = state.action(alloc)?;
         Ok((state, Halt::At { action }))
     }

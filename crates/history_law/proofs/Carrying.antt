@@ -32,9 +32,10 @@ module _ (p r : Performs) (q s : Computes) (fits_state : StateFits) (fits_args :
       let e : Some fits.kept ≡ Some done.0 = sym fits.exists ∙ done.1 in
       let same : fits.kept ≡ done.0 = cc in
       let state : fits_state may.0 kind done.0.state = subst (λ (k : Instance). fits_state may.0 kind k.state) same (subst (λ k. fits_state may.0 k fits.kept.state) fits.kind (may.1 object fits.kept fits.exists)) in
-      let tries = alike.tries may.0 kind op done.0.state args state fits.args in
-      ((done.0, done.1, subst (λ (t : Tried). Answers t l.guard l.reply) (sym tries) done.2),
-      ap (after_call r c.objects kind op object args) done.1 ∙ ap (after_try c.objects object done.0) tries ∙ sym (ap (after_call p c.objects kind op object args) done.1))
+      let tries = alike.tries may.0 kind op done.0.state args state fits.args in (
+        (done.0, done.1, subst (λ (t : Tried). Answers t l.guard l.reply) (sym tries) done.2),
+        ap (after_call r c.objects kind op object args) done.1 ∙ ap (after_try c.objects object done.0) tries ∙ sym (ap (after_call p c.objects kind op object args) done.1),
+      )
   same_try c l (action.Fork text args place_on) f i is done = (done, refl)
   same_try c l action.Ended f i is done = absurd done
   same_try c l (action.Faulted fault) f i is done = absurd done
@@ -42,9 +43,10 @@ module _ (p r : Performs) (q s : Computes) (fits_state : StateFits) (fits_args :
   same_step : (c : Configuration) (l : Line) → Fit q fits_state fits_text fits_reply c → IsStep p q c l → IsStep r s c l × (after_line r c l ≡ after_line p c l)
   same_step c l f i =
       let fits = f.processes l.process i.process i.exists in
-      let same = same_try c l l.action f i refl i.performed in
-      (record { process = i.process; exists = i.exists; call = i.call; next = alike.doing (kinds_of c.objects) i.process.text l.process i.process.args i.process.replies most_turns fits.text fits.replies ∙ i.next; performed = same.0 },
-      (λ j. record { objects = same.1 j; processes = (after_line p c l).processes }))
+      let same = same_try c l l.action f i refl i.performed in (
+        record { process = i.process; exists = i.exists; call = i.call; next = alike.doing (kinds_of c.objects) i.process.text l.process i.process.args i.process.replies most_turns fits.text fits.replies ∙ i.next; performed = same.0 },
+        (λ j. record { objects = same.1 j; processes = (after_line p c l).processes }),
+      )
 
   carries : (c : Configuration) (lines : List Line) → Fit q fits_state fits_text fits_reply c → LegalFrom p q c lines → LegalFrom r s c lines × (after_lines r c lines ≡ after_lines p c lines)
   carries c [] f legal = (tt, refl)

@@ -88,15 +88,15 @@ pub does : (p : Performs) (c : Copied) (process : ProcessNo) (call : CallNo) (a 
     → Does p c (message process call a ok) (line process call a guard reply)
 does p c process call (action.Make kind object) ok guard reply still done =
     let s = settles p (acted p c (message process call (action.Make kind object) ok)) (objects_after p c.objects (action.Make kind object)) (line process call (action.Make kind object) guard reply)
-        (acts_one p c process call (action.Make kind object) ok guard reply still done) in
+    (acts_one p c process call (action.Make kind object) ok guard reply still done) in
     record { lines = s.0; objects = s.1; queue = s.2 }
 does p c process call (action.Call kind op object args) ok guard reply still done =
     let s = settles p (acted p c (message process call (action.Call kind op object args) ok)) (objects_after p c.objects (action.Call kind op object args)) (line process call (action.Call kind op object args) guard reply)
-        (acts_one p c process call (action.Call kind op object args) ok guard reply still done) in
+    (acts_one p c process call (action.Call kind op object args) ok guard reply still done) in
     record { lines = s.0; objects = s.1; queue = s.2 }
 does p c process call (action.Fork text args place_on) ok guard reply still done =
     let s = settles p (acted p c (message process call (action.Fork text args place_on) ok)) c.objects (line process call (action.Fork text args place_on) guard reply)
-        (acts_one p c process call (action.Fork text args place_on) ok guard reply still done) in
+    (acts_one p c process call (action.Fork text args place_on) ok guard reply still done) in
     record { lines = s.0; objects = s.1; queue = s.2 }
 does p c process call action.Ended ok guard reply still done = absurd done
 does p c process call (action.Faulted fault) ok guard reply still done = absurd done

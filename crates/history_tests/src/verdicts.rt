@@ -80,7 +80,13 @@ fn the_action_is_judged_third(rt: HostRuntime) -> Result<(), Fail> {
     let other = line(0, 2, fork(rt.alloc(), 2), 3, gave(1));
     let verdict = verdict_with(rt.alloc(), 2, other).ok();
     assert!(rt; verdict == breach(3, BreachRule::Action));
-    let unknown = line(0, 2, call(rt.alloc(), 0, KindNo(77), OpNo(99)), 0, Reply::Done);
+    let unknown = line(
+        0,
+        2,
+        call(rt.alloc(), 0, KindNo(77), OpNo(99)),
+        0,
+        Reply::Done,
+    );
     let verdict = verdict_with(rt.alloc(), 2, unknown).ok();
     assert!(rt; verdict == breach(3, BreachRule::Action));
     Ok(())
@@ -98,7 +104,13 @@ fn an_end_is_no_line(rt: HostRuntime) -> Result<(), Fail> {
 // The flag is 1, so the second guard is the first that is true.
 #[test]
 fn the_guard_is_judged_fourth(rt: HostRuntime) -> Result<(), Fail> {
-    let step = line(0, 3, call(rt.alloc(), 0, Bags::FLAG, Bags::STEP), 1, gave(1));
+    let step = line(
+        0,
+        3,
+        call(rt.alloc(), 0, Bags::FLAG, Bags::STEP),
+        1,
+        gave(1),
+    );
     let verdict = verdict_with(rt.alloc(), 4, step).ok();
     assert!(rt; verdict == breach(5, BreachRule::Guard));
     let made = line(0, 0, make(0, Bags::FLAG), 1, Reply::Done);
@@ -110,7 +122,13 @@ fn the_guard_is_judged_fourth(rt: HostRuntime) -> Result<(), Fail> {
 // The pool is empty, so the call waits.
 #[test]
 fn a_call_that_waits_has_no_guard(rt: HostRuntime) -> Result<(), Fail> {
-    let take = line(1, 3, call(rt.alloc(), 1, Bags::POOL, Bags::TAKE), 1, gave(5));
+    let take = line(
+        1,
+        3,
+        call(rt.alloc(), 1, Bags::POOL, Bags::TAKE),
+        1,
+        gave(5),
+    );
     let verdict = verdict_with(rt.alloc(), 9, take).ok();
     assert!(rt; verdict == breach(10, BreachRule::Guard));
     Ok(())
@@ -119,7 +137,13 @@ fn a_call_that_waits_has_no_guard(rt: HostRuntime) -> Result<(), Fail> {
 // The pool gave 5; 6 has a text of the same length.
 #[test]
 fn the_reply_is_judged_last(rt: HostRuntime) -> Result<(), Fail> {
-    let take = line(1, 2, call(rt.alloc(), 1, Bags::POOL, Bags::TAKE), 1, gave(6));
+    let take = line(
+        1,
+        2,
+        call(rt.alloc(), 1, Bags::POOL, Bags::TAKE),
+        1,
+        gave(6),
+    );
     let verdict = verdict_with(rt.alloc(), 6, take).ok();
     assert!(rt; verdict == breach(7, BreachRule::Reply));
     let faulted = line(0, 2, fork(rt.alloc(), 1), 0, broke());
