@@ -83,13 +83,16 @@ module _ (S : Type 0) (stands : Stood S) (left : Left S) (p : Performs) (q : Com
 
     -- of the next line of a process it says the number
     pub other_call : (player.calls ≡ line.call.0 → ⊥) → Breaks p q c line part.Call
-    other_call apart = ((x, k.exists), λ h.
-        let l = h.1 in
-        let same = ap (λ (y : Process). length y.replies) (same_process (slice_get c.processes line.process.0) h.0 x l.exists k.exists) in
-        let calls = k.is.calls in
-        let call = l.call in
-        let e : player.calls ≡ line.call.0 = omega (arith, calls, same, call) in
-        apart e)
+    other_call apart = (
+      (x, k.exists),
+      λ h.
+          let l = h.1 in
+          let same = ap (λ (y : Process). length y.replies) (same_process (slice_get c.processes line.process.0) h.0 x l.exists k.exists) in
+          let calls = k.is.calls in
+          let call = l.call in
+          let e : player.calls ≡ line.call.0 = omega (arith, calls, same, call) in
+          apart e,
+    )
 
     pub has_turns : HasTurns (stands player.state)
     has_turns = let i = k.is in (x.text, line.process, x.args, x.replies, i.turns, (i.state, i.some))
@@ -99,13 +102,16 @@ module _ (S : Type 0) (stands : Stood S) (left : Left S) (p : Performs) (q : Com
       its = let calls = k.is.calls in record { exists = k.exists; call = omega (arith, calls, call) }
 
       pub no_action : ComesTo q stands player.state line.action None → Breaks p q c line part.Action
-      no_action comes = ((x, its), λ h.
-          let a = h.1 in
-          let i = k.is in
-          let there = a.its in
-          let same = same_process (slice_get c.processes line.process.0) h.0 x there.exists k.exists in
-          comes x.text line.process x.args x.replies i.turns i.state
-          (subst (λ (y : Process). next_of q y.text line.process y.args y.replies ≡ doing.At line.action) same a.next, a.performable))
+      no_action comes = (
+        (x, its),
+        λ h.
+            let a = h.1 in
+            let i = k.is in
+            let there = a.its in
+            let same = same_process (slice_get c.processes line.process.0) h.0 x there.exists k.exists in
+            comes x.text line.process x.args x.replies i.turns i.state
+            (subst (λ (y : Process). next_of q y.text line.process y.args y.replies ≡ doing.At line.action) same a.next, a.performable),
+      )
 
       module _ (at : S) (comes : ComesTo q stands player.state line.action (Some at)) where
         come : IsNext q x.text line.process x.args x.replies line.action × (used : ℕ) × (used < most_turns) × stands at x.text line.process x.args x.replies used

@@ -13,11 +13,7 @@ use value_core::{Line, Processor};
 /// program's.
 ///
 /// A line costs what its process computes up to it, and the look of its object among the others.
-pub fn replay<P: Processor>(
-    alloc: Global,
-    program: &P,
-    lines: &[Line],
-) -> Result<Verdict, NoMemory>
+pub fn replay<P: Processor>(alloc: Global, program: &P, lines: &[Line]) -> Result<Verdict, NoMemory>
     requires few { length lines.now < 2 ^ 32 }
     ensures verdict { IfOk result (IsVerdict (P.performs program.now) (P.computes program.now) lines.now) }
 {
