@@ -1,19 +1,16 @@
 -- A history is carried from one meaning to another that is the same on what fits.
-use Rattle.std.proofs.Common.{◌≡◌, ℕ, Option, Some, List, [], ◌∷◌, refl, sym, ap, ◌∙◌, subst}
-use Rattle.std.specs.Prelude.{slice_get}
+use Rattle.std.proofs.Common.{◌≡◌, Some, List, [], ◌∷◌, refl, sym, ap, ◌∙◌, subst}
 use Rattle.orca_base.specs.declared.ids.TextNo.{TextNo}
 use Rattle.value_core.specs.Datum as datum
-use Rattle.value_core.specs.Lawful.{next_of}
 use Rattle.value_core.specs.declared.action.Action.{Action}
 use Rattle.value_core.specs.declared.action.Action.TheVariants as action
 use Rattle.value_core.specs.declared.action.Instance.{Instance}
 use Rattle.value_core.specs.declared.action.Line.{Line}
-use Rattle.value_core.specs.declared.action.Reply.{Reply}
 use Rattle.value_core.specs.declared.meaning.Doing.TheVariants as doing
 use Rattle.value_core.specs.declared.meaning.Making.{Making}
 use Rattle.value_core.specs.declared.meaning.Tried.{Tried}
 use Rattle.value_core.specs.Meaning.{Performs, Computes}
-use Rattle.value_core.specs.History.{Answers, Configuration, IsStep, LegalFrom, MakingAnswers, Objects, Performed, after_call, after_line, after_lines, after_making, after_try, most_turns, objects_after, opening, output_kind, output_object}
+use Rattle.value_core.specs.History.{Answers, Configuration, IsStep, LegalFrom, MakingAnswers, Performed, after_call, after_line, after_lines, after_making, after_try, most_turns, objects_after, opening, output_kind, output_object}
 use Rattle.guard_queue.specs.Fitting.{kinds_of}
 use Rattle.book_law.specs.Fitness.{ArgsFit, ReplyFits, StateFits, TextFits}
 use Rattle.book_law.proofs.Fits.{Fit, Laws}

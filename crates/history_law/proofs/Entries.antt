@@ -1,5 +1,5 @@
 -- What an entry does at copies of replicated objects on which no call is suspended, where it can be performed there: its one line.
-use Rattle.std.proofs.Common.{◌≡◌, ℕ, Some, None, Option, List, [], ◌∷◌, ◌++◌, refl, sym, ap, ◌∙◌}
+use Rattle.std.proofs.Common.{◌≡◌, ℕ, Option, List, [], ◌∷◌, ◌++◌, refl, sym, ap, ◌∙◌}
 use Rattle.std.specs.Prelude.{IsTrue}
 use Rattle.orca_base.specs.declared.ids.CallNo.{CallNo}
 use Rattle.orca_base.specs.declared.ids.ProcessNo.{ProcessNo}
@@ -15,9 +15,9 @@ use Rattle.value_core.specs.declared.meaning.Making.TheVariants as making
 use Rattle.value_core.specs.declared.meaning.Tried.{Tried}
 use Rattle.value_core.specs.declared.meaning.Tried.TheVariants as tried
 use Rattle.value_core.specs.Meaning.{Performs}
-use Rattle.value_core.specs.History.{Answers, MakingAnswers, Objects, Performed, after_call, object_at, objects_after}
+use Rattle.value_core.specs.History.{Answers, MakingAnswers, Objects, Performed, after_call, objects_after}
 use Rattle.guard_queue.specs.declared.queue.Suspended.{Suspended}
-use Rattle.guard_queue.specs.Settles.{Settling, objects_if, objects_with, settled, tried_by}
+use Rattle.guard_queue.specs.Settles.{Settling, objects_if, objects_with, tried_by}
 use Rattle.object_manager.specs.After.{Copied, acted, as_call, called_in, making_reply, settled_after}
 use Rattle.book_law.specs.Passes.{after, lines_after}
 use Rattle.book_law.specs.Replicated.{all_replicated}

@@ -11,7 +11,7 @@ use Rattle.value_core.specs.declared.action.Action.TheVariants as action
 use Rattle.value_core.specs.declared.action.Reply.{Reply}
 use Rattle.value_core.specs.declared.message.Message.{Message}
 use Rattle.value_core.specs.Meaning.{Performs, Computes}
-use Rattle.value_core.specs.History.{Configuration, IsStep, Legal, LegalFrom, Objects, Performed, Process, after_line, after_lines, forked, objects_after, opening, replies_in}
+use Rattle.value_core.specs.History.{Configuration, IsStep, LegalFrom, Objects, Performed, Process, after_line, after_lines, forked, objects_after, opening, replies_in}
 use Rattle.value_core.proofs.HistoryLemmas.{after_lines-push}
 use Rattle.object_manager.specs.After.{Copied, opening_copies}
 use Rattle.book_law.specs.Passes.{after, after_all, lines_after}
