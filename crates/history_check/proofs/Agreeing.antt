@@ -1,17 +1,16 @@
 -- Of any lines one verdict is true.
-use Rattle.std.proofs.Common.{◌≡◌, ℕ, zero, suc, ◌<◌, ◌≤◌, ◌⊎◌, inl, inr, ⊎_elim, Some, List, [], ◌∷◌, length, take, refl, sym, ap, ◌∙◌, arith, subst}
+use Rattle.std.proofs.Common.{◌≡◌, ℕ, zero, suc, ◌<◌, ◌≤◌, ⊎_elim, Some, List, [], ◌∷◌, length, take, refl, sym, ap, ◌∙◌, arith, subst}
 use Rattle.std.specs.Prelude.{slice_get}
-use Rattle.std.proofs.lemmas.Bool.{cases_eq, cases_lt}
+use Rattle.std.proofs.lemmas.Bool.{cases_lt}
 use Rattle.std.proofs.lemmas.List.{take_all}
 use Rattle.std.proofs.lemmas.Option.{slice_get_within}
 use Rattle.value_core.specs.declared.action.Line.{Line}
 use Rattle.value_core.specs.Meaning.{Performs, Computes}
-use Rattle.value_core.specs.History.{Configuration, IsStep, LegalFrom, Process, after_line, after_lines, opening}
+use Rattle.value_core.specs.History.{Configuration, IsStep, LegalFrom, after_line, after_lines, opening}
 use Rattle.history_law.proofs.Entries.{performable}
 use Rattle.history_check.specs.Verdicts.{Agrees, Breaks, IsBreach, OneVerdict, StepsAgree}
 use Rattle.history_check.specs.declared.verdict.BreachRule.{BreachRule}
 use Rattle.history_check.specs.declared.verdict.BreachRule.TheVariants as part
-use Rattle.history_check.specs.declared.verdict.Verdict.{Verdict}
 use Rattle.history_check.specs.declared.verdict.Verdict.TheVariants as verdict
 
 -- ---- one line

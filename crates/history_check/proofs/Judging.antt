@@ -1,19 +1,18 @@
 -- What a step finds of a line, part by part.
-use Rattle.std.proofs.Common.{◌≡◌, ℕ, zero, suc, ◌+◌, ◌++◌, ◌<◌, ◌≤◌, ◌^◌, ◌⊎◌, inl, inr, ⊎_elim, Option, Some, None, List, [], ◌∷◌, length, refl, sym, ap, ◌∙◌, arith, subst}
-use Rattle.std.specs.Prelude.{Err, IsTrue, slice_get, slice_index_or, slice_set}
+use Rattle.std.proofs.Common.{◌≡◌, ℕ, zero, suc, ◌++◌, ◌<◌, ◌≤◌, ◌^◌, ⊎_elim, Option, Some, None, List, [], ◌∷◌, length, refl, sym, ap, ◌∙◌, arith, subst}
+use Rattle.std.specs.Prelude.{Err, slice_get, slice_index_or, slice_set}
 use Rattle.std.proofs.lemmas.Bool.{cases_lt}
 use Rattle.std.proofs.lemmas.List.{get_or_past, length-append}
 use Rattle.std.proofs.lemmas.Option.{slice_get_within}
-use Rattle.value_core.specs.Goes.{ForSome, HasReplied}
+use Rattle.value_core.specs.Goes.{ForSome}
 use Rattle.value_core.specs.Lawful.{FitsAction, next_of}
-use Rattle.value_core.specs.Performable.{is_performable}
 use Rattle.value_core.specs.declared.action.Action.{Action}
 use Rattle.value_core.specs.declared.action.Action.TheVariants as action
 use Rattle.value_core.specs.declared.action.Line.{Line}
 use Rattle.value_core.specs.declared.action.Reply.{Reply}
 use Rattle.value_core.specs.declared.meaning.Doing.TheVariants as doing
 use Rattle.value_core.specs.Meaning.{Performs, Computes}
-use Rattle.value_core.specs.History.{Configuration, IsStep, Objects, Performed, Process, after_line, after_lines, forked, most_turns, objects_after, objects_of, opening, processes_of}
+use Rattle.value_core.specs.History.{Configuration, IsStep, Objects, Performed, Process, after_lines, forked, most_turns, objects_of, opening}
 use Rattle.value_core.proofs.HistoryLemmas.{LegalFrom-push, after_lines-push}
 use Rattle.guard_queue.specs.Fitting.{kinds_of}
 use Rattle.object_manager.specs.Viewed.{ReadFits}
@@ -21,8 +20,8 @@ use Rattle.book_law.specs.Fitness.{ArgsFit, ReplyFits, StateFits, TextFits}
 use Rattle.book_law.proofs.Processes.{after_fork, get_some, with_reply}
 use Rattle.history_law.specs.Fitness.{FitsAfter, HistoriesFit}
 use Rattle.history_check.specs.Outcomes.{IsJudged, MayTry, kept_at, outcome_of}
-use Rattle.history_check.specs.Players.{Begins, ComesTo, Follows, HasTurns, IsNext, IsPlayer, IsTaken, Left, MayBegin, MayTake, Plays, Stood, most_kept}
-use Rattle.history_check.specs.Verdicts.{Agrees, Breaks, IsActionOf, IsLineOf}
+use Rattle.history_check.specs.Players.{ComesTo, Follows, HasTurns, IsNext, IsPlayer, Left, MayBegin, MayTake, Plays, Stood, most_kept}
+use Rattle.history_check.specs.Verdicts.{Breaks, IsActionOf, IsLineOf}
 use Rattle.history_check.specs.declared.outcome.Outcome.{Outcome}
 use Rattle.history_check.specs.declared.player.Player.{Player}
 use Rattle.history_check.specs.declared.replayed.Replayed.{Replayed}

@@ -4,11 +4,9 @@ use Rattle.std.specs.Prelude.{slice_get}
 use Rattle.orca_base.specs.declared.ids.TextNo.{TextNo}
 use Rattle.value_core.specs.Datum.{Data, list_of}
 use Rattle.value_core.specs.Datum as datum
-use Rattle.value_core.specs.declared.action.Instance.{Instance}
-use Rattle.value_core.specs.declared.action.Reply.{Reply}
 use Rattle.value_core.specs.Meaning.{Performs, Computes}
 use Rattle.value_core.specs.History.{Objects, Process, opening, output_kind, output_object, with_object}
-use Rattle.history_check.specs.Players.{ArePlayed, Follows, IsPlayer, Stood, most_kept}
+use Rattle.history_check.specs.Players.{ArePlayed, Follows, IsPlayer, Stood}
 use Rattle.history_check.specs.declared.player.Player.{Player}
 use Rattle.history_check.specs.declared.replayed.Replayed.{Replayed}
 

@@ -1,5 +1,5 @@
 -- A process comes to its next action, and a fork's process begins.
-use Rattle.std.proofs.Common.{◌≡◌, ℕ, ◌+◌, ◌-◌, ◌<◌, ◌≤◌, ◌⊎◌, inl, inr, ⊎_elim, Option, None, Some, List, [], ◌∷◌, ◌++◌, length, refl, sym, ap, ◌∙◌, arith, subst}
+use Rattle.std.proofs.Common.{◌≡◌, ℕ, ◌+◌, ◌-◌, ◌<◌, ◌≤◌, ◌⊎◌, inl, inr, Option, None, Some, List, [], ◌∷◌, ◌++◌, length, refl, sym, ap, ◌∙◌, arith, subst}
 use Rattle.std.specs.Prelude.{IsTrue, ℤ}
 use Rattle.orca_base.specs.declared.ids.ProcessNo.{ProcessNo}
 use Rattle.orca_base.specs.declared.ids.TextNo.{TextNo}
@@ -10,13 +10,12 @@ use Rattle.value_core.specs.Performable.{is_performable}
 use Rattle.value_core.specs.declared.action.Action.{Action}
 use Rattle.value_core.specs.declared.action.Action.TheVariants as action
 use Rattle.value_core.specs.declared.action.Reply.{Reply}
-use Rattle.value_core.specs.declared.meaning.Doing.{Doing}
 use Rattle.value_core.specs.declared.meaning.Doing.TheVariants as doing
 use Rattle.value_core.specs.declared.processor.Halt.{Halt}
 use Rattle.value_core.specs.declared.processor.Halt.TheVariants as halt
 use Rattle.value_core.specs.Meaning.{Computes}
 use Rattle.value_core.specs.History.{Process, forked, most_turns}
-use Rattle.history_check.specs.Players.{Begins, ComesTo, HasTurns, IsNewborn, IsNext, Left, Stood, most_kept}
+use Rattle.history_check.specs.Players.{Begins, ComesTo, HasTurns, IsNewborn, Left, Stood, most_kept}
 use Rattle.history_check.specs.declared.player.Player.{Player}
 
 -- what a process does next, once it isn't busy, is the same for every greater number of turns

@@ -1,16 +1,13 @@
 -- A line that may come next, taken: what is kept stands for the configuration behind it.
-use Rattle.std.proofs.Common.{◌≡◌, ℕ, ◌+◌, ◌<◌, ◌≤◌, ◌⊎◌, inl, inr, ⊎_elim, Option, None, Some, List, [], ◌∷◌, ◌++◌, length, refl, sym, ap, ◌∙◌, arith, subst}
+use Rattle.std.proofs.Common.{◌≡◌, ℕ, ◌+◌, ◌<◌, ◌≤◌, ⊎_elim, Option, None, Some, List, [], ◌∷◌, ◌++◌, length, sym, ap, ◌∙◌, arith, subst}
 use Rattle.std.specs.Prelude.{slice_get, slice_set}
 use Rattle.std.proofs.lemmas.Bool.{cases_eq, cases_lt}
 use Rattle.std.proofs.lemmas.List.{length-append, length-set}
-use Rattle.std.proofs.lemmas.Option.{slice_get_within}
-use Rattle.value_core.specs.Goes.{HasReplied}
 use Rattle.value_core.specs.declared.action.Line.{Line}
 use Rattle.value_core.specs.declared.action.Reply.{Reply}
 use Rattle.value_core.specs.Meaning.{Performs, Computes}
-use Rattle.value_core.specs.History.{Configuration, IsStep, Objects, Process, after_line, after_lines, forked, most_turns, objects_after, opening}
+use Rattle.value_core.specs.History.{Configuration, IsStep, Process, after_line, after_lines, forked, objects_after, opening}
 use Rattle.value_core.proofs.HistoryLemmas.{LegalFrom-push, after_lines-push}
-use Rattle.book_law.specs.Events.{In}
 use Rattle.book_law.proofs.Processes.{after_cases, after_fork, after_length, after_other, after_own, forked_fresh, get_end, get_left, get_some, set_other, set_same, with_reply}
 use Rattle.history_check.specs.Players.{ArePlayed, Begins, Follows, IsPlayer, Stood, most_kept}
 use Rattle.history_check.specs.declared.player.Player.{Player}

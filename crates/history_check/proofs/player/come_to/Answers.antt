@@ -1,4 +1,4 @@
-use Rattle.std.proofs.Common.{◌≡◌, ◌-◌, true, refl, sym, ◌∙◌, arith}
+use Rattle.std.proofs.Common.{◌≡◌, ◌-◌, true, refl, sym, ◌∙◌}
 use Rattle.value_core.specs.History.{most_turns}
 use Rattle.history_check.proofs.Playing.{all_left, comes_by, comes_elsewhere}
 use Rattle.history_check.proofs.player.come_to.Goals as goal

@@ -1,4 +1,4 @@
-use Rattle.std.proofs.Common.{◌≡◌, Option, None, Some, Result, List, length, ap, sym, ◌∙◌, subst}
+use Rattle.std.proofs.Common.{Option, None, Result, List, length, ap, sym, ◌∙◌, subst}
 use Rattle.std.specs.Prelude.{IfSome}
 use Rattle.std.proofs.lemmas.List.{length-set}
 use Rattle.history_check.specs.Outcomes.{IsJudged}
@@ -6,7 +6,7 @@ use Rattle.history_check.specs.Players.{ComesTo, Plays}
 use Rattle.history_check.specs.declared.outcome.Outcome.{Outcome}
 use Rattle.history_check.specs.declared.player.Player.{Player}
 use Rattle.history_check.specs.declared.verdict.BreachRule.{BreachRule}
-use Rattle.history_check.proofs.Judging.{differs, found, has_turns, may_take, may_try, no_action, no_process, other_call, taken}
+use Rattle.history_check.proofs.Judging.{differs, found, has_turns, may_take, may_try, no_action, other_call, taken}
 use Rattle.history_check.proofs.replayed.step.Goals as goal
 
 pub returns-then-player-line : goal.returns-then-player-line
