@@ -1,19 +1,16 @@
 -- A history is carried from one meaning to another that is the same on what fits.
-use Rattle.std.proofs.Common.{◌≡◌, ℕ, Option, Some, List, [], ◌∷◌, refl, sym, ap, ◌∙◌, subst}
-use Rattle.std.specs.Prelude.{slice_get}
+use Rattle.std.proofs.Common.{◌≡◌, Some, List, [], ◌∷◌, refl, sym, ap, ◌∙◌, subst}
 use Rattle.orca_base.specs.declared.ids.TextNo.{TextNo}
 use Rattle.value_core.specs.Datum as datum
-use Rattle.value_core.specs.Lawful.{next_of}
 use Rattle.value_core.specs.declared.action.Action.{Action}
 use Rattle.value_core.specs.declared.action.Action.TheVariants as action
 use Rattle.value_core.specs.declared.action.Instance.{Instance}
 use Rattle.value_core.specs.declared.action.Line.{Line}
-use Rattle.value_core.specs.declared.action.Reply.{Reply}
 use Rattle.value_core.specs.declared.meaning.Doing.TheVariants as doing
 use Rattle.value_core.specs.declared.meaning.Making.{Making}
 use Rattle.value_core.specs.declared.meaning.Tried.{Tried}
 use Rattle.value_core.specs.Meaning.{Performs, Computes}
-use Rattle.value_core.specs.History.{Answers, Configuration, IsStep, LegalFrom, MakingAnswers, Objects, Performed, after_call, after_line, after_lines, after_making, after_try, most_turns, objects_after, opening, output_kind, output_object}
+use Rattle.value_core.specs.History.{Answers, Configuration, IsStep, LegalFrom, MakingAnswers, Performed, after_call, after_line, after_lines, after_making, after_try, most_turns, objects_after, opening, output_kind, output_object}
 use Rattle.guard_queue.specs.Fitting.{kinds_of}
 use Rattle.book_law.specs.Fitness.{ArgsFit, ReplyFits, StateFits, TextFits}
 use Rattle.book_law.proofs.Fits.{Fit, Laws}
@@ -32,9 +29,10 @@ module _ (p r : Performs) (q s : Computes) (fits_state : StateFits) (fits_args :
       let e : Some fits.kept ≡ Some done.0 = sym fits.exists ∙ done.1 in
       let same : fits.kept ≡ done.0 = cc in
       let state : fits_state may.0 kind done.0.state = subst (λ (k : Instance). fits_state may.0 kind k.state) same (subst (λ k. fits_state may.0 k fits.kept.state) fits.kind (may.1 object fits.kept fits.exists)) in
-      let tries = alike.tries may.0 kind op done.0.state args state fits.args in
-      ((done.0, done.1, subst (λ (t : Tried). Answers t l.guard l.reply) (sym tries) done.2),
-      ap (after_call r c.objects kind op object args) done.1 ∙ ap (after_try c.objects object done.0) tries ∙ sym (ap (after_call p c.objects kind op object args) done.1))
+      let tries = alike.tries may.0 kind op done.0.state args state fits.args in (
+        (done.0, done.1, subst (λ (t : Tried). Answers t l.guard l.reply) (sym tries) done.2),
+        ap (after_call r c.objects kind op object args) done.1 ∙ ap (after_try c.objects object done.0) tries ∙ sym (ap (after_call p c.objects kind op object args) done.1),
+      )
   same_try c l (action.Fork text args place_on) f i is done = (done, refl)
   same_try c l action.Ended f i is done = absurd done
   same_try c l (action.Faulted fault) f i is done = absurd done
@@ -42,9 +40,10 @@ module _ (p r : Performs) (q s : Computes) (fits_state : StateFits) (fits_args :
   same_step : (c : Configuration) (l : Line) → Fit q fits_state fits_text fits_reply c → IsStep p q c l → IsStep r s c l × (after_line r c l ≡ after_line p c l)
   same_step c l f i =
       let fits = f.processes l.process i.process i.exists in
-      let same = same_try c l l.action f i refl i.performed in
-      (record { process = i.process; exists = i.exists; call = i.call; next = alike.doing (kinds_of c.objects) i.process.text l.process i.process.args i.process.replies most_turns fits.text fits.replies ∙ i.next; performed = same.0 },
-      (λ j. record { objects = same.1 j; processes = (after_line p c l).processes }))
+      let same = same_try c l l.action f i refl i.performed in (
+        record { process = i.process; exists = i.exists; call = i.call; next = alike.doing (kinds_of c.objects) i.process.text l.process i.process.args i.process.replies most_turns fits.text fits.replies ∙ i.next; performed = same.0 },
+        (λ j. record { objects = same.1 j; processes = (after_line p c l).processes }),
+      )
 
   carries : (c : Configuration) (lines : List Line) → Fit q fits_state fits_text fits_reply c → LegalFrom p q c lines → LegalFrom r s c lines × (after_lines r c lines ≡ after_lines p c lines)
   carries c [] f legal = (tt, refl)

@@ -1,5 +1,5 @@
 -- What an entry does at copies of replicated objects on which no call is suspended, where it can be performed there: its one line.
-use Rattle.std.proofs.Common.{◌≡◌, ℕ, Some, None, Option, List, [], ◌∷◌, ◌++◌, refl, sym, ap, ◌∙◌}
+use Rattle.std.proofs.Common.{◌≡◌, ℕ, Option, List, [], ◌∷◌, ◌++◌, refl, sym, ap, ◌∙◌}
 use Rattle.std.specs.Prelude.{IsTrue}
 use Rattle.orca_base.specs.declared.ids.CallNo.{CallNo}
 use Rattle.orca_base.specs.declared.ids.ProcessNo.{ProcessNo}
@@ -15,9 +15,9 @@ use Rattle.value_core.specs.declared.meaning.Making.TheVariants as making
 use Rattle.value_core.specs.declared.meaning.Tried.{Tried}
 use Rattle.value_core.specs.declared.meaning.Tried.TheVariants as tried
 use Rattle.value_core.specs.Meaning.{Performs}
-use Rattle.value_core.specs.History.{Answers, MakingAnswers, Objects, Performed, after_call, object_at, objects_after}
+use Rattle.value_core.specs.History.{Answers, MakingAnswers, Objects, Performed, after_call, objects_after}
 use Rattle.guard_queue.specs.declared.queue.Suspended.{Suspended}
-use Rattle.guard_queue.specs.Settles.{Settling, objects_if, objects_with, settled, tried_by}
+use Rattle.guard_queue.specs.Settles.{Settling, objects_if, objects_with, tried_by}
 use Rattle.object_manager.specs.After.{Copied, acted, as_call, called_in, making_reply, settled_after}
 use Rattle.book_law.specs.Passes.{after, lines_after}
 use Rattle.book_law.specs.Replicated.{all_replicated}
@@ -88,15 +88,15 @@ pub does : (p : Performs) (c : Copied) (process : ProcessNo) (call : CallNo) (a 
     → Does p c (message process call a ok) (line process call a guard reply)
 does p c process call (action.Make kind object) ok guard reply still done =
     let s = settles p (acted p c (message process call (action.Make kind object) ok)) (objects_after p c.objects (action.Make kind object)) (line process call (action.Make kind object) guard reply)
-        (acts_one p c process call (action.Make kind object) ok guard reply still done) in
+    (acts_one p c process call (action.Make kind object) ok guard reply still done) in
     record { lines = s.0; objects = s.1; queue = s.2 }
 does p c process call (action.Call kind op object args) ok guard reply still done =
     let s = settles p (acted p c (message process call (action.Call kind op object args) ok)) (objects_after p c.objects (action.Call kind op object args)) (line process call (action.Call kind op object args) guard reply)
-        (acts_one p c process call (action.Call kind op object args) ok guard reply still done) in
+    (acts_one p c process call (action.Call kind op object args) ok guard reply still done) in
     record { lines = s.0; objects = s.1; queue = s.2 }
 does p c process call (action.Fork text args place_on) ok guard reply still done =
     let s = settles p (acted p c (message process call (action.Fork text args place_on) ok)) c.objects (line process call (action.Fork text args place_on) guard reply)
-        (acts_one p c process call (action.Fork text args place_on) ok guard reply still done) in
+    (acts_one p c process call (action.Fork text args place_on) ok guard reply still done) in
     record { lines = s.0; objects = s.1; queue = s.2 }
 does p c process call action.Ended ok guard reply still done = absurd done
 does p c process call (action.Faulted fault) ok guard reply still done = absurd done

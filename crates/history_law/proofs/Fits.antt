@@ -1,5 +1,5 @@
 -- What fits after a history of a lawful program.
-use Rattle.std.proofs.Common.{◌≡◌, Some, List, sym, ap, subst}
+use Rattle.std.proofs.Common.{◌≡◌, Some, List, subst}
 use Rattle.std.specs.Prelude.{slice_get}
 use Rattle.orca_base.specs.declared.ids.KindNo.{KindNo}
 use Rattle.orca_base.specs.declared.ids.OpNo.{OpNo}
@@ -13,7 +13,7 @@ use Rattle.value_core.specs.declared.action.Action.TheVariants as action
 use Rattle.value_core.specs.declared.meaning.Doing.{Doing}
 use Rattle.value_core.specs.declared.meaning.Doing.TheVariants as doing
 use Rattle.value_core.specs.Meaning.{Performs, Computes}
-use Rattle.value_core.specs.History.{Configuration, IsStep, Legal, Process, after_lines, object_at, opening}
+use Rattle.value_core.specs.History.{Configuration, Legal, Process, after_lines, object_at, opening}
 use Rattle.guard_queue.specs.Fitting.{kinds_of}
 use Rattle.object_manager.specs.Viewed.{ReadFits}
 use Rattle.book_law.specs.Fitness.{ArgsFit, ReplyFits, StateFits, TextFits}

@@ -11,7 +11,7 @@ use Rattle.value_core.specs.declared.action.Action.TheVariants as action
 use Rattle.value_core.specs.declared.action.Reply.{Reply}
 use Rattle.value_core.specs.declared.message.Message.{Message}
 use Rattle.value_core.specs.Meaning.{Performs, Computes}
-use Rattle.value_core.specs.History.{Configuration, IsStep, Legal, LegalFrom, Objects, Performed, Process, after_line, after_lines, forked, objects_after, opening, replies_in}
+use Rattle.value_core.specs.History.{Configuration, IsStep, LegalFrom, Objects, Performed, Process, after_line, after_lines, forked, objects_after, opening, replies_in}
 use Rattle.value_core.proofs.HistoryLemmas.{after_lines-push}
 use Rattle.object_manager.specs.After.{Copied, opening_copies}
 use Rattle.book_law.specs.Passes.{after, after_all, lines_after}
@@ -160,19 +160,22 @@ module _ (p : Performs) (q : Computes) (lines : List Line) (w : Course) (f : Fol
   -- member 0 applies it
   applies : (aside : List Placed) (owned : List Single) (entered : List Message) (runners : ℕ → Option Runner) (asked : List Message) → Came all_replicated p q (course_of (w.list ++ m ∷ []) aside owned entered w.applied runners asked) → aside ≡ [] → owned ≡ []
       → Listed w before l m s.process runners → (v : Course) × Follows p q (lines ++ l ∷ []) v
-  applies aside owned entered runners asked came no_aside no_owned listed = (last, record {
-    came = Then had last came (Applies 0 m next refl);
-    aside = no_aside;
-    owned = no_owned;
-    is_book = book_push all_replicated p w.list [] m (λ n lt. refl) ∙ ap (λ (ls : List Line). ls ++ lines_after all_replicated p (copies p w.list) m) f.is_book ∙ ap (λ (ls : List Line). lines ++ ls) effect.lines;
-    applied = at_own w.applied 0 (suc (w.applied 0)) ∙ (let e = f.applied in omega (arith, e, long));
-    still = ap (λ (c : Copied). c.queue) pushed ∙ effect.queue;
-    objects = ap (λ (c : Copied). c.objects) pushed ∙ effect.objects ∙ ap (λ (os : Objects). objects_after p os l.action) f.objects ∙ ap (λ (c : Configuration). c.objects) (sym later);
-    count = ap (λ (c : Copied). c.processes) pushed ∙ ap (λ (n : ℕ). n + length (forked l.action)) f.count ∙ sym (after_length p before l) ∙ ap (λ (c : Configuration). length c.processes) (sym later);
-    rests = λ j x is. rests j x (ap (λ (c : Configuration). slice_get c.processes j) (sym later) ∙ is);
-    only = λ j r is. subst (λ (c : Configuration). j < length c.processes) (sym later) (let first = some_mapped (handed 0 (suc (w.applied 0)) told j) (runners j) r is in let lt = listed.only j first.0 first.1 in let sum = after_length p before l in omega (arith, lt, sum));
-    past = λ y h. subst (λ (c : Configuration). IsPast c.processes y) (sym later) (past y (in_push y m w.list h));
-  })
+  applies aside owned entered runners asked came no_aside no_owned listed = (
+    last,
+    record {
+      came = Then had last came (Applies 0 m next refl);
+      aside = no_aside;
+      owned = no_owned;
+      is_book = book_push all_replicated p w.list [] m (λ n lt. refl) ∙ ap (λ (ls : List Line). ls ++ lines_after all_replicated p (copies p w.list) m) f.is_book ∙ ap (λ (ls : List Line). lines ++ ls) effect.lines;
+      applied = at_own w.applied 0 (suc (w.applied 0)) ∙ (let e = f.applied in omega (arith, e, long));
+      still = ap (λ (c : Copied). c.queue) pushed ∙ effect.queue;
+      objects = ap (λ (c : Copied). c.objects) pushed ∙ effect.objects ∙ ap (λ (os : Objects). objects_after p os l.action) f.objects ∙ ap (λ (c : Configuration). c.objects) (sym later);
+      count = ap (λ (c : Copied). c.processes) pushed ∙ ap (λ (n : ℕ). n + length (forked l.action)) f.count ∙ sym (after_length p before l) ∙ ap (λ (c : Configuration). length c.processes) (sym later);
+      rests = λ j x is. rests j x (ap (λ (c : Configuration). slice_get c.processes j) (sym later) ∙ is);
+      only = λ j r is. subst (λ (c : Configuration). j < length c.processes) (sym later) (let first = some_mapped (handed 0 (suc (w.applied 0)) told j) (runners j) r is in let lt = listed.only j first.0 first.1 in let sum = after_length p before l in omega (arith, lt, sum));
+      past = λ y h. subst (λ (c : Configuration). IsPast c.processes y) (sym later) (past y (in_push y m w.list h));
+    },
+  )
     where
       had : Course
       had = course_of (w.list ++ m ∷ []) aside owned entered w.applied runners asked
