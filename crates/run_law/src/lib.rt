@@ -1,0 +1,22 @@
+//! What a run in code is kept by: laws of runs beside those of the book (docs/proofs/world.md, What a run in code is kept by).
+//!
+//! Each speaks of a replayed world, so that whoever keeps such a world has their premises. It has no code: its functions are laws, whose
+//! bodies are empty or call the laws below.
+#![tactic(auto)]
+
+ghost use Rattle.run_law.specs.Parts.{InAllParts};
+ghost use Rattle.run_law.specs.Sending.{SendsOwn};
+
+use group_law::agreement_law;
+use group_rules::wire_law;
+use value_core::{Message, Processor, Reply};
+use world_book::legal_book;
+
+/// In each possible event of a run each letter that a member sends in its part is from that member. A call of this function does nothing.
+pub fn letters_are_own<P: Processor>(machine: &P)
+    ensures { InAllParts (P.performs machine.now) (P.computes machine.now) SendsOwn }
+{
+    agreement_law::<Message>();
+    wire_law::<Message, Reply>();
+    legal_book(machine);
+}
