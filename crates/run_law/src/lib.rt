@@ -4,13 +4,14 @@
 //! bodies are empty or call the laws below.
 #![tactic(auto)]
 
-ghost use Rattle.run_law.specs.Parts.{InAllParts};
+ghost use Rattle.run_law.specs.Parts.{AllFitApart, AllTicksApart, InAllParts};
 ghost use Rattle.run_law.specs.Sending.{SendsOwn};
 
 use group_law::agreement_law;
 use group_rules::wire_law;
 use value_core::{Message, Processor, Reply};
 use world_book::legal_book;
+use world_calls::calls_fit;
 
 /// In each possible event of a run each letter that a member sends in its part is from that member. A call of this function does nothing.
 pub fn letters_are_own<P: Processor>(machine: &P)
@@ -19,4 +20,23 @@ pub fn letters_are_own<P: Processor>(machine: &P)
     agreement_law::<Message>();
     wire_law::<Message, Reply>();
     legal_book(machine);
+}
+
+/// At a tick each living member does its part from where it stood before, whatever the members before it did. So it is in every world.
+pub fn ticks_are_apart()
+    ensures { AllTicksApart }
+{}
+
+/// While a run is going, what is asked of each member's part of a possible event is met at that member as it stood before, also at a tick.
+/// A call of this function does nothing.
+pub fn parts_fit_apart<P: Processor>(machine: &P)
+    ensures { AllFitApart (P.performs machine.now) (P.computes machine.now)
+        (record {
+          state = P.fits_state machine.now;
+          args = P.fits_args machine.now;
+          text = P.fits_text machine.now;
+          reply = P.fits_reply machine.now;
+        }) }
+{
+    calls_fit(machine);
 }
