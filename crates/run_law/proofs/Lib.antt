@@ -1,3 +1,4 @@
 pub mod Deeds
 pub mod Senders
 pub mod Ticking
+pub mod Replies

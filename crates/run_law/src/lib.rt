@@ -5,6 +5,7 @@
 #![tactic(auto)]
 
 ghost use Rattle.run_law.specs.Parts.{AllFitApart, AllTicksApart, InAllParts};
+ghost use Rattle.run_law.specs.Replies.{RepliesByLines, RepliesOffBooks};
 ghost use Rattle.run_law.specs.Sending.{SendsOwn};
 
 use group_law::agreement_law;
@@ -39,4 +40,15 @@ pub fn parts_fit_apart<P: Processor>(machine: &P)
         }) }
 {
     calls_fit(machine);
+}
+
+/// Replies off the book. A call of this function does nothing.
+///
+/// - `lines`: in a history a process's replies are those of its lines, in their order.
+/// - `books`: so what a process has received in a run are the first of the replies of its lines in the book.
+pub fn replies_stand<P: Processor>(machine: &P)
+    ensures lines { RepliesByLines (P.performs machine.now) (P.computes machine.now) }
+    ensures books { RepliesOffBooks (P.performs machine.now) (P.computes machine.now) }
+{
+    legal_book(machine);
 }
