@@ -1,3 +1,4 @@
 pub mod Parts
 pub mod Sending
+pub mod Limits
 pub mod Replies

@@ -4,6 +4,7 @@
 //! bodies are empty or call the laws below.
 #![tactic(auto)]
 
+ghost use Rattle.run_law.specs.Limits.{AllStopBefore};
 ghost use Rattle.run_law.specs.Parts.{AllFitApart, AllTicksApart, InAllParts};
 ghost use Rattle.run_law.specs.Replies.{RepliesByLines, RepliesOffBooks};
 ghost use Rattle.run_law.specs.Sending.{SendsOwn};
@@ -40,6 +41,15 @@ pub fn parts_fit_apart<P: Processor>(machine: &P)
         }) }
 {
     calls_fit(machine);
+}
+
+/// In every run the limit that stops a living member is told by the entry before which it stands: of objects before a make, of processes
+/// before a fork, and before no other entry it stops. A call of this function does nothing.
+pub fn limits_stop<P: Processor>(machine: &P)
+    ensures { AllStopBefore (P.performs machine.now) (P.computes machine.now) }
+{
+    agreement_law::<Message>();
+    legal_book(machine);
 }
 
 /// Replies off the book. A call of this function does nothing.
