@@ -4,6 +4,8 @@
 //! bodies are empty or call the laws below.
 #![tactic(auto)]
 
+ghost use Rattle.run_law.specs.Earlier.{AllApplyAgain, AllBurstsFit};
+ghost use Rattle.run_law.specs.Growing.{EventsGrow};
 ghost use Rattle.run_law.specs.Limits.{AllStopBefore};
 ghost use Rattle.run_law.specs.Parts.{AllFitApart, AllTicksApart, InAllParts};
 ghost use Rattle.run_law.specs.Replies.{RepliesByLines, RepliesOffBooks};
@@ -14,6 +16,8 @@ use group_rules::wire_law;
 use value_core::{Message, Processor, Reply};
 use world_book::legal_book;
 use world_calls::calls_fit;
+use world_facts::standings_mean;
+use world_law::{group_steps, numbers_stay_small};
 
 /// In each possible event of a run each letter that a member sends in its part is from that member. A call of this function does nothing.
 pub fn letters_are_own<P: Processor>(machine: &P)
@@ -49,6 +53,41 @@ pub fn limits_stop<P: Processor>(machine: &P)
     ensures { AllStopBefore (P.performs machine.now) (P.computes machine.now) }
 {
     agreement_law::<Message>();
+    legal_book(machine);
+}
+
+/// What is so of the list of a run and of what was performed, while it is going. A call of this function does nothing.
+///
+/// - `grow`: what each possible event adds. The list grows at its end, and each member's entries begin it. A member's part tells just the
+///   lines that the list has of the entries that it applied in it, and what it performs beside the list has no place beyond them. So what was
+///   performed grows at its end: the lines of the entries that are new to the list, and what is new beside it, put behind what was performed
+///   before, are what was performed then.
+/// - `again`: the first entries of each member may be applied to opening copies again, by the single objects that it knows, and pass no
+///   limit.
+/// - `earlier`: of each process that computes, `BurstFits` of `node_rules` holds on what its member's objects were at each place from the
+///   process's own on, up to what its member applied.
+pub fn run_law<P: Processor>(machine: &P)
+    ensures grow { EventsGrow (P.performs machine.now) (P.computes machine.now) }
+    ensures again { AllApplyAgain (P.performs machine.now) (P.computes machine.now)
+        (record {
+          state = P.fits_state machine.now;
+          args = P.fits_args machine.now;
+          text = P.fits_text machine.now;
+          reply = P.fits_reply machine.now;
+        }) }
+    ensures earlier { AllBurstsFit (P.performs machine.now) (P.computes machine.now)
+        (record {
+          state = P.fits_state machine.now;
+          args = P.fits_args machine.now;
+          text = P.fits_text machine.now;
+          reply = P.fits_reply machine.now;
+        }) }
+{
+    agreement_law::<Message>();
+    wire_law::<Message, Reply>();
+    group_steps();
+    numbers_stay_small();
+    standings_mean();
     legal_book(machine);
 }
 
