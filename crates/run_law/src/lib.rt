@@ -4,6 +4,7 @@
 //! bodies are empty or call the laws below.
 #![tactic(auto)]
 
+ghost use Rattle.node_rules.specs.Conditions.{Fitness};
 ghost use Rattle.run_law.specs.Earlier.{AllApplyAgain, AllBurstsFit};
 ghost use Rattle.run_law.specs.Growing.{EventsGrow};
 ghost use Rattle.run_law.specs.Limits.{AllStopBefore};
