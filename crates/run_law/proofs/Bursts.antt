@@ -1,13 +1,10 @@
 -- A burst may be computed on what a member's objects were at an earlier place.
-use Rattle.std.proofs.Common.{◌≡◌, ◌<◌, ◌≤◌, ℕ, List, length, Some, refl, sym, ap, ◌∙◌, subst, arith}
+use Rattle.std.proofs.Common.{◌≡◌, ◌<◌, ℕ, List, length, refl, sym, ap, ◌∙◌, arith}
 use Rattle.std.proofs.lemmas.Option.{slice_get_within}
-use Rattle.orca_base.specs.declared.ids.ProcessNo.{ProcessNo}
 use Rattle.value_core.specs.declared.message.Message.{Message}
 use Rattle.book_law.specs.Book.{copies_at}
 use Rattle.world_rules.specs.declared.event.Step.{Step}
 use Rattle.world_rules.specs.Frame.{Frame}
-use Rattle.world_rules.specs.Played.{Played}
-use Rattle.world_rules.specs.Played.Stage.{Computing}
 use Rattle.world_rules.specs.Processes.{processes_in}
 use Rattle.world_rules.specs.Standings.{process_count}
 use Rattle.world_rules.specs.Steps.{Replays}

@@ -1,8 +1,7 @@
 -- What a member does in its part of an event, deed by deed: what stays with each deed holds at the part's end.
-use Rattle.std.proofs.Common.{◌≡◌, ◌==◌, ◌||◌, ◌<◌, ℕ, suc, false, if◌then◌else◌, List, [], ◌∷◌, ◌++◌, map, length, Option, None, Some, refl, sym, subst, nat_lt}
+use Rattle.std.proofs.Common.{◌≡◌, ◌==◌, ◌||◌, ◌<◌, ℕ, suc, false, List, [], ◌∷◌, ◌++◌, map, length, Option, None, Some, sym, subst, nat_lt}
 use Rattle.std.proofs.lemmas.Bool.{cond_both}
 use Rattle.orca_base.specs.declared.ids.CallNo.{CallNo}
-use Rattle.orca_base.specs.declared.ids.ProcessNo.{ProcessNo}
 use Rattle.value_core.specs.declared.action.Action.{Action}
 use Rattle.value_core.specs.declared.action.Action.TheVariants as action
 use Rattle.value_core.specs.declared.action.Class.{Class}
@@ -15,31 +14,28 @@ use Rattle.guard_queue.specs.Settles.{is_blocked}
 use Rattle.guard_queue.specs.declared.queue.Suspended.{Suspended}
 use Rattle.object_manager.specs.Singles.{after_single, lines_single}
 use Rattle.object_manager.specs.State.{message_of}
-use Rattle.book_law.specs.declared.placing.Placed.{Placed}
 use Rattle.group_law.specs.Sends.{RowsSend, Use}
 use Rattle.group_law.specs.Sends.{Sends as SendsIn}
-use Rattle.group_rules.specs.Member.{Kind, Letter, Member}
+use Rattle.group_rules.specs.Member.{Kind, Letter}
 use Rattle.group_rules.specs.Member.Kind.{Request, Body, Order, Entry, Ack, Accept, Nack, Status, Invite, Join, News}
 use Rattle.group_rules.specs.Messages.{Group}
-use Rattle.group_rules.specs.Reset.{coordinate}
-use Rattle.group_rules.specs.Sets.{with_at}
-use Rattle.group_rules.specs.Steps.{deliver, deliver_kind, note, submit, timer}
+use Rattle.group_rules.specs.Steps.{deliver_kind, note, submit}
 use Rattle.group_rules.specs.Work.{Act}
-use Rattle.group_rules.specs.World.{GroupWorld, Sent}
+use Rattle.group_rules.specs.World.{Sent}
 use Rattle.world_rules.specs.Applying.{notes, passes_limit, performs_read, tries_as, tries_of, tries_read}
 use Rattle.world_rules.specs.Bursts.{read_line}
 use Rattle.world_rules.specs.Frame.{Frame, group}
 use Rattle.world_rules.specs.Mail.{Errand, Mail}
 use Rattle.world_rules.specs.Mail.Errand.{Ask, Answer}
-use Rattle.world_rules.specs.Nodes.{Deed, Given, Node, NodeWork, becomes, changes, does, idle, if_played, joins, known, plays}
+use Rattle.world_rules.specs.Nodes.{Deed, Given, NodeWork, becomes, does, idle, if_played, joins, known, plays}
 use Rattle.world_rules.specs.Nodes.Deed.{Acts, Applies, Mails, Performs, Submits}
-use Rattle.world_rules.specs.Owners.{arrives, hands, hands_all, hands_to, hears_as, hears_of, holds, is_held, performs_call, takes, takes_asked, takes_call, waits_here}
-use Rattle.world_rules.specs.Parts.{acts_at, acts_by, acts_of, asks, asks_again_at, asks_again_by, asks_again_of, asks_owner, calls, calls_as, reads, receives_mail, submits}
-use Rattle.world_rules.specs.Played.{Played, Stage, moves_to, next_call, receives}
+use Rattle.world_rules.specs.Owners.{arrives, hands, hands_all, hands_to, hears_as, hears_of, is_held, performs_call, takes, takes_asked, takes_call, waits_here}
+use Rattle.world_rules.specs.Parts.{acts_at, acts_by, acts_of, asks, asks_again_at, asks_again_by, asks_again_of, asks_owner, calls, calls_as, receives_mail, submits}
+use Rattle.world_rules.specs.Played.{Played, Stage, moves_to, receives}
 use Rattle.world_rules.specs.Played.Stage.{Computing, Acting, Submitted, Reading, Asking, Over}
 use Rattle.world_rules.specs.Processes.{home_in, owner_in, singles_of}
 use Rattle.world_rules.specs.Worlds.{World, group_world}
-use Rattle.world_course.proofs.Working.{OnlyPlays, entry_only}
+use Rattle.world_course.proofs.Working.{entry_only}
 use Rattle.node_rules.specs.Moments.{Goes, IsDue, Moment, Walks, entry_lines, takes_entry, works}
 use Rattle.node_rules.specs.Moments.{at_work as at_moment}
 use Rattle.node_rules.specs.Moments.Goes.{Takes_entry, Tries_read, Notes, Opens, Takes, Holds, Asks_again}

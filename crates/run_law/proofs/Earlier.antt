@@ -1,8 +1,8 @@
 -- The entries of the list of a run may be applied to opening copies again.
-use Rattle.std.proofs.Common.{◌≡◌, ◌<◌, ◌≤◌, ◌*◌, ◌+◌, ◌-◌, ◌^◌, ◌⊎◌, inl, inr, ℕ, zero, suc, Bool, true, false, if◌then◌else◌, List, [], ◌∷◌, ◌++◌, length, take, append-nil, Option, None, Some, refl, sym, ap, ◌∙◌, subst, arith}
+use Rattle.std.proofs.Common.{◌≡◌, ◌<◌, ◌≤◌, ◌+◌, ◌-◌, ◌^◌, ◌⊎◌, inl, inr, ℕ, zero, suc, Bool, true, false, if◌then◌else◌, List, [], ◌∷◌, ◌++◌, length, take, append-nil, Option, None, Some, refl, sym, ap, ◌∙◌, subst, arith}
 use Rattle.std.specs.Prelude.{slice_get}
 use Rattle.std.proofs.lemmas.Bool.{cases_eq, cases_lt}
-use Rattle.std.proofs.lemmas.List.{length-take, take-append-le, take-take, length-take-le}
+use Rattle.std.proofs.lemmas.List.{length-take, take-append-le, take-take}
 use Rattle.std.proofs.lemmas.List.Elements.{All-nil}
 use Rattle.std.proofs.lemmas.Option.{slice_get_within}
 use Rattle.value_core.specs.History.{Objects, object_at}
@@ -15,7 +15,7 @@ use Rattle.guard_queue.specs.Fitting.{Fitting}
 use Rattle.guard_queue.specs.Settles.{AllBlocked, tried_in}
 use Rattle.guard_queue.specs.declared.queue.Suspended.{Suspended}
 use Rattle.object_manager.specs.After.{Copied, after as after_applied, opening_copies}
-use Rattle.object_manager.specs.Applies.{Applies, CopiesBlocked, CopiesFit}
+use Rattle.object_manager.specs.Applies.{Applies}
 use Rattle.object_manager.specs.Limits.{too_many}
 use Rattle.object_manager.specs.Singles.{after_passed, kinds_at, own_after}
 use Rattle.group_rules.specs.Member.{Member}
@@ -32,18 +32,16 @@ use Rattle.book_law.proofs.Stuck.{copies_blocked}
 use Rattle.world_rules.specs.declared.event.Event as world
 use Rattle.world_rules.specs.declared.event.Event.TheVariants as event
 use Rattle.world_rules.specs.declared.event.Step.{Step}
-use Rattle.world_rules.specs.Frame.{AreSettings, Frame, group}
-use Rattle.world_rules.specs.Mail.{Carried, Mail, is_whole, receiver_of}
-use Rattle.world_rules.specs.Nodes.{Node, NodeWork, entries_of, idle, known}
+use Rattle.world_rules.specs.Frame.{Frame}
+use Rattle.world_rules.specs.Mail.{Carried, is_whole, receiver_of}
+use Rattle.world_rules.specs.Nodes.{Node, entries_of, idle, known}
 use Rattle.world_rules.specs.Parts.{acts, computes, receives, suspects}
 use Rattle.world_rules.specs.Processes.{singles_of}
-use Rattle.world_rules.specs.Steps.{AtWork, Burst, Known as Given, Leads, Next, Possible, Replays, comes_whole, does_part, happens, lives_in, untouched}
+use Rattle.world_rules.specs.Steps.{Burst, Known as Given, Leads, Next, Possible, Replays, comes_whole, does_part, happens, lives_in, untouched}
 use Rattle.world_rules.specs.Worlds.{World, agreed, applied_at, home_of, longer_of, longest, opening_world, singles_in}
 use Rattle.world_law.specs.Counts.{AreSmall}
 use Rattle.world_law.specs.Gives.{taken_from as taken}
-use Rattle.world_law.specs.Grouped.{Grouped}
 use Rattle.world_law.specs.Lists.{OneList}
-use Rattle.world_law.specs.Moments.{Lives}
 use Rattle.world_law.proofs.Walking.{performed_node}
 use Rattle.world_course.specs.Corresponds.{Agrees}
 use Rattle.world_course.proofs.Begun.{left_same}
@@ -54,12 +52,11 @@ use Rattle.world_book.proofs.Kept.{stands_for}
 use Rattle.node_rules.specs.Conditions.{Fitness}
 use Rattle.node_rules.specs.Starts.{Start, part}
 use Rattle.node_rules.specs.Starts.Start.{Acts, Comes, Ticks, Suspects}
-use Rattle.world_calls.proofs.Beginning.{AllStart, MayStart}
 use Rattle.world_calls.proofs.Each.{own}
 use Rattle.run_law.specs.Earlier.{MayApplyAgain, MayApplyThere}
 use Rattle.run_law.specs.Growing.{ListGrows, told_of}
 use Rattle.run_law.specs.Parts.{InParts}
-use Rattle.run_law.proofs.Events.{Laws, LeadsTo, fits, grown, in_both, made, parts_lead, told, within}
+use Rattle.run_law.proofs.Events.{Laws, LeadsTo, grown, in_both, made, parts_lead, told, within}
 use Rattle.run_law.proofs.Growing.{IsStepped, agreed_same, one_more, replays_on, list_grows, step_nodes, stepped_by}
 use Rattle.run_law.proofs.Lines.{ListMakes, same_at}
 use Rattle.run_law.proofs.Telling.{ToldSo}

@@ -1,13 +1,11 @@
 -- What each event of a run adds, put together.
-use Rattle.std.proofs.Common.{◌≡◌, ◌<◌, ◌≤◌, ◌*◌, ℕ, Bool, true, false, if◌then◌else◌, List, ◌++◌, [], ◌∷◌, length, take, Option, None, Some, refl, sym, ap, ◌∙◌, subst, arith}
+use Rattle.std.proofs.Common.{◌≡◌, ◌<◌, ◌≤◌, ◌*◌, ℕ, Bool, true, false, if◌then◌else◌, List, ◌++◌, [], ◌∷◌, length, take, Option, Some, refl, sym, ap, ◌∙◌, subst, arith}
 use Rattle.std.proofs.lemmas.Bool.{and_parts, ltb-true}
 use Rattle.std.specs.Prelude.{All, nat_lt}
 use Rattle.value_core.specs.declared.message.Message.{Message}
 use Rattle.group_rules.specs.Agree.{Agree}
 use Rattle.group_law.specs.Promise.{AgreementLaw}
-use Rattle.net_rules.specs.Flights.{ready_copy}
 use Rattle.net_rules.specs.declared.flight.Flight.{Flight}
-use Rattle.book_law.specs.Events.{In}
 use Rattle.book_law.specs.Passes.{Test}
 use Rattle.book_law.specs.declared.placing.Placed.{Placed}
 use Rattle.book_law.proofs.Courses.{at_own}
@@ -16,18 +14,18 @@ use Rattle.world_rules.specs.declared.event.Event.TheVariants as event
 use Rattle.world_rules.specs.declared.event.Step.{Step}
 use Rattle.world_rules.specs.declared.standing.Standing.TheVariants.{Going as IsGoing}
 use Rattle.world_rules.specs.Frame.{Frame, group}
-use Rattle.world_rules.specs.Mail.{Carried, Mail, is_whole, receiver_of}
+use Rattle.world_rules.specs.Mail.{Carried, is_whole, receiver_of}
 use Rattle.world_rules.specs.Nodes.{Node, aside_of, entries_of}
 use Rattle.world_rules.specs.Parts.{acts, receives, suspects}
 use Rattle.world_rules.specs.Standings.{standing}
-use Rattle.world_rules.specs.Steps.{AtWork, Known as Given, Possible, Replays, comes_whole, does_part, happens, lives_in, untouched}
+use Rattle.world_rules.specs.Steps.{Known as Given, Possible, Replays, comes_whole, does_part, happens, lives_in, untouched}
 use Rattle.world_rules.specs.Worlds.{World, agreed, group_world, home_of, singles_in}
 use Rattle.world_law.specs.Gives.{taken_from as taken}
 use Rattle.world_law.specs.Grouped.{Grouped, MaySubmit}
 use Rattle.world_law.specs.Holds.{Holds}
 use Rattle.world_law.specs.Lists.{AllGrow, ListsGrow}
 use Rattle.world_law.specs.Moments.{AllMoments, Lives}
-use Rattle.world_course.specs.Corresponds.{Agrees, Stands}
+use Rattle.world_course.specs.Corresponds.{Agrees}
 use Rattle.world_course.proofs.Listing.{within_list}
 use Rattle.world_course.proofs.Program.{Program}
 use Rattle.world_book.specs.Following.{HasCourse}

@@ -1,5 +1,5 @@
 -- What an event adds to the list of a run and to what was performed.
-use Rattle.std.proofs.Common.{◌≡◌, ◌<◌, ◌≤◌, ◌*◌, ◌+◌, ◌==◌, ◌⊎◌, inl, inr, ℕ, zero, suc, Bool, true, false, if◌then◌else◌, List, [], ◌∷◌, ◌++◌, All, length, length-append, take, append_assoc, Option, None, Some, refl, sym, ap, ◌∙◌, subst, arith}
+use Rattle.std.proofs.Common.{◌≡◌, ◌<◌, ◌≤◌, ◌+◌, ◌==◌, ◌⊎◌, inl, inr, ℕ, zero, suc, Bool, true, false, if◌then◌else◌, List, [], ◌∷◌, ◌++◌, length, length-append, take, append_assoc, Some, refl, sym, ap, ◌∙◌, subst, arith}
 use Rattle.std.specs.Prelude.{slice_get}
 use Rattle.std.proofs.lemmas.Bool.{cases_lt, eqb-true}
 use Rattle.std.proofs.lemmas.List.{length-take, length-take-le, take-append-le, take_all}
@@ -17,7 +17,7 @@ use Rattle.net_rules.specs.declared.fate.Fate.TheVariants as fate
 use Rattle.world_rules.specs.declared.event.Event as world
 use Rattle.world_rules.specs.declared.event.Step.{Step}
 use Rattle.world_rules.specs.declared.standing.Standing.TheVariants.{Going as IsGoing}
-use Rattle.world_rules.specs.Frame.{Frame, group}
+use Rattle.world_rules.specs.Frame.{Frame}
 use Rattle.world_rules.specs.Mail.{Mail}
 use Rattle.world_rules.specs.Nodes.{Node, entries_of}
 use Rattle.world_rules.specs.Processes.{processes_in, singles_of}
@@ -29,7 +29,7 @@ use Rattle.world_law.proofs.Ages.{posted_nodes}
 use Rattle.world_course.proofs.Applied.{same_passed}
 use Rattle.world_course.proofs.Begun.{known_agrees, left_same}
 use Rattle.world_calls.proofs.Each.{own}
-use Rattle.run_law.specs.Growing.{IsNew, ListGrows, PerformedGrows, lines_at}
+use Rattle.run_law.specs.Growing.{ListGrows, PerformedGrows, lines_at}
 use Rattle.run_law.proofs.Lines.{ListMakes, same_at}
 
 -- ---- what stands at a place

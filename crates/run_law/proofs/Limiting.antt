@@ -1,5 +1,5 @@
 -- Which limit stops a member.
-use Rattle.std.proofs.Common.{◌≡◌, ◌<◌, ◌≤◌, ◌*◌, ℕ, zero, suc, Bool, true, false, is_some, if◌then◌else◌, List, [], ◌∷◌, length, take, drop, Option, None, Some, refl, sym, ap, ◌∙◌, subst, arith}
+use Rattle.std.proofs.Common.{◌≡◌, ◌<◌, ◌≤◌, ◌*◌, ℕ, zero, suc, Bool, true, false, is_some, if◌then◌else◌, List, [], ◌∷◌, length, take, drop, None, Some, refl, sym, ap, ◌∙◌, subst, arith}
 use Rattle.std.specs.Prelude.{leb, slice_get}
 use Rattle.orca_base.specs.declared.what.What.{What}
 use Rattle.orca_base.specs.declared.what.What.TheVariants as what
@@ -10,7 +10,7 @@ use Rattle.value_core.specs.declared.meaning.Making.{Making}
 use Rattle.value_core.specs.declared.meaning.Making.TheVariants as making
 use Rattle.value_core.specs.declared.message.Message.{Message}
 use Rattle.object_manager.specs.After.{Copied}
-use Rattle.object_manager.specs.Limits.{most_objects, most_processes, made_objects, objects_limit, processes_limit, too_many}
+use Rattle.object_manager.specs.Limits.{most_objects, most_processes, made_objects, objects_limit, too_many}
 use Rattle.group_rules.specs.Agree.{Agree, Holds}
 use Rattle.group_law.specs.Promise.{AgreementLaw}
 use Rattle.world_rules.specs.Frame.{Frame, group}

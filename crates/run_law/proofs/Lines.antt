@@ -1,6 +1,6 @@
 -- The lines of an entry by the list of the run, at a member that applied the entries before it: what it knows is enough.
-use Rattle.std.proofs.Common.{◌≡◌, ◌<◌, ℕ, Bool, if◌then◌else◌, List, ◌++◌, length, take, Option, None, Some, refl, sym, ap, ◌∙◌, subst, arith}
-use Rattle.std.specs.Prelude.{is_some, slice_get}
+use Rattle.std.proofs.Common.{◌≡◌, ◌<◌, ℕ, Bool, if◌then◌else◌, List, ◌++◌, length, take, Some, refl, sym, ap, ◌∙◌, subst, arith}
+use Rattle.std.specs.Prelude.{slice_get}
 use Rattle.orca_base.specs.declared.ids.ObjectId.{ObjectId}
 use Rattle.value_core.specs.Meaning.{Performs}
 use Rattle.value_core.specs.declared.action.Action.{Action}

@@ -1,8 +1,8 @@
 -- The replies of a process, off the lines of a book.
-use Rattle.std.proofs.Common.{◌≡◌, ◌≤◌, ℕ, zero, suc, List, [], ◌∷◌, ◌++◌, length, take, append-nil, Option, None, Some, refl, sym, ap, ◌∙◌, subst, arith}
+use Rattle.std.proofs.Common.{◌≡◌, ◌≤◌, ℕ, zero, suc, List, [], ◌∷◌, length, take, Option, None, Some, refl, sym, ap, ◌∙◌, subst, arith}
 use Rattle.std.specs.Prelude.{slice_get}
 use Rattle.std.proofs.lemmas.List.{take-append-le, take_all}
-use Rattle.value_core.specs.History.{Configuration, Legal, Process, after_lines, opening, processes_of, replies_in, replies_of}
+use Rattle.value_core.specs.History.{Legal, Process, opening, processes_of, replies_in, replies_of}
 use Rattle.value_core.specs.Meaning.{Computes, Performs}
 use Rattle.value_core.specs.declared.action.Line.{Line}
 use Rattle.value_core.specs.declared.action.Reply.{Reply}

@@ -1,11 +1,10 @@
 -- Each letter that a member sends in its part is its own.
-use Rattle.std.proofs.Common.{◌≡◌, ◌<◌, ◌*◌, ℕ, List, [], ◌∷◌, ◌++◌, All, map, refl, sym, subst, arith}
+use Rattle.std.proofs.Common.{◌≡◌, ◌<◌, ◌*◌, ℕ, List, [], ◌∷◌, ◌++◌, All, map, refl, sym, subst}
 use Rattle.std.proofs.lemmas.Bool.{and_parts, ltb-true}
 use Rattle.std.proofs.lemmas.List.Elements.{All-nil, All-push}
 use Rattle.value_core.specs.declared.message.Message.{Message}
 use Rattle.group_law.specs.Promise.{Conditions, ConditionsLaw}
 use Rattle.group_law.specs.Sends.{RowsSend, Sends, SendsLaw, Use}
-use Rattle.group_rules.specs.Member.{Letter}
 use Rattle.group_rules.specs.Messages.{Group}
 use Rattle.group_rules.specs.Work.{Act}
 use Rattle.group_rules.specs.World.{PacketsLaw}

@@ -1,26 +1,22 @@
 -- What a member's part tells: of each entry that it applies the lines that the list of the run has for it.
-use Rattle.std.proofs.Common.{◌≡◌, ◌<◌, ◌≤◌, ◌*◌, ◌+◌, ◌⊎◌, inl, inr, ℕ, zero, suc, Bool, true, false, nat_lt, List, [], ◌∷◌, ◌++◌, All, map, length, length-append, take, Option, None, Some, refl, sym, ap, ◌∙◌, subst, arith}
+use Rattle.std.proofs.Common.{◌≡◌, ◌<◌, ◌≤◌, ◌+◌, ◌⊎◌, inl, inr, ℕ, zero, suc, false, nat_lt, List, [], ◌∷◌, ◌++◌, All, map, length, length-append, take, Option, None, Some, refl, sym, ap, ◌∙◌, subst, arith}
 use Rattle.std.specs.Prelude.{is_some, slice_get}
 use Rattle.std.proofs.lemmas.Bool.{cases_eq, cond_both}
 use Rattle.std.proofs.lemmas.List.{take-take}
 use Rattle.std.proofs.lemmas.List.Elements.{All-nil, All-push, All-weaker}
-use Rattle.value_core.specs.Meaning.{Performs}
 use Rattle.value_core.specs.declared.action.Line.{Line}
 use Rattle.value_core.specs.declared.message.Message.{Message}
 use Rattle.object_manager.specs.Limits.{too_many}
-use Rattle.orca_base.specs.declared.what.What.{What}
 use Rattle.book_law.specs.Book.{copies_at}
 use Rattle.book_law.specs.declared.placing.Placed.{Placed}
-use Rattle.book_law.proofs.Books.{take_at}
 use Rattle.book_law.proofs.Processes.{get_end}
-use Rattle.group_law.specs.Sends.{Sends, Use}
 use Rattle.group_rules.specs.Member.{Member}
 use Rattle.group_rules.specs.Messages.{Group}
 use Rattle.group_rules.specs.Work.{Act}
 use Rattle.world_rules.specs.Applying.{notes, passes_limit, tries_read}
 use Rattle.world_rules.specs.Frame.{Frame, group}
-use Rattle.world_rules.specs.Nodes.{Deed, Node, NodeWork, aside_of, entries_of}
-use Rattle.world_rules.specs.Nodes.Deed.{Acts, Applies}
+use Rattle.world_rules.specs.Nodes.{Deed, NodeWork, aside_of, entries_of}
+use Rattle.world_rules.specs.Nodes.Deed.{Acts}
 use Rattle.world_rules.specs.Owners.{takes}
 use Rattle.world_rules.specs.Parts.{asks_again_of}
 use Rattle.world_rules.specs.Worlds.{World, agreed, singles_in}
@@ -28,14 +24,14 @@ use Rattle.world_law.specs.Moments.{IsMoment}
 use Rattle.world_law.proofs.Still.{Still, still_again_of, still_read, still_takes}
 use Rattle.world_course.proofs.Begun.{left_same}
 use Rattle.node_rules.specs.Conditions.{Fitness}
-use Rattle.node_rules.specs.Moments.{Goes, IsDue, Moment, Walks, entry_lines, takes_entry, works}
+use Rattle.node_rules.specs.Moments.{Goes, IsDue, Moment, Walks, entry_lines, takes_entry}
 use Rattle.node_rules.specs.Moments.{at_work as at_moment}
 use Rattle.node_rules.specs.Moments.Goes.{Takes_entry, Tries_read, Notes, Opens, Takes, Holds, Asks_again}
 use Rattle.node_rules.specs.Starts.{Start, begun, part}
 use Rattle.node_rules.proofs.Walking.{parts_walk}
-use Rattle.world_calls.proofs.Beginning.{AllStart, GroupLaws, MayStart, begins_each}
-use Rattle.world_calls.proofs.Each.{AtEach, FollowsEach, goes_each, notes_keep, self}
-use Rattle.world_calls.proofs.Going.{At, Known, entry_entries, entry_number}
+use Rattle.world_calls.proofs.Beginning.{MayStart}
+use Rattle.world_calls.proofs.Each.{AtEach, goes_each, notes_keep, self}
+use Rattle.world_calls.proofs.Going.{Known, entry_entries, entry_number}
 use Rattle.run_law.specs.Growing.{lines_at, told_of}
 use Rattle.run_law.proofs.Deeds.{Rows, StaysWith, has_begun, has_entry, has_goes, has_part}
 use Rattle.run_law.proofs.Lines.{ListMakes, limit_is, lines_are, shares}

@@ -1,12 +1,11 @@
 -- At a tick each member does its part as it stood before.
-use Rattle.std.proofs.Common.{◌≡◌, ◌<◌, ◌≤◌, ◌*◌, ℕ, zero, suc, Bool, true, false, if◌then◌else◌, refl, sym, ap, ◌∙◌, subst, arith, inl, inr, ◌⊎◌}
+use Rattle.std.proofs.Common.{◌≡◌, ◌<◌, ◌*◌, ℕ, zero, suc, Bool, true, false, if◌then◌else◌, refl, sym, ap, ◌∙◌, subst, arith, inl, inr, ◌⊎◌}
 use Rattle.std.proofs.lemmas.Bool.{and_parts, cases_eq, lt-ltb}
 use Rattle.book_law.proofs.Courses.{at_other, at_own}
 use Rattle.world_rules.specs.declared.event.Event as world
 use Rattle.world_rules.specs.declared.event.Event.TheVariants as event
 use Rattle.world_rules.specs.Frame.{Frame, group}
 use Rattle.world_rules.specs.Mail.{Mail, receiver_of}
-use Rattle.world_rules.specs.Nodes.{Node}
 use Rattle.world_rules.specs.Parts.{ticks}
 use Rattle.world_rules.specs.Steps.{AtWork, Known, Possible, does_part, may_act_as}
 use Rattle.world_rules.specs.Worlds.{World, home_of, played_in}

@@ -1,4 +1,3 @@
-use Rattle.std.proofs.Common.{subst, sym}
 use Rattle.run_law.proofs.Replies.{by_lines, off_book}
 use Rattle.run_law.proofs.replies_stand.Goals as goal
 
