@@ -120,16 +120,18 @@ some_left turns most lt = omega (arith, lt)
 no_more : (turns most : ℕ) → turns < most → turns + min BURST_TURNS (most - turns) ≤ most
 no_more turns most lt = omega (arith, lt)
 
-pub burst_fits : (f : Frame) (fitness : Fitness) (single : Test) (w : World) (c : Course) (m : ℕ) (i : ProcessNo) (r : Played) → Program f fitness.state fitness.args fitness.text fitness.reply → Stands f single w c
-    → (w.nodes m).played i.0 ≡ Some r → r.stage ≡ Computing → r.turns < f.settings.turns → BurstFits f fitness i (view_of (w.nodes m)) r
-burst_fits f fitness single w c m i r program h here computes some = record {
+-- on whichever place from the process's own on, up to what its member applied
+pub burst_fits_on : (f : Frame) (fitness : Fitness) (single : Test) (w : World) (c : Course) (m : ℕ) (i : ProcessNo) (view : Viewed) (r : Played) → Program f fitness.state fitness.args fitness.text fitness.reply → Stands f single w c
+    → (w.nodes m).played i.0 ≡ Some r → r.stage ≡ Computing → r.turns < f.settings.turns → r.place ≤ view.place → view.place ≤ (w.nodes m).copies.applied → view.objects ≡ (copies_at single f.performs c.list view.place).objects
+    → BurstFits f fitness i view r
+burst_fits_on f fitness single w c m i view r program h here computes some after before seen = record {
   computing = computes;
-  place = s.reaches;
+  place = after;
   some = some_left r.turns f.settings.turns some;
   turns = few;
   reads = λ u on used kind op object given halts there class.
-      read_fits f fitness single i (view_of (w.nodes m)) (last_turn f r) used u kind op object given program few
-      (reads_all f fitness single i (view_of (w.nodes m)) (last_turn f r) r u program few start on) halts there;
+      read_fits f fitness single i view (last_turn f r) used u kind op object given program few
+      (reads_all f fitness single i view (last_turn f r) r u program few start on) halts there;
 }
   where
     s : Starts f single w c i.0 m r
@@ -141,17 +143,24 @@ burst_fits f fitness single w c m i r program h here computes some = record {
     few : last_turn f r ≤ most_turns
     few = let set = program.settings in let le = set.turns in let most = no_more r.turns f.settings.turns some in omega (arith, le, most)
 
-    start : Runs f single i (view_of (w.nodes m)) r
+    start : Runs f single i view r
     start = record {
       course = c;
       came = h.came;
       runner = s.process.runner;
       runs = s.process.runs;
       free = subst (StageStands f.computes i.0 s.process.runner) computes s.is.stage;
-      after = let le = s.reaches in let e = s.is.place in omega (arith, le, e);
-      before = let e : c.applied s.process.runner.member ≡ (w.nodes m).copies.applied = ap c.applied (s.process.member ∙ s.of.home) ∙ mine.applied in omega (arith, e);
-      objects = objects_here f single c h.came m (w.nodes m) mine;
+      after = let e = s.is.place in omega (arith, after, e);
+      before = let e : c.applied s.process.runner.member ≡ (w.nodes m).copies.applied = ap c.applied (s.process.member ∙ s.of.home) ∙ mine.applied in omega (arith, before, e);
+      objects = seen;
       text = s.is.text;
       args = s.is.args;
       replies = s.is.replies;
     }
+
+pub burst_fits : (f : Frame) (fitness : Fitness) (single : Test) (w : World) (c : Course) (m : ℕ) (i : ProcessNo) (r : Played) → Program f fitness.state fitness.args fitness.text fitness.reply → Stands f single w c
+    → (w.nodes m).played i.0 ≡ Some r → r.stage ≡ Computing → r.turns < f.settings.turns → BurstFits f fitness i (view_of (w.nodes m)) r
+burst_fits f fitness single w c m i r program h here computes some =
+    let s = starts f single w c i.0 m r h here in
+    burst_fits_on f fitness single w c m i (view_of (w.nodes m)) r program h here computes some s.reaches (omega arith)
+    (objects_here f single c h.came m (w.nodes m) (h.members m))

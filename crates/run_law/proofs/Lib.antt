@@ -1,0 +1,12 @@
+pub mod Deeds
+pub mod Senders
+pub mod Ticking
+pub mod Limiting
+pub mod Lines
+pub mod Telling
+pub mod Growing
+pub mod Adding
+pub mod Events
+pub mod Earlier
+pub mod Bursts
+pub mod Replies

@@ -1,0 +1,6 @@
+pub mod Parts
+pub mod Sending
+pub mod Limits
+pub mod Growing
+pub mod Earlier
+pub mod Replies
