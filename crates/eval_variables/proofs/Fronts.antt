@@ -13,7 +13,7 @@ use Rattle.meaning_rules.specs.States.{State, Stops, Faults, gives}
 use Rattle.meaning_rules.specs.Operators.{and_then}
 use Rattle.meaning_rules.specs.Variables.{Target, held}
 use Rattle.eval_variables.specs.declared.stop.Stop.{Stop}
-use Rattle.eval_variables.specs.Exchanges.{Exchanges, IsPut}
+use Rattle.eval_variables.specs.Exchanges.{Exchanges}
 use Rattle.eval_variables.specs.Gives.{Fails}
 use Rattle.eval_variables.proofs.Stopping.{goes_not}
 

@@ -5,7 +5,7 @@ use Rattle.meaning_rules.specs.States.{State, Out, Goes, Stops, after}
 use Rattle.meaning_rules.specs.Variables.{Target, store}
 use Rattle.meaning_rules.specs.Calls.{Passed, Given, Lent}
 use Rattle.meaning_rules.specs.Functions.{hand_back}
-use Rattle.eval_variables.specs.Lent.{AreLentAlike, place_of}
+use Rattle.eval_variables.specs.Lent.{place_of}
 
 after_alike : {A B : Type 0} (o : Out A) (f g : A → State → Out B) → ((x : A) (s : State) → f x s ≡ g x s) → after o f ≡ after o g
 after_alike (Goes x s) f g same = same x s
