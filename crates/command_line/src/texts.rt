@@ -24,15 +24,13 @@ usage: orca COMMAND
   -h, --help                  prints this; behind a command's name, more about it
   -V, --version               prints the version
 
-So far only `run FILE` is built, with one file and no options.
+So far `check` is built, and `run` with one file and no options.
 ";
 
 /// The command `check`.
 pub const CHECK_HELP: &str = "Says ok where the files are a program, and else its first mistake.
 
 usage: orca check FILE...
-
-Not built yet.
 ";
 
 /// The command `run`.
