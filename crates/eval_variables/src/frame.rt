@@ -19,8 +19,8 @@ use value_core::{Parts, Value};
 
 /// The values of the names that are seen, in the order of the scope. Clauses see it as their list.
 ///
-/// Those behind may be lent, as an object's fields are: a guard, and a read of an operation, then copies nothing of its object. The
-/// first change of one copies all that are lent, since what a body leaves is a whole state.
+/// Those behind may be lent, as an object's fields are: a guard then copies nothing of its object, and an operation copies what it
+/// didn't change only at its end. The first change of one copies all that are lent, since what a body leaves is a whole state.
 ///
 /// What it keeps is its own, so that costs can be mended here with no change of a clause. A mark that all values are in order would
 /// serve to find elements and nodes by halving: for it values that are lent have to be sound. A size beside each place would serve

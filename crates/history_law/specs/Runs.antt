@@ -9,8 +9,8 @@ use Rattle.book_law.specs.Course.{Came, Course}
 use Rattle.book_law.specs.Events.{Runner}
 use Rattle.book_law.specs.Replicated.{all_replicated}
 
--- these lines are the book of a run without single copies that came to rest: member 0 applied the whole list, and each process is there, has
--- no message out, and received every reply that the lines have for it
+-- these lines are the book of a run without single copies that came to rest: member 0 applied the whole list, and each of its processes has
+-- no message out, and received every reply that the lines have for it (which processes there are, `processes` of book_law says)
 pub record IsRunOf (p : Performs) (q : Computes) (lines : List Line) : Type 0 where
   pub course : Course
   pub came : Came all_replicated p q course
