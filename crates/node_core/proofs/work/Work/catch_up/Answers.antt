@@ -1,7 +1,10 @@
+use Rattle.std.proofs.Common.{refl}
 use Rattle.world_rules.specs.Applying.{applies_all}
+use Rattle.world_rules.specs.Parts.{catches_up}
 use Rattle.node_core.specs.Stands.{fitness_of}
-use Rattle.node_core.proofs.Starting.{caught_up, free_on, free_somewhere}
-use Rattle.node_core.proofs.Working.{ok_map}
+use Rattle.node_core.specs.declared.work.Work.{Work}
+use Rattle.node_core.proofs.Starting.{caught_up, free_on, free_somewhere, gathered_up}
+use Rattle.node_core.proofs.TakingEntry.{free_kept}
 use Rattle.node_core.proofs.work.Work.catch_up.Goals as goal
 
 pub apply_all-requires : goal.apply_all-requires
@@ -9,9 +12,16 @@ apply_all-requires g c = (let m = c.args.machine.now in free_somewhere g.P.OneRu
 
 pub take_reached-requires : goal.take_reached-requires
 take_reached-requires g c =
-    (let m = c.args.machine.now in free_on g.P.OneRun.stood g.P.OneRun.left g.P.OneRun.run.frame (fitness_of (g.P.Performer.fits_state m) (g.P.Performer.fits_args m) (g.P.Performer.fits_text m) (g.P.Performer.fits_reply m)) c.args.self.now c.apply_all.new.self (applies_all g.P.OneRun.run.frame) c.requires (c.in_ok-apply_all.ensures {u = tt}))
+    (let m = c.args.machine.now in free_on g.P.OneRun.stood g.P.OneRun.left g.P.OneRun.run.frame (fitness_of (g.P.Performer.fits_state m) (g.P.Performer.fits_args m) (g.P.Performer.fits_text m) (g.P.Performer.fits_reply m)) c.args.self.now c.apply_all.new.self (applies_all g.P.OneRun.run.frame) c.requires (c.in_ok-apply_all.ensures {u = tt}).goes)
 
-pub returns : goal.returns
-returns g c =
+pub returns-clause-goes : goal.returns-clause-goes
+returns-clause-goes g c =
     let m = c.args.machine.now in
-    ok_map c.take_reached.result _ _ (λ taken. caught_up g.P.OneRun.stood g.P.OneRun.left g.P.OneRun.run.frame (fitness_of (g.P.Performer.fits_state m) (g.P.Performer.fits_args m) (g.P.Performer.fits_text m) (g.P.Performer.fits_reply m)) c.args.self.now c.apply_all.new.self c.take_reached.new.self (c.in_ok-apply_all.ensures {u = tt}) taken) c.take_reached.ensures
+    let new : Work g.row.P.Denot g.row.P-State.Denot = record c.take_reached.new.self { moved = record c.take_reached.new.self.moved { messages = c.apply_all.new.messages } } in
+    free_kept g.P.OneRun.stood g.P.OneRun.left g.P.OneRun.run.frame (fitness_of (g.P.Performer.fits_state m) (g.P.Performer.fits_args m) (g.P.Performer.fits_text m) (g.P.Performer.fits_reply m)) c.args.self.now c.take_reached.new.self new (catches_up g.P.OneRun.run.frame) refl refl
+    (caught_up g.P.OneRun.stood g.P.OneRun.left g.P.OneRun.run.frame (fitness_of (g.P.Performer.fits_state m) (g.P.Performer.fits_args m) (g.P.Performer.fits_text m) (g.P.Performer.fits_reply m)) c.args.self.now c.apply_all.new.self c.take_reached.new.self (c.in_ok-apply_all.ensures {u = tt}).goes (c.in_ok-take_reached.ensures {u = tt}))
+
+pub returns-clause-gathered : goal.returns-clause-gathered
+returns-clause-gathered g c =
+    let m = c.args.machine.now in
+    gathered_up g.P.OneRun.stood g.P.OneRun.left g.P.OneRun.run.frame (fitness_of (g.P.Performer.fits_state m) (g.P.Performer.fits_args m) (g.P.Performer.fits_text m) (g.P.Performer.fits_reply m)) c.args.self.now _ c.apply_all.new.messages.items ? (c.in_ok-apply_all.ensures {u = tt}).gathers
