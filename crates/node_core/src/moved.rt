@@ -28,6 +28,7 @@ impl Moved {
     pub(crate) fn nothing(alloc: Global) -> Moved
         ensures sends { result.sends.items ≡ [] }
         ensures entries { result.entries.items ≡ [] }
+        ensures messages { result.messages.items ≡ [] }
         ensures aside { result.aside.items ≡ [] }
     {
         Moved {
