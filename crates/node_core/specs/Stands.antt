@@ -91,7 +91,7 @@ abbrev pub MayDo : {P S : Type 0} → Stood S → Left S → Frame → Fitness �
 MayDo stood left f fitness s start =
     (v : nodes.Node) × StandsAs stood left f s.member.me s v × EventFits f fitness s.member.me start v
 
--- the part is done, of which the first was the node before: the node stands for what is left, this was done, and these entries were applied
+-- the part of the node before is done: the node stands for what is left, this was done, and the messages are the entries that it applied
 pub record IsDone {P S : Type 0} (stood : Stood S) (left : Left S) (f : Frame) (m : ℕ) (s : Node P S) (moved : Moved) (before : nodes.Node)
     (v : NodeWork) : Type 0 where
   pub node : StandsAs stood left f m s v.node

@@ -2,7 +2,6 @@ use Rattle.std.proofs.Common.{refl}
 use Rattle.world_rules.specs.Applying.{applies_all}
 use Rattle.world_rules.specs.Parts.{catches_up}
 use Rattle.node_core.specs.Stands.{fitness_of}
-use Rattle.node_core.specs.declared.work.Work.{Work}
 use Rattle.node_core.proofs.Starting.{caught_up, free_on, free_somewhere, gathered_up}
 use Rattle.node_core.proofs.TakingEntry.{free_kept}
 use Rattle.node_core.proofs.Keeping.{keeps_on}
@@ -18,8 +17,7 @@ take_reached-requires g c =
 pub returns-clause-does : goal.returns-clause-does
 returns-clause-does g c =
     let m = c.args.machine.now in
-    let new : Work g.row.P.Denot g.row.P-State.Denot = record c.take_reached.new.self { moved = record c.take_reached.new.self.moved { messages = c.apply_all.new.messages } } in
-    free_kept g.P.OneRun.stood g.P.OneRun.left g.P.OneRun.run.frame (fitness_of (g.P.Performer.fits_state m) (g.P.Performer.fits_args m) (g.P.Performer.fits_text m) (g.P.Performer.fits_reply m)) c.args.self.now c.take_reached.new.self new (catches_up g.P.OneRun.run.frame) refl refl
+    free_kept g.P.OneRun.stood g.P.OneRun.left g.P.OneRun.run.frame (fitness_of (g.P.Performer.fits_state m) (g.P.Performer.fits_args m) (g.P.Performer.fits_text m) (g.P.Performer.fits_reply m)) c.args.self.now c.take_reached.new.self _ (catches_up g.P.OneRun.run.frame) refl refl
     (caught_up g.P.OneRun.stood g.P.OneRun.left g.P.OneRun.run.frame (fitness_of (g.P.Performer.fits_state m) (g.P.Performer.fits_args m) (g.P.Performer.fits_text m) (g.P.Performer.fits_reply m)) c.args.self.now c.apply_all.new.self c.take_reached.new.self (c.in_ok-apply_all.ensures {u = tt}).does (c.in_ok-take_reached.ensures {u = tt}).does)
 
 pub returns-clause-gathered : goal.returns-clause-gathered
