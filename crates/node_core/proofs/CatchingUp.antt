@@ -165,8 +165,8 @@ far_more stood left f fitness start old new from now next y law far lt goes join
     let done = goes m hand (works here.work u) due.0 here.at_work due.1 in
     record {
       work = applies_one f m due.0 here.work;
-      at_work = done.1.1;
-      rest = applies_on f m here.work due.0 due.1 done.1.0 ∙ here.rest;
+      at_work = done.2;
+      rest = applies_on f m here.work due.0 due.1 done.1 ∙ here.rest;
       told = λ first is.
           ap (λ (l : List Message). first ++ l) joins ∙ sym (append_assoc first now (y ∷ []))
           ∙ ap (λ (l : List Message). l ++ y ∷ []) (here.told first is)
@@ -186,9 +186,9 @@ far_smaller stood left f fitness start old new from now y law (m, hand, u, at) f
     let applied = one.applied in
     let stays = ap (λ (s : Member Message). s.accepted) one.member in
     let before = here.at_work.work.node.member.accepted in
-    let after = done.1.1.work.node.member.accepted in
+    let after = done.2.work.node.member.accepted in
     let copied = ap (λ (c : Copied). c.applied) here.at_work.work.node.copies in
-    let copied_after = ap (λ (c : Copied). c.applied) done.1.1.work.node.copies in
+    let copied_after = ap (λ (c : Copied). c.applied) done.2.work.node.copies in
     omega (arith, applied, stays, before, after, copied, copied_after, lt)
 
 -- the next one passes a limit
