@@ -1,5 +1,5 @@
 -- The first piece of an event, and what follows it up to the event's end.
-use Rattle.std.proofs.Common.{◌≡◌, ◌<◌, ◌^◌, ◌++◌, ℕ, zero, suc, Bool, true, false, List, [], Option, Some, None, refl, sym, subst, if◌then◌else◌}
+use Rattle.std.proofs.Common.{◌≡◌, ◌<◌, ◌^◌, ◌++◌, ℕ, zero, suc, Bool, true, false, List, [], Option, Some, None, append-nil, refl, sym, ap, ◌∙◌, subst, if◌then◌else◌}
 use Rattle.value_core.specs.declared.action.Action.{Action}
 use Rattle.value_core.specs.declared.action.Reply.{Reply}
 use Rattle.value_core.specs.declared.message.Message.{Message}
@@ -31,7 +31,8 @@ use Rattle.node_rules.specs.Moments.Walks.{Stays}
 use Rattle.node_rules.specs.Starts.{EventFits, Start, begun, part}
 use Rattle.node_rules.specs.Starts.Start.{Acts, Comes, Suspects, Ticks}
 use Rattle.node_rules.proofs.Walking.{walk_on, walk_one}
-use Rattle.node_core.specs.Calls.{GoesFree, HasMoved, IsFree}
+use Rattle.node_core.specs.Calls.{GoesFree, HasGathered, HasMoved, IsFree}
+use Rattle.node_core.specs.Entries.{Gathers}
 use Rattle.node_core.specs.Events.{HasCome, HasStarted, HasSubmitted, IsIdle, MayComeFrom, MayStart}
 use Rattle.node_core.specs.Pieces.{Becomes, GoesOn, IsSomewhere, resident_at}
 use Rattle.node_core.specs.Shown.{Left, Stood}
@@ -42,6 +43,7 @@ use Rattle.node_core.specs.declared.resident.Resident.{Resident}
 use Rattle.node_core.specs.declared.resident.Stage.{Stage}
 use Rattle.node_core.specs.declared.resident.Stage.TheVariants as at_stage
 use Rattle.node_core.specs.declared.work.Work.{Work}
+use Rattle.node_core.proofs.Gathering.{kept_again, kept_reached}
 use Rattle.node_core.proofs.Noting.{joined}
 use Rattle.node_core.proofs.Sending.{waits_first}
 
@@ -69,6 +71,13 @@ free_on stood left f fitness old new piece (m, u, at) goes = (m, works (piece m 
 pub caught_up : {P S : Type 0} (stood : Stood S) (left : Left S) (f : Frame) (fitness : Fitness) (old mid new : Work P S)
     → GoesOn stood left f fitness old mid (applies_all f) → GoesFree stood left f fitness mid new (takes_reached f) → GoesFree stood left f fitness old new (catches_up f)
 caught_up stood left f fitness old mid new applied taken m u at = taken m (works (applies_all f m u.work) u) (applied m [] u at)
+
+-- and so it gathered the entries that it applied
+pub gathered_up : {P S : Type 0} (stood : Stood S) (left : Left S) (f : Frame) (fitness : Fitness) (old : Work P S) (none messages : List Message) → none ≡ []
+    → Gathers stood left f fitness old none messages (applies_all f) → HasGathered stood left f fitness old messages (catches_up f)
+gathered_up stood left f fitness old none messages empty gathers m u at =
+    let first : List Message = entries_of u.work.node in
+    gathers m [] u first at (ap (λ (l : List Message). first ++ l) empty ∙ append-nil first) ∙ sym (kept_reached f m (applies_all f m u.work))
 
 -- ---- after the first piece
 
@@ -122,39 +131,50 @@ asked_free stood left f fitness s work timed new idles (v, stands, fits) has bec
 -- ---- the event is done
 
 done : {P S : Type 0} (stood : Stood S) (left : Left S) (f : Frame) (fitness : Fitness) (m : ℕ) (s : Work P S) (new : Node P S) (moved : Moved) (u : Moment)
-    → new ≡ s.node → moved ≡ s.moved → IsAt stood left f fitness m s [] u → IsDone stood left f m new moved u.work
-done {P} {S} stood left f fitness m s new moved u node did at = record {
+    (before : nodes.Node) → new ≡ s.node → moved ≡ s.moved → entries_of before ++ s.moved.messages.items ≡ entries_of u.work.node
+    → IsAt stood left f fitness m s [] u → IsDone stood left f m new moved before u.work
+done {P} {S} stood left f fitness m s new moved u before node did told at = record {
   node = subst (λ (n : Node P S). StandsAs stood left f m n u.work.node) (sym node) at.work.node;
   did = subst (λ (d : Moved). IsMoved f.settings.nodes d u.work.deeds) (sym did) at.work.moved;
+  messages = ap (λ (d : Moved). entries_of before ++ d.messages.items) did ∙ told;
 }
 
 -- an action is carried out
 pub acts_done : {P S : Type 0} (stood : Stood S) (left : Left S) (f : Frame) (fitness : Fitness) (i : ℕ) (s new : Node P S) (work mid end : Work P S) (moved : Moved) → IsIdle stood left s work
-    → HasStarted stood left f fitness (Acts i) work mid → GoesFree stood left f fitness mid end (catches_up f) → new ≡ end.node → moved ≡ end.moved
+    → HasStarted stood left f fitness (Acts i) work mid → GoesFree stood left f fitness mid end (catches_up f)
+    → HasGathered stood left f fitness mid end.moved.messages.items (catches_up f) → new ≡ end.node → moved ≡ end.moved
     → DoesEvent stood left f fitness s new moved (Acts i)
-acts_done stood left f fitness i s new work mid end moved idles has goes node did v stands fits =
+acts_done stood left f fitness i s new work mid end moved idles has goes gathered node did v stands fits =
     let m : ℕ = s.member.me in
-    done stood left f fitness m end new moved (at_work (part f m (Acts i) v)) node did
-    (goes m (at_work (begun f m (Acts i) v)) (started_at stood left f fitness m (Acts i) v mid (has m v (idles f m v stands) fits) fits))
+    let at = started_at stood left f fitness m (Acts i) v mid (has m v (idles f m v stands) fits) fits in
+    done stood left f fitness m end new moved (at_work (part f m (Acts i) v)) v node did
+    (ap (λ (l : List Message). l ++ end.moved.messages.items) (sym fits.kept) ∙ gathered m (at_work (begun f m (Acts i) v)) at)
+    (goes m (at_work (begun f m (Acts i) v)) at)
 
 -- it coordinates
 pub suspects_done : {P S : Type 0} (stood : Stood S) (left : Left S) (f : Frame) (fitness : Fitness) (s new : Node P S) (work mid end : Work P S) (moved : Moved) → IsIdle stood left s work
-    → HasStarted stood left f fitness Suspects work mid → GoesFree stood left f fitness mid end (catches_up f) → new ≡ end.node → moved ≡ end.moved
+    → HasStarted stood left f fitness Suspects work mid → GoesFree stood left f fitness mid end (catches_up f)
+    → HasGathered stood left f fitness mid end.moved.messages.items (catches_up f) → new ≡ end.node → moved ≡ end.moved
     → DoesEvent stood left f fitness s new moved Suspects
-suspects_done stood left f fitness s new work mid end moved idles has goes node did v stands fits =
+suspects_done stood left f fitness s new work mid end moved idles has goes gathered node did v stands fits =
     let m : ℕ = s.member.me in
-    done stood left f fitness m end new moved (at_work (part f m Suspects v)) node did
-    (goes m (at_work (begun f m Suspects v)) (started_at stood left f fitness m Suspects v mid (has m v (idles f m v stands) fits) fits))
+    let at = started_at stood left f fitness m Suspects v mid (has m v (idles f m v stands) fits) fits in
+    done stood left f fitness m end new moved (at_work (part f m Suspects v)) v node did
+    (ap (λ (l : List Message). l ++ end.moved.messages.items) (sym fits.kept) ∙ gathered m (at_work (begun f m Suspects v)) at)
+    (goes m (at_work (begun f m Suspects v)) at)
 
 -- time passes
 pub ticks_done : {P S : Type 0} (stood : Stood S) (left : Left S) (f : Frame) (fitness : Fitness) (s new : Node P S) (work timed mid end : Work P S) (moved : Moved) → IsIdle stood left s work
-    → HasStarted stood left f fitness Ticks work timed → Becomes stood left timed mid asks_again → GoesFree stood left f fitness mid end (catches_up f) → new ≡ end.node → moved ≡ end.moved
+    → HasStarted stood left f fitness Ticks work timed → Becomes stood left timed mid asks_again → GoesFree stood left f fitness mid end (catches_up f)
+    → HasGathered stood left f fitness mid end.moved.messages.items (catches_up f) → new ≡ end.node → moved ≡ end.moved
     → DoesEvent stood left f fitness s new moved Ticks
-ticks_done stood left f fitness s new work timed mid end moved idles has becomes goes node did v stands fits =
+ticks_done stood left f fitness s new work timed mid end moved idles has becomes goes gathered node did v stands fits =
     let m : ℕ = s.member.me in
-    done stood left f fitness m end new moved (at_work (part f m Ticks v)) node did
-    (goes m (at_work (asks_again f m (begun f m Ticks v)))
-    (asks_at stood left f fitness m v timed mid (has m v (idles f m v stands) fits) fits becomes))
+    let at = asks_at stood left f fitness m v timed mid (has m v (idles f m v stands) fits) fits becomes in
+    done stood left f fitness m end new moved (at_work (part f m Ticks v)) v node did
+    (ap (λ (l : List Message). l ++ end.moved.messages.items) (sym fits.kept ∙ sym (kept_again f m (begun f m Ticks v)))
+    ∙ gathered m (at_work (asks_again f m (begun f m Ticks v))) at)
+    (goes m (at_work (asks_again f m (begun f m Ticks v))) at)
 
 -- ---- its member in the group takes a step
 
@@ -214,12 +234,15 @@ come_free stood left f fitness from packet s work new idles (mail, post, (v, sta
 )
 
 pub comes_done : {P S : Type 0} (stood : Stood S) (left : Left S) (f : Frame) (fitness : Fitness) (from : ℕ) (packet : Packet Message Reply) (s new : Node P S) (work mid end : Work P S) (moved : Moved)
-    → IsIdle stood left s work → HasCome stood left f fitness from packet work mid → GoesFree stood left f fitness mid end (catches_up f) → new ≡ end.node → moved ≡ end.moved
+    → IsIdle stood left s work → HasCome stood left f fitness from packet work mid → GoesFree stood left f fitness mid end (catches_up f)
+    → HasGathered stood left f fitness mid end.moved.messages.items (catches_up f) → new ≡ end.node → moved ≡ end.moved
     → TakesPacket stood left f fitness from packet s new moved
-comes_done stood left f fitness from packet s new work mid end moved idles has goes node did mail post v stands fits =
+comes_done stood left f fitness from packet s new work mid end moved idles has goes gathered node did mail post v stands fits =
     let m : ℕ = s.member.me in
-    done stood left f fitness m end new moved (at_work (part f m (Comes mail) v)) node did
-    (goes m (at_work (begun f m (Comes mail) v)) (started_at stood left f fitness m (Comes mail) v mid (has mail m v post (idles f m v stands) fits) fits))
+    let at = started_at stood left f fitness m (Comes mail) v mid (has mail m v post (idles f m v stands) fits) fits in
+    done stood left f fitness m end new moved (at_work (part f m (Comes mail) v)) v node did
+    (ap (λ (l : List Message). l ++ end.moved.messages.items) (sym fits.kept) ∙ gathered m (at_work (begun f m (Comes mail) v)) at)
+    (goes m (at_work (begun f m (Comes mail) v)) at)
 
 -- ---- a tick at which it is due
 

@@ -1,5 +1,5 @@
 -- What the calls that apply a member's next entry ask and do, piece by piece.
-use Rattle.std.specs.Prelude.{◌≡◌, ◌<◌, ◌^◌, ◌==◌, ℕ, Bool, true, false, List, [], ◌∷◌, length, map, is_some, Option, None, Some, Vec, slice_get}
+use Rattle.std.specs.Prelude.{◌≡◌, ◌<◌, ◌^◌, ◌==◌, ◌++◌, ℕ, Bool, true, false, List, [], ◌∷◌, length, map, is_some, Option, None, Some, Vec, slice_get}
 use Rattle.std.specs.declared.alloc.Global.{Global}
 use Rattle.orca_base.specs.declared.ids.TextNo.{TextNo}
 use Rattle.value_core.specs.Datum.{Data}
@@ -20,7 +20,7 @@ use Rattle.book_law.specs.Passes.{lines_after}
 use Rattle.world_rules.specs.Applying.{applies_one, begins, passes_limit}
 use Rattle.world_rules.specs.Frame.{Frame}
 use Rattle.world_rules.specs.Nodes as nodes
-use Rattle.world_rules.specs.Nodes.{NodeWork}
+use Rattle.world_rules.specs.Nodes.{NodeWork, entries_of}
 use Rattle.world_rules.specs.Played.{Played}
 use Rattle.world_rules.specs.Played.Stage.{Computing}
 use Rattle.world_rules.specs.Processes.{Begun, begun_by, home_in, singles_of}
@@ -115,11 +115,19 @@ Begins stood left f number born act old new =
 
 -- ---- the next entry
 
--- at whichever moment it was, the entry that is due is applied; or that passes a limit, and it stays at that moment
-abbrev pub AppliesNext : {P S : Type 0} → Stood S → Left S → Frame → Fitness → Work P S → Work P S → Bool → Type 0
-AppliesNext stood left f fitness old new true =
+-- at whichever moment it was, the entry that is due is this one, and is applied; or it passes a limit, and it stays at that moment
+abbrev pub AppliesNext : {P S : Type 0} → Stood S → Left S → Frame → Fitness → Work P S → Work P S → Option Message → Type 0
+AppliesNext stood left f fitness old new (Some y) =
     (m : ℕ) (hand : List Errand) (u : Moment) (x : Message) → IsAt stood left f fitness m old hand u → IsDue u.work.node x →
-    (passes_limit f u.work.node x ≡ false) × IsAt stood left f fitness m new hand (works (applies_one f m x u.work) u)
-AppliesNext stood left f fitness old new false =
+    (y ≡ x) × (passes_limit f u.work.node x ≡ false) × IsAt stood left f fitness m new hand (works (applies_one f m x u.work) u)
+AppliesNext stood left f fitness old new None =
     (m : ℕ) (hand : List Errand) (u : Moment) (x : Message) → IsAt stood left f fitness m old hand u → IsDue u.work.node x →
     (passes_limit f u.work.node x ≡ true) × IsAt stood left f fitness m new hand u
+
+-- at whichever moment it was: where the messages, behind some first entries, were those that the copies had applied, they are so after the
+-- piece
+abbrev pub Gathers : {P S : Type 0} → Stood S → Left S → Frame → Fitness → Work P S → List Message → List Message → (ℕ → NodeWork → NodeWork) →
+    Type 0
+Gathers stood left f fitness s old new piece =
+    (m : ℕ) (hand : List Errand) (u : Moment) (first : List Message) → IsAt stood left f fitness m s hand u →
+    first ++ old ≡ entries_of u.work.node → first ++ new ≡ entries_of (piece m u.work).node

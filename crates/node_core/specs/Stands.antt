@@ -91,16 +91,18 @@ abbrev pub MayDo : {P S : Type 0} → Stood S → Left S → Frame → Fitness �
 MayDo stood left f fitness s start =
     (v : nodes.Node) × StandsAs stood left f s.member.me s v × EventFits f fitness s.member.me start v
 
--- the part is done: the node stands for what is left, and this was done
-pub record IsDone {P S : Type 0} (stood : Stood S) (left : Left S) (f : Frame) (m : ℕ) (s : Node P S) (moved : Moved) (v : NodeWork) : Type 0 where
+-- the part of the node before is done: the node stands for what is left, this was done, and the messages are the entries that it applied
+pub record IsDone {P S : Type 0} (stood : Stood S) (left : Left S) (f : Frame) (m : ℕ) (s : Node P S) (moved : Moved) (before : nodes.Node)
+    (v : NodeWork) : Type 0 where
   pub node : StandsAs stood left f m s v.node
   pub did : IsMoved f.settings.nodes moved v.deeds
+  pub messages : nodes.entries_of before ++ moved.messages.items ≡ nodes.entries_of v.node
 
 -- of whichever node it stood for whose part may be done, it is
 abbrev pub Does : {P S : Type 0} → Stood S → Left S → Frame → Fitness → Node P S → Node P S → Moved → Start → Type 0
 Does stood left f fitness old new moved start =
     (v : nodes.Node) → StandsAs stood left f old.member.me old v → EventFits f fitness old.member.me start v →
-    IsDone stood left f old.member.me new moved (part f old.member.me start v)
+    IsDone stood left f old.member.me new moved v (part f old.member.me start v)
 
 -- ---- a packet
 

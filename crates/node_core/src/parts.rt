@@ -9,7 +9,7 @@ ghost use Rattle.world_rules.specs.Frame.{Frame, bytes_of, name_of};
 ghost use Rattle.world_rules.specs.Parts.{catches_up};
 ghost use Rattle.world_rules.specs.Processes.{Begun, singles_of};
 ghost use Rattle.node_rules.specs.Starts.Start.{Acts, Suspects, Ticks};
-ghost use Rattle.node_core.specs.Calls.{Asks, GoesFree, IsFree, MayAsk, MayReadFirst, ReadsFirst};
+ghost use Rattle.node_core.specs.Calls.{Asks, GoesFree, HasGathered, IsFree, MayAsk, MayReadFirst, ReadsFirst};
 ghost use Rattle.node_core.specs.Entries.{KnowsAs};
 ghost use Rattle.node_core.specs.Events.{HasCome, HasStarted, HasSubmitted, MayBeTaken, MayComeFrom, MayStart, TakesGrouped, acting_at, called_single, is_read_by};
 ghost use Rattle.node_core.specs.Keeping.{KeepsTasks};
@@ -112,10 +112,14 @@ impl<P: OneRun> Work<P> {
     fn catch_up(&mut self, alloc: Global, machine: &P) -> Result<(), NoMemory>
         requires { IsFree P.stood P.left P.run.frame (fitness_of (P.fits_state machine.now) (P.fits_args machine.now) (P.fits_text machine.now) (P.fits_reply machine.now)) self.old }
         ensures does { OnOk result (GoesFree P.stood P.left P.run.frame (fitness_of (P.fits_state machine.now) (P.fits_args machine.now) (P.fits_text machine.now) (P.fits_reply machine.now)) self.old self.new (catches_up P.run.frame)) }
+        ensures gathered { OnOk result (HasGathered P.stood P.left P.run.frame (fitness_of (P.fits_state machine.now) (P.fits_args machine.now) (P.fits_text machine.now) (P.fits_reply machine.now)) self.old self.new.moved.messages.items (catches_up P.run.frame)) }
         ensures tasks { OnOk result (KeepsTasks self.old.node self.new.node) }
     {
-        self.apply_all(alloc, machine)?;
-        self.take_reached(alloc, machine)
+        let mut messages = Vec::new(alloc);
+        self.apply_all(alloc, machine, &mut messages)?;
+        self.take_reached(alloc, machine)?;
+        self.moved.messages = messages;
+        Ok(())
     }
 
     // The action of a process that wasn't carried out, is.

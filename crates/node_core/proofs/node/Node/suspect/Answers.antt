@@ -17,7 +17,7 @@ pub returns-clause-does : goal.returns-clause-does
 returns-clause-does g c =
     let m = c.args.machine.now in
     suspects_done g.P.OneRun.stood g.P.OneRun.left g.P.OneRun.run.frame (fitness_of (g.P.Performer.fits_state m) (g.P.Performer.fits_args m) (g.P.Performer.fits_text m) (g.P.Performer.fits_reply m)) c.args.self.now _ c.in_ok-work.work c.reset.new.self c.catch_up.new.self _ (c.in_ok-work.ensures {u = tt}).idle (c.in_ok-reset.ensures {u = tt}).does
-    (c.in_ok-catch_up.ensures {u = tt}).does refl refl
+    (c.in_ok-catch_up.ensures {u = tt}).does (c.in_ok-catch_up.ensures {u = tt}).gathered refl refl
 
 pub returns-clause-tasks : goal.returns-clause-tasks
 returns-clause-tasks g c = keeps_on _ _ _ (keeps_on _ _ _ (keeps_copy _ _ (c.in_ok-work.ensures {u = tt}).same) (c.in_ok-reset.ensures {u = tt}).tasks) (c.in_ok-catch_up.ensures {u = tt}).tasks
