@@ -21,6 +21,7 @@ mod named;
 mod node;
 mod owning;
 mod parts;
+mod places;
 mod resident;
 mod run;
 mod task;

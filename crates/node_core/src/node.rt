@@ -1,6 +1,6 @@
 //! One member with its copies and processes.
 
-ghost use Rattle.std.specs.Prelude.{◌≡◌, ◌<◌, ◌*◌, ℕ, IfOk, List, OnOk, length, map, None, Some, slice_get, slice_index_or, true};
+ghost use Rattle.std.specs.Prelude.{◌≡◌, ◌<◌, ◌*◌, ℕ, IfOk, List, OnOk, map, None, Some, slice_get, slice_index_or, true};
 ghost use Rattle.std.specs.Option.{option_copied};
 ghost use Rattle.object_manager.specs.Singles.{IsMake};
 ghost use Rattle.group_member.specs.StandsFor.{Follows};
@@ -18,6 +18,7 @@ ghost use Rattle.node_core.specs.declared.resident.Resident.{Resident};
 
 use crate::errand::{Errand, Given};
 use crate::kept::Kept;
+use crate::places::put_at;
 use crate::resident::{Resident, Stage};
 use crate::run::OneRun;
 use group_member::{Config, Member};
@@ -228,10 +229,7 @@ impl<P: OneRun> Node<P> {
     pub(crate) fn put(&mut self, process: u16, resident: Resident<P::State>) -> Result<(), NoMemory>
         ensures { OnOk result (HasPut process resident self.old self.new) }
     {
-        let place = process as usize;
-        reach_resident(&mut self.residents, place)?;
-        self.residents[place] = Some(resident);
-        Ok(())
+        put_at(&mut self.residents, process as usize, resident)
     }
 
     // The process moves to another stage, where it began here.
@@ -289,20 +287,6 @@ fn opening_residents<P: OneRun>(
     let state = machine.start(alloc, text, ProcessNo::MAIN, &args)?;
     residents.push(Some(Resident::newborn(alloc, state, 0)?))?;
     Ok(residents)
-}
-
-// There is a place for this process.
-fn reach_resident<S: Drop>(
-    residents: &mut Vec<Option<Resident<S>>>,
-    place: usize,
-) -> Result<(), NoMemory>
-    ensures place { OnOk result (place < length residents.new.items) }
-    ensures same { (i : ℕ) → slice_index_or residents.new.items i None ≡ slice_index_or residents.old.items i None }
-{
-    'places: while residents.len() <= place {
-        residents.push(None)?;
-    }
-    Ok(())
 }
 
 // An equal list of processes.

@@ -19,6 +19,7 @@ ghost use Rattle.node_core.specs.Stands.{Does, MayDo, MayTakePacket, TakesPacket
 use crate::errand::Errand;
 use crate::moved::Moved;
 use crate::node::Node;
+use crate::places::take_place;
 use crate::resident::Stage;
 use crate::run::OneRun;
 use crate::work::{Work, message_for};
@@ -102,9 +103,7 @@ impl<P: OneRun> Node<P> {
         ensures ok { IfOk result (λ moved. (done ≡ Ok tt) × (self.new ≡ work.node) × (moved ≡ work.moved)) }
         ensures err { OnErr result (self.new ≡ self.old) }
     {
-        done?;
-        *self = work.node;
-        Ok(work.moved)
+        take_place(self, work.node, work.moved, done)
     }
 }
 

@@ -12,6 +12,7 @@ ghost use Rattle.node_core.specs.Tasks.{HasRun, IsCame, IsOf, MayAnswer, MayRun,
 
 use crate::kept::Kept;
 use crate::node::Node;
+use crate::places::set_at;
 use crate::resident::{Resident, Stage};
 use crate::run::OneRun;
 use object_manager::View;
@@ -382,8 +383,7 @@ impl<P: OneRun> Node<P> {
         requires { process.0 < length self.old.residents.items }
         ensures { HasChanged process.0 resident self.old self.new }
     {
-        let at = process.0 as usize;
-        self.residents[at] = Some(resident);
+        set_at(&mut self.residents, process.0 as usize, resident);
     }
 
     /// A burst that was computed is checked in: its reads are performed at its view's place, and the process stands where it ended.
