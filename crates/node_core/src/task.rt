@@ -354,10 +354,11 @@ impl<P: OneRun> Node<P> {
         ensures err { OnErr result (self.new ≡ self.old) }
     {
         let resident = self.here(process);
+        let start = resident.state.copy()?;
         let out = resident.handed_out(view.copy(alloc)?)?;
         let task = Task {
             process,
-            start: resident.state.copy()?,
+            start,
             calls: resident.calls,
             view,
             budget,
