@@ -26,7 +26,8 @@ use Rattle.node_rules.specs.Conditions.{Fitness}
 use Rattle.node_rules.specs.Moments.{IsDue, Moment, born_of, entry_lines, takes_entry, works}
 use Rattle.node_rules.specs.Moments.Goes.{Takes_entry}
 use Rattle.node_rules.specs.Moments.Walks.{Stays}
-use Rattle.node_core.specs.Entries.{AppliesNext, Begins, IsBorn, KnowsAs, MayAnswer, MayAnswerHere, MayBegin, MayTakeEntry, Refused, Took}
+use Rattle.node_rules.specs.Entries.{MayTakeEntry}
+use Rattle.node_core.specs.Entries.{AppliesNext, Begins, IsBorn, KnowsAs, MayAnswer, MayAnswerHere, MayBegin, Refused, Took}
 use Rattle.node_core.specs.Pieces.{BecomesIn, GoesOn, IsNext, IsSomewhere}
 use Rattle.node_core.specs.Shown.{IsPlayedIf, Left, Stood, on_errand, on_given}
 use Rattle.node_core.specs.Stands.{IsAt, IsMoved, IsWork, StandsAs, on_known}

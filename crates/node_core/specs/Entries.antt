@@ -12,9 +12,8 @@ use Rattle.value_core.specs.declared.message.Message.{Message}
 use Rattle.guard_queue.specs.Settles.{lines_of}
 use Rattle.guard_queue.specs.declared.settling.Answered.{Answered}
 use Rattle.object_manager.specs.After.{Copied}
-use Rattle.object_manager.specs.Applies.{Applies, CopiesBlocked, CopiesFit}
 use Rattle.object_manager.specs.Limits.{too_many}
-use Rattle.book_law.specs.Fitness.{ArgsFit, ReplyFits, StateFits, TextFits}
+use Rattle.book_law.specs.Fitness.{ReplyFits, TextFits}
 use Rattle.book_law.specs.Members.{after_entry}
 use Rattle.book_law.specs.Passes.{lines_after}
 use Rattle.world_rules.specs.Applying.{applies_one, begins, passes_limit}
@@ -40,13 +39,6 @@ use Rattle.node_core.specs.declared.work.Work.{Work}
 pub record KnowsAs {P S : Type 0} (f : Frame) (processes : List Begun) (s : Node P S) : Type 0 where
   pub known : s.known.items ≡ map on_known processes
   pub choices : s.choices ≡ f.settings.choices
-
--- an entry with this action may be taken by the copies
-pub record MayTakeEntry (p : Performs) (fits_state : StateFits) (fits_args : ArgsFit) (c : Copied) (act : Action) : Type 0 where
-  pub fits : CopiesFit fits_state fits_args c
-  pub blocked : CopiesBlocked p c
-  pub applies : Applies fits_args c act
-  pub room : c.applied < 2 ^ 62
 
 -- no limit is passed; and whichever processes it knows, the copies are those after the entry, and these are its lines
 pub record Took {P S : Type 0} (p : Performs) (old new : Node P S) (x : Message) (answered : List Answered) : Type 0 where

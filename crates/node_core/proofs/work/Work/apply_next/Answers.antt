@@ -4,7 +4,8 @@ use Rattle.value_core.specs.declared.message.Message.{Message}
 use Rattle.group_member.specs.Laws.{EntryLaw, LengthLaw}
 use Rattle.group_member.proofs.Installing.{entry_law}
 use Rattle.group_member.proofs.Working.{whole_length}
-use Rattle.node_core.specs.Entries.{Begins, MayBegin, MayTakeEntry, listed}
+use Rattle.node_rules.specs.Entries.{MayTakeEntry}
+use Rattle.node_core.specs.Entries.{Begins, MayBegin, listed}
 use Rattle.node_core.specs.Stands.{fitness_of}
 use Rattle.node_core.proofs.NextEntry.{applied_next, begun_somewhere, is_next, may_answer_next, may_begin_next, may_take_next, some_nodes}
 use Rattle.node_core.proofs.TakingEntry.{none_of, refused_in, taken_in}
