@@ -1,5 +1,5 @@
 -- What is left of the entries that a member's copies applied: one more of the next, and all of them as they were by what isn't an entry.
-use Rattle.std.proofs.Common.{◌≡◌, ◌++◌, ◌∷◌, ◌==◌, nat_le, nat_lt, ℕ, zero, suc, Bool, true, false, List, [], length, take, slice_get, Option, Some, None, refl, sym, ap, ◌∙◌, if◌then◌else◌}
+use Rattle.std.proofs.Common.{◌≡◌, ◌++◌, ◌∷◌, ◌==◌, nat_le, nat_lt, ℕ, zero, suc, Bool, true, false, List, [], length, take, Option, Some, None, refl, sym, ap, ◌∙◌, if◌then◌else◌}
 use Rattle.orca_base.specs.declared.ids.CallNo.{CallNo}
 use Rattle.value_core.specs.declared.action.Action.{Action}
 use Rattle.value_core.specs.declared.action.Action.TheVariants as action

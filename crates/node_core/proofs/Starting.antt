@@ -17,7 +17,7 @@ use Rattle.group_member.specs.declared.timer.Timed.TheVariants.{Due}
 use Rattle.group_reset.specs.Calls.{IsSome}
 use Rattle.world_rules.specs.Frame.{Frame, bytes_of, group, name_of}
 use Rattle.world_rules.specs.Nodes as nodes
-use Rattle.world_rules.specs.Nodes.{Deed, NodeWork, does, entries_of, idle, known, mails_of, plays}
+use Rattle.world_rules.specs.Nodes.{NodeWork, does, entries_of, idle, plays}
 use Rattle.world_rules.specs.Nodes.Deed.{Submits}
 use Rattle.world_rules.specs.Applying.{applies_all}
 use Rattle.world_rules.specs.Owners.{takes_reached}
@@ -36,7 +36,7 @@ use Rattle.node_core.specs.Entries.{Gathers}
 use Rattle.node_core.specs.Events.{HasCome, HasDelivered, HasDone, HasStarted, HasSubmitted, IsIdle, MayComeFrom, MayStart}
 use Rattle.node_core.specs.Pieces.{Becomes, GoesOn, IsSomewhere, resident_at}
 use Rattle.node_core.specs.Shown.{Left, Stood}
-use Rattle.node_core.specs.Stands.{Does as DoesEvent, IsAt, IsDone, IsMoved, IsWork, MayDo, MayTakePacket, StandsAs, StandsAlike, TakesPacket}
+use Rattle.node_core.specs.Stands.{Does as DoesEvent, IsAt, IsDone, IsWork, MayDo, MayTakePacket, StandsAlike, TakesPacket}
 use Rattle.node_core.specs.declared.moved.Moved.{Moved}
 use Rattle.node_core.specs.declared.node.Node.{Node}
 use Rattle.node_core.specs.declared.resident.Resident.{Resident}

@@ -1,5 +1,5 @@
 -- What the calls that apply a member's next entry ask and do, piece by piece.
-use Rattle.std.specs.Prelude.{◌≡◌, ◌<◌, ◌^◌, ◌==◌, ◌++◌, ℕ, Bool, true, false, List, [], ◌∷◌, length, map, is_some, Option, None, Some, Vec, slice_get}
+use Rattle.std.specs.Prelude.{◌≡◌, ◌<◌, ◌^◌, ◌==◌, ◌++◌, ℕ, true, false, List, [], ◌∷◌, length, map, is_some, Option, None, Some, Vec, slice_get}
 use Rattle.std.specs.declared.alloc.Global.{Global}
 use Rattle.orca_base.specs.declared.ids.TextNo.{TextNo}
 use Rattle.value_core.specs.Datum.{Data}
@@ -11,7 +11,6 @@ use Rattle.value_core.specs.declared.action.Line.{Line}
 use Rattle.value_core.specs.declared.message.Message.{Message}
 use Rattle.guard_queue.specs.Settles.{lines_of}
 use Rattle.guard_queue.specs.declared.settling.Answered.{Answered}
-use Rattle.object_manager.specs.After.{Copied}
 use Rattle.object_manager.specs.Limits.{too_many}
 use Rattle.book_law.specs.Fitness.{ReplyFits, TextFits}
 use Rattle.book_law.specs.Members.{after_entry}

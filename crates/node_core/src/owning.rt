@@ -6,7 +6,7 @@ ghost use Rattle.world_rules.specs.Owners.{arrives, hands, is_held as held_among
 ghost use Rattle.world_rules.specs.Parts.{asks_again, asks_again_of};
 ghost use Rattle.node_core.specs.Calls.{GoesFree, HasKept, IsFree, MayPerformCall, MayTakeNew, MayTakeNext, asked_at, asks_as, asks_call, call_given, given_at, gives_kept};
 ghost use Rattle.node_core.specs.Keeping.{KeepsTasks};
-ghost use Rattle.node_core.specs.Pieces.{Becomes, BecomesIn, GoesOn, MayBeHanded, resident_at};
+ghost use Rattle.node_core.specs.Pieces.{Becomes, BecomesIn, MayBeHanded, resident_at};
 ghost use Rattle.node_core.specs.Shown.{on_errand};
 ghost use Rattle.node_core.specs.Stands.{fitness_of};
 
