@@ -19,7 +19,8 @@ use Rattle.book_law.proofs.Replicated.{entries_stand}
 use Rattle.world_rules.specs.Frame.{Frame}
 use Rattle.world_rules.specs.Nodes.{known}
 use Rattle.world_rules.specs.Processes.{Begun, singles_of}
-use Rattle.node_core.specs.Earlier.{HasViewed, MayTakeAgain, MayViewAfter}
+use Rattle.node_rules.specs.Entries.{MayTakeAgain}
+use Rattle.node_core.specs.Earlier.{HasViewed, MayViewAfter}
 use Rattle.node_core.specs.Entries.{KnowsAs}
 use Rattle.node_core.specs.Shown.{Left, Stood}
 use Rattle.node_core.specs.declared.node.Node.{Node}

@@ -1,5 +1,5 @@
 -- A member applies what is due, and notes that, until there is nothing more.
-use Rattle.std.proofs.Common.{◌≡◌, ◌≤◌, ◌<◌, ◌+◌, ◌-◌, ◌^◌, ◌∷◌, ◌⊎◌, inl, inr, ℕ, zero, suc, Bool, true, false, List, [], length, take, drop, slice_get, Some, refl, sym, ap, ◌∙◌, subst, arith, if◌then◌else◌}
+use Rattle.std.proofs.Common.{◌≡◌, ◌≤◌, ◌<◌, ◌+◌, ◌-◌, ◌^◌, ◌++◌, ◌∷◌, ◌⊎◌, inl, inr, ℕ, zero, suc, Bool, true, false, List, [], length, take, drop, slice_get, Some, None, append_assoc, refl, sym, ap, ◌∙◌, subst, arith, if◌then◌else◌}
 use Rattle.std.proofs.lemmas.Bool.{cases_lt}
 use Rattle.value_core.specs.declared.action.Reply.{Reply}
 use Rattle.value_core.specs.declared.message.Message.{Message}
@@ -9,17 +9,19 @@ use Rattle.group_member.specs.Laws.{LengthLaw}
 use Rattle.world_rules.specs.Applying.{applies, applies_all, applies_each, applies_one, due_entries, notes, passes_limit, round, rounds}
 use Rattle.world_rules.specs.Frame.{Frame}
 use Rattle.world_rules.specs.Nodes as nodes
-use Rattle.world_rules.specs.Nodes.{NodeWork}
+use Rattle.world_rules.specs.Nodes.{NodeWork, entries_of}
 use Rattle.node_rules.specs.Conditions.{Fitness}
 use Rattle.node_rules.specs.Moments.{IsDue, Moment, works}
+use Rattle.node_rules.specs.Moments.Walks.{Stays}
 use Rattle.node_rules.proofs.Ending.{catching_up_ends}
 use Rattle.node_rules.proofs.Walking.{due_rest, one_more}
-use Rattle.node_core.specs.Entries.{AppliesNext}
+use Rattle.node_core.specs.Entries.{AppliesNext, Gathers}
 use Rattle.node_core.specs.Pieces.{GoesOn, IsSomewhere}
 use Rattle.node_core.specs.Shown.{Left, Stood}
 use Rattle.node_core.specs.Stands.{IsAt}
 use Rattle.node_core.specs.declared.errand.Errand.{Errand}
 use Rattle.node_core.specs.declared.work.Work.{Work}
+use Rattle.node_core.proofs.Gathering.{entries_more}
 use Rattle.node_core.proofs.NextEntry.{due_there}
 use Rattle.node_core.proofs.Noting.{noted_else}
 
@@ -135,36 +137,48 @@ rounds_done f m n v none =
 -- ---- at work, entry by entry
 
 -- what it has applied so far leads to all that it may
-pub record AppliedSoFar {P S : Type 0} (stood : Stood S) (left : Left S) (f : Frame) (fitness : Fitness) (m : ℕ) (s : Work P S) (hand : List Errand) (u : Moment) : Type 0 where
+pub record AppliedSoFar {P S : Type 0} (stood : Stood S) (left : Left S) (f : Frame) (fitness : Fitness) (m : ℕ) (s : Work P S) (hand : List Errand) (u : Moment) (from now : List Message) : Type 0 where
   pub work : NodeWork
   pub at_work : IsAt stood left f fitness m s hand (works work u)
   pub rest : applies f m work ≡ applies f m u.work
+  pub told : (first : List Message) → first ++ from ≡ entries_of u.work.node → first ++ now ≡ entries_of work.node
 
-abbrev pub SoFar : {P S : Type 0} → Stood S → Left S → Frame → Fitness → Work P S → Work P S → Type 0
-SoFar stood left f fitness start s = (m : ℕ) (hand : List Errand) (u : Moment) → IsAt stood left f fitness m start hand u → AppliedSoFar stood left f fitness m s hand u
+abbrev pub SoFar : {P S : Type 0} → Stood S → Left S → Frame → Fitness → Work P S → Work P S → List Message → List Message → Type 0
+SoFar stood left f fitness start s from now =
+    (m : ℕ) (hand : List Errand) (u : Moment) → IsAt stood left f fitness m start hand u → AppliedSoFar stood left f fitness m s hand u from now
 
-pub so_far : {P S : Type 0} (stood : Stood S) (left : Left S) (f : Frame) (fitness : Fitness) (s : Work P S) → SoFar stood left f fitness s s
-so_far stood left f fitness s m hand u at = record { work = u.work; at_work = at; rest = refl }
+pub so_far : {P S : Type 0} (stood : Stood S) (left : Left S) (f : Frame) (fitness : Fitness) (s : Work P S) (from : List Message) → SoFar stood left f fitness s s from from
+so_far stood left f fitness s from m hand u at = record { work = u.work; at_work = at; rest = refl; told = λ first is. is }
 
 -- it is somewhere
-pub somewhere_far : {P S : Type 0} (stood : Stood S) (left : Left S) (f : Frame) (fitness : Fitness) (start s : Work P S) → IsSomewhere stood left f fitness start → SoFar stood left f fitness start s
+pub somewhere_far : {P S : Type 0} (stood : Stood S) (left : Left S) (f : Frame) (fitness : Fitness) (start s : Work P S) (from now : List Message) → IsSomewhere stood left f fitness start → SoFar stood left f fitness start s from now
     → IsSomewhere stood left f fitness s
-somewhere_far stood left f fitness start s (m, hand, u, at) far = (let here = far m hand u at in (m, hand, works here.work u, here.at_work))
+somewhere_far stood left f fitness start s from now (m, hand, u, at) far = (let here = far m hand u at in (m, hand, works here.work u, here.at_work))
 
 -- one entry more
-pub far_more : {P S : Type 0} (stood : Stood S) (left : Left S) (f : Frame) (fitness : Fitness) (start old new : Work P S) → LengthLaw Message Reply → SoFar stood left f fitness start old
-    → old.node.copies.applied < old.node.member.accepted → AppliesNext stood left f fitness old new true → SoFar stood left f fitness start new
-far_more stood left f fitness start old new law far lt next m hand u at =
+pub far_more : {P S : Type 0} (stood : Stood S) (left : Left S) (f : Frame) (fitness : Fitness) (start old new : Work P S) (from now next : List Message) (y : Message) → LengthLaw Message Reply
+    → SoFar stood left f fitness start old from now → old.node.copies.applied < old.node.member.accepted → AppliesNext stood left f fitness old new (Some y) → next ≡ now ++ y ∷ []
+    → SoFar stood left f fitness start new from next
+far_more stood left f fitness start old new from now next y law far lt goes joins m hand u at =
     let here = far m hand u at in
     let due = due_there stood left f fitness m old hand (works here.work u) law here.at_work lt in
-    let done = next m hand (works here.work u) due.0 here.at_work due.1 in
-    record { work = applies_one f m due.0 here.work; at_work = done.1; rest = applies_on f m here.work due.0 due.1 done.0 ∙ here.rest }
+    let done = goes m hand (works here.work u) due.0 here.at_work due.1 in
+    record {
+      work = applies_one f m due.0 here.work;
+      at_work = done.2;
+      rest = applies_on f m here.work due.0 due.1 done.1 ∙ here.rest;
+      told = λ first is.
+          ap (λ (l : List Message). first ++ l) joins ∙ sym (append_assoc first now (y ∷ []))
+          ∙ ap (λ (l : List Message). l ++ y ∷ []) (here.told first is)
+          ∙ ap (λ (x : Message). entries_of here.work.node ++ x ∷ []) done.0
+          ∙ entries_more f m due.0 here.work due.1;
+    }
 
 -- fewer are left
-pub far_smaller : {P S : Type 0} (stood : Stood S) (left : Left S) (f : Frame) (fitness : Fitness) (start old new : Work P S) → LengthLaw Message Reply → IsSomewhere stood left f fitness start
-    → SoFar stood left f fitness start old → old.node.copies.applied < old.node.member.accepted → AppliesNext stood left f fitness old new true
+pub far_smaller : {P S : Type 0} (stood : Stood S) (left : Left S) (f : Frame) (fitness : Fitness) (start old new : Work P S) (from now : List Message) (y : Message) → LengthLaw Message Reply → IsSomewhere stood left f fitness start
+    → SoFar stood left f fitness start old from now → old.node.copies.applied < old.node.member.accepted → AppliesNext stood left f fitness old new (Some y)
     → new.node.member.accepted - new.node.copies.applied < old.node.member.accepted - old.node.copies.applied
-far_smaller stood left f fitness start old new law (m, hand, u, at) far lt next =
+far_smaller stood left f fitness start old new from now y law (m, hand, u, at) far lt next =
     let here = far m hand u at in
     let due = due_there stood left f fitness m old hand (works here.work u) law here.at_work lt in
     let done = next m hand (works here.work u) due.0 here.at_work due.1 in
@@ -172,64 +186,92 @@ far_smaller stood left f fitness start old new law (m, hand, u, at) far lt next 
     let applied = one.applied in
     let stays = ap (λ (s : Member Message). s.accepted) one.member in
     let before = here.at_work.work.node.member.accepted in
-    let after = done.1.work.node.member.accepted in
+    let after = done.2.work.node.member.accepted in
     let copied = ap (λ (c : Copied). c.applied) here.at_work.work.node.copies in
-    let copied_after = ap (λ (c : Copied). c.applied) done.1.work.node.copies in
+    let copied_after = ap (λ (c : Copied). c.applied) done.2.work.node.copies in
     omega (arith, applied, stays, before, after, copied, copied_after, lt)
 
 -- the next one passes a limit
-pub far_stops : {P S : Type 0} (stood : Stood S) (left : Left S) (f : Frame) (fitness : Fitness) (start old new : Work P S) → LengthLaw Message Reply → SoFar stood left f fitness start old
-    → old.node.copies.applied < old.node.member.accepted → AppliesNext stood left f fitness old new false → GoesOn stood left f fitness start new (applies f)
-far_stops stood left f fitness start old new law far lt next m hand u at =
+pub far_stops : {P S : Type 0} (stood : Stood S) (left : Left S) (f : Frame) (fitness : Fitness) (start old new : Work P S) (from now : List Message) → LengthLaw Message Reply
+    → SoFar stood left f fitness start old from now → old.node.copies.applied < old.node.member.accepted → AppliesNext stood left f fitness old new None → GoesOn stood left f fitness start new (applies f)
+far_stops stood left f fitness start old new from now law far lt next m hand u at =
     let here = far m hand u at in
     let due = due_there stood left f fitness m old hand (works here.work u) law here.at_work lt in
     let done = next m hand (works here.work u) due.0 here.at_work due.1 in
     subst (λ (w : NodeWork). IsAt stood left f fitness m new hand (works w u)) (sym (applies_stops f m here.work due.0 due.1 done.0) ∙ here.rest) done.1
 
--- or none is left
-pub far_done : {P S : Type 0} (stood : Stood S) (left : Left S) (f : Frame) (fitness : Fitness) (start s : Work P S) → SoFar stood left f fitness start s
-    → s.node.member.accepted ≤ s.node.copies.applied → GoesOn stood left f fitness start s (applies f)
-far_done stood left f fitness start s far le m hand u at =
+pub told_stops : {P S : Type 0} (stood : Stood S) (left : Left S) (f : Frame) (fitness : Fitness) (start old new : Work P S) (from now : List Message) → LengthLaw Message Reply
+    → SoFar stood left f fitness start old from now → old.node.copies.applied < old.node.member.accepted → AppliesNext stood left f fitness old new None → Gathers stood left f fitness start from now (applies f)
+told_stops stood left f fitness start old new from now law far lt next m hand u first at is =
     let here = far m hand u at in
+    let due = due_there stood left f fitness m old hand (works here.work u) law here.at_work lt in
+    let done = next m hand (works here.work u) due.0 here.at_work due.1 in
+    here.told first is ∙ ap (λ (w : NodeWork). entries_of w.node) (sym (applies_stops f m here.work due.0 due.1 done.0) ∙ here.rest)
+
+-- or none is left
+all_applied : {P S : Type 0} (stood : Stood S) (left : Left S) (f : Frame) (fitness : Fitness) (m : ℕ) (s : Work P S) (hand : List Errand) (u : Moment) (from now : List Message)
+    → s.node.member.accepted ≤ s.node.copies.applied → (here : AppliedSoFar stood left f fitness m s hand u from now) → here.work ≡ applies f m u.work
+all_applied stood left f fitness m s hand u from now le here =
     let accepted = here.at_work.work.node.member.accepted in
     let copied = ap (λ (c : Copied). c.applied) here.at_work.work.node.copies in
-    subst (λ (w : NodeWork). IsAt stood left f fitness m s hand (works w u)) (sym (applies_done f m here.work (omega (arith, accepted, copied, le))) ∙ here.rest) here.at_work
+    sym (applies_done f m here.work (omega (arith, accepted, copied, le))) ∙ here.rest
+
+pub far_done : {P S : Type 0} (stood : Stood S) (left : Left S) (f : Frame) (fitness : Fitness) (start s : Work P S) (from now : List Message) → SoFar stood left f fitness start s from now
+    → s.node.member.accepted ≤ s.node.copies.applied → GoesOn stood left f fitness start s (applies f)
+far_done stood left f fitness start s from now far le m hand u at =
+    let here = far m hand u at in
+    subst (λ (w : NodeWork). IsAt stood left f fitness m s hand (works w u)) (all_applied stood left f fitness m s hand u from now le here) here.at_work
+
+pub told_done : {P S : Type 0} (stood : Stood S) (left : Left S) (f : Frame) (fitness : Fitness) (start s : Work P S) (from now : List Message) → SoFar stood left f fitness start s from now
+    → s.node.member.accepted ≤ s.node.copies.applied → Gathers stood left f fitness start from now (applies f)
+told_done stood left f fitness start s from now far le m hand u first at is =
+    let here = far m hand u at in
+    here.told first is ∙ ap (λ (w : NodeWork). entries_of w.node) (all_applied stood left f fitness m s hand u from now le here)
 
 -- ---- at work, round by round
 
 -- it applied what was due after some rounds
-pub record RoundsSoFar {P S : Type 0} (stood : Stood S) (left : Left S) (f : Frame) (fitness : Fitness) (m : ℕ) (s : Work P S) (hand : List Errand) (u : Moment) : Type 0 where
+pub record RoundsSoFar {P S : Type 0} (stood : Stood S) (left : Left S) (f : Frame) (fitness : Fitness) (m : ℕ) (s : Work P S) (hand : List Errand) (u : Moment) (from now : List Message) : Type 0 where
   pub count : ℕ
   pub at_work : IsAt stood left f fitness m s hand (works (applies f m (times f m count u.work)) u)
+  pub told : (first : List Message) → first ++ from ≡ entries_of u.work.node → first ++ now ≡ entries_of (applies f m (times f m count u.work)).node
 
-abbrev pub InRounds : {P S : Type 0} → Stood S → Left S → Frame → Fitness → Work P S → Work P S → Type 0
-InRounds stood left f fitness start s = (m : ℕ) (hand : List Errand) (u : Moment) → IsAt stood left f fitness m start hand u → RoundsSoFar stood left f fitness m s hand u
+abbrev pub InRounds : {P S : Type 0} → Stood S → Left S → Frame → Fitness → Work P S → Work P S → List Message → List Message → Type 0
+InRounds stood left f fitness start s from now =
+    (m : ℕ) (hand : List Errand) (u : Moment) → IsAt stood left f fitness m start hand u → RoundsSoFar stood left f fitness m s hand u from now
 
-pub first_applied : {P S : Type 0} (stood : Stood S) (left : Left S) (f : Frame) (fitness : Fitness) (start s : Work P S) → GoesOn stood left f fitness start s (applies f) → InRounds stood left f fitness start s
-first_applied stood left f fitness start s goes m hand u at = record { count = 0; at_work = goes m hand u at }
+pub first_applied : {P S : Type 0} (stood : Stood S) (left : Left S) (f : Frame) (fitness : Fitness) (start s : Work P S) (from now : List Message) → GoesOn stood left f fitness start s (applies f)
+    → Gathers stood left f fitness start from now (applies f) → InRounds stood left f fitness start s from now
+first_applied stood left f fitness start s from now goes gathers m hand u at = record { count = 0; at_work = goes m hand u at; told = λ first is. gathers m hand u first at is }
 
 pub somewhere_goes : {P S : Type 0} (stood : Stood S) (left : Left S) (f : Frame) (fitness : Fitness) (old new : Work P S) (piece : ℕ → NodeWork → NodeWork)
     → IsSomewhere stood left f fitness old → GoesOn stood left f fitness old new piece → IsSomewhere stood left f fitness new
 somewhere_goes stood left f fitness old new piece (m, hand, u, at) goes = (m, hand, works (piece m u.work) u, goes m hand u at)
 
-pub somewhere_rounds : {P S : Type 0} (stood : Stood S) (left : Left S) (f : Frame) (fitness : Fitness) (start s : Work P S) → IsSomewhere stood left f fitness start → InRounds stood left f fitness start s
+pub somewhere_rounds : {P S : Type 0} (stood : Stood S) (left : Left S) (f : Frame) (fitness : Fitness) (start s : Work P S) (from now : List Message) → IsSomewhere stood left f fitness start → InRounds stood left f fitness start s from now
     → IsSomewhere stood left f fitness s
-somewhere_rounds stood left f fitness start s (m, hand, u, at) far =
+somewhere_rounds stood left f fitness start s from now (m, hand, u, at) far =
     (let here = far m hand u at in (m, hand, works (applies f m (times f m here.count u.work)) u, here.at_work))
 
-pub rounds_more : {P S : Type 0} (stood : Stood S) (left : Left S) (f : Frame) (fitness : Fitness) (start old mid new : Work P S) → InRounds stood left f fitness start old
-    → GoesOn stood left f fitness old mid (notes f) → GoesOn stood left f fitness mid new (applies f) → InRounds stood left f fitness start new
-rounds_more stood left f fitness start old mid new far note more m hand u at =
+pub rounds_more : {P S : Type 0} (stood : Stood S) (left : Left S) (f : Frame) (fitness : Fitness) (start old mid new : Work P S) (from now next : List Message) → InRounds stood left f fitness start old from now
+    → GoesOn stood left f fitness old mid (notes f) → GoesOn stood left f fitness mid new (applies f) → Gathers stood left f fitness mid now next (applies f)
+    → InRounds stood left f fitness start new from next
+rounds_more stood left f fitness start old mid new from now next far note more gathers m hand u at =
     let here = far m hand u at in
     let w : NodeWork = applies f m (times f m here.count u.work) in
-    record { count = suc here.count; at_work = more m hand (works (notes f m w) u) (note m hand (works w u) here.at_work) }
+    let noted = note m hand (works w u) here.at_work in
+    record {
+      count = suc here.count;
+      at_work = more m hand (works (notes f m w) u) noted;
+      told = λ first is. gathers m hand (works (notes f m w) u) first noted (here.told first is ∙ sym (here.at_work.fits (works w u) (Stays (works w u))).kept);
+    }
 
 -- more was noted, and no more is than fits a number
-pub rounds_smaller : {P S : Type 0} (stood : Stood S) (left : Left S) (f : Frame) (fitness : Fitness) (start old mid new : Work P S) → IsSomewhere stood left f fitness start
-    → InRounds stood left f fitness start old → GoesOn stood left f fitness old mid (notes f) → GoesOn stood left f fitness mid new (applies f)
+pub rounds_smaller : {P S : Type 0} (stood : Stood S) (left : Left S) (f : Frame) (fitness : Fitness) (start old mid new : Work P S) (from now : List Message) → IsSomewhere stood left f fitness start
+    → InRounds stood left f fitness start old from now → GoesOn stood left f fitness old mid (notes f) → GoesOn stood left f fitness mid new (applies f)
     → old.node.member.applied < old.node.copies.applied → old.node.copies.applied ≤ mid.node.member.applied
     → 2 ^ 62 - new.node.member.applied < 2 ^ 62 - old.node.member.applied
-rounds_smaller stood left f fitness start old mid new (m, hand, u, at) far note more lt noted =
+rounds_smaller stood left f fitness start old mid new from now (m, hand, u, at) far note more lt noted =
     let here = far m hand u at in
     let w : NodeWork = applies f m (times f m here.count u.work) in
     let middle = note m hand (works w u) here.at_work in
@@ -241,11 +283,22 @@ rounds_smaller stood left f fitness start old mid new (m, hand, u, at) far note 
     omega (arith, stays, before, one, two, lt, noted)
 
 -- nothing is to be noted any more
-pub rounds_over : {P S : Type 0} (stood : Stood S) (left : Left S) (f : Frame) (fitness : Fitness) (start s : Work P S) → InRounds stood left f fitness start s
-    → s.node.copies.applied ≤ s.node.member.applied → GoesOn stood left f fitness start s (applies_all f)
-rounds_over stood left f fitness start s far le m hand u at =
-    let here = far m hand u at in
+all_noted : {P S : Type 0} (stood : Stood S) (left : Left S) (f : Frame) (fitness : Fitness) (m : ℕ) (s : Work P S) (hand : List Errand) (u : Moment) (from now : List Message)
+    → s.node.copies.applied ≤ s.node.member.applied → (here : RoundsSoFar stood left f fitness m s hand u from now) → applies f m (times f m here.count u.work) ≡ applies_all f m u.work
+all_noted stood left f fitness m s hand u from now le here =
     let w : NodeWork = applies f m (times f m here.count u.work) in
     let applied = here.at_work.work.node.member.applied in
     let copied = ap (λ (c : Copied). c.applied) here.at_work.work.node.copies in
-    subst (λ (x : NodeWork). IsAt stood left f fitness m s hand (works x u)) (rounds_done f m here.count u.work (noted_else f m w (omega (arith, applied, copied, le)))) here.at_work
+    rounds_done f m here.count u.work (noted_else f m w (omega (arith, applied, copied, le)))
+
+pub rounds_over : {P S : Type 0} (stood : Stood S) (left : Left S) (f : Frame) (fitness : Fitness) (start s : Work P S) (from now : List Message) → InRounds stood left f fitness start s from now
+    → s.node.copies.applied ≤ s.node.member.applied → GoesOn stood left f fitness start s (applies_all f)
+rounds_over stood left f fitness start s from now far le m hand u at =
+    let here = far m hand u at in
+    subst (λ (x : NodeWork). IsAt stood left f fitness m s hand (works x u)) (all_noted stood left f fitness m s hand u from now le here) here.at_work
+
+pub told_over : {P S : Type 0} (stood : Stood S) (left : Left S) (f : Frame) (fitness : Fitness) (start s : Work P S) (from now : List Message) → InRounds stood left f fitness start s from now
+    → s.node.copies.applied ≤ s.node.member.applied → Gathers stood left f fitness start from now (applies_all f)
+told_over stood left f fitness start s from now far le m hand u first at is =
+    let here = far m hand u at in
+    here.told first is ∙ ap (λ (w : NodeWork). entries_of w.node) (all_noted stood left f fitness m s hand u from now le here)

@@ -11,6 +11,7 @@ pub mod Beginning
 pub mod NextEntry
 pub mod TakingEntry
 pub mod ApplyingAgain
+pub mod Gathering
 pub mod CatchingUp
 pub mod Handing
 pub mod Calling

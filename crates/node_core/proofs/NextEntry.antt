@@ -26,7 +26,8 @@ use Rattle.node_rules.specs.Conditions.{Fitness}
 use Rattle.node_rules.specs.Moments.{IsDue, Moment, born_of, entry_lines, takes_entry, works}
 use Rattle.node_rules.specs.Moments.Goes.{Takes_entry}
 use Rattle.node_rules.specs.Moments.Walks.{Stays}
-use Rattle.node_core.specs.Entries.{AppliesNext, Begins, IsBorn, KnowsAs, MayAnswer, MayAnswerHere, MayBegin, MayTakeEntry, Refused, Took}
+use Rattle.node_rules.specs.Entries.{MayTakeEntry}
+use Rattle.node_core.specs.Entries.{AppliesNext, Begins, IsBorn, KnowsAs, MayAnswer, MayAnswerHere, MayBegin, Refused, Took}
 use Rattle.node_core.specs.Pieces.{BecomesIn, GoesOn, IsNext, IsSomewhere}
 use Rattle.node_core.specs.Shown.{IsPlayedIf, Left, Stood, on_errand, on_given}
 use Rattle.node_core.specs.Stands.{IsAt, IsMoved, IsWork, StandsAs, on_known}
@@ -280,17 +281,19 @@ pub applied_next : {P S : Type 0} (stood : Stood S) (left : Left S) (f : Frame) 
     (lines : List Answered) (born : List Known) → EntryLaw Message Reply → IsNext old.node y → HasTakenIn f p old mid taken y lines born
     → BecomesIn stood left f taken told (λ k w. answers taken.node.copies.applied (lines_of lines) (does (Told (lines_of lines)) w))
     → number ≡ old.node.copies.processes → Begins stood left f number born y.action told begun
-    → GoesOn stood left f fitness begun new (λ m v. tries_reads f v.node.copies.processes v) → AppliesNext stood left f fitness old new true
+    → GoesOn stood left f fitness begun new (λ m v. tries_reads f v.node.copies.processes v) → AppliesNext stood left f fitness old new (Some y)
 applied_next stood left f fitness number p old mid taken told begun new y lines born law next has becomes count begins_so reads m hand u x at due =
     let same = next_is stood left f fitness m old hand u x y law at due next in
     let here = subst (IsDue u.work.node) same due in
+    let applied =
     subst (λ (z : Message). (passes_limit f u.work.node z ≡ false) × IsAt stood left f fitness m new hand (works (applies_one f m z u.work) u)) (sym same) (
       taken_within stood left f m p old mid taken y lines born u.work has at.work,
       reads m hand (works (takes_entry f m y u.work) u) (begun_at stood left f fitness m number p old mid taken told begun hand u y lines born has at here becomes count begins_so),
-    )
+    ) in
+    (sym same, applied.0, applied.1)
 
 pub refused_next : {P S : Type 0} (stood : Stood S) (left : Left S) (f : Frame) (fitness : Fitness) (p : Performs) (old new : Work P S) (y : Message) → EntryLaw Message Reply → IsNext old.node y
-    → p ≡ f.performs → Refused p old.node new.node y → new.node ≡ record old.node { copies = new.node.copies } → new.moved ≡ old.moved → AppliesNext stood left f fitness old new false
+    → p ≡ f.performs → Refused p old.node new.node y → new.node ≡ record old.node { copies = new.node.copies } → new.moved ≡ old.moved → AppliesNext stood left f fitness old new None
 refused_next stood left f fitness p old new y law next is refused node moved m hand u x at due =
     let same = next_is stood left f fitness m old hand u x y law at due next in
     subst (λ (z : Message). (passes_limit f u.work.node z ≡ true) × IsAt stood left f fitness m new hand u) (sym same)

@@ -10,6 +10,7 @@ use Rattle.group_member.specs.StandsFor.{IsMember, StandsFor}
 use Rattle.group_rules.specs.Steps.{note}
 use Rattle.world_rules.specs.Applying.{notes}
 use Rattle.node_rules.specs.Conditions.{Fitness}
+use Rattle.node_rules.specs.Entries.{told_lines}
 use Rattle.node_rules.specs.Moments.{Goes, Moment, works}
 use Rattle.node_rules.specs.Moments.Goes.{Notes}
 use Rattle.node_rules.specs.Moments.Walks.{Stays, Then}
@@ -20,11 +21,11 @@ use Rattle.group_rules.specs.Work as group_work
 use Rattle.group_rules.specs.Work.{Act}
 use Rattle.world_rules.specs.Frame.{Frame, group}
 use Rattle.world_rules.specs.Mail.{Mail}
-use Rattle.world_rules.specs.Nodes.{Deed, NodeWork, aside_of, entries_of as known_entries, joins, mails_of}
+use Rattle.world_rules.specs.Nodes.{Deed, NodeWork, aside_of, entries_of, joins, mails_of}
 use Rattle.world_rules.specs.Nodes.Deed.{Acts}
 use Rattle.world_rules.specs.Processes.{processes_in}
 use Rattle.node_core.specs.Shown.{IsPlayedIf, Left, Stood, on_errand, on_given}
-use Rattle.node_core.specs.Stands.{IsAt, IsWork, entries_of, on_known, sent}
+use Rattle.node_core.specs.Stands.{IsAt, IsWork, on_known, sent}
 use Rattle.node_core.specs.declared.moved.Moved.{Moved}
 use Rattle.node_core.specs.declared.node.Node.{Node}
 use Rattle.node_core.specs.declared.work.Work.{Work}
@@ -42,7 +43,7 @@ acts_sent n (Act.Keeps packet ∷ acts) deeds = acts_sent n acts deeds
 acts_sent n (Act.Orders k x ∷ acts) deeds = acts_sent n acts deeds
 acts_sent n (Act.Begins k log answers ∷ acts) deeds = acts_sent n acts deeds
 
-acts_entries : (acts : List (Act Message)) (deeds : List Deed) → entries_of (map Acts acts ++ deeds) ≡ entries_of deeds
+acts_entries : (acts : List (Act Message)) (deeds : List Deed) → told_lines (map Acts acts ++ deeds) ≡ told_lines deeds
 acts_entries [] deeds = refl
 acts_entries (act ∷ acts) deeds = acts_entries acts deeds
 
@@ -54,7 +55,7 @@ acts_aside (act ∷ acts) deeds = acts_aside acts deeds
 pub joined : {P S : Type 0} (stood : Stood S) (left : Left S) (f : Frame) (m : ℕ) (old new : Work P S) (sends : List (Letter Message Reply)) (work : group_work.Work Message) (v : NodeWork)
     → AtWork (group f) m new.node.member sends work → new.node ≡ record old.node { member = new.node.member }
     → new.moved ≡ record old.moved { sends = new.moved.sends } → new.moved.sends.items ≡ old.moved.sends.items ++ sends
-    → known_entries (joins work v).node ≡ known_entries v.node
+    → entries_of (joins work v).node ≡ entries_of v.node
     → IsWork stood left f m old v → IsWork stood left f m new (joins work v)
 joined {P} {S} stood left f m old new sends work v does same others posts kept h = record {
   node = record {
@@ -126,7 +127,7 @@ note_goes stood left f fitness m old new hand u sends number is below row same o
     (subst (λ (w : NodeWork). IsWork stood left f m new w) (sym one_note)
     (joined stood left f m old new sends work u.work
     (subst (λ (n : ℕ). AtWork (group f) m new.node.member sends (note (group f) m n u.work.node.member)) here (row at.work.node.member))
-    same others posts (ap (λ (w : NodeWork). known_entries w.node) (sym one_note) ∙ (at.fits u (Stays u)).kept) at.work)) at
+    same others posts (ap (λ (w : NodeWork). entries_of w.node) (sym one_note) ∙ (at.fits u (Stays u)).kept) at.work)) at
   where
     work : group_work.Work Message
     work = note (group f) m u.work.node.copies.applied u.work.node.member

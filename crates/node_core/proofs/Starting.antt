@@ -1,5 +1,5 @@
 -- The first piece of an event, and what follows it up to the event's end.
-use Rattle.std.proofs.Common.{◌≡◌, ◌<◌, ◌^◌, ◌++◌, ℕ, zero, suc, Bool, true, false, List, [], Option, Some, None, refl, sym, subst, if◌then◌else◌}
+use Rattle.std.proofs.Common.{◌≡◌, ◌<◌, ◌^◌, ◌++◌, ℕ, zero, suc, Bool, true, false, List, [], Option, Some, None, append-nil, refl, sym, ap, ◌∙◌, subst, if◌then◌else◌}
 use Rattle.value_core.specs.declared.action.Action.{Action}
 use Rattle.value_core.specs.declared.action.Reply.{Reply}
 use Rattle.value_core.specs.declared.message.Message.{Message}
@@ -17,7 +17,7 @@ use Rattle.group_member.specs.declared.timer.Timed.TheVariants.{Due}
 use Rattle.group_reset.specs.Calls.{IsSome}
 use Rattle.world_rules.specs.Frame.{Frame, bytes_of, group, name_of}
 use Rattle.world_rules.specs.Nodes as nodes
-use Rattle.world_rules.specs.Nodes.{Deed, NodeWork, does, entries_of, idle, known, mails_of, plays}
+use Rattle.world_rules.specs.Nodes.{NodeWork, does, entries_of, idle, plays}
 use Rattle.world_rules.specs.Nodes.Deed.{Submits}
 use Rattle.world_rules.specs.Applying.{applies_all}
 use Rattle.world_rules.specs.Owners.{takes_reached}
@@ -31,17 +31,19 @@ use Rattle.node_rules.specs.Moments.Walks.{Stays}
 use Rattle.node_rules.specs.Starts.{EventFits, Start, begun, part}
 use Rattle.node_rules.specs.Starts.Start.{Acts, Comes, Suspects, Ticks}
 use Rattle.node_rules.proofs.Walking.{walk_on, walk_one}
-use Rattle.node_core.specs.Calls.{GoesFree, HasMoved, IsFree}
-use Rattle.node_core.specs.Events.{HasCome, HasStarted, HasSubmitted, IsIdle, MayComeFrom, MayStart}
+use Rattle.node_core.specs.Calls.{GoesFree, HasGathered, HasMoved, IsFree}
+use Rattle.node_core.specs.Entries.{Gathers}
+use Rattle.node_core.specs.Events.{HasCome, HasDelivered, HasDone, HasStarted, HasSubmitted, IsIdle, MayComeFrom, MayStart}
 use Rattle.node_core.specs.Pieces.{Becomes, GoesOn, IsSomewhere, resident_at}
 use Rattle.node_core.specs.Shown.{Left, Stood}
-use Rattle.node_core.specs.Stands.{Does as DoesEvent, IsAt, IsDone, IsMoved, IsWork, MayDo, MayTakePacket, StandsAs, StandsAlike, TakesPacket}
+use Rattle.node_core.specs.Stands.{Does as DoesEvent, IsAt, IsDone, IsWork, MayDo, MayTakePacket, StandsAlike, TakesPacket}
 use Rattle.node_core.specs.declared.moved.Moved.{Moved}
 use Rattle.node_core.specs.declared.node.Node.{Node}
 use Rattle.node_core.specs.declared.resident.Resident.{Resident}
 use Rattle.node_core.specs.declared.resident.Stage.{Stage}
 use Rattle.node_core.specs.declared.resident.Stage.TheVariants as at_stage
 use Rattle.node_core.specs.declared.work.Work.{Work}
+use Rattle.node_core.proofs.Gathering.{kept_again, kept_reached}
 use Rattle.node_core.proofs.Noting.{joined}
 use Rattle.node_core.proofs.Sending.{waits_first}
 
@@ -70,6 +72,13 @@ pub caught_up : {P S : Type 0} (stood : Stood S) (left : Left S) (f : Frame) (fi
     → GoesOn stood left f fitness old mid (applies_all f) → GoesFree stood left f fitness mid new (takes_reached f) → GoesFree stood left f fitness old new (catches_up f)
 caught_up stood left f fitness old mid new applied taken m u at = taken m (works (applies_all f m u.work) u) (applied m [] u at)
 
+-- and so it gathered the entries that it applied
+pub gathered_up : {P S : Type 0} (stood : Stood S) (left : Left S) (f : Frame) (fitness : Fitness) (old : Work P S) (none messages : List Message) → none ≡ []
+    → Gathers stood left f fitness old none messages (applies_all f) → HasGathered stood left f fitness old messages (catches_up f)
+gathered_up stood left f fitness old none messages empty gathers m u at =
+    let first : List Message = entries_of u.work.node in
+    gathers m [] u first at (ap (λ (l : List Message). first ++ l) empty ∙ append-nil first) ∙ sym (kept_reached f m (applies_all f m u.work))
+
 -- ---- after the first piece
 
 -- where it comes to from there the conditions hold
@@ -82,10 +91,10 @@ pub may_start : {P S : Type 0} (stood : Stood S) (left : Left S) (f : Frame) (fi
     → MayDo stood left f fitness s start → MayStart stood left f fitness start work
 may_start stood left f fitness start s work idles (v, stands, fits) = (s.member.me, v, idles f s.member.me v stands, fits)
 
-pub started_free : {P S : Type 0} (stood : Stood S) (left : Left S) (f : Frame) (fitness : Fitness) (start : Start) (s : Node P S) (work new : Work P S) → IsIdle stood left s work
-    → MayDo stood left f fitness s start → HasStarted stood left f fitness start work new → IsFree stood left f fitness new
-started_free stood left f fitness start s work new idles (v, stands, fits) has =
-    (s.member.me, at_work (begun f s.member.me start v), started_at stood left f fitness s.member.me start v new (has s.member.me v (idles f s.member.me v stands) fits) fits)
+pub started_free : {P S : Type 0} (stood : Stood S) (left : Left S) (f : Frame) (fitness : Fitness) (start : Start) (old new : Work P S) → MayStart stood left f fitness start old
+    → HasStarted stood left f fitness start old new → IsFree stood left f fitness new
+started_free stood left f fitness start old new (m, v, work, fits) has =
+    (m, at_work (begun f m start v), started_at stood left f fitness m start v new (has m v work fits) fits)
 
 -- ---- a tick's Asks
 
@@ -111,50 +120,70 @@ asks_at stood left f fitness m v s new work fits becomes = record {
   fits = λ x walk. fits.moments x (walk_on f m (at_work (begun f m Ticks v)) (at_work (asks_again f m (begun f m Ticks v))) x (walks_again f m (begun f m Ticks v)) walk);
 }
 
-pub asked_free : {P S : Type 0} (stood : Stood S) (left : Left S) (f : Frame) (fitness : Fitness) (s : Node P S) (work timed new : Work P S) → IsIdle stood left s work
-    → MayDo stood left f fitness s Ticks → HasStarted stood left f fitness Ticks work timed → Becomes stood left timed new asks_again → IsFree stood left f fitness new
-asked_free stood left f fitness s work timed new idles (v, stands, fits) has becomes = (
-  s.member.me,
-  at_work (asks_again f s.member.me (begun f s.member.me Ticks v)),
-  asks_at stood left f fitness s.member.me v timed new (has s.member.me v (idles f s.member.me v stands) fits) fits becomes,
+pub asked_free : {P S : Type 0} (stood : Stood S) (left : Left S) (f : Frame) (fitness : Fitness) (old timed new : Work P S) → MayStart stood left f fitness Ticks old
+    → HasStarted stood left f fitness Ticks old timed → Becomes stood left timed new asks_again → IsFree stood left f fitness new
+asked_free stood left f fitness old timed new (m, v, work, fits) has becomes = (
+  m,
+  at_work (asks_again f m (begun f m Ticks v)),
+  asks_at stood left f fitness m v timed new (has m v work fits) fits becomes,
 )
 
 -- ---- the event is done
 
-done : {P S : Type 0} (stood : Stood S) (left : Left S) (f : Frame) (fitness : Fitness) (m : ℕ) (s : Work P S) (new : Node P S) (moved : Moved) (u : Moment)
-    → new ≡ s.node → moved ≡ s.moved → IsAt stood left f fitness m s [] u → IsDone stood left f m new moved u.work
-done {P} {S} stood left f fitness m s new moved u node did at = record {
-  node = subst (λ (n : Node P S). StandsAs stood left f m n u.work.node) (sym node) at.work.node;
-  did = subst (λ (d : Moved). IsMoved f.settings.nodes d u.work.deeds) (sym did) at.work.moved;
-}
+-- where it caught up, from the moment after its first piece
+done : {P S : Type 0} (stood : Stood S) (left : Left S) (f : Frame) (fitness : Fitness) (m : ℕ) (mid end : Work P S) (u : Moment) (before : nodes.Node) → entries_of u.work.node ≡ entries_of before
+    → IsAt stood left f fitness m mid [] u → GoesFree stood left f fitness mid end (catches_up f) → HasGathered stood left f fitness mid end.moved.messages.items (catches_up f)
+    → IsDone stood left f m end.node end.moved before (catches_up f m u.work)
+done stood left f fitness m mid end u before kept at goes gathered =
+    let to = goes m u at in
+    record {
+      node = to.work.node;
+      did = to.work.moved;
+      messages = ap (λ (l : List Message). l ++ end.moved.messages.items) (sym kept) ∙ gathered m u at;
+    }
 
 -- an action is carried out
-pub acts_done : {P S : Type 0} (stood : Stood S) (left : Left S) (f : Frame) (fitness : Fitness) (i : ℕ) (s new : Node P S) (work mid end : Work P S) (moved : Moved) → IsIdle stood left s work
-    → HasStarted stood left f fitness (Acts i) work mid → GoesFree stood left f fitness mid end (catches_up f) → new ≡ end.node → moved ≡ end.moved
-    → DoesEvent stood left f fitness s new moved (Acts i)
-acts_done stood left f fitness i s new work mid end moved idles has goes node did v stands fits =
-    let m : ℕ = s.member.me in
-    done stood left f fitness m end new moved (at_work (part f m (Acts i) v)) node did
-    (goes m (at_work (begun f m (Acts i) v)) (started_at stood left f fitness m (Acts i) v mid (has m v (idles f m v stands) fits) fits))
+pub acts_done : {P S : Type 0} (stood : Stood S) (left : Left S) (f : Frame) (fitness : Fitness) (i : ℕ) (old mid end : Work P S) → HasStarted stood left f fitness (Acts i) old mid
+    → GoesFree stood left f fitness mid end (catches_up f) → HasGathered stood left f fitness mid end.moved.messages.items (catches_up f) → HasDone stood left f fitness (Acts i) old end
+acts_done stood left f fitness i old mid end has goes gathered m v work fits =
+    done stood left f fitness m mid end (at_work (begun f m (Acts i) v)) v fits.kept (started_at stood left f fitness m (Acts i) v mid (has m v work fits) fits) goes gathered
 
 -- it coordinates
-pub suspects_done : {P S : Type 0} (stood : Stood S) (left : Left S) (f : Frame) (fitness : Fitness) (s new : Node P S) (work mid end : Work P S) (moved : Moved) → IsIdle stood left s work
-    → HasStarted stood left f fitness Suspects work mid → GoesFree stood left f fitness mid end (catches_up f) → new ≡ end.node → moved ≡ end.moved
-    → DoesEvent stood left f fitness s new moved Suspects
-suspects_done stood left f fitness s new work mid end moved idles has goes node did v stands fits =
-    let m : ℕ = s.member.me in
-    done stood left f fitness m end new moved (at_work (part f m Suspects v)) node did
-    (goes m (at_work (begun f m Suspects v)) (started_at stood left f fitness m Suspects v mid (has m v (idles f m v stands) fits) fits))
+pub suspects_done : {P S : Type 0} (stood : Stood S) (left : Left S) (f : Frame) (fitness : Fitness) (old mid end : Work P S) → HasStarted stood left f fitness Suspects old mid
+    → GoesFree stood left f fitness mid end (catches_up f) → HasGathered stood left f fitness mid end.moved.messages.items (catches_up f) → HasDone stood left f fitness Suspects old end
+suspects_done stood left f fitness old mid end has goes gathered m v work fits =
+    done stood left f fitness m mid end (at_work (begun f m Suspects v)) v fits.kept (started_at stood left f fitness m Suspects v mid (has m v work fits) fits) goes gathered
 
 -- time passes
-pub ticks_done : {P S : Type 0} (stood : Stood S) (left : Left S) (f : Frame) (fitness : Fitness) (s new : Node P S) (work timed mid end : Work P S) (moved : Moved) → IsIdle stood left s work
-    → HasStarted stood left f fitness Ticks work timed → Becomes stood left timed mid asks_again → GoesFree stood left f fitness mid end (catches_up f) → new ≡ end.node → moved ≡ end.moved
-    → DoesEvent stood left f fitness s new moved Ticks
-ticks_done stood left f fitness s new work timed mid end moved idles has becomes goes node did v stands fits =
-    let m : ℕ = s.member.me in
-    done stood left f fitness m end new moved (at_work (part f m Ticks v)) node did
-    (goes m (at_work (asks_again f m (begun f m Ticks v)))
-    (asks_at stood left f fitness m v timed mid (has m v (idles f m v stands) fits) fits becomes))
+pub ticks_done : {P S : Type 0} (stood : Stood S) (left : Left S) (f : Frame) (fitness : Fitness) (old timed mid end : Work P S) → HasStarted stood left f fitness Ticks old timed
+    → Becomes stood left timed mid asks_again → GoesFree stood left f fitness mid end (catches_up f) → HasGathered stood left f fitness mid end.moved.messages.items (catches_up f)
+    → HasDone stood left f fitness Ticks old end
+ticks_done stood left f fitness old timed mid end has becomes goes gathered m v work fits =
+    done stood left f fitness m mid end (at_work (asks_again f m (begun f m Ticks v))) v (kept_again f m (begun f m Ticks v) ∙ fits.kept)
+    (asks_at stood left f fitness m v timed mid (has m v work fits) fits becomes) goes gathered
+
+-- a packet comes
+pub comes_done : {P S : Type 0} (stood : Stood S) (left : Left S) (f : Frame) (fitness : Fitness) (from : ℕ) (packet : Packet Message Reply) (old mid end : Work P S)
+    → HasCome stood left f fitness from packet old mid → GoesFree stood left f fitness mid end (catches_up f)
+    → HasGathered stood left f fitness mid end.moved.messages.items (catches_up f) → HasDelivered stood left f fitness from packet old end
+comes_done stood left f fitness from packet old mid end has goes gathered mail m v post work fits =
+    done stood left f fitness m mid end (at_work (begun f m (Comes mail) v)) v fits.kept (started_at stood left f fitness m (Comes mail) v mid (has mail m v post work fits) fits) goes gathered
+
+-- and the work takes the node's place
+placed : {P S : Type 0} (stood : Stood S) (left : Left S) (f : Frame) (m : ℕ) (new : Node P S) (moved : Moved) (end : Work P S) (before : nodes.Node) (v : NodeWork)
+    → new ≡ end.node → moved ≡ end.moved → IsDone stood left f m end.node end.moved before v → IsDone stood left f m new moved before v
+placed {P} {S} stood left f m new moved end before v node did is =
+    subst (λ (n : Node P S). IsDone stood left f m n moved before v) (sym node) (subst (λ (d : Moved). IsDone stood left f m end.node d before v) (sym did) is)
+
+pub event_done : {P S : Type 0} (stood : Stood S) (left : Left S) (f : Frame) (fitness : Fitness) (start : Start) (s new : Node P S) (work end : Work P S) (moved : Moved) → IsIdle stood left s work
+    → HasDone stood left f fitness start work end → new ≡ end.node → moved ≡ end.moved → DoesEvent stood left f fitness s new moved start
+event_done stood left f fitness start s new work end moved idles has node did v stands fits =
+    let m : ℕ = s.member.me in placed stood left f m new moved end v (part f m start v) node did (has m v (idles f m v stands) fits)
+
+pub packet_done : {P S : Type 0} (stood : Stood S) (left : Left S) (f : Frame) (fitness : Fitness) (from : ℕ) (packet : Packet Message Reply) (s new : Node P S) (work end : Work P S) (moved : Moved)
+    → IsIdle stood left s work → HasDelivered stood left f fitness from packet work end → new ≡ end.node → moved ≡ end.moved → TakesPacket stood left f fitness from packet s new moved
+packet_done stood left f fitness from packet s new work end moved idles has node did mail post v stands fits =
+    let m : ℕ = s.member.me in placed stood left f m new moved end v (part f m (Comes mail) v) node did (has mail m v post (idles f m v stands) fits)
 
 -- ---- its member in the group takes a step
 
@@ -205,21 +234,13 @@ pub may_come : {P S : Type 0} (stood : Stood S) (left : Left S) (f : Frame) (fit
     → MayTakePacket stood left f fitness from packet s → MayComeFrom stood left f fitness from packet work
 may_come stood left f fitness from packet s work idles (mail, post, (v, stands, fits)) = (mail, s.member.me, v, post, idles f s.member.me v stands, fits)
 
-pub come_free : {P S : Type 0} (stood : Stood S) (left : Left S) (f : Frame) (fitness : Fitness) (from : ℕ) (packet : Packet Message Reply) (s : Node P S) (work new : Work P S) → IsIdle stood left s work
-    → MayTakePacket stood left f fitness from packet s → HasCome stood left f fitness from packet work new → IsFree stood left f fitness new
-come_free stood left f fitness from packet s work new idles (mail, post, (v, stands, fits)) has = (
-  s.member.me,
-  at_work (begun f s.member.me (Comes mail) v),
-  started_at stood left f fitness s.member.me (Comes mail) v new (has mail s.member.me v post (idles f s.member.me v stands) fits) fits,
+pub come_free : {P S : Type 0} (stood : Stood S) (left : Left S) (f : Frame) (fitness : Fitness) (from : ℕ) (packet : Packet Message Reply) (old new : Work P S)
+    → MayComeFrom stood left f fitness from packet old → HasCome stood left f fitness from packet old new → IsFree stood left f fitness new
+come_free stood left f fitness from packet old new (mail, m, v, post, work, fits) has = (
+  m,
+  at_work (begun f m (Comes mail) v),
+  started_at stood left f fitness m (Comes mail) v new (has mail m v post work fits) fits,
 )
-
-pub comes_done : {P S : Type 0} (stood : Stood S) (left : Left S) (f : Frame) (fitness : Fitness) (from : ℕ) (packet : Packet Message Reply) (s new : Node P S) (work mid end : Work P S) (moved : Moved)
-    → IsIdle stood left s work → HasCome stood left f fitness from packet work mid → GoesFree stood left f fitness mid end (catches_up f) → new ≡ end.node → moved ≡ end.moved
-    → TakesPacket stood left f fitness from packet s new moved
-comes_done stood left f fitness from packet s new work mid end moved idles has goes node did mail post v stands fits =
-    let m : ℕ = s.member.me in
-    done stood left f fitness m end new moved (at_work (part f m (Comes mail) v)) node did
-    (goes m (at_work (begun f m (Comes mail) v)) (started_at stood left f fitness m (Comes mail) v mid (has mail m v post (idles f m v stands) fits) fits))
 
 -- ---- a tick at which it is due
 

@@ -21,7 +21,8 @@ use Rattle.world_rules.specs.Nodes.{NodeWork}
 use Rattle.world_rules.specs.Processes.{Begun, home_in, singles_of}
 use Rattle.node_rules.specs.Conditions.{Fitness}
 use Rattle.node_core.specs.Entries.{AppliesNext, Begins, HasTaken, IsBorn, KnowsAs, Refused, Took, listed}
-use Rattle.node_core.specs.Pieces.{GoesOn, IsNext}
+use Rattle.node_core.specs.Calls.{GoesFree}
+use Rattle.node_core.specs.Pieces.{IsNext}
 use Rattle.node_core.specs.Shown.{Left, Stood}
 use Rattle.node_core.specs.Stands.{IsMoved, StandsAs}
 use Rattle.node_core.specs.declared.moved.Moved.{Moved}
@@ -80,11 +81,11 @@ begins_unborn stood left f number (action.Call kind op object args) s m parent v
 begins_unborn stood left f number action.Ended s m parent v work is = work
 begins_unborn stood left f number (action.Faulted fault) s m parent v work is = work
 
--- the entry itself is kept, which changes nothing
-pub goes_kept : {P S : Type 0} (stood : Stood S) (left : Left S) (f : Frame) (fitness : Fitness) (old mid new : Work P S) (piece : ℕ → NodeWork → NodeWork)
-    → new.node ≡ mid.node → new.moved ≡ record mid.moved { messages = new.moved.messages } → GoesOn stood left f fitness old mid piece → GoesOn stood left f fitness old new piece
-goes_kept {P} {S} stood left f fitness old mid new piece node moved goes m hand u at =
-    let there = goes m hand u at in
+-- the entries themselves are kept, which changes nothing
+pub free_kept : {P S : Type 0} (stood : Stood S) (left : Left S) (f : Frame) (fitness : Fitness) (old mid new : Work P S) (piece : ℕ → NodeWork → NodeWork)
+    → new.node ≡ mid.node → new.moved ≡ record mid.moved { messages = new.moved.messages } → GoesFree stood left f fitness old mid piece → GoesFree stood left f fitness old new piece
+free_kept {P} {S} stood left f fitness old mid new piece node moved goes m u at =
+    let there = goes m u at in
     record {
       work = record {
         node = subst (λ (n : Node P S). StandsAs stood left f m n (piece m u.work).node) (sym node) there.work.node;
@@ -114,7 +115,7 @@ taken_in f p old mid new x y z taken lines born is first second forks took some 
 -- what the code refused stays where it was
 pub refused_in : {P S : Type 0} (stood : Stood S) (left : Left S) (f : Frame) (fitness : Fitness) (p : Performs) (old new : Work P S) (x z : Message) (taken : Option (Vec Answered Global)) → EntryLaw Message Reply
     → IsNext old.node x → z ≡ x → p ≡ f.performs → HasTaken p old.node new.node z taken → taken ≡ None
-    → new.node ≡ record old.node { copies = new.node.copies } → new.moved ≡ old.moved → AppliesNext stood left f fitness old new false
+    → new.node ≡ record old.node { copies = new.node.copies } → new.moved ≡ old.moved → AppliesNext stood left f fitness old new None
 refused_in stood left f fitness p old new x z taken law next same is took none node moved =
     refused_next stood left f fitness p old new x law next is (subst (λ (a : Message). HasTaken p old.node new.node a None) same (subst (λ (o : Option (Vec Answered Global)). HasTaken p old.node new.node z o) none took)) node moved
 

@@ -1,5 +1,5 @@
 -- A member at work: one of its processes changes.
-use Rattle.std.proofs.Common.{◌≡◌, ◌==◌, ℕ, Bool, true, false, map, Option, Some, None, refl, sym, ap, ◌∙◌, subst, slice_index_or, if◌then◌else◌, Result, Ok, Err, OnOk}
+use Rattle.std.proofs.Common.{◌≡◌, ◌==◌, ℕ, Bool, true, false, List, map, Option, Some, None, refl, sym, ap, ◌∙◌, subst, slice_index_or, if◌then◌else◌, Result, Ok, Err, IfOk, OnOk}
 use Rattle.std.proofs.lemmas.Bool.{eqb-true}
 use Rattle.group_rules.specs.Sets.{with_at}
 use Rattle.group_member.specs.StandsFor.{StandsFor}
@@ -7,9 +7,11 @@ use Rattle.world_rules.specs.Frame.{Frame, group}
 use Rattle.world_rules.specs.Nodes as nodes
 use Rattle.world_rules.specs.Nodes.{NodeWork, changes, if_played, plays}
 use Rattle.world_rules.specs.Played.{Played}
+use Rattle.node_core.specs.Calls.{HasKept, given_at}
 use Rattle.node_core.specs.Pieces.{HasPut, resident_at}
 use Rattle.node_core.specs.Shown.{IsPlayed, IsPlayedIf, Left, Stood, on_errand, on_given}
 use Rattle.node_core.specs.Stands.{IsMoved, IsWork, StandsAs}
+use Rattle.node_core.specs.declared.errand.Given.{Given}
 use Rattle.node_core.specs.declared.moved.Moved.{Moved}
 use Rattle.node_core.specs.declared.node.Node.{Node}
 use Rattle.node_core.specs.declared.resident.Resident.{Resident}
@@ -27,6 +29,19 @@ pub some_here : {S : Type 0} (stood : Stood S) (left : Left S) (i : ℕ) (s : Op
 some_here stood left i None a r is here = absurd (cc is)
 some_here stood left i (Some s) a None is here = absurd here
 some_here stood left i (Some s) a (Some p) is here = (p, refl, (let e : s ≡ a = cc is in subst (λ (x : Resident _). IsPlayed stood left i x p) e here))
+
+-- a value put in its place: the others are as they were
+pub with_same : {A : Type 0} (xs ys : List (Option A)) (k : ℕ) (x : Option A) (i : ℕ) → slice_index_or xs i None ≡ slice_index_or ys i None
+    → with_at (λ j. slice_index_or xs j None) k x i ≡ with_at (λ j. slice_index_or ys j None) k x i
+with_same {A} xs ys k x i same = ap (λ (y : Option A). if i == k then x else y) same
+
+pub has_put : {P S : Type 0} (k : ℕ) (s : Resident S) (old new : Node P S) → new ≡ record old { residents = new.residents }
+    → ((i : ℕ) → resident_at new i ≡ with_at (resident_at old) k (Some s) i) → HasPut k s old new
+has_put k s old new others put = record { others = others; put = put }
+
+pub has_kept : {P S : Type 0} (k : ℕ) (x : Given) (old new : Work P S) → new ≡ record old { node = record old.node { given = new.node.given } }
+    → ((i : ℕ) → given_at new.node i ≡ with_at (given_at old.node) k (Some x) i) → HasKept k x old new
+has_kept k x old new others kept = record { others = others; kept = kept }
 
 -- a change of a process that isn't here changes nothing
 pub unplayed : {P S : Type 0} (stood : Stood S) (left : Left S) (f : Frame) (m i : ℕ) (change : Played → Played) (s : Work P S) (v : NodeWork)
@@ -76,3 +91,22 @@ ok_map (Err e) P Q f h = h
 pub ok_so : {T E : Type 0} (r : Result T E) (P : Type 0) → P → OnOk r P
 ok_so (Ok x) P h = h
 ok_so (Err e) P h = tt
+
+-- and so do two of it
+pub ok_two : {T E : Type 0} (r : Result T E) (P Q R : Type 0) → (P → Q → R) → OnOk r P → OnOk r Q → OnOk r R
+ok_two (Ok x) P Q R f h k = f h k
+ok_two (Err e) P Q R f h k = tt
+
+-- and what is so of what came of it
+pub ok_each : {T E : Type 0} (r : Result T E) (P Q : T → Type 0) → ((x : T) → P x → Q x) → IfOk r P → IfOk r Q
+ok_each (Ok x) P Q f h = f x h
+ok_each (Err e) P Q f h = h
+
+pub ok_from : {T E : Type 0} (r : Result T E) (P : T → Type 0) (Q : Type 0) → ((x : T) → P x → Q) → IfOk r P → OnOk r Q
+ok_from (Ok x) P Q f h = f x h
+ok_from (Err e) P Q f h = tt
+
+-- what is so of success is so where it succeeded
+pub ok_done : {E : Type 0} (r : Result (Unit {0}) E) (P : Type 0) → r ≡ Ok tt → OnOk r P → P
+ok_done (Ok x) P is h = h
+ok_done (Err e) P is h = absurd (cc is)

@@ -1,6 +1,6 @@
 -- What a member's private calls ask and do of calls on single objects, while it is at work in an event: at the owner, and the Asks and
 -- Answers that bring them there and their replies back.
-use Rattle.std.specs.Prelude.{◌≡◌, ◌==◌, ℕ, Bool, false, [], Option, None, Some, slice_index_or}
+use Rattle.std.specs.Prelude.{◌≡◌, ◌==◌, ◌++◌, ℕ, Bool, false, List, [], Option, None, Some, slice_index_or}
 use Rattle.orca_base.specs.declared.ids.CallNo.{CallNo}
 use Rattle.orca_base.specs.declared.ids.ObjectId.{ObjectId}
 use Rattle.orca_base.specs.declared.ids.ProcessNo.{ProcessNo}
@@ -14,7 +14,7 @@ use Rattle.group_rules.specs.Sets.{with_at}
 use Rattle.world_rules.specs.Frame.{Frame}
 use Rattle.world_rules.specs.Mail as mail
 use Rattle.world_rules.specs.Nodes as nodes
-use Rattle.world_rules.specs.Nodes.{NodeWork, known, plays}
+use Rattle.world_rules.specs.Nodes.{NodeWork, entries_of, known, plays}
 use Rattle.world_rules.specs.Owners.{sends_given}
 use Rattle.world_rules.specs.Parts.{asks, reads}
 use Rattle.world_rules.specs.Played.{Played, moves_to, next_call}
@@ -134,6 +134,11 @@ IsFree stood left f fitness s = (m : ℕ) × (u : Moment) × IsAt stood left f f
 abbrev pub GoesFree : {P S : Type 0} → Stood S → Left S → Frame → Fitness → Work P S → Work P S → (ℕ → NodeWork → NodeWork) → Type 0
 GoesFree stood left f fitness old new piece =
     (m : ℕ) (u : Moment) → IsAt stood left f fitness m old [] u → IsAt stood left f fitness m new [] (works (piece m u.work) u)
+
+-- at whichever such moment it was, these messages stand behind the entries that its copies had applied, once the piece is done
+abbrev pub HasGathered : {P S : Type 0} → Stood S → Left S → Frame → Fitness → Work P S → List Message → (ℕ → NodeWork → NodeWork) → Type 0
+HasGathered stood left f fitness old messages piece =
+    (m : ℕ) (u : Moment) → IsAt stood left f fitness m old [] u → entries_of u.work.node ++ messages ≡ entries_of (piece m u.work).node
 
 -- ---- an Act's first piece
 

@@ -1,5 +1,5 @@
 -- What the calls that apply a member's next entry ask and do, piece by piece.
-use Rattle.std.specs.Prelude.{◌≡◌, ◌<◌, ◌^◌, ◌==◌, ℕ, Bool, true, false, List, [], ◌∷◌, length, map, is_some, Option, None, Some, Vec, slice_get}
+use Rattle.std.specs.Prelude.{◌≡◌, ◌<◌, ◌^◌, ◌==◌, ◌++◌, ℕ, true, false, List, [], ◌∷◌, length, map, is_some, Option, None, Some, Vec, slice_get}
 use Rattle.std.specs.declared.alloc.Global.{Global}
 use Rattle.orca_base.specs.declared.ids.TextNo.{TextNo}
 use Rattle.value_core.specs.Datum.{Data}
@@ -11,16 +11,14 @@ use Rattle.value_core.specs.declared.action.Line.{Line}
 use Rattle.value_core.specs.declared.message.Message.{Message}
 use Rattle.guard_queue.specs.Settles.{lines_of}
 use Rattle.guard_queue.specs.declared.settling.Answered.{Answered}
-use Rattle.object_manager.specs.After.{Copied}
-use Rattle.object_manager.specs.Applies.{Applies, CopiesBlocked, CopiesFit}
 use Rattle.object_manager.specs.Limits.{too_many}
-use Rattle.book_law.specs.Fitness.{ArgsFit, ReplyFits, StateFits, TextFits}
+use Rattle.book_law.specs.Fitness.{ReplyFits, TextFits}
 use Rattle.book_law.specs.Members.{after_entry}
 use Rattle.book_law.specs.Passes.{lines_after}
 use Rattle.world_rules.specs.Applying.{applies_one, begins, passes_limit}
 use Rattle.world_rules.specs.Frame.{Frame}
 use Rattle.world_rules.specs.Nodes as nodes
-use Rattle.world_rules.specs.Nodes.{NodeWork}
+use Rattle.world_rules.specs.Nodes.{NodeWork, entries_of}
 use Rattle.world_rules.specs.Played.{Played}
 use Rattle.world_rules.specs.Played.Stage.{Computing}
 use Rattle.world_rules.specs.Processes.{Begun, begun_by, home_in, singles_of}
@@ -40,13 +38,6 @@ use Rattle.node_core.specs.declared.work.Work.{Work}
 pub record KnowsAs {P S : Type 0} (f : Frame) (processes : List Begun) (s : Node P S) : Type 0 where
   pub known : s.known.items ≡ map on_known processes
   pub choices : s.choices ≡ f.settings.choices
-
--- an entry with this action may be taken by the copies
-pub record MayTakeEntry (p : Performs) (fits_state : StateFits) (fits_args : ArgsFit) (c : Copied) (act : Action) : Type 0 where
-  pub fits : CopiesFit fits_state fits_args c
-  pub blocked : CopiesBlocked p c
-  pub applies : Applies fits_args c act
-  pub room : c.applied < 2 ^ 62
 
 -- no limit is passed; and whichever processes it knows, the copies are those after the entry, and these are its lines
 pub record Took {P S : Type 0} (p : Performs) (old new : Node P S) (x : Message) (answered : List Answered) : Type 0 where
@@ -115,11 +106,19 @@ Begins stood left f number born act old new =
 
 -- ---- the next entry
 
--- at whichever moment it was, the entry that is due is applied; or that passes a limit, and it stays at that moment
-abbrev pub AppliesNext : {P S : Type 0} → Stood S → Left S → Frame → Fitness → Work P S → Work P S → Bool → Type 0
-AppliesNext stood left f fitness old new true =
+-- at whichever moment it was, the entry that is due is this one, and is applied; or it passes a limit, and it stays at that moment
+abbrev pub AppliesNext : {P S : Type 0} → Stood S → Left S → Frame → Fitness → Work P S → Work P S → Option Message → Type 0
+AppliesNext stood left f fitness old new (Some y) =
     (m : ℕ) (hand : List Errand) (u : Moment) (x : Message) → IsAt stood left f fitness m old hand u → IsDue u.work.node x →
-    (passes_limit f u.work.node x ≡ false) × IsAt stood left f fitness m new hand (works (applies_one f m x u.work) u)
-AppliesNext stood left f fitness old new false =
+    (y ≡ x) × (passes_limit f u.work.node x ≡ false) × IsAt stood left f fitness m new hand (works (applies_one f m x u.work) u)
+AppliesNext stood left f fitness old new None =
     (m : ℕ) (hand : List Errand) (u : Moment) (x : Message) → IsAt stood left f fitness m old hand u → IsDue u.work.node x →
     (passes_limit f u.work.node x ≡ true) × IsAt stood left f fitness m new hand u
+
+-- at whichever moment it was: where the messages, behind some first entries, were those that the copies had applied, they are so after the
+-- piece
+abbrev pub Gathers : {P S : Type 0} → Stood S → Left S → Frame → Fitness → Work P S → List Message → List Message → (ℕ → NodeWork → NodeWork) →
+    Type 0
+Gathers stood left f fitness s old new piece =
+    (m : ℕ) (hand : List Errand) (u : Moment) (first : List Message) → IsAt stood left f fitness m s hand u →
+    first ++ old ≡ entries_of u.work.node → first ++ new ≡ entries_of (piece m u.work).node

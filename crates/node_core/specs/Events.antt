@@ -27,10 +27,10 @@ use Rattle.world_rules.specs.Parts.{submits}
 use Rattle.world_rules.specs.Played.{Played}
 use Rattle.world_rules.specs.Played.Stage.{Acting}
 use Rattle.node_rules.specs.Conditions.{Fitness}
-use Rattle.node_rules.specs.Starts.{EventFits, LetterFits, Start, begun}
+use Rattle.node_rules.specs.Starts.{EventFits, LetterFits, Start, begun, part}
 use Rattle.node_rules.specs.Starts.Start.{Comes}
 use Rattle.node_core.specs.Shown.{Left, Stood}
-use Rattle.node_core.specs.Stands.{IsPostOf, IsWork, StandsAs}
+use Rattle.node_core.specs.Stands.{IsDone, IsPostOf, IsWork, StandsAs}
 use Rattle.node_core.specs.declared.node.Node.{Node}
 use Rattle.node_core.specs.declared.resident.Resident.{Resident}
 use Rattle.node_core.specs.declared.resident.Stage.{Stage}
@@ -49,6 +49,12 @@ MayStart stood left f fitness start s = (m : ℕ) × (v : nodes.Node) × IsWork 
 abbrev pub HasStarted : {P S : Type 0} → Stood S → Left S → Frame → Fitness → Start → Work P S → Work P S → Type 0
 HasStarted stood left f fitness start old new =
     (m : ℕ) (v : nodes.Node) → IsWork stood left f m old (idle v) → EventFits f fitness m start v → IsWork stood left f m new (begun f m start v)
+
+-- of whichever it was, the whole event is done
+abbrev pub HasDone : {P S : Type 0} → Stood S → Left S → Frame → Fitness → Start → Work P S → Work P S → Type 0
+HasDone stood left f fitness start old new =
+    (m : ℕ) (v : nodes.Node) → IsWork stood left f m old (idle v) → EventFits f fitness m start v →
+    IsDone stood left f m new.node new.moved v (part f m start v)
 
 -- ---- an action is carried out
 
@@ -137,3 +143,9 @@ abbrev pub HasCome : {P S : Type 0} → Stood S → Left S → Frame → Fitness
 HasCome stood left f fitness from packet old new =
     (mail : Mail) (m : ℕ) (v : nodes.Node) → IsPostOf f.settings.nodes m from packet mail → IsWork stood left f m old (idle v) →
     EventFits f fitness m (Comes mail) v → IsWork stood left f m new (begun f m (Comes mail) v)
+
+-- and the whole event is done
+abbrev pub HasDelivered : {P S : Type 0} → Stood S → Left S → Frame → Fitness → ℕ → Packet Message Reply → Work P S → Work P S → Type 0
+HasDelivered stood left f fitness from packet old new =
+    (mail : Mail) (m : ℕ) (v : nodes.Node) → IsPostOf f.settings.nodes m from packet mail → IsWork stood left f m old (idle v) →
+    EventFits f fitness m (Comes mail) v → IsDone stood left f m new.node new.moved v (part f m (Comes mail) v)

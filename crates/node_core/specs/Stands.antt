@@ -1,6 +1,5 @@
 -- How a member's code stands for a member of the world, also while it is at work in an event.
-use Rattle.std.specs.Prelude.{◌≡◌, ℕ, List, [], ◌∷◌, ◌++◌, map, None, slice_index_or}
-use Rattle.value_core.specs.declared.action.Line.{Line}
+use Rattle.std.specs.Prelude.{◌≡◌, ℕ, List, ◌++◌, map, None, slice_index_or}
 use Rattle.value_core.specs.declared.action.Reply.{Reply}
 use Rattle.value_core.specs.declared.message.Message.{Message}
 use Rattle.group_packets.specs.declared.packet.Packet.{Packet}
@@ -11,10 +10,10 @@ use Rattle.book_law.specs.Fitness.{ArgsFit, ReplyFits, StateFits, TextFits}
 use Rattle.world_rules.specs.Frame.{Frame, group}
 use Rattle.world_rules.specs.Mail.{Mail, posted}
 use Rattle.world_rules.specs.Nodes as nodes
-use Rattle.world_rules.specs.Nodes.{Deed, NodeWork, aside_of, known, mails_of}
-use Rattle.world_rules.specs.Nodes.Deed.{Submits, Acts, Mails, Applies, Performs}
+use Rattle.world_rules.specs.Nodes.{Deed, NodeWork, aside_of, entries_of, known, mails_of}
 use Rattle.world_rules.specs.Processes.{Begun}
 use Rattle.node_rules.specs.Conditions.{Conditions, Fitness}
+use Rattle.node_rules.specs.Entries.{told_lines}
 use Rattle.node_rules.specs.Moments.{Moment, Walks}
 use Rattle.node_rules.specs.Starts.{EventFits, Start, part}
 use Rattle.node_rules.specs.Starts.Start.{Comes}
@@ -47,15 +46,6 @@ StandsAlike stood left s t = (f : Frame) (m : ℕ) (v : nodes.Node) → StandsAs
 
 -- ---- what it did
 
--- of each entry that was applied its lines, the first first
-abbrev pub entries_of : List Deed → List (List Line)
-entries_of [] = []
-entries_of (Submits x ∷ deeds) = entries_of deeds
-entries_of (Acts act ∷ deeds) = entries_of deeds
-entries_of (Mails mail ∷ deeds) = entries_of deeds
-entries_of (Applies lines ∷ deeds) = entries_of deeds ++ lines ∷ []
-entries_of (Performs performed ∷ deeds) = entries_of deeds
-
 -- a letter of the world, as it is sent
 abbrev pub sent : ℕ → Mail → Letter Message Reply
 sent nodes mail = told_to (posted nodes mail)
@@ -63,7 +53,7 @@ sent nodes mail = told_to (posted nodes mail)
 -- it did this
 pub record IsMoved (nodes : ℕ) (moved : Moved) (deeds : List Deed) : Type 0 where
   pub sends : moved.sends.items ≡ map (sent nodes) (mails_of deeds)
-  pub entries : moved.entries.items ≡ entries_of deeds
+  pub entries : moved.entries.items ≡ told_lines deeds
   pub aside : moved.aside.items ≡ aside_of deeds
 
 -- what fits, by a machine's predicates
@@ -91,16 +81,18 @@ abbrev pub MayDo : {P S : Type 0} → Stood S → Left S → Frame → Fitness �
 MayDo stood left f fitness s start =
     (v : nodes.Node) × StandsAs stood left f s.member.me s v × EventFits f fitness s.member.me start v
 
--- the part is done: the node stands for what is left, and this was done
-pub record IsDone {P S : Type 0} (stood : Stood S) (left : Left S) (f : Frame) (m : ℕ) (s : Node P S) (moved : Moved) (v : NodeWork) : Type 0 where
+-- the part of the node before is done: the node stands for what is left, this was done, and the messages are the entries that it applied
+pub record IsDone {P S : Type 0} (stood : Stood S) (left : Left S) (f : Frame) (m : ℕ) (s : Node P S) (moved : Moved) (before : nodes.Node)
+    (v : NodeWork) : Type 0 where
   pub node : StandsAs stood left f m s v.node
   pub did : IsMoved f.settings.nodes moved v.deeds
+  pub messages : entries_of before ++ moved.messages.items ≡ entries_of v.node
 
 -- of whichever node it stood for whose part may be done, it is
 abbrev pub Does : {P S : Type 0} → Stood S → Left S → Frame → Fitness → Node P S → Node P S → Moved → Start → Type 0
 Does stood left f fitness old new moved start =
     (v : nodes.Node) → StandsAs stood left f old.member.me old v → EventFits f fitness old.member.me start v →
-    IsDone stood left f old.member.me new moved (part f old.member.me start v)
+    IsDone stood left f old.member.me new moved v (part f old.member.me start v)
 
 -- ---- a packet
 

@@ -10,7 +10,8 @@ ghost use Rattle.world_rules.specs.Bursts.{read_on};
 ghost use Rattle.world_rules.specs.Nodes.{does, plays};
 ghost use Rattle.world_rules.specs.Nodes.Deed.{Applies};
 ghost use Rattle.world_rules.specs.Processes.{Begun, home_in, member_named};
-ghost use Rattle.node_core.specs.Entries.{AppliesNext, Begins, HasTaken, IsBorn, MayAnswerHere, MayBegin, MayTakeEntry, Took, listed, newborn_at};
+ghost use Rattle.node_rules.specs.Entries.{MayTakeEntry};
+ghost use Rattle.node_core.specs.Entries.{AppliesNext, Begins, Gathers, HasTaken, IsBorn, MayAnswerHere, MayBegin, Took, listed, newborn_at};
 ghost use Rattle.node_core.specs.Keeping.{KeepsBelow, KeepsTasks};
 ghost use Rattle.node_core.specs.Pieces.{Becomes, BecomesIn, GoesOn, IsNext, IsSomewhere, MayRead, MayReadAt, MayTryRead, line_read, resident_at};
 ghost use Rattle.node_core.specs.Stands.{fitness_of, on_known};
@@ -27,30 +28,43 @@ use std::alloc::Global;
 use value_core::{Action, Class, Line, Message, Parts, Reply, Tried};
 
 impl<P: OneRun> Work<P> {
-    // It applies its entries up to the accepted number and notes them, as long as that note lets more be accepted.
-    pub(crate) fn apply_all(&mut self, alloc: Global, machine: &P) -> Result<(), NoMemory>
+    // It applies its entries up to the accepted number and notes them, as long as that note lets more be accepted. They join the messages.
+    pub(crate) fn apply_all(
+        &mut self,
+        alloc: Global,
+        machine: &P,
+        messages: &mut Vec<Shared<Message>>,
+    ) -> Result<(), NoMemory>
         requires { IsSomewhere P.stood P.left P.run.frame (fitness_of (P.fits_state machine.now) (P.fits_args machine.now) (P.fits_text machine.now) (P.fits_reply machine.now)) self.old }
         ensures does { OnOk result (GoesOn P.stood P.left P.run.frame (fitness_of (P.fits_state machine.now) (P.fits_args machine.now) (P.fits_text machine.now) (P.fits_reply machine.now)) self.old self.new (applies_all P.run.frame)) }
+        ensures gathers { OnOk result (Gathers P.stood P.left P.run.frame (fitness_of (P.fits_state machine.now) (P.fits_args machine.now) (P.fits_text machine.now) (P.fits_reply machine.now)) self.old messages.old.items messages.new.items (applies_all P.run.frame)) }
         ensures tasks { OnOk result (KeepsTasks self.old.node self.new.node) }
     {
-        self.apply_due(alloc, machine)?;
+        self.apply_due(alloc, machine, messages)?;
         'rounds: while self.node.member.applied() < self.node.copies.applied() {
             self.note(alloc, machine)?;
-            self.apply_due(alloc, machine)?;
+            self.apply_due(alloc, machine, messages)?;
         }
         Ok(())
     }
 
-    // It applies its entries up to the accepted number, but none from the first one on that passes a limit.
-    fn apply_due(&mut self, alloc: Global, machine: &P) -> Result<(), NoMemory>
+    // It applies its entries up to the accepted number, but none from the first one on that passes a limit. They join the messages.
+    fn apply_due(
+        &mut self,
+        alloc: Global,
+        machine: &P,
+        messages: &mut Vec<Shared<Message>>,
+    ) -> Result<(), NoMemory>
         requires { IsSomewhere P.stood P.left P.run.frame (fitness_of (P.fits_state machine.now) (P.fits_args machine.now) (P.fits_text machine.now) (P.fits_reply machine.now)) self.old }
         ensures does { OnOk result (GoesOn P.stood P.left P.run.frame (fitness_of (P.fits_state machine.now) (P.fits_args machine.now) (P.fits_text machine.now) (P.fits_reply machine.now)) self.old self.new (applies P.run.frame)) }
+        ensures gathers { OnOk result (Gathers P.stood P.left P.run.frame (fitness_of (P.fits_state machine.now) (P.fits_args machine.now) (P.fits_text machine.now) (P.fits_reply machine.now)) self.old messages.old.items messages.new.items (applies P.run.frame)) }
         ensures tasks { OnOk result (KeepsTasks self.old.node self.new.node) }
     {
         'entries: while self.node.copies.applied() < self.node.member.accepted() {
-            if !self.apply_next(alloc, machine)? {
+            let Some(message) = self.apply_next(alloc, machine)? else {
                 return Ok(());
-            }
+            };
+            messages.push(message)?;
         }
         Ok(())
     }
@@ -70,8 +84,12 @@ impl<P: OneRun> Work<P> {
         self.post(sends)
     }
 
-    // It applies the next entry, unless that passes a limit: whether it did.
-    fn apply_next(&mut self, alloc: Global, machine: &P) -> Result<bool, NoMemory>
+    // It applies the next entry, which is this one, unless that passes a limit.
+    fn apply_next(
+        &mut self,
+        alloc: Global,
+        machine: &P,
+    ) -> Result<Option<Shared<Message>>, NoMemory>
         requires somewhere { IsSomewhere P.stood P.left P.run.frame (fitness_of (P.fits_state machine.now) (P.fits_args machine.now) (P.fits_text machine.now) (P.fits_reply machine.now)) self.old }
         requires due { self.old.node.copies.applied < self.old.node.member.accepted }
         ensures does { IfOk result (AppliesNext P.stood P.left P.run.frame (fitness_of (P.fits_state machine.now) (P.fits_args machine.now) (P.fits_text machine.now) (P.fits_reply machine.now)) self.old self.new) }
@@ -81,14 +99,13 @@ impl<P: OneRun> Work<P> {
         let number = self.node.copies.processes();
         let born = self.born_of(message.message());
         let Some(lines) = self.take_entry(alloc, machine, message.message())? else {
-            return Ok(false);
+            return Ok(None);
         };
         self.learn(born)?;
         self.answer(alloc, machine, lines)?;
         self.begin(alloc, machine, number, born, &message.message().action)?;
         self.try_reads(alloc, machine)?;
-        self.moved.messages.push(message)?;
-        Ok(true)
+        Ok(Some(message))
     }
 
     // The next entry, which is shared.

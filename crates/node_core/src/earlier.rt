@@ -2,8 +2,8 @@
 
 ghost use Rattle.std.specs.Prelude.{IfErr, IfOk, OnOk};
 ghost use Rattle.object_manager.specs.Limits.{IfLimit, too_many};
-ghost use Rattle.node_core.specs.Earlier.{HasTakenAgain, HasViewed, MayTakeAgain, MayViewAfter};
-ghost use Rattle.node_core.specs.Entries.{MayTakeEntry};
+ghost use Rattle.node_rules.specs.Entries.{MayTakeAgain, MayTakeEntry};
+ghost use Rattle.node_core.specs.Earlier.{HasTakenAgain, HasViewed, MayViewAfter};
 
 use crate::node::Node;
 use crate::run::OneRun;

@@ -17,7 +17,8 @@ pub struct Moved {
     /// Of each entry that its copies applied the lines, in the order in which they ran; there is an empty list where the call was
     /// blocked.
     pub entries: Vec<Items<Line>>,
-    /// These entries themselves.
+    /// These entries themselves, in their order: behind those that the copies had applied before, they are those that they have applied
+    /// after the event.
     pub messages: Vec<Shared<Message>>,
     /// What it performed beside the list of entries: reads, and calls on single objects that it owns.
     pub aside: Vec<Placed>,
@@ -28,6 +29,7 @@ impl Moved {
     pub(crate) fn nothing(alloc: Global) -> Moved
         ensures sends { result.sends.items ≡ [] }
         ensures entries { result.entries.items ≡ [] }
+        ensures messages { result.messages.items ≡ [] }
         ensures aside { result.aside.items ≡ [] }
     {
         Moved {

@@ -1,10 +1,11 @@
 //! One member with its copies and processes.
 
-ghost use Rattle.std.specs.Prelude.{◌≡◌, ◌<◌, ◌*◌, ℕ, IfOk, List, OnOk, length, map, None, Some, slice_get, slice_index_or, true};
+ghost use Rattle.std.specs.Prelude.{◌≡◌, ◌<◌, ◌*◌, ℕ, IfOk, List, OnOk, map, None, Some, slice_get, slice_index_or, true};
 ghost use Rattle.std.specs.Option.{option_copied};
 ghost use Rattle.object_manager.specs.Singles.{IsMake};
+ghost use Rattle.group_member.specs.StandsFor.{Follows};
 ghost use Rattle.book_law.specs.Passes.{is_passed};
-ghost use Rattle.world_rules.specs.Frame.{Frame, choice_in, is_single};
+ghost use Rattle.world_rules.specs.Frame.{Frame, bytes_of, choice_in, is_single, name_of};
 ghost use Rattle.world_rules.specs.Nodes.{opening_node, opening_processes};
 ghost use Rattle.world_rules.specs.Processes.{Begun, home_in, singles_of};
 ghost use Rattle.node_core.specs.Calls.{HasMoved, given_at};
@@ -17,6 +18,7 @@ ghost use Rattle.node_core.specs.declared.resident.Resident.{Resident};
 
 use crate::errand::{Errand, Given};
 use crate::kept::Kept;
+use crate::places::put_at;
 use crate::resident::{Resident, Stage};
 use crate::run::OneRun;
 use group_member::{Config, Member};
@@ -65,11 +67,14 @@ impl<P: OneRun> Node<P> {
         let text = machine.main_text();
         let mut known = Vec::new(alloc);
         known.push(Known { text, home: 0 })?;
+        let residents = opening_residents(alloc, machine, text, me)?;
+        let copies = Copies::opening(alloc)?;
+        let member = Member::new(alloc, config, me)?;
         Ok(Node {
-            member: Member::new(alloc, config, me)?,
-            copies: Copies::opening(alloc)?,
+            member,
+            copies,
             known,
-            residents: opening_residents(alloc, machine, text, me)?,
+            residents,
             held: Vec::new(alloc),
             given: Vec::new(alloc),
             choices,
@@ -81,15 +86,53 @@ impl<P: OneRun> Node<P> {
         ensures alike { IfOk result (StandsAlike P.stood P.left self.now) }
         ensures same { IfOk result (IsCopy self.now) }
     {
+        let choices = self.choices.copy()?;
+        let (residents, held, given) = self.copy_own(alloc)?;
+        let (member, copies, known) = self.copy_common(alloc)?;
         Ok(Node {
-            member: self.member.copy(alloc)?,
-            copies: self.copies.copy(alloc)?,
-            known: Vec::from_slice(alloc, self.known.as_slice())?,
-            residents: copy_residents(alloc, self.residents.as_slice())?,
-            held: copy_held(alloc, self.held.as_slice())?,
-            given: copy_given(alloc, self.given.as_slice())?,
-            choices: self.choices.copy()?,
+            member,
+            copies,
+            known,
+            residents,
+            held,
+            given,
+            choices,
         })
+    }
+
+    // Equal copies of what the members have in common: the state in the group, the copies, and the processes known.
+    fn copy_common(
+        &self,
+        alloc: Global,
+    ) -> Result<(Member<Shared<Message>>, Copies, Vec<Known>), NoMemory>
+        ensures member { IfOk result (λ parts. Follows name_of bytes_of self.now.member parts.0 (λ g which m. m)) }
+        ensures same { IfOk result (λ parts. (parts.1 ≡ self.now.copies) × (parts.2.items ≡ self.now.known.items)) }
+    {
+        let known = Vec::from_slice(alloc, self.known.as_slice())?;
+        let copies = self.copies.copy(alloc)?;
+        let member = self.member.copy(alloc)?;
+        Ok((member, copies, known))
+    }
+
+    // Equal copies of what is its own: its processes, and the Asks and Answers that it keeps.
+    fn copy_own(
+        &self,
+        alloc: Global,
+    ) -> Result<
+        (
+            Vec<Option<Resident<P::State>>>,
+            Vec<Errand>,
+            Vec<Option<Given>>,
+        ),
+        NoMemory,
+    >
+        ensures { IfOk result (λ parts. (parts.0.items ≡ self.now.residents.items) × (parts.1.items ≡ self.now.held.items) ×
+            (parts.2.items ≡ self.now.given.items)) }
+    {
+        let residents = copy_residents(alloc, self.residents.as_slice())?;
+        let held = copy_held(alloc, self.held.as_slice())?;
+        let given = copy_given(alloc, self.given.as_slice())?;
+        Ok((residents, held, given))
     }
 
     /// Its state in the group.
@@ -186,10 +229,7 @@ impl<P: OneRun> Node<P> {
     pub(crate) fn put(&mut self, process: u16, resident: Resident<P::State>) -> Result<(), NoMemory>
         ensures { OnOk result (HasPut process resident self.old self.new) }
     {
-        let place = process as usize;
-        reach_resident(&mut self.residents, place)?;
-        self.residents[place] = Some(resident);
-        Ok(())
+        put_at(&mut self.residents, process as usize, resident)
     }
 
     // The process moves to another stage, where it began here.
@@ -247,20 +287,6 @@ fn opening_residents<P: OneRun>(
     let state = machine.start(alloc, text, ProcessNo::MAIN, &args)?;
     residents.push(Some(Resident::newborn(alloc, state, 0)?))?;
     Ok(residents)
-}
-
-// There is a place for this process.
-fn reach_resident<S: Drop>(
-    residents: &mut Vec<Option<Resident<S>>>,
-    place: usize,
-) -> Result<(), NoMemory>
-    ensures place { OnOk result (place < length residents.new.items) }
-    ensures same { (i : ℕ) → slice_index_or residents.new.items i None ≡ slice_index_or residents.old.items i None }
-{
-    'places: while residents.len() <= place {
-        residents.push(None)?;
-    }
-    Ok(())
 }
 
 // An equal list of processes.

@@ -1,16 +1,17 @@
 //! Calls on single objects: at the owner, and the Asks and Answers that bring them there and their replies back.
 
-ghost use Rattle.std.specs.Prelude.{◌≡◌, ◌<◌, ℕ, length, map, IfOk, None, OnOk, Some, slice_index_or};
+ghost use Rattle.std.specs.Prelude.{◌≡◌, map, IfOk, OnOk};
 ghost use Rattle.world_rules.specs.Mail.Errand.{Answer, Ask};
 ghost use Rattle.world_rules.specs.Owners.{arrives, hands, is_held as held_among, performs_call, takes, takes_answer, takes_ask, takes_call, takes_reached};
 ghost use Rattle.world_rules.specs.Parts.{asks_again, asks_again_of};
 ghost use Rattle.node_core.specs.Calls.{GoesFree, HasKept, IsFree, MayPerformCall, MayTakeNew, MayTakeNext, asked_at, asks_as, asks_call, call_given, given_at, gives_kept};
 ghost use Rattle.node_core.specs.Keeping.{KeepsTasks};
-ghost use Rattle.node_core.specs.Pieces.{Becomes, BecomesIn, GoesOn, MayBeHanded, resident_at};
+ghost use Rattle.node_core.specs.Pieces.{Becomes, BecomesIn, MayBeHanded, resident_at};
 ghost use Rattle.node_core.specs.Shown.{on_errand};
 ghost use Rattle.node_core.specs.Stands.{fitness_of};
 
 use crate::errand::{Errand, Given};
+use crate::places::put_at;
 use crate::resident::Stage;
 use crate::run::OneRun;
 use crate::work::Work;
@@ -166,10 +167,7 @@ impl<P: OneRun> Work<P> {
     fn keep_given(&mut self, process: ProcessNo, given: Given) -> Result<(), NoMemory>
         ensures { OnOk result (HasKept process.0 given self.old self.new) }
     {
-        let place = process.0 as usize;
-        reach_given(&mut self.node.given, place)?;
-        self.node.given[place] = Some(given);
-        Ok(())
+        put_at(&mut self.node.given, process.0 as usize, given)
     }
 
     // An Answer is the reply to its process's next call, or it does nothing.
@@ -297,15 +295,4 @@ fn is_held(errand: &Errand, held: &[Errand]) -> bool
         }
     }
     false
-}
-
-// There is a place for the answer of this process.
-fn reach_given(given: &mut Vec<Option<Given>>, place: usize) -> Result<(), NoMemory>
-    ensures place { OnOk result (place < length given.new.items) }
-    ensures same { (i : ℕ) → slice_index_or given.new.items i None ≡ slice_index_or given.old.items i None }
-{
-    'places: while given.len() <= place {
-        given.push(None)?;
-    }
-    Ok(())
 }

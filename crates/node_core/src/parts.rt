@@ -1,6 +1,6 @@
 //! One member's part of each event.
 
-ghost use Rattle.std.specs.Prelude.{◌≡◌, ◌<◌, ◌^◌, IfOk, List, OnErr, OnOk, Some};
+ghost use Rattle.std.specs.Prelude.{◌≡◌, ◌<◌, ◌^◌, IfOk, List, Ok, OnErr, OnOk, Some};
 ghost use Rattle.group_rules.specs.Steps.{timer};
 ghost use Rattle.group_member.specs.AtWork.{Does as MemberDoes};
 ghost use Rattle.group_member.specs.StandsFor.{IsMember};
@@ -9,9 +9,9 @@ ghost use Rattle.world_rules.specs.Frame.{Frame, bytes_of, name_of};
 ghost use Rattle.world_rules.specs.Parts.{catches_up};
 ghost use Rattle.world_rules.specs.Processes.{Begun, singles_of};
 ghost use Rattle.node_rules.specs.Starts.Start.{Acts, Suspects, Ticks};
-ghost use Rattle.node_core.specs.Calls.{Asks, GoesFree, IsFree, MayAsk, MayReadFirst, ReadsFirst};
+ghost use Rattle.node_core.specs.Calls.{Asks, GoesFree, HasGathered, IsFree, MayAsk, MayReadFirst, ReadsFirst};
 ghost use Rattle.node_core.specs.Entries.{KnowsAs};
-ghost use Rattle.node_core.specs.Events.{HasCome, HasStarted, HasSubmitted, MayBeTaken, MayComeFrom, MayStart, TakesGrouped, acting_at, called_single, is_read_by};
+ghost use Rattle.node_core.specs.Events.{HasCome, HasDelivered, HasDone, HasStarted, HasSubmitted, MayBeTaken, MayComeFrom, MayStart, TakesGrouped, acting_at, called_single, is_read_by};
 ghost use Rattle.node_core.specs.Keeping.{KeepsTasks};
 ghost use Rattle.node_core.specs.Pieces.{resident_at};
 ghost use Rattle.node_core.specs.Stands.{Does, MayDo, MayTakePacket, TakesPacket, fitness_of};
@@ -19,6 +19,7 @@ ghost use Rattle.node_core.specs.Stands.{Does, MayDo, MayTakePacket, TakesPacket
 use crate::errand::Errand;
 use crate::moved::Moved;
 use crate::node::Node;
+use crate::places::take_place;
 use crate::resident::Stage;
 use crate::run::OneRun;
 use crate::work::{Work, message_for};
@@ -43,10 +44,8 @@ impl<P: OneRun> Node<P> {
         ensures err { OnErr result (self.new ≡ self.old) }
     {
         let mut work = Work::on(alloc, self)?;
-        work.carry_out(alloc, machine, process)?;
-        work.catch_up(alloc, machine)?;
-        *self = work.node;
-        Ok(work.moved)
+        let done = work.act(alloc, machine, process);
+        self.take_over(work, done)
     }
 
     /// A packet came from this member. Then the member applies what is accepted, and takes the Asks and Answers whose place it has reached.
@@ -65,10 +64,8 @@ impl<P: OneRun> Node<P> {
         ensures err { OnErr result (self.new ≡ self.old) }
     {
         let mut work = Work::on(alloc, self)?;
-        work.take_packet(alloc, machine, from, packet)?;
-        work.catch_up(alloc, machine)?;
-        *self = work.node;
-        Ok(work.moved)
+        let done = work.deliver(alloc, machine, from, packet);
+        self.take_over(work, done)
     }
 
     /// Time passes: its timer runs, and it asks again for the Answers that it lacks. Then the member applies what is accepted, and takes
@@ -82,11 +79,8 @@ impl<P: OneRun> Node<P> {
         ensures err { OnErr result (self.new ≡ self.old) }
     {
         let mut work = Work::on(alloc, self)?;
-        work.time(alloc, machine)?;
-        work.ask_again(alloc)?;
-        work.catch_up(alloc, machine)?;
-        *self = work.node;
-        Ok(work.moved)
+        let done = work.tick(alloc, machine);
+        self.take_over(work, done)
     }
 
     /// It suspects its sequencer, and coordinates a reset. Then the member applies what is accepted, and takes the Asks and Answers whose
@@ -100,22 +94,79 @@ impl<P: OneRun> Node<P> {
         ensures err { OnErr result (self.new ≡ self.old) }
     {
         let mut work = Work::on(alloc, self)?;
-        work.reset(alloc, machine)?;
-        work.catch_up(alloc, machine)?;
-        *self = work.node;
-        Ok(work.moved)
+        let done = work.suspect(alloc, machine);
+        self.take_over(work, done)
+    }
+
+    // The work takes the node's place, where all of it was done.
+    fn take_over(&mut self, work: Work<P>, done: Result<(), NoMemory>) -> Result<Moved, NoMemory>
+        ensures ok { IfOk result (λ moved. (done ≡ Ok tt) × (self.new ≡ work.node) × (moved ≡ work.moved)) }
+        ensures err { OnErr result (self.new ≡ self.old) }
+    {
+        take_place(self, work.node, work.moved, done)
     }
 }
 
 impl<P: OneRun> Work<P> {
+    // The action at which the process is, is carried out, and it catches up.
+    fn act(&mut self, alloc: Global, machine: &P, process: ProcessNo) -> Result<(), NoMemory>
+        requires { MayStart P.stood P.left P.run.frame (fitness_of (P.fits_state machine.now) (P.fits_args machine.now) (P.fits_text machine.now) (P.fits_reply machine.now)) (Acts process.0) self.old }
+        ensures does { OnOk result (HasDone P.stood P.left P.run.frame (fitness_of (P.fits_state machine.now) (P.fits_args machine.now) (P.fits_text machine.now) (P.fits_reply machine.now)) (Acts process.0) self.old self.new) }
+        ensures tasks { OnOk result (KeepsTasks self.old.node self.new.node) }
+    {
+        self.carry_out(alloc, machine, process)?;
+        self.catch_up(alloc, machine)
+    }
+
+    // A packet is taken, and it catches up.
+    fn deliver(
+        &mut self,
+        alloc: Global,
+        machine: &P,
+        from: u8,
+        packet: Packet<Shared<Message>>,
+    ) -> Result<(), NoMemory>
+        requires { MayComeFrom P.stood P.left P.run.frame (fitness_of (P.fits_state machine.now) (P.fits_args machine.now) (P.fits_text machine.now) (P.fits_reply machine.now)) from packet self.old }
+        ensures does { OnOk result (HasDelivered P.stood P.left P.run.frame (fitness_of (P.fits_state machine.now) (P.fits_args machine.now) (P.fits_text machine.now) (P.fits_reply machine.now)) from packet self.old self.new) }
+        ensures tasks { OnOk result (KeepsTasks self.old.node self.new.node) }
+    {
+        self.take_packet(alloc, machine, from, packet)?;
+        self.catch_up(alloc, machine)
+    }
+
+    // Its timer runs, it asks again for the Answers that it lacks, and it catches up.
+    fn tick(&mut self, alloc: Global, machine: &P) -> Result<(), NoMemory>
+        requires { MayStart P.stood P.left P.run.frame (fitness_of (P.fits_state machine.now) (P.fits_args machine.now) (P.fits_text machine.now) (P.fits_reply machine.now)) Ticks self.old }
+        ensures does { OnOk result (HasDone P.stood P.left P.run.frame (fitness_of (P.fits_state machine.now) (P.fits_args machine.now) (P.fits_text machine.now) (P.fits_reply machine.now)) Ticks self.old self.new) }
+        ensures tasks { OnOk result (KeepsTasks self.old.node self.new.node) }
+    {
+        self.time(alloc, machine)?;
+        self.ask_again(alloc)?;
+        self.catch_up(alloc, machine)
+    }
+
+    // It coordinates a reset, and catches up.
+    fn suspect(&mut self, alloc: Global, machine: &P) -> Result<(), NoMemory>
+        requires { MayStart P.stood P.left P.run.frame (fitness_of (P.fits_state machine.now) (P.fits_args machine.now) (P.fits_text machine.now) (P.fits_reply machine.now)) Suspects self.old }
+        ensures does { OnOk result (HasDone P.stood P.left P.run.frame (fitness_of (P.fits_state machine.now) (P.fits_args machine.now) (P.fits_text machine.now) (P.fits_reply machine.now)) Suspects self.old self.new) }
+        ensures tasks { OnOk result (KeepsTasks self.old.node self.new.node) }
+    {
+        self.reset(alloc, machine)?;
+        self.catch_up(alloc, machine)
+    }
+
     // It applies its entries, and then takes the Asks and Answers whose place it has reached.
     fn catch_up(&mut self, alloc: Global, machine: &P) -> Result<(), NoMemory>
         requires { IsFree P.stood P.left P.run.frame (fitness_of (P.fits_state machine.now) (P.fits_args machine.now) (P.fits_text machine.now) (P.fits_reply machine.now)) self.old }
         ensures does { OnOk result (GoesFree P.stood P.left P.run.frame (fitness_of (P.fits_state machine.now) (P.fits_args machine.now) (P.fits_text machine.now) (P.fits_reply machine.now)) self.old self.new (catches_up P.run.frame)) }
+        ensures gathered { OnOk result (HasGathered P.stood P.left P.run.frame (fitness_of (P.fits_state machine.now) (P.fits_args machine.now) (P.fits_text machine.now) (P.fits_reply machine.now)) self.old self.new.moved.messages.items (catches_up P.run.frame)) }
         ensures tasks { OnOk result (KeepsTasks self.old.node self.new.node) }
     {
-        self.apply_all(alloc, machine)?;
-        self.take_reached(alloc, machine)
+        let mut messages = Vec::new(alloc);
+        self.apply_all(alloc, machine, &mut messages)?;
+        self.take_reached(alloc, machine)?;
+        self.moved.messages = messages;
+        Ok(())
     }
 
     // The action of a process that wasn't carried out, is.

@@ -118,13 +118,16 @@ impl<S: Drop> Resident<S> {
     pub(crate) fn copy(&self, alloc: Global) -> Result<Resident<S>, NoMemory>
         ensures { IfOk result (λ resident. resident ≡ self.now) }
     {
+        let out = copy_view(alloc, &self.out)?;
+        let state = self.state.copy()?;
+        let stage = self.stage.copy(alloc)?;
         Ok(Resident {
-            state: self.state.copy()?,
+            state,
             turns: self.turns,
             place: self.place,
             calls: self.calls,
-            stage: self.stage.copy(alloc)?,
-            out: copy_view(alloc, &self.out)?,
+            stage,
+            out,
         })
     }
 

@@ -12,6 +12,7 @@ ghost use Rattle.node_core.specs.Tasks.{HasRun, IsCame, IsOf, MayAnswer, MayRun,
 
 use crate::kept::Kept;
 use crate::node::Node;
+use crate::places::set_at;
 use crate::resident::{Resident, Stage};
 use crate::run::OneRun;
 use object_manager::View;
@@ -353,10 +354,11 @@ impl<P: OneRun> Node<P> {
         ensures err { OnErr result (self.new ≡ self.old) }
     {
         let resident = self.here(process);
+        let start = resident.state.copy()?;
         let out = resident.handed_out(view.copy(alloc)?)?;
         let task = Task {
             process,
-            start: resident.state.copy()?,
+            start,
             calls: resident.calls,
             view,
             budget,
@@ -382,8 +384,7 @@ impl<P: OneRun> Node<P> {
         requires { process.0 < length self.old.residents.items }
         ensures { HasChanged process.0 resident self.old self.new }
     {
-        let at = process.0 as usize;
-        self.residents[at] = Some(resident);
+        set_at(&mut self.residents, process.0 as usize, resident);
     }
 
     /// A burst that was computed is checked in: its reads are performed at its view's place, and the process stands where it ended.

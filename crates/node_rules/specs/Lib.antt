@@ -3,4 +3,5 @@ pub mod Handing
 pub mod Conditions
 pub mod Starts
 pub mod Bursting
+pub mod Entries
 pub mod Laws

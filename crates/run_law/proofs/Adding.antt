@@ -30,7 +30,8 @@ use Rattle.world_law.proofs.Walking.{performed_node}
 use Rattle.node_rules.specs.Starts.{Start, part}
 use Rattle.node_rules.specs.Starts.Start.{Acts, Comes, Ticks, Suspects}
 use Rattle.world_calls.specs.Law.{ticking}
-use Rattle.run_law.specs.Growing.{IsNew, ListGrows, TellsPart, adds, come_adds, event_adds, lines_at, placed_from, tick_adds, tick_knows, told_of}
+use Rattle.run_law.specs.Growing.{IsNew, ListGrows, TellsPart, adds, come_adds, event_adds, lines_at, placed_from, tick_adds, tick_knows}
+use Rattle.node_rules.specs.Entries.{told_lines}
 use Rattle.run_law.specs.Parts.{InParts, TicksApart}
 use Rattle.run_law.proofs.Growing.{agreed_same, aside_append}
 use Rattle.run_law.proofs.Ticking.{ticks_apart}
@@ -226,7 +227,7 @@ module _ (f : Frame) (w : World) (low_start : (m : ℕ) → (w.nodes m).copies.a
         omega (arith, e, long)
 
     told_so : (m : ℕ) (start : Start) → m < f.settings.nodes → TellsPart f w u m start
-        → Part f u (w.nodes m).copies.applied (part f m start (w.nodes m)).node.copies.applied (told_of (part f m start (w.nodes m)).deeds) (aside_of (part f m start (w.nodes m)).deeds)
+        → Part f u (w.nodes m).copies.applied (part f m start (w.nodes m)).node.copies.applied (told_lines (part f m start (w.nodes m)).deeds) (aside_of (part f m start (w.nodes m)).deeds)
     told_so m start low t = record {
       count = t.count ∙ same;
       within = subst (λ (n : ℕ). n ≤ length (agreed f u)) same (grows.within m low);
@@ -245,7 +246,7 @@ module _ (f : Frame) (w : World) (low_start : (m : ℕ) → (w.nodes m).copies.a
         → IsNew f w u (adds f w (length (agreed f w)) k start)
     one_new k start low t others grew =
         new_of f w u (max (length (agreed f w)) b) _ (aside_of (part f k start (w.nodes k)).deeds) grew (all_known (max (length (agreed f w)) b) (λ m less. each m (cases_eq m k)))
-        (part_added f w u (length (agreed f w)) (w.nodes k).copies.applied b [] [] (aside_of (part f k start (w.nodes k)).deeds) (told_of (part f k start (w.nodes k)).deeds) (low_start k)
+        (part_added f w u (length (agreed f w)) (w.nodes k).copies.applied b [] [] (aside_of (part f k start (w.nodes k)).deeds) (told_lines (part f k start (w.nodes k)).deeds) (low_start k)
         (none_added f w u longer) (told_so k start low t))
       where
         b : ℕ
@@ -353,7 +354,7 @@ module _ (f : Frame) (w : World) (low_start : (m : ℕ) → (w.nodes m).copies.a
           → AddsSo f w u (if t then max (tick_knows f w m) b else tick_knows f w m) (if t then tick_adds f w m ++ adds f w (tick_knows f w m) m Ticks else tick_adds f w m)
           (if t then tick_beside m ++ aside_of (part f m Ticks (w.nodes m)).deeds else tick_beside m)
       go true lives h =
-          part_added f w u (tick_knows f w m) (w.nodes m).copies.applied b (tick_adds f w m) (tick_beside m) (aside_of (part f m Ticks (w.nodes m)).deeds) (told_of (part f m Ticks (w.nodes m)).deeds)
+          part_added f w u (tick_knows f w m) (w.nodes m).copies.applied b (tick_adds f w m) (tick_beside m) (aside_of (part f m Ticks (w.nodes m)).deeds) (told_lines (part f m Ticks (w.nodes m)).deeds)
           (low_start m) h (told_so u grows m Ticks (omega (arith, le)) (parts m (omega (arith, le)) lives))
       go false lives h = h
 

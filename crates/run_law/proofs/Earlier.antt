@@ -53,8 +53,8 @@ use Rattle.node_rules.specs.Conditions.{Fitness}
 use Rattle.node_rules.specs.Starts.{Start, part}
 use Rattle.node_rules.specs.Starts.Start.{Acts, Comes, Ticks, Suspects}
 use Rattle.world_calls.proofs.Each.{own}
-use Rattle.run_law.specs.Earlier.{MayApplyAgain, MayApplyThere}
-use Rattle.run_law.specs.Growing.{ListGrows, told_of}
+use Rattle.run_law.specs.Growing.{ListGrows}
+use Rattle.node_rules.specs.Entries.{MayApplyAgain, MayTakeAgain, told_lines}
 use Rattle.run_law.specs.Parts.{InParts}
 use Rattle.run_law.proofs.Events.{Laws, LeadsTo, grown, in_both, made, parts_lead, told, within}
 use Rattle.run_law.proofs.Growing.{IsStepped, agreed_same, one_more, replays_on, list_grows, step_nodes, stepped_by}
@@ -195,7 +195,7 @@ earlier_passed f list more longer is made h n x lt there =
 module _ (f : Frame) (fitness : Fitness) (laws : Laws f fitness) where
   -- the lines that each part tells
   abbrev Tells : World → World → ℕ → Start → Type 0
-  Tells w u m start = ToldSo f u (w.nodes m).copies.applied (part f m start (w.nodes m)).node.copies.applied (told_of (part f m start (w.nodes m)).deeds)
+  Tells w u m start = ToldSo f u (w.nodes m).copies.applied (part f m start (w.nodes m)).node.copies.applied (told_lines (part f m start (w.nodes m)).deeds)
 
   each_told : (steps : List Step) (w : World) (e : world.Event) (given : Given e) → Replays f steps w → Possible f w e given → ListGrows f w (happens f w e given).world → ListMakes f (agreed f (happens f w e given).world)
       → InParts f w (Tells w (happens f w e given).world) e
@@ -263,25 +263,27 @@ module _ (f : Frame) (fitness : Fitness) (laws : Laws f fitness) where
   -- ---- at an entry of the list
 
   pub fits_there : (steps : List Step) (w : World) → Replays f steps w → length (agreed f w) < 2 ^ 62 → (n : ℕ) (x : Message) → slice_get (agreed f w) n ≡ Some x
-      → MayApplyThere f fitness (copies_at (own f (agreed f w)) f.performs (agreed f w) n) x.action
+      → MayTakeAgain f.performs fitness.state fitness.args (copies_at (own f (agreed f w)) f.performs (agreed f w) n) x.action
   fits_there steps w replays few n x there = record {
-    fits = record {
-      shared = subst (λ (l : List Message). Fitting fitness.state fitness.args (kinds_at (copies_at single f.performs l n)) (copies_at single f.performs l n).objects (copies_at single f.performs l n).queue) h.list (calls.shared n);
-      own = record {
-        states = λ object kept is. let e : None ≡ Some kept = ap (λ (o : Objects). object_at o object) (sym none_own) ∙ is in absurd (cc e);
-        calls = λ at call is. let e : None ≡ Some call = ap (λ (q : List Suspended). slice_get q at) (sym none_waits) ∙ is in absurd (cc e);
+    may = record {
+      fits = record {
+        shared = subst (λ (l : List Message). Fitting fitness.state fitness.args (kinds_at (copies_at single f.performs l n)) (copies_at single f.performs l n).objects (copies_at single f.performs l n).queue) h.list (calls.shared n);
+        own = record {
+          states = λ object kept is. let e : None ≡ Some kept = ap (λ (o : Objects). object_at o object) (sym none_own) ∙ is in absurd (cc e);
+          calls = λ at call is. let e : None ≡ Some call = ap (λ (q : List Suspended). slice_get q at) (sym none_waits) ∙ is in absurd (cc e);
+        };
       };
+      blocked = record {
+        shared = copies_blocked single f.performs (take n (agreed f w));
+        own = subst (AllBlocked f.performs c.own) (sym none_waits) (All-nil (λ (call : Suspended). tried_in f.performs c.own call ≡ tried.Blocked));
+      };
+      applies = subst (λ (l : List Message). Applies fitness.args (copies_at single f.performs l n) x.action) h.list
+          (calls.entries n x (ap (λ (l : List Message). slice_get l n) h.list ∙ there));
+      room =
+          let e = applied_all single f.performs opening_copies (take n (agreed f w)) in
+          let long = length-take n (agreed f w) in
+          omega (arith, e, long, few);
     };
-    blocked = record {
-      shared = copies_blocked single f.performs (take n (agreed f w));
-      own = subst (AllBlocked f.performs c.own) (sym none_waits) (All-nil (λ (call : Suspended). tried_in f.performs c.own call ≡ tried.Blocked));
-    };
-    applies = subst (λ (l : List Message). Applies fitness.args (copies_at single f.performs l n) x.action) h.list
-        (calls.entries n x (ap (λ (l : List Message). slice_get l n) h.list ∙ there));
-    few =
-        let e = applied_all single f.performs opening_copies (take n (agreed f w)) in
-        let long = length-take n (agreed f w) in
-        omega (arith, e, long, few);
     within = run_passed steps w replays n x there;
   }
     where
@@ -312,9 +314,9 @@ module _ (f : Frame) (fitness : Fitness) (laws : Laws f fitness) where
   get_taken (suc k) (suc n) (x ∷ xs) lt = get_taken k n xs (omega (arith, lt))
 
   pub apply_again : (steps : List Step) (w : World) → Replays f steps w → length (agreed f w) < 2 ^ 62 → (m : ℕ) → entries_of (w.nodes m) ≡ take (w.nodes m).copies.applied (agreed f w) → (entries : List Message)
-      → entries ≡ take (length entries) (entries_of (w.nodes m)) → MayApplyAgain f fitness (w.nodes m) entries
+      → entries ≡ take (length entries) (entries_of (w.nodes m)) → MayApplyAgain f fitness.state fitness.args (w.nodes m) entries
   apply_again steps w replays few m begin entries first n x there =
-      subst (λ (c : Copied). MayApplyThere f fitness c x.action) (sym same) (fits_there steps w replays few n x listed)
+      subst (λ (c : Copied). MayTakeAgain f.performs fitness.state fitness.args c x.action) (sym same) (fits_there steps w replays few n x listed)
     where
       a : ℕ
       a = (w.nodes m).copies.applied

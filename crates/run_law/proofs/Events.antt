@@ -37,7 +37,8 @@ use Rattle.node_rules.specs.Starts.Start.{Acts, Comes, Ticks, Suspects}
 use Rattle.world_calls.proofs.Beginning.{AllStart, GroupLaws, MayStart, begins_each}
 use Rattle.world_calls.proofs.Each.{FollowsEach}
 use Rattle.world_calls.proofs.Going.{Known}
-use Rattle.run_law.specs.Growing.{EventGrows, ListGrows, TellsPart, told_of}
+use Rattle.run_law.specs.Growing.{EventGrows, ListGrows, TellsPart}
+use Rattle.node_rules.specs.Entries.{told_lines}
 use Rattle.run_law.specs.Parts.{InParts}
 use Rattle.run_law.proofs.Adding.{event_new}
 use Rattle.run_law.proofs.Growing.{IsStepped, agreed_same, list_grows, performed_grows, replays_on, stepped}
@@ -152,7 +153,7 @@ module _ (f : Frame) (fitness : Fitness) (laws : Laws f fitness) where
   -- the lines that a part tells, by a list that its member's entries begin
   pub told : (steps : List Step) (w u : World) → Replays f steps w → ListGrows f w u → ListMakes f (agreed f u) → (m : ℕ) (start : Start) → LeadsTo f w u m start
       → Lives f w m → MayStart f w m start → AllStart f w start
-      → ToldSo f u (w.nodes m).copies.applied (part f m start (w.nodes m)).node.copies.applied (told_of (part f m start (w.nodes m)).deeds)
+      → ToldSo f u (w.nodes m).copies.applied (part f m start (w.nodes m)).node.copies.applied (told_lines (part f m start (w.nodes m)).deeds)
   told steps w u replays grows makes m start leads lives may stands =
       told_part f fitness w m known (rows_of laws.sends f laws.small w m now.grouped lives) u makes start may
       (begins_each f fitness w m (agreed f w) start laws.group laws.small known follows may stands)

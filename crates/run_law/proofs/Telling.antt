@@ -32,7 +32,8 @@ use Rattle.node_rules.proofs.Walking.{parts_walk}
 use Rattle.world_calls.proofs.Beginning.{MayStart}
 use Rattle.world_calls.proofs.Each.{AtEach, goes_each, notes_keep, self}
 use Rattle.world_calls.proofs.Going.{Known, entry_entries, entry_number}
-use Rattle.run_law.specs.Growing.{lines_at, told_of}
+use Rattle.run_law.specs.Growing.{lines_at}
+use Rattle.node_rules.specs.Entries.{told_lines}
 use Rattle.run_law.proofs.Deeds.{Rows, StaysWith, has_begun, has_entry, has_goes, has_part}
 use Rattle.run_law.proofs.Lines.{ListMakes, limit_is, lines_are, shares}
 
@@ -140,11 +141,11 @@ one_told f u a n told x ls h there is few = record {
         ap (λ (i : ℕ). too_many f.performs (copies_at (singles_in f u) f.performs (agreed f u) i) y.action) (last k e)
         ∙ ap (λ (z : Message). too_many f.performs (copies_at (singles_in f u) f.performs (agreed f u) n) z.action) (same k y e at) ∙ few
 
-acts_told : (acts : List (Act Message)) (deeds : List Deed) → told_of (map Acts acts ++ deeds) ≡ told_of deeds
+acts_told : (acts : List (Act Message)) (deeds : List Deed) → told_lines (map Acts acts ++ deeds) ≡ told_lines deeds
 acts_told [] deeds = refl
 acts_told (act ∷ acts) deeds = acts_told acts deeds
 
-stays_told : (f : Frame) (u : World) (m a : ℕ) → StaysWith (group f) m (λ n deeds. ToldSo f u a n (told_of deeds))
+stays_told : (f : Frame) (u : World) (m a : ℕ) → StaysWith (group f) m (λ n deeds. ToldSo f u a n (told_lines deeds))
 stays_told f u m a = record {
   submits = λ n x deeds h. h;
   acts = λ n uses acts deeds t h. subst (ToldSo f u a n) (sym (acts_told acts deeds)) h;
@@ -169,7 +170,7 @@ next_there list log n x there same = sym (last_of list n) ∙ ap (λ (l : List M
 
 module _ (f : Frame) (fitness : Fitness) (w : World) (m : ℕ) (known : Known f fitness w m) (rows : Rows f w m) (u : World) (made : ListMakes f (agreed f u)) where
   abbrev Told : NodeWork → Type 0
-  Told v = ToldSo f u (w.nodes m).copies.applied v.node.copies.applied (told_of v.deeds)
+  Told v = ToldSo f u (w.nodes m).copies.applied v.node.copies.applied (told_lines v.deeds)
 
   told_entry : (t : Moment) (x : Message) → AtEach f w m t → IsDue t.work.node x → passes_limit f t.work.node x ≡ false → Begins f fitness w m known (agreed f u) (takes_entry f m x t.work) → Told t.work → Told (takes_entry f m x t.work)
   told_entry t x e due within begins h =
@@ -177,8 +178,8 @@ module _ (f : Frame) (fitness : Fitness) (w : World) (m : ℕ) (known : Known f 
       let so_far = before_entry f fitness w m known (agreed f u) x t.work begins in
       let there = next_there (agreed f u) t.work.node.member.log n x due.there (entry_begins f fitness w m known (agreed f u) x t.work begins) in
       let same = shares f w m t (agreed f u) e made so_far in
-      has_entry f w m (λ k deeds. ToldSo f u (w.nodes m).copies.applied k (told_of deeds)) (stays_told f u m (w.nodes m).copies.applied) rows x t.work
-      (one_told f u (w.nodes m).copies.applied n (told_of t.work.deeds) x (entry_lines f t.work.node x) h there
+      has_entry f w m (λ k deeds. ToldSo f u (w.nodes m).copies.applied k (told_lines deeds)) (stays_told f u m (w.nodes m).copies.applied) rows x t.work
+      (one_told f u (w.nodes m).copies.applied n (told_lines t.work.deeds) x (entry_lines f t.work.node x) h there
       (lines_are f (agreed f u) n x t.work.node made there so_far same)
       (sym (limit_is f.performs t.work.node.copies (copies_at (singles_in f u) f.performs (agreed f u) n) x.action same)
       ∙ not_some (too_many f.performs t.work.node.copies x.action) within))
@@ -189,17 +190,17 @@ module _ (f : Frame) (fitness : Fitness) (w : World) (m : ℕ) (known : Known f 
       let later = goes_each f fitness w m t y known e go in
       let there = walks_begins f fitness w m known (agreed f u) y v rest later begins in
       told_walks y v rest later begins
-      (has_goes f w m (λ k deeds. ToldSo f u (w.nodes m).copies.applied k (told_of deeds)) (stays_told f u m (w.nodes m).copies.applied) rows t y
+      (has_goes f w m (λ k deeds. ToldSo f u (w.nodes m).copies.applied k (told_lines deeds)) (stays_told f u m (w.nodes m).copies.applied) rows t y
       (λ x due within is k. subst (λ (p : Moment). Told p.work) (sym is)
       (told_entry t x e due within (subst (λ (p : Moment). Begins f fitness w m known (agreed f u) p.work) is there) k))
       go h)
 
   -- so it is at the end of a part, where the member's entries begin the list
   pub told_part : (start : Start) → MayStart f w m start → AtEach f w m (at_moment (begun f m start (w.nodes m))) → Begins f fitness w m known (agreed f u) (part f m start (w.nodes m))
-      → ToldSo f u (w.nodes m).copies.applied (part f m start (w.nodes m)).node.copies.applied (told_of (part f m start (w.nodes m)).deeds)
+      → ToldSo f u (w.nodes m).copies.applied (part f m start (w.nodes m)).node.copies.applied (told_lines (part f m start (w.nodes m)).deeds)
   told_part start may e begins =
       told_walks (at_moment (begun f m start (w.nodes m))) (at_moment (part f m start (w.nodes m))) (parts_walk f m start (w.nodes m)) e begins
-      (has_begun f w m (λ k deeds. ToldSo f u (w.nodes m).copies.applied k (told_of deeds)) (stays_told f u m (w.nodes m).copies.applied) rows start may
+      (has_begun f w m (λ k deeds. ToldSo f u (w.nodes m).copies.applied k (told_lines deeds)) (stays_told f u m (w.nodes m).copies.applied) rows start may
       (none_told f u (w.nodes m).copies.applied))
 
 -- ---- beside the list

@@ -1,50 +1,31 @@
 -- Places before the last one that a member applied: its first entries may be applied to opening copies again, and a burst may be computed on
 -- what its objects were there.
-use Rattle.std.specs.Prelude.{◌≡◌, ◌<◌, ◌≤◌, ◌^◌, ℕ, List, None, Some, length, take, slice_get}
+use Rattle.std.specs.Prelude.{◌≡◌, ◌<◌, ◌≤◌, ℕ, List, Some, length, take}
 use Rattle.orca_base.specs.declared.ids.ProcessNo.{ProcessNo}
 use Rattle.value_core.specs.Meaning.{Computes, Performs}
-use Rattle.value_core.specs.declared.action.Action.{Action}
 use Rattle.value_core.specs.declared.message.Message.{Message}
-use Rattle.object_manager.specs.After.{Copied}
-use Rattle.object_manager.specs.Applies.{Applies, CopiesBlocked, CopiesFit}
-use Rattle.object_manager.specs.Limits.{too_many}
 use Rattle.object_manager.specs.Viewed.{Viewed}
-use Rattle.book_law.specs.Book.{copies_at}
 use Rattle.world_rules.specs.declared.event.Step.{Step}
 use Rattle.world_rules.specs.declared.standing.Standing.TheVariants.{Going}
 use Rattle.world_rules.specs.Frame.{AreSettings, Frame}
-use Rattle.world_rules.specs.Nodes.{Node, entries_of, known}
+use Rattle.world_rules.specs.Nodes.{Node, entries_of}
 use Rattle.world_rules.specs.Played.{Played}
 use Rattle.world_rules.specs.Played.Stage.{Computing}
-use Rattle.world_rules.specs.Processes.{singles_of}
 use Rattle.world_rules.specs.Standings.{standing}
 use Rattle.world_rules.specs.Steps.{Replays, objects_after}
 use Rattle.world_rules.specs.Worlds.{World, home_of, played_in}
 use Rattle.node_rules.specs.Bursting.{BurstFits}
 use Rattle.node_rules.specs.Conditions.{Fitness}
+use Rattle.node_rules.specs.Entries.{MayApplyAgain}
 
 -- ---- entries again
 
--- an entry with this action may be applied to these copies, and passes no limit
-pub record MayApplyThere (f : Frame) (fitness : Fitness) (c : Copied) (act : Action) : Type 0 where
-  pub fits : CopiesFit fitness.state fitness.args c
-  pub blocked : CopiesBlocked f.performs c
-  pub applies : Applies fitness.args c act
-  pub few : c.applied < 2 ^ 62
-  pub within : too_many f.performs c act ≡ None
-
--- so it is of each of these entries, at the copies after those before it, by the single objects that the member knows
-abbrev pub MayApplyAgain : Frame → Fitness → Node → List Message → Type 0
-MayApplyAgain f fitness node entries =
-    (n : ℕ) (x : Message) → slice_get entries n ≡ Some x →
-    MayApplyThere f fitness (copies_at (singles_of f (known f node)) f.performs entries n) x.action
-
--- so it is of the first entries of each member while a run of a program with these meanings is going, by settings that a run may have
+-- the first entries of each member may be applied so while a run of a program with these meanings is going, by settings that a run may have
 abbrev pub AllApplyAgain : Performs → Computes → Fitness → Type 0
 AllApplyAgain p q fitness =
     (f : Frame) → f.performs ≡ p → f.computes ≡ q → AreSettings f.settings → (steps : List Step) (w : World) →
     Replays f steps w → standing f w ≡ Going → (m : ℕ) → m < f.settings.nodes → (entries : List Message) →
-    entries ≡ take (length entries) (entries_of (w.nodes m)) → MayApplyAgain f fitness (w.nodes m) entries
+    entries ≡ take (length entries) (entries_of (w.nodes m)) → MayApplyAgain f fitness.state fitness.args (w.nodes m) entries
 
 -- ---- bursts
 

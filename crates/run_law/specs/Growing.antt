@@ -16,11 +16,11 @@ use Rattle.world_rules.specs.declared.event.Step.{Step}
 use Rattle.world_rules.specs.declared.standing.Standing.TheVariants.{Going}
 use Rattle.world_rules.specs.Frame.{AreSettings, Frame}
 use Rattle.world_rules.specs.Mail.{Carried, is_whole, receiver_of}
-use Rattle.world_rules.specs.Nodes.{Deed, aside_of, entries_of}
-use Rattle.world_rules.specs.Nodes.Deed.{Acts, Applies, Mails, Performs as Performed_beside, Submits}
+use Rattle.world_rules.specs.Nodes.{aside_of, entries_of}
 use Rattle.world_rules.specs.Standings.{standing}
 use Rattle.world_rules.specs.Steps.{Known, Possible, Replays, happens, lives_in}
 use Rattle.world_rules.specs.Worlds.{World, agreed, home_of, singles_in}
+use Rattle.node_rules.specs.Entries.{told_lines}
 use Rattle.node_rules.specs.Starts.{Start, part}
 use Rattle.node_rules.specs.Starts.Start.{Acts as ActsOf, Comes, Ticks, Suspects}
 use Rattle.run_law.specs.Parts.{InParts}
@@ -43,24 +43,15 @@ pub record ListGrows (f : Frame) (w u : World) : Type 0 where
 abbrev pub lines_at : Frame → World → ℕ → Message → List Line
 lines_at f u n x = lines_after (singles_in f u) f.performs (copies_at (singles_in f u) f.performs (agreed f u) n) x
 
--- the lines of each entry that it applied, in order
-abbrev pub told_of : List Deed → List (List Line)
-told_of [] = []
-told_of (Submits x ∷ deeds) = told_of deeds
-told_of (Acts act ∷ deeds) = told_of deeds
-told_of (Mails mail ∷ deeds) = told_of deeds
-told_of (Applies lines ∷ deeds) = told_of deeds ++ lines ∷ []
-told_of (Performed_beside performed ∷ deeds) = told_of deeds
-
 -- member m, which stood in w, did its part in an event that left u: it told just the lines that the list has of the entries that it
 -- applied now, and what it performed beside the list has places up to what it applied
 pub record TellsPart (f : Frame) (w u : World) (m : ℕ) (start : Start) : Type 0 where
   pub node : u.nodes m ≡ (part f m start (w.nodes m)).node
-  pub count : (w.nodes m).copies.applied + length (told_of (part f m start (w.nodes m)).deeds) ≡ (u.nodes m).copies.applied
+  pub count : (w.nodes m).copies.applied + length (told_lines (part f m start (w.nodes m)).deeds) ≡ (u.nodes m).copies.applied
   pub lines :
-      (k : ℕ) (x : Message) → k < length (told_of (part f m start (w.nodes m)).deeds) →
+      (k : ℕ) (x : Message) → k < length (told_lines (part f m start (w.nodes m)).deeds) →
       slice_get (agreed f u) ((w.nodes m).copies.applied + k) ≡ Some x →
-      slice_get (told_of (part f m start (w.nodes m)).deeds) k ≡ Some (lines_at f u ((w.nodes m).copies.applied + k) x)
+      slice_get (told_lines (part f m start (w.nodes m)).deeds) k ≡ Some (lines_at f u ((w.nodes m).copies.applied + k) x)
   pub beside : All (λ (r : Placed). r.place ≤ (u.nodes m).copies.applied) (aside_of (part f m start (w.nodes m)).deeds)
 
 -- ---- what was performed
@@ -93,7 +84,7 @@ placed_from n (lines ∷ more) = placed (suc n) lines ++ placed_from (suc n) mor
 abbrev pub adds : Frame → World → ℕ → ℕ → Start → List Placed
 adds f w known m start =
     let v = part f m start (w.nodes m) in
-    placed_from known (drop (known - (w.nodes m).copies.applied) (told_of v.deeds)) ++ aside_of v.deeds
+    placed_from known (drop (known - (w.nodes m).copies.applied) (told_lines v.deeds)) ++ aside_of v.deeds
 
 -- at a tick the living members below n, one after the other: how many entries are known then, and what they added
 abbrev pub tick_knows : Frame → World → ℕ → ℕ

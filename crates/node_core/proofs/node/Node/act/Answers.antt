@@ -1,23 +1,28 @@
-use Rattle.std.proofs.Common.{refl}
 use Rattle.node_rules.specs.Starts.Start.{Acts}
 use Rattle.node_core.specs.Stands.{fitness_of}
-use Rattle.node_core.proofs.Starting.{acts_done, may_start, started_free}
-use Rattle.node_core.proofs.Keeping.{keeps_copy, keeps_on}
+use Rattle.node_core.proofs.Starting.{event_done, may_start}
+use Rattle.node_core.proofs.Keeping.{keeps_copy, keeps_on, keeps_placed}
+use Rattle.node_core.proofs.Working.{ok_done, ok_each, ok_from}
 use Rattle.node_core.proofs.node.Node.act.Goals as goal
 
-pub carry_out-requires : goal.carry_out-requires
-carry_out-requires g c = (let m = c.args.machine.now in may_start g.P.OneRun.stood g.P.OneRun.left g.P.OneRun.run.frame (fitness_of (g.P.Performer.fits_state m) (g.P.Performer.fits_args m) (g.P.Performer.fits_text m) (g.P.Performer.fits_reply m)) (Acts c.args.process.0) c.args.self.now c.in_ok-work.work (c.in_ok-work.ensures {u = tt}).idle c.requires)
-
-pub catch_up-requires : goal.catch_up-requires
-catch_up-requires g c =
+pub act-done-requires : goal.act-done-requires
+act-done-requires g c =
     let m = c.args.machine.now in
-    started_free g.P.OneRun.stood g.P.OneRun.left g.P.OneRun.run.frame (fitness_of (g.P.Performer.fits_state m) (g.P.Performer.fits_args m) (g.P.Performer.fits_text m) (g.P.Performer.fits_reply m)) (Acts c.args.process.0) c.args.self.now c.in_ok-work.work c.carry_out.new.self (c.in_ok-work.ensures {u = tt}).idle c.requires (c.in_ok-carry_out.ensures {u = tt}).does
+    may_start g.P.OneRun.stood g.P.OneRun.left g.P.OneRun.run.frame (fitness_of (g.P.Performer.fits_state m) (g.P.Performer.fits_args m) (g.P.Performer.fits_text m) (g.P.Performer.fits_reply m))
+    (Acts c.args.process.0) c.args.self.now c.in_ok-work.work (c.in_ok-work.ensures {u = tt}).idle c.requires
 
 pub returns-clause-does : goal.returns-clause-does
 returns-clause-does g c =
     let m = c.args.machine.now in
-    acts_done g.P.OneRun.stood g.P.OneRun.left g.P.OneRun.run.frame (fitness_of (g.P.Performer.fits_state m) (g.P.Performer.fits_args m) (g.P.Performer.fits_text m) (g.P.Performer.fits_reply m)) c.args.process.0 c.args.self.now _ c.in_ok-work.work c.carry_out.new.self c.catch_up.new.self _ (c.in_ok-work.ensures {u = tt}).idle (c.in_ok-carry_out.ensures {u = tt}).does
-    (c.in_ok-catch_up.ensures {u = tt}).does refl refl
+    ok_each c.take_over.result _ _
+    (λ moved took.
+    event_done g.P.OneRun.stood g.P.OneRun.left g.P.OneRun.run.frame (fitness_of (g.P.Performer.fits_state m) (g.P.Performer.fits_args m) (g.P.Performer.fits_text m) (g.P.Performer.fits_reply m))
+    (Acts c.args.process.0) c.args.self.now _ c.in_ok-work.work c.act-done.new.self moved (c.in_ok-work.ensures {u = tt}).idle (ok_done _ _ took.0 c.act-done.ensures.does) took.1 took.2)
+    c.take_over.ensures.ok
 
 pub returns-clause-tasks : goal.returns-clause-tasks
-returns-clause-tasks g c = keeps_on _ _ _ (keeps_on _ _ _ (keeps_copy _ _ (c.in_ok-work.ensures {u = tt}).same) (c.in_ok-carry_out.ensures {u = tt}).tasks) (c.in_ok-catch_up.ensures {u = tt}).tasks
+returns-clause-tasks g c =
+    ok_from c.take_over.result _ _
+    (λ moved took.
+    keeps_placed _ _ _ took.1 (keeps_on _ _ _ (keeps_copy _ _ (c.in_ok-work.ensures {u = tt}).same) (ok_done _ _ took.0 c.act-done.ensures.tasks)))
+    c.take_over.ensures.ok

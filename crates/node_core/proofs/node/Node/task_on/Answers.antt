@@ -26,7 +26,7 @@ invariant_of-task g c =
       m,
       out_runs g.P.OneRun.stood g.P.OneRun.left g.P.OneRun.run.frame
           (fitness_of (g.P.Performer.fits_state m) (g.P.Performer.fits_args m) (g.P.Performer.fits_text m) (g.P.Performer.fits_reply m))
-          c.args.process c.args.view c.args.budget c.args.self.now c.here-resident.result.now c.in_ok-copy-2.field-0 c.requires c.here-resident.ensures (c.in_ok-copy-2.ensures {u = tt}),
+          c.args.process c.args.view c.args.budget c.args.self.now c.here-resident.result.now c.in_ok-start.start c.requires c.here-resident.ensures (c.in_ok-start.ensures {u = tt}),
     )
 
 pub change-requires : goal.change-requires
@@ -39,7 +39,7 @@ returns-clause-out g c =
       resident = s;
       here = c.here-resident.ensures;
       is = ap (λ (x : g.row.P-State.Denot). let t : Tasked g.row.P-State.Denot = record { process = c.args.process; start = x; calls = s.calls; view = c.args.view; budget = c.args.budget } in t)
-          (c.in_ok-copy-2.ensures {u = tt});
+          (c.in_ok-start.ensures {u = tt});
       out = subst (λ (a : Resident g.row.P-State.Denot). HasChanged c.args.process.0 a c.args.self.now c.change.new.self)
           (handed_over s c.in_ok-out.out c.in_ok-copy.field-0 c.args.view (c.in_ok-out.ensures {u = tt}) (c.in_ok-copy.ensures {u = tt})) c.change.ensures;
     }

@@ -1,15 +1,14 @@
-use Rattle.std.proofs.Common.{sym, subst, refl}
+use Rattle.std.proofs.Common.{sym, subst}
 use Rattle.value_core.specs.declared.action.Reply.{Reply}
 use Rattle.value_core.specs.declared.message.Message.{Message}
 use Rattle.group_member.specs.Laws.{EntryLaw, LengthLaw}
 use Rattle.group_member.proofs.Installing.{entry_law}
 use Rattle.group_member.proofs.Working.{whole_length}
-use Rattle.world_rules.specs.Applying.{tries_reads}
-use Rattle.node_core.specs.Entries.{Begins, MayBegin, MayTakeEntry, listed}
+use Rattle.node_rules.specs.Entries.{MayTakeEntry}
+use Rattle.node_core.specs.Entries.{Begins, MayBegin, listed}
 use Rattle.node_core.specs.Stands.{fitness_of}
-use Rattle.node_core.specs.declared.work.Work.{Work}
 use Rattle.node_core.proofs.NextEntry.{applied_next, begun_somewhere, is_next, may_answer_next, may_begin_next, may_take_next, some_nodes}
-use Rattle.node_core.proofs.TakingEntry.{goes_kept, none_of, refused_in, taken_in}
+use Rattle.node_core.proofs.TakingEntry.{none_of, refused_in, taken_in}
 use Rattle.node_core.proofs.Keeping.{keeps_known, keeps_next, keeps_on, keeps_refused, keeps_taken}
 use Rattle.node_core.proofs.work.Work.apply_next.Goals as goal
 
@@ -80,17 +79,15 @@ returns-in_default-clause-does g c =
 pub returns-clause-does : goal.returns-clause-does
 returns-clause-does g c =
     let m = c.args.machine.now in
-    let new : Work g.row.P.Denot g.row.P-State.Denot = record c.try_reads.new.self { moved = record c.try_reads.new.self.moved { messages = c.push.new.self } } in
     applied_next g.P.OneRun.stood g.P.OneRun.left g.P.OneRun.run.frame (fitness_of (g.P.Performer.fits_state m) (g.P.Performer.fits_args m) (g.P.Performer.fits_text m) (g.P.Performer.fits_reply m))
-    c.processes-number.result (g.P.Performer.performs m) c.args.self.now c.take_entry.new.self c.learn.new.self c.answer.new.self c.begin.new.self new c.in_ok-message.message c.in-Some.lines.items
+    c.processes-number.result (g.P.Performer.performs m) c.args.self.now c.take_entry.new.self c.learn.new.self c.answer.new.self c.begin.new.self c.try_reads.new.self c.in_ok-message.message c.in-Some.lines.items
     (listed c.born_of-born.result) law (c.in_ok-message.ensures {u = tt})
     (taken_in g.P.OneRun.run.frame (g.P.Performer.performs m) c.args.self.now c.take_entry.new.self c.learn.new.self c.in_ok-message.message c.message-2.result.now c.message-3.result.now
     _ c.in-Some.lines c.born_of-born.result (g.met.P.OneRun.performs_run m) c.message-2.ensures c.message-3.ensures c.born_of-born.ensures (c.in_ok-lines.ensures {u = tt}).taken c.in-Some.is
     c.take_entry.ensures.node c.take_entry.ensures.moved c.learn.ensures.node (c.in_ok-learn.ensures {u = tt}).known c.learn.ensures.moved)
     (c.in_ok-answer.ensures {u = tt}).does c.processes-number.ensures.processes
     (subst (λ (x : Message). Begins g.P.OneRun.stood g.P.OneRun.left g.P.OneRun.run.frame c.processes-number.result (listed c.born_of-born.result) x.action c.answer.new.self c.begin.new.self) c.message-4.ensures (c.in_ok-begin.ensures {u = tt}).does)
-    (goes_kept g.P.OneRun.stood g.P.OneRun.left g.P.OneRun.run.frame (fitness_of (g.P.Performer.fits_state m) (g.P.Performer.fits_args m) (g.P.Performer.fits_text m) (g.P.Performer.fits_reply m))
-    c.begin.new.self c.try_reads.new.self new (λ k v. tries_reads g.P.OneRun.run.frame v.node.copies.processes v) refl refl (c.in_ok-try_reads.ensures {u = tt}).does)
+    (c.in_ok-try_reads.ensures {u = tt}).does
 
 pub returns-in_default-clause-tasks : goal.returns-in_default-clause-tasks
 returns-in_default-clause-tasks g c =
