@@ -1,0 +1,5 @@
+pub mod Chains
+pub mod Tables
+pub mod Pieces
+pub mod LineLaws
+pub mod ActsAgain
