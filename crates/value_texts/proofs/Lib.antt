@@ -9,3 +9,4 @@ pub mod Levels
 pub mod Turns
 pub mod Facts
 pub mod Printing
+pub mod Ascii

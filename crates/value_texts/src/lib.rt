@@ -18,4 +18,4 @@ pub use fault::Misspelled;
 pub use laws::{reading_law, spelling_law};
 pub use reading::{integer, object_id, read_value, value_in_front, values_in_front};
 pub use words::{Read, after, begins, behind, natural, natural_below, sign, word};
-pub use writing::{print_value, push_value, push_values};
+pub use writing::{print_value, push_integer, push_number, push_value, push_values};

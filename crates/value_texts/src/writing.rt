@@ -13,18 +13,20 @@ use orca_base::{NoMemory, ObjectId, VALUE_NESTING};
 use std::alloc::Global;
 use value_core::{Parts, Value};
 
-// Adds a number in decimal.
-fn put_integer(out: &mut Vec<u8>, number: i64) -> Result<(), NoMemory>
-    ensures { OnOk result (out.new.items ≡ out.old.items ++ signed_decimal number) }
+/// Adds an integer in decimal behind these bytes. Where there is no memory, they stay as they were.
+pub fn push_integer(out: &mut Vec<u8>, number: i64) -> Result<(), NoMemory>
+    ensures ok { OnOk result (out.new.items ≡ out.old.items ++ signed_decimal number) }
+    ensures err { OnErr result (out.new.items ≡ out.old.items) }
 {
     let digits = number.to_string(*out.allocator())?;
     out.extend_from_slice(digits.as_bytes())?;
     Ok(())
 }
 
-// Adds a number in decimal.
-fn put_number(out: &mut Vec<u8>, number: u32) -> Result<(), NoMemory>
-    ensures { OnOk result (out.new.items ≡ out.old.items ++ decimal number) }
+/// Adds a number in decimal behind these bytes. Where there is no memory, they stay as they were.
+pub fn push_number(out: &mut Vec<u8>, number: u64) -> Result<(), NoMemory>
+    ensures ok { OnOk result (out.new.items ≡ out.old.items ++ decimal number) }
+    ensures err { OnErr result (out.new.items ≡ out.old.items) }
 {
     let digits = number.to_string(*out.allocator())?;
     out.extend_from_slice(digits.as_bytes())?;
@@ -36,7 +38,7 @@ fn put_lettered(out: &mut Vec<u8>, letter: u8, number: u32) -> Result<(), NoMemo
     ensures { OnOk result (out.new.items ≡ out.old.items ++ letter ∷ decimal number) }
 {
     out.push(letter)?;
-    put_number(out, number)
+    push_number(out, u64::from(number))
 }
 
 // Adds a truth.
@@ -129,7 +131,7 @@ fn put_value(out: &mut Vec<u8>, levels: u32, value: &Value) -> Result<(), NoMemo
     ensures { OnOk result (out.new.items ≡ out.old.items ++ value_text (datum_of value.now)) }
 {
     match value {
-        Value::Int(number) => put_integer(out, *number),
+        Value::Int(number) => push_integer(out, *number),
         Value::Truth(truth) => put_truth(out, *truth),
         Value::Char(code) => put_lettered(out, b'c', u32::from(*code)),
         Value::Enum(number) => put_lettered(out, b'e', u32::from(*number)),
