@@ -1,8 +1,8 @@
 -- One part after the other: what is read is spelled so, and what is spelled so is read.
-use Rattle.std.proofs.Common.{◌≡◌, ℕ, List, [], ◌∷◌, ◌++◌, length, Option, Some, refl, sym, ap, subst, ◌∙◌, append_assoc, arith}
+use Rattle.std.proofs.Common.{◌≡◌, ℕ, List, [], ◌∷◌, ◌++◌, length, Some, sym, ap, subst, ◌∙◌, append_assoc, arith}
 use Rattle.std.proofs.lemmas.List.{length-append}
 use Rattle.value_texts.specs.Reading.{◌>>=◌, Reads, sign_at, word_at}
-use Rattle.value_texts.proofs.Steps.{bind_some, bound, some_is}
+use Rattle.value_texts.proofs.Steps.{bind_some, some_is}
 use Rattle.value_texts.proofs.Items.{Fits}
 use Rattle.value_texts.proofs.Letters.{sign_takes, word_takes}
 

@@ -1,5 +1,8 @@
 pub mod Chains
 pub mod Tables
 pub mod Pieces
-pub mod LineLaws
 pub mod ActsAgain
+pub mod LineLaws
+pub mod Histories
+pub mod Ascii
+pub mod Grown

@@ -1,5 +1,5 @@
 -- The parts of a line: what is read is spelled so, and what is spelled so is read.
-use Rattle.std.proofs.Common.{◌≡◌, ℕ, ℤ, pos, negsuc, zero, suc, ◌+◌, ◌-◌, ◌^◌, ◌<◌, ◌≤◌, Bool, true, false, cond, eqb, List, [], ◌∷◌, ◌++◌, length, take, drop, Option, Some, None, refl, sym, ap, subst, ◌∙◌, append_assoc, arith, inl, inr}
+use Rattle.std.proofs.Common.{◌≡◌, ℕ, ℤ, pos, negsuc, ◌+◌, ◌-◌, ◌^◌, ◌<◌, ◌≤◌, Bool, true, false, cond, eqb, List, [], ◌∷◌, ◌++◌, length, take, drop, Option, Some, None, refl, sym, ap, subst, ◌∙◌, append_assoc, arith, inl, inr}
 use Rattle.std.specs.Prelude.{FitsSigned, IsTrue, codes, nat_le}
 use Rattle.std.specs.Char.{is_ascii_digit}
 use Rattle.std.specs.Fmt.{decimal, signed_decimal}
@@ -12,31 +12,33 @@ use Rattle.std.proofs.lemmas.List.{take_at, drop_at, take-append-drop}
 use Rattle.std.proofs.lemmas.Slice.Eq.{bytes_eq-Decides}
 use Rattle.orca_base.specs.declared.fault.FaultKind.{FaultKind}
 use Rattle.orca_base.specs.declared.fault.FaultKind.TheVariants as fault
+use Rattle.orca_base.specs.declared.ids.KindNo.{KindNo}
 use Rattle.orca_base.specs.declared.ids.ObjectId.{ObjectId}
+use Rattle.orca_base.specs.declared.ids.OpNo.{OpNo}
 use Rattle.orca_base.specs.declared.limits.TheConstants.{PARAMETERS, VALUE_NESTING}
 use Rattle.value_core.specs.Datum.{Datum, Data, data_of, data_of-list_of, list_of, list_of-data_of}
 use Rattle.value_core.specs.Datum as datum
 use Rattle.value_core.specs.Performable.{is_performable}
-use Rattle.value_core.specs.Sound.{AreSound, AreSoundArguments, IsGuardOf, IsSound, IsSoundAction, IsSoundReply}
+use Rattle.value_core.specs.Sound.{AreSoundArguments, IsGuardOf, IsSound, IsSoundAction, IsSoundReply}
 use Rattle.value_core.specs.View.{datum_of, datum_of-value_of, value_of, value_of-datum_of}
 use Rattle.value_core.specs.declared.action.Action.{Action}
 use Rattle.value_core.specs.declared.action.Action.TheVariants as action
 use Rattle.value_core.specs.declared.action.Reply.{Reply}
 use Rattle.value_core.specs.declared.action.Reply.TheVariants as answer
 use Rattle.value_texts.specs.Spelling.{BeginsWithNoDigit, parts_text, value_text}
-use Rattle.value_texts.specs.Reading.{◌>>=◌, Reads, begins, integer_at, natural_at, natural_below, object_id_at, sign_at, value_at, values_at, word_at}
-use Rattle.value_texts.proofs.Steps.{bind_some, bound, some_is, guarded, chosen, no_is, yes_is}
+use Rattle.value_texts.specs.Reading.{◌>>=◌, begins, integer_at, natural_at, natural_below, object_id_at, sign_at, value_at, values_at, word_at}
+use Rattle.value_texts.proofs.Steps.{bind_some, bound, some_is, guarded, chosen, no_is}
 use Rattle.value_texts.proofs.Items.{Fits}
 use Rattle.value_texts.proofs.Letters.{sign_again, sign_takes, word_again, word_takes}
-use Rattle.value_texts.proofs.Numerals.{below_again, below_takes, front_all, front_is, natural_again, natural_takes}
-use Rattle.value_texts.proofs.Values.{BeginsWithDigit, integer_again, integer_takes, number_first, object_id_again, object_id_takes, values_again, values_take}
+use Rattle.value_texts.proofs.Numerals.{below_takes, front_is, natural_takes}
+use Rattle.value_texts.proofs.Values.{integer_again, integer_takes, number_first, object_id_again, object_id_takes, values_again, values_take}
 use Rattle.value_texts.proofs.Facts.{read_again, read_sound}
-use Rattle.history_text.specs.Reading.{action_at, arguments_at, call_at, fault_at, fault_of, fork_at, given_at, make_at, name_len, named_at, object_at, place_at, place_from, reply_at}
-use Rattle.history_text.specs.Sound.{AreTables, IsNamed, ObjectFits, PlaceFits, is_name_byte}
+use Rattle.history_text.specs.Reading.{action_at, arguments_at, call_at, called_at, fault_at, fault_of, fork_at, given_at, guarded_at, make_at, name_len, named_at, object_at, place_at, place_from, reply_at}
+use Rattle.history_text.specs.Sound.{IsNamed, ObjectFits, PlaceFits, is_name_byte}
 use Rattle.history_text.specs.Spelling.{action_text, arguments_text, fault_name, name_of, object_text, operation_names, place_text, reply_text}
 use Rattle.history_text.specs.declared.names.Names.{Names}
 use Rattle.history_text.proofs.Chains.{Behind, Spells, done, field, mark, spoken}
-use Rattle.history_text.proofs.Tables.{InTable, named_again, named_takes}
+use Rattle.history_text.proofs.Tables.{InTable, named_takes}
 
 -- ---- numbers
 
@@ -83,6 +85,23 @@ arguments_again args rest sound =
     bound (values_at (arguments_text args ++ rest)) (λ x. cond (nat_le (length x.0) PARAMETERS) (Some (data_of x.0, x.1)) None) (list_of args, rest) (ap values_at grouped ∙ values_again args rest sound.values)
     ∙ ap (λ (b : Bool). cond b (Some (data_of (list_of args), rest)) None) (le-leb (length (list_of args)) PARAMETERS sound.few)
     ∙ ap (λ (d : Data). Some (d, rest)) (data_of-list_of args)
+
+-- arguments that were read
+pub arguments_read : (text : List ℕ) (w : Data) (rest : List ℕ) → values_at text ≡ Some (list_of w, rest) → length (list_of w) ≤ PARAMETERS → arguments_at text ≡ Some (w, rest)
+unfolding arguments_at
+arguments_read text w rest e few =
+    bound (values_at text) (λ x. cond (nat_le (length x.0) PARAMETERS) (Some (data_of x.0, x.1)) None) (list_of w, rest) e
+    ∙ ap (λ (b : Bool). cond b (Some (data_of (list_of w), rest)) None) (le-leb (length (list_of w)) PARAMETERS few)
+    ∙ ap (λ (d : Data). Some (d, rest)) (data_of-list_of w)
+
+too_many : (n : ℕ) → PARAMETERS < n → nat_le n PARAMETERS ≡ false
+too_many n h = grind (arith, nat_tests)
+
+pub arguments_refused : (text : List ℕ) (w : Data) (rest : List ℕ) → values_at text ≡ Some (list_of w, rest) → PARAMETERS < length (list_of w) → arguments_at text ≡ None
+unfolding arguments_at
+arguments_refused text w rest e many =
+    bound (values_at text) (λ x. cond (nat_le (length x.0) PARAMETERS) (Some (data_of x.0, x.1)) None) (list_of w, rest) e
+    ∙ ap (λ (b : Bool). cond b (Some (data_of (list_of w), rest)) None) (too_many (length (list_of w)) many)
 
 -- ---- where a fork is placed
 
@@ -164,7 +183,7 @@ fault_again fault.TooLong = refl
 fault_again fault.TooDeep = refl
 fault_again fault.NoReturn = refl
 
-fault_letters : (kind : FaultKind) → list_all is_name_byte (fault_name kind) ≡ true
+pub fault_letters : (kind : FaultKind) → list_all is_name_byte (fault_name kind) ≡ true
 fault_letters fault.Overflow = refl
 fault_letters fault.DivideByZero = refl
 fault_letters fault.IndexOutside = refl
@@ -308,27 +327,53 @@ make_spells names =
     mark (codes "make " ++ name_of names.kinds.items kind) 32 _ (act_text names) (IsAct names) (
     field ((codes "make " ++ name_of names.kinds.items kind) ++ 32 ∷ []) object_at object_text ObjectFits _ (act_text names) (IsAct names) object_spells (λ object fits.
     done (((codes "make " ++ name_of names.kinds.items kind) ++ 32 ∷ []) ++ object_text object) (action.Make (record { 0 = kind }) object, 0) (act_text names) (IsAct names) (simp append_assoc)
-    (record { sound = tt; performable = tt; is_guard = refl; guard = omega arith; named = (known, fits) }))))
+    (record { sound = tt; performable = refl; is_guard = refl; guard = omega arith; named = (known, fits) }))))
+
+abbrev pub called_text : Names → KindNo × OpNo → List ℕ
+called_text names called = name_of names.kinds.items called.0.0 ++ 36 ∷ name_of (operation_names names called.0.0) called.1.0
+
+abbrev pub IsCalled : Names → KindNo × OpNo → Type 0
+IsCalled names called = InTable names.kinds.items called.0.0 × InTable (operation_names names called.0.0) called.1.0
+
+abbrev pub called_of : ℕ → ℕ → KindNo × OpNo
+called_of kind op = (record { 0 = kind }, record { 0 = op })
+
+pub called_spells : (names : Names) → Spells (called_at names) (called_text names) (IsCalled names)
+unfolding called_at
+called_spells names =
+    field [] (named_at names.kinds.items) (name_of names.kinds.items) (InTable names.kinds.items) _ (called_text names) (IsCalled names) (named_takes names.kinds.items) (λ kind known.
+    let ops = operation_names names kind in
+    let a = name_of names.kinds.items kind in
+    mark a 36 _ (called_text names) (IsCalled names) (
+    field (a ++ 36 ∷ []) (named_at ops) (name_of ops) (InTable ops) _ (called_text names) (IsCalled names) (named_takes ops) (λ op listed.
+    done ((a ++ 36 ∷ []) ++ name_of ops op) (called_of kind op) (called_text names) (IsCalled names) (sym (append_assoc a (36 ∷ []) (name_of ops op))) (known, listed))))
+
+abbrev pub guarded_text : Data × ℕ → List ℕ
+guarded_text given = arguments_text given.0 ++ (codes " guard " ++ decimal given.1)
+
+abbrev pub IsGuarded : Data × ℕ → Type 0
+IsGuarded given = AreSoundArguments given.0 × (given.1 < 2 ^ 16)
+
+pub guarded_spells : Spells guarded_at guarded_text IsGuarded
+unfolding guarded_at
+guarded_spells =
+    field [] arguments_at arguments_text AreSoundArguments _ guarded_text IsGuarded arguments_spells (λ args sound.
+    spoken (arguments_text args) (codes " guard ") _ guarded_text IsGuarded (
+    field (arguments_text args ++ codes " guard ") (natural_below (2 ^ 16)) decimal (λ n. n < 2 ^ 16) _ guarded_text IsGuarded (below_spells (2 ^ 16)) (λ guard small.
+    done ((arguments_text args ++ codes " guard ") ++ decimal guard) (args, guard) guarded_text IsGuarded (sym (append_assoc (arguments_text args) (codes " guard ") (decimal guard))) (sound, small))))
 
 call_spells : (names : Names) → Behind (codes "call ") (call_at names) (act_text names) (IsAct names)
 unfolding call_at action_text
 call_spells names =
-    field (codes "call ") (named_at names.kinds.items) (name_of names.kinds.items) (InTable names.kinds.items) _ (act_text names) (IsAct names) (named_takes names.kinds.items) (λ kind known.
-    let ops = operation_names names kind in
-    let a = codes "call " ++ name_of names.kinds.items kind in
-    mark a 36 _ (act_text names) (IsAct names) (
-    field (a ++ 36 ∷ []) (named_at ops) (name_of ops) (InTable ops) _ (act_text names) (IsAct names) (named_takes ops) (λ op listed.
-    let b = (a ++ 36 ∷ []) ++ name_of ops op in
+    field (codes "call ") (called_at names) (called_text names) (IsCalled names) _ (act_text names) (IsAct names) (called_spells names) (λ called known.
+    let a = codes "call " ++ called_text names called in
+    mark a 32 _ (act_text names) (IsAct names) (
+    field (a ++ 32 ∷ []) object_at object_text ObjectFits _ (act_text names) (IsAct names) object_spells (λ object fits.
+    let b = (a ++ 32 ∷ []) ++ object_text object in
     mark b 32 _ (act_text names) (IsAct names) (
-    field (b ++ 32 ∷ []) object_at object_text ObjectFits _ (act_text names) (IsAct names) object_spells (λ object fits.
-    let c = (b ++ 32 ∷ []) ++ object_text object in
-    mark c 32 _ (act_text names) (IsAct names) (
-    field (c ++ 32 ∷ []) arguments_at arguments_text AreSoundArguments _ (act_text names) (IsAct names) arguments_spells (λ args sound.
-    let d = (c ++ 32 ∷ []) ++ arguments_text args in
-    spoken d (codes " guard ") _ (act_text names) (IsAct names) (
-    field (d ++ codes " guard ") (natural_below (2 ^ 16)) decimal (λ n. n < 2 ^ 16) _ (act_text names) (IsAct names) (below_spells (2 ^ 16)) (λ guard small.
-    done ((d ++ codes " guard ") ++ decimal guard) (action.Call (record { 0 = kind }) (record { 0 = op }) object args, guard) (act_text names) (IsAct names) (simp append_assoc)
-    (record { sound = sound; performable = tt; is_guard = tt; guard = small; named = (known, listed, fits) }))))))))))
+    field (b ++ 32 ∷ []) guarded_at guarded_text IsGuarded _ (act_text names) (IsAct names) guarded_spells (λ given is.
+    done ((b ++ 32 ∷ []) ++ guarded_text given) (action.Call called.0 called.1 object given.0, given.1) (act_text names) (IsAct names) (simp append_assoc)
+    (record { sound = is.0; performable = refl; is_guard = tt; guard = is.1; named = (known.0, known.1, fits) }))))))
 
 fork_spells : (names : Names) → Behind (codes "fork ") (fork_at names) (act_text names) (IsAct names)
 unfolding fork_at action_text
@@ -341,7 +386,7 @@ fork_spells names =
     spoken b (codes " on ") _ (act_text names) (IsAct names) (
     field (b ++ codes " on ") place_at place_text PlaceFits _ (act_text names) (IsAct names) place_spells (λ place fits.
     done ((b ++ codes " on ") ++ place_text place) (action.Fork (record { 0 = process }) args place, 0) (act_text names) (IsAct names) (simp append_assoc)
-    (record { sound = sound; performable = tt; is_guard = refl; guard = omega arith; named = (known, fits) }))))))
+    (record { sound = sound; performable = refl; is_guard = refl; guard = omega arith; named = (known, fits) }))))))
 
 pub act_spells : (names : Names) → Spells (action_at names) (act_text names) (IsAct names)
 unfolding action_at

@@ -1,12 +1,16 @@
 -- Reading a line from the front of a text, where the names of these tables are known.
-use Rattle.std.specs.Prelude.{◌≡◌, ℕ, ℤ, zero, suc, ◌+◌, ◌^◌, Bool, true, false, ◌&&◌, List, [], ◌∷◌, length, take, drop, map, codes, Option, Some, None, nat_le, if◌then◌else◌}
+use Rattle.std.specs.Prelude.{ℕ, ℤ, ◌+◌, ◌^◌, List, [], ◌∷◌, length, take, drop, codes, Option, Some, None, nat_le, if◌then◌else◌}
 use Rattle.std.specs.List.{prefix_len}
 use Rattle.std.specs.Str.{bytes_eq}
 use Rattle.orca_base.specs.declared.fault.FaultKind.{FaultKind}
 use Rattle.orca_base.specs.declared.fault.FaultKind.TheVariants as fault
+use Rattle.orca_base.specs.declared.ids.CallNo.{CallNo}
+use Rattle.orca_base.specs.declared.ids.KindNo.{KindNo}
 use Rattle.orca_base.specs.declared.ids.ObjectId.{ObjectId}
+use Rattle.orca_base.specs.declared.ids.OpNo.{OpNo}
+use Rattle.orca_base.specs.declared.ids.ProcessNo.{ProcessNo}
 use Rattle.orca_base.specs.declared.limits.TheConstants.{PARAMETERS, VALUE_NESTING}
-use Rattle.value_core.specs.Datum.{Datum, Data, data_of}
+use Rattle.value_core.specs.Datum.{Data, data_of}
 use Rattle.value_core.specs.View.{value_of}
 use Rattle.value_core.specs.declared.action.Action.{Action}
 use Rattle.value_core.specs.declared.action.Action.TheVariants as action
@@ -54,18 +58,30 @@ make_at names text = do
   object ← object_at rest
   Some ((action.Make (record { 0 = kind.0 }) object.0, 0), object.1)
 
-unfoldable pub call_at : Names → List ℕ → Reads (Action × ℕ)
-call_at names text = do
+-- the names of a type and of its operation
+unfoldable pub called_at : Names → List ℕ → Reads (KindNo × OpNo)
+called_at names text = do
   kind ← named_at names.kinds.items text
   rest ← sign_at 36 kind.1
   op ← named_at (operation_names names kind.0) rest
-  behind ← sign_at 32 op.1
-  object ← object_at behind
+  Some ((record { 0 = kind.0 }, record { 0 = op.0 }), op.1)
+
+-- arguments and a guard
+unfoldable pub guarded_at : List ℕ → Reads (Data × ℕ)
+guarded_at text = do
+  args ← arguments_at text
+  rest ← word_at (codes " guard ") args.1
+  guard ← natural_below (2 ^ 16) rest
+  Some ((args.0, guard.0), guard.1)
+
+unfoldable pub call_at : Names → List ℕ → Reads (Action × ℕ)
+call_at names text = do
+  called ← called_at names text
+  rest ← sign_at 32 called.1
+  object ← object_at rest
   more ← sign_at 32 object.1
-  args ← arguments_at more
-  last ← word_at (codes " guard ") args.1
-  guard ← natural_below (2 ^ 16) last
-  Some ((action.Call (record { 0 = kind.0 }) (record { 0 = op.0 }) object.0 args.0, guard.0), guard.1)
+  given ← guarded_at more
+  Some ((action.Call called.0.0 called.0.1 object.0 given.0.0, given.0.1), given.1)
 
 unfoldable pub fork_at : Names → List ℕ → Reads (Action × ℕ)
 fork_at names text = do
@@ -106,15 +122,24 @@ reply_at text =
     if begins 110 text then (word_at (codes "none") text >>= λ rest. Some (answer.Done, rest))
     else given_at (word_at (codes "fault ") text) text
 
--- a line with its line feed
-unfoldable pub line_at : Names → List ℕ → Reads Line
-line_at names text = do
+-- a process and the number of its call
+unfoldable pub caller_at : List ℕ → Reads (ProcessNo × CallNo)
+caller_at text = do
   process ← natural_below (2 ^ 16) text
   rest ← sign_at 32 process.1
   call ← natural_at rest
-  behind ← sign_at 32 call.1
-  act ← action_at names behind
+  Some ((record { 0 = process.0 }, record { 0 = call.0 }), call.1)
+
+-- a reply and the line feed behind it
+unfoldable pub last_at : List ℕ → Reads Reply
+last_at text = reply_at text >>= λ reply. sign_at 10 reply.1 >>= λ rest. Some (reply.0, rest)
+
+-- a line with its line feed
+unfoldable pub line_at : Names → List ℕ → Reads Line
+line_at names text = do
+  caller ← caller_at text
+  rest ← sign_at 32 caller.1
+  act ← action_at names rest
   more ← sign_at 32 act.1
-  reply ← reply_at more
-  end ← sign_at 10 reply.1
-  Some (record { process = record { 0 = process.0 }; call = record { 0 = call.0 }; action = act.0.0; guard = act.0.1; reply = reply.0 }, end)
+  reply ← last_at more
+  Some (record { process = caller.0.0; call = caller.0.1; action = act.0.0; guard = act.0.1; reply = reply.0 }, reply.1)

@@ -1,8 +1,8 @@
 -- What has a text: sound lines, whose numbers fit their types and stand in the tables of names.
-use Rattle.std.specs.Prelude.{◌≡◌, ℕ, ℤ, ◌+◌, ◌<◌, ◌^◌, ◌&&◌, ◌||◌, ◌==◌, Bool, true, List, [], ◌∷◌, ◌++◌, length, Option, None, Some, slice_get, FitsSigned}
+use Rattle.std.specs.Prelude.{◌≡◌, ℕ, ℤ, ◌+◌, ◌<◌, ◌^◌, ◌||◌, ◌==◌, Bool, true, List, ◌++◌, length, Option, None, Some, slice_get, All, FitsSigned}
 use Rattle.std.specs.Char.{is_ascii_alphanumeric}
 use Rattle.std.specs.Int.{w64}
-use Rattle.std.specs.List.{AllByRecursion, list_all}
+use Rattle.std.specs.List.{list_all}
 use Rattle.orca_base.specs.declared.ids.ObjectId.{ObjectId}
 use Rattle.value_core.specs.Sound.{IsSoundLine}
 use Rattle.value_core.specs.declared.action.Action.{Action}
@@ -52,7 +52,7 @@ pub record IsLine (names : Names) (line : Line) : Type 0 where
   pub action : IsNamed names line.action
 
 abbrev pub AreLines : Names → List Line → Type 0
-AreLines names lines = AllByRecursion (IsLine names) lines
+AreLines names lines = All (IsLine names) lines
 
 -- the line with this number, from 1, is the first that isn't one: those before it are, and no line's text stands in its place
 pub record BreaksAt (names : Names) (text : List ℕ) (number : ℕ) : Type 0 where

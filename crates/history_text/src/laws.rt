@@ -1,6 +1,7 @@
 //! That texts of histories differ as histories do.
 
 ghost use Rattle.std.specs.Prelude.{◌≡◌, ◌<◌, ◌^◌, ◌++◌, List, ℕ, Some, length};
+ghost use Rattle.std.specs.Str.{IsAscii};
 ghost use Rattle.value_core.specs.declared.action.Line.{Line};
 ghost use Rattle.history_text.specs.Reading.{line_at};
 ghost use Rattle.history_text.specs.Sound.{AreLines, AreTables, IsLine};
@@ -16,6 +17,8 @@ pub fn line_law()
     // A text is that of one history at most.
     ensures history { (names : Names) (one two : List Line) → AreTables names → AreLines names one → AreLines names two →
         history_text names one ≡ history_text names two → one ≡ two }
+    // Texts of histories are ASCII.
+    ensures ascii { (names : Names) (lines : List Line) → AreTables names → AreLines names lines → IsAscii (history_text names lines) }
 {}
 
 /// The laws of the reading function; it does nothing.

@@ -2,7 +2,7 @@
 
 ghost use Rattle.std.specs.Prelude.{◌≡◌};
 ghost use Rattle.value_texts.specs.Reading.{Gives};
-ghost use Rattle.history_text.specs.Reading.{action_at, arguments_at, call_at, fault_at, fault_of, fork_at, line_at, make_at, object_at, place_at, reply_at};
+ghost use Rattle.history_text.specs.Reading.{action_at, arguments_at, call_at, called_at, caller_at, fault_at, fault_of, fork_at, guarded_at, last_at, line_at, make_at, object_at, place_at, reply_at};
 ghost use Rattle.history_text.specs.Sound.{AreTables};
 
 use crate::names::{Names, name_len, named, operation_table};
@@ -63,28 +63,47 @@ fn make<'a>(names: &Names, text: &'a [u8]) -> Read<'a, (Action, u16)>
     Ok(((action, 0), rest))
 }
 
+// An operation, by the names of its type and its own.
+#[tactic(auto, unfolding(crate::specs::Reading::called_at))]
+fn called<'a>(names: &Names, text: &'a [u8]) -> Read<'a, (KindNo, OpNo)>
+    requires { AreTables names.now }
+    ensures { Gives (λ x. (x.0, x.1.now)) result (called_at names.now text.now) }
+{
+    let (kind, rest) = named(&names.kinds, text)?;
+    let rest = sign(b'$', rest)?;
+    let (op, rest) = named(operation_table(names, kind), rest)?;
+    Ok(((KindNo(kind), OpNo(op)), rest))
+}
+
+// The arguments of a call, and its guard.
+#[tactic(auto, unfolding(crate::specs::Reading::guarded_at))]
+fn guarded(alloc: Global, text: &[u8]) -> Read<'_, (Parts, u16)>
+    ensures { Gives (λ x. (x.0, x.1.now)) result (guarded_at text.now) }
+{
+    let (args, rest) = arguments(alloc, text)?;
+    let rest = word(b" guard ", rest)?;
+    let (guard, rest) = natural_below(1 << 16, rest)?;
+    Ok(((args, guard as u16), rest))
+}
+
 // A call and its guard, behind its word.
 #[tactic(auto, unfolding(crate::specs::Reading::call_at))]
 fn call<'a>(alloc: Global, names: &Names, text: &'a [u8]) -> Read<'a, (Action, u16)>
     requires { AreTables names.now }
     ensures { Gives (λ x. (x.0, x.1.now)) result (call_at names.now text.now) }
 {
-    let (kind, rest) = named(&names.kinds, text)?;
-    let rest = sign(b'$', rest)?;
-    let (op, rest) = named(operation_table(names, kind), rest)?;
+    let ((kind, op), rest) = called(names, text)?;
     let rest = sign(b' ', rest)?;
     let (object, rest) = object(rest)?;
     let rest = sign(b' ', rest)?;
-    let (args, rest) = arguments(alloc, rest)?;
-    let rest = word(b" guard ", rest)?;
-    let (guard, rest) = natural_below(1 << 16, rest)?;
+    let ((args, guard), rest) = guarded(alloc, rest)?;
     let action = Action::Call {
-        kind: KindNo(kind),
-        op: OpNo(op),
+        kind,
+        op,
         object,
         args,
     };
-    Ok(((action, guard as u16), rest))
+    Ok(((action, guard), rest))
 }
 
 // A fork and its guard, behind its word.
@@ -178,23 +197,41 @@ fn reply(alloc: Global, text: &[u8]) -> Read<'_, Reply>
     Ok((Reply::Gave { value }, rest))
 }
 
-/// The line in front of a text, with its line feed, and the text behind it.
-#[tactic(auto, unfolding(crate::specs::Reading::line_at))]
-pub(crate) fn line<'a>(alloc: Global, names: &Names, text: &'a [u8]) -> Read<'a, Line>
-    requires { AreTables names.now }
-    ensures { Gives (λ x. (x.0, x.1.now)) result (line_at names.now text.now) }
+// A process and the number of its call.
+#[tactic(auto, unfolding(crate::specs::Reading::caller_at))]
+fn caller(text: &[u8]) -> Read<'_, (ProcessNo, CallNo)>
+    ensures { Gives (λ x. (x.0, x.1.now)) result (caller_at text.now) }
 {
     let (process, rest) = natural_below(1 << 16, text)?;
     let rest = sign(b' ', rest)?;
     let (call, rest) = natural(rest)?;
+    Ok(((ProcessNo(process as u16), CallNo(call)), rest))
+}
+
+// A reply and the line feed behind it.
+#[tactic(auto, unfolding(crate::specs::Reading::last_at))]
+fn last(alloc: Global, text: &[u8]) -> Read<'_, Reply>
+    ensures { Gives (λ x. (x.0, x.1.now)) result (last_at text.now) }
+{
+    let (reply, rest) = reply(alloc, text)?;
+    let rest = sign(b'\n', rest)?;
+    Ok((reply, rest))
+}
+
+/// The line in front of a text, with its line feed, and the text behind it.
+#[tactic(auto, unfolding(crate::specs::Reading::line_at))]
+pub(crate) fn line_in_front<'a>(alloc: Global, names: &Names, text: &'a [u8]) -> Read<'a, Line>
+    requires { AreTables names.now }
+    ensures { Gives (λ x. (x.0, x.1.now)) result (line_at names.now text.now) }
+{
+    let ((process, call), rest) = caller(text)?;
     let rest = sign(b' ', rest)?;
     let ((action, guard), rest) = action(alloc, names, rest)?;
     let rest = sign(b' ', rest)?;
-    let (reply, rest) = reply(alloc, rest)?;
-    let rest = sign(b'\n', rest)?;
+    let (reply, rest) = last(alloc, rest)?;
     let line = Line {
-        process: ProcessNo(process as u16),
-        call: CallNo(call),
+        process,
+        call,
         action,
         guard,
         reply,

@@ -1,34 +1,25 @@
 //! Printing histories.
 
-ghost use Rattle.std.specs.Prelude.{◌≡◌, ◌++◌, ◌∷◌, ◌<◌, All, IfOk, OnOk, length};
-ghost use Rattle.std.specs.Fmt.{decimal, signed_decimal};
+ghost use Rattle.std.specs.Prelude.{◌≡◌, ◌++◌, ◌∷◌, ◌<◌, IfOk, OnOk, length, string_bytes};
+ghost use Rattle.std.specs.Str.{IsAscii};
 ghost use Rattle.value_core.specs.Sound.{IsSoundAction, IsSoundReply};
-ghost use Rattle.history_text.specs.Sound.{IsLine, IsNamed};
+ghost use Rattle.history_text.specs.Sound.{AreLines, AreTables, IsLine, IsNamed};
 ghost use Rattle.history_text.specs.Spelling.{action_text, fault_name, history_text, line_text, name_of, object_text, operation_names, place_text, reply_text};
 
 use crate::names::{Names, operation_table};
 use orca_base::{FaultKind, KindNo, NoMemory, ObjectId, OpNo, Text};
 use std::alloc::Global;
 use value_core::{Action, Line, Reply};
-use value_texts::{push_value, push_values};
-
-// Adds a number in decimal.
-fn put_number(out: &mut Vec<u8>, number: u64) -> Result<(), NoMemory>
-    ensures { OnOk result (out.new.items ≡ out.old.items ++ decimal number) }
-{
-    let digits = number.to_string(*out.allocator())?;
-    out.extend_from_slice(digits.as_bytes())?;
-    Ok(())
-}
+use value_texts::{push_integer, push_number, push_value, push_values};
 
 // Adds an object.
 fn put_object(out: &mut Vec<u8>, object: ObjectId) -> Result<(), NoMemory>
     ensures { OnOk result (out.new.items ≡ out.old.items ++ object_text object) }
 {
     out.push(b'o')?;
-    put_number(out, u64::from(object.process))?;
+    push_number(out, u64::from(object.process))?;
     out.push(b'.')?;
-    put_number(out, u64::from(object.number))
+    push_number(out, u64::from(object.number))
 }
 
 // Adds where a fork is placed.
@@ -37,10 +28,7 @@ fn put_place(out: &mut Vec<u8>, place_on: Option<i64>) -> Result<(), NoMemory>
 {
     match place_on {
         None => out.extend_from_slice(b"parent")?,
-        Some(place) => {
-            let digits = place.to_string(*out.allocator())?;
-            out.extend_from_slice(digits.as_bytes())?;
-        }
+        Some(place) => push_integer(out, place)?,
     }
     Ok(())
 }
@@ -122,7 +110,7 @@ fn put_action(out: &mut Vec<u8>, names: &Names, action: &Action, guard: u16) -> 
             out.push(b' ')?;
             push_values(out, args)?;
             out.extend_from_slice(b" guard ")?;
-            put_number(out, u64::from(guard))
+            push_number(out, u64::from(guard))
         }
         Action::Fork {
             process,
@@ -163,9 +151,9 @@ fn put_line(out: &mut Vec<u8>, names: &Names, line: &Line) -> Result<(), NoMemor
     requires { IsLine names.now line.now }
     ensures { OnOk result (out.new.items ≡ out.old.items ++ line_text names.now line.now) }
 {
-    put_number(out, u64::from(line.process.0))?;
+    push_number(out, u64::from(line.process.0))?;
     out.push(b' ')?;
-    put_number(out, line.call.0)?;
+    push_number(out, line.call.0)?;
     out.push(b' ')?;
     put_action(out, names, &line.action, line.guard)?;
     out.push(b' ')?;
@@ -174,24 +162,43 @@ fn put_line(out: &mut Vec<u8>, names: &Names, line: &Line) -> Result<(), NoMemor
     Ok(())
 }
 
+// The text with these ASCII bytes.
+fn text_of(bytes: Vec<u8>) -> String
+    requires { IsAscii bytes.items }
+    ensures { string_bytes result ≡ bytes.items }
+{
+    String::from_utf8(bytes).unwrap()
+}
+
 /// The one spelling of a sound line whose names are known, with its line feed (docs/FORMATS.md, Histories).
-pub fn print_line(alloc: Global, names: &Names, line: &Line) -> Result<Vec<u8>, NoMemory>
-    requires { IsLine names.now line.now }
-    ensures { IfOk result (λ text. text.items ≡ line_text names.now line.now) }
+pub fn print_line(alloc: Global, names: &Names, line: &Line) -> Result<String, NoMemory>
+    requires tables { AreTables names.now }
+    requires line { IsLine names.now line.now }
+    ensures { IfOk result (λ text. string_bytes text ≡ line_text names.now line.now) }
 {
     let mut out = Vec::new(alloc);
     put_line(&mut out, names, line)?;
-    Ok(out)
+    Ok(text_of(out))
+}
+
+// Adds lines, each with its line feed.
+fn put_lines(out: &mut Vec<u8>, names: &Names, lines: &[Line]) -> Result<(), NoMemory>
+    requires { AreLines names.now lines.now }
+    ensures { OnOk result (out.new.items ≡ out.old.items ++ history_text names.now lines.now) }
+{
+    'lines: for line in lines {
+        put_line(out, names, line)?;
+    }
+    Ok(())
 }
 
 /// The one spelling of sound lines whose names are known.
-pub fn print_history(alloc: Global, names: &Names, lines: &[Line]) -> Result<Vec<u8>, NoMemory>
-    requires { All (IsLine names.now) lines.now }
-    ensures { IfOk result (λ text. text.items ≡ history_text names.now lines.now) }
+pub fn print_history(alloc: Global, names: &Names, lines: &[Line]) -> Result<String, NoMemory>
+    requires tables { AreTables names.now }
+    requires lines { AreLines names.now lines.now }
+    ensures { IfOk result (λ text. string_bytes text ≡ history_text names.now lines.now) }
 {
     let mut out = Vec::new(alloc);
-    'lines: for line in lines {
-        put_line(&mut out, names, line)?;
-    }
-    Ok(out)
+    put_lines(&mut out, names, lines)?;
+    Ok(text_of(out))
 }
