@@ -48,3 +48,11 @@ spoken front word more spell P others text y fits e =
 pub done : {B : Type 0} (front : List ℕ) (y : B) (spell : B → List ℕ) (P : B → Type 0) → spell y ≡ front → P y → Behind front (λ rest. Some (y, rest)) spell P
 done {B} front y spell P same holds text z fits e =
     subst (λ (w : B × List ℕ). (front ++ text ≡ spell w.0 ++ w.1) × P w.0) (some_is (y, text) z e) (ap (λ (w : List ℕ). w ++ text) (sym same), holds)
+
+-- three parts with a byte between two of them
+pub three : (a b c : List ℕ) (first second : ℕ) → (((a ++ first ∷ []) ++ b) ++ second ∷ []) ++ c ≡ a ++ first ∷ (b ++ second ∷ c)
+three a b c first second = append_assoc ((a ++ first ∷ []) ++ b) (second ∷ []) c ∙ append_assoc (a ++ first ∷ []) b (second ∷ c) ∙ append_assoc a (first ∷ []) (b ++ second ∷ c)
+
+-- two parts with a byte between them, and a word and a part behind
+pub worded : (a b word c : List ℕ) (first : ℕ) → (((a ++ first ∷ []) ++ b) ++ word) ++ c ≡ a ++ first ∷ (b ++ (word ++ c))
+worded a b word c first = append_assoc ((a ++ first ∷ []) ++ b) word c ∙ append_assoc (a ++ first ∷ []) b (word ++ c) ∙ append_assoc a (first ∷ []) (b ++ (word ++ c))

@@ -130,10 +130,11 @@ only_read names tables text lines number rest none so_far others are same =
     one_history names tables lines others a.0 are (sym a.1 ∙ same)
 
 -- no line stands next
+none_is : {A : Type 0} (x : A) → None ≡ Some x → ⊥
+none_is x e = cc
+
 no_line : (names : Names) → AreTables names → (rest : List ℕ) → line_at names rest ≡ None → (line : Line) (more : List ℕ) → IsLine names line → rest ≡ line_text names line ++ more → ⊥
-no_line names tables rest none line more is same =
-    let e : None ≡ Some (line, more) = sym none ∙ ap (line_at names) same ∙ line_again names tables line more is in
-    absurd cc
+no_line names tables rest none line more is same = none_is (line, more) (sym none ∙ ap (line_at names) same ∙ line_again names tables line more is)
 
 pub breaks : (names : Names) → AreTables names → (text : List ℕ) (lines : List Line) (number : ℕ) (rest : List ℕ) → 0 < length rest → line_at names rest ≡ None → IsRead names text lines number rest → BreaksAt names text number
 breaks names tables text lines number rest some none so_far = record {

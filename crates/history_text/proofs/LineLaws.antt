@@ -16,7 +16,7 @@ use Rattle.history_text.specs.Reading.{action_at, caller_at, last_at, line_at, r
 use Rattle.history_text.specs.Sound.{AreTables, IsLine}
 use Rattle.history_text.specs.Spelling.{action_text, line_text, reply_text}
 use Rattle.history_text.specs.declared.names.Names.{Names}
-use Rattle.history_text.proofs.Chains.{Spells, done, field, mark}
+use Rattle.history_text.proofs.Chains.{Spells, done, field, mark, three}
 use Rattle.history_text.proofs.Pieces.{Act, IsAct, act_spells, act_text, below_spells, natural_spells, reply_again, reply_spells}
 use Rattle.history_text.proofs.ActsAgain.{act_again}
 
@@ -72,7 +72,7 @@ line_spells names =
     let b = (a ++ 32 ∷ []) ++ act_text names act in
     mark b 32 _ (line_text names) (IsLine names) (
     field (b ++ 32 ∷ []) last_at last_text IsSoundReply _ (line_text names) (IsLine names) last_spells (λ reply sound.
-    done ((b ++ 32 ∷ []) ++ last_text reply) (line_of caller act reply) (line_text names) (IsLine names) (simp append_assoc)
+    done ((b ++ 32 ∷ []) ++ last_text reply) (line_of caller act reply) (line_text names) (IsLine names) (sym (three a (act_text names act) (last_text reply) 32 32 ∙ append_assoc (decimal caller.0.0) (32 ∷ decimal caller.1.0) (32 ∷ (act_text names act ++ 32 ∷ last_text reply))))
     (record { sound = record { action = is.sound; performable = is.performable; guard = is.is_guard; reply = sound }; process = fits.0; call = fits.1; guard = is.guard; action = is.named }))))))
 
 pub line_again : (names : Names) → AreTables names → (line : Line) (rest : List ℕ) → IsLine names line → line_at names (line_text names line ++ rest) ≡ Some (line, rest)

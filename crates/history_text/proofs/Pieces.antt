@@ -37,7 +37,7 @@ use Rattle.history_text.specs.Reading.{action_at, arguments_at, call_at, called_
 use Rattle.history_text.specs.Sound.{IsNamed, ObjectFits, PlaceFits, is_name_byte}
 use Rattle.history_text.specs.Spelling.{action_text, arguments_text, fault_name, name_of, object_text, operation_names, place_text, reply_text}
 use Rattle.history_text.specs.declared.names.Names.{Names}
-use Rattle.history_text.proofs.Chains.{Behind, Spells, done, field, mark, spoken}
+use Rattle.history_text.proofs.Chains.{Behind, Spells, done, field, mark, spoken, three, worded}
 use Rattle.history_text.proofs.Tables.{InTable, named_takes}
 
 -- ---- numbers
@@ -372,7 +372,7 @@ call_spells names =
     let b = (a ++ 32 ∷ []) ++ object_text object in
     mark b 32 _ (act_text names) (IsAct names) (
     field (b ++ 32 ∷ []) guarded_at guarded_text IsGuarded _ (act_text names) (IsAct names) guarded_spells (λ given is.
-    done ((b ++ 32 ∷ []) ++ guarded_text given) (action.Call called.0 called.1 object given.0, given.1) (act_text names) (IsAct names) (simp append_assoc)
+    done ((b ++ 32 ∷ []) ++ guarded_text given) (action.Call called.0 called.1 object given.0, given.1) (act_text names) (IsAct names) (sym (three a (object_text object) (guarded_text given) 32 32 ∙ ap (λ (t : List ℕ). codes "call " ++ t) (append_assoc (name_of names.kinds.items called.0.0) (36 ∷ name_of (operation_names names called.0.0) called.1.0) (32 ∷ (object_text object ++ 32 ∷ guarded_text given)))))
     (record { sound = is.0; performable = refl; is_guard = tt; guard = is.1; named = (known.0, known.1, fits) }))))))
 
 fork_spells : (names : Names) → Behind (codes "fork ") (fork_at names) (act_text names) (IsAct names)
@@ -385,7 +385,7 @@ fork_spells names =
     let b = (a ++ 32 ∷ []) ++ arguments_text args in
     spoken b (codes " on ") _ (act_text names) (IsAct names) (
     field (b ++ codes " on ") place_at place_text PlaceFits _ (act_text names) (IsAct names) place_spells (λ place fits.
-    done ((b ++ codes " on ") ++ place_text place) (action.Fork (record { 0 = process }) args place, 0) (act_text names) (IsAct names) (simp append_assoc)
+    done ((b ++ codes " on ") ++ place_text place) (action.Fork (record { 0 = process }) args place, 0) (act_text names) (IsAct names) (sym (worded a (arguments_text args) (codes " on ") (place_text place) 32))
     (record { sound = sound; performable = refl; is_guard = refl; guard = omega arith; named = (known, fits) }))))))
 
 pub act_spells : (names : Names) → Spells (action_at names) (act_text names) (IsAct names)

@@ -109,4 +109,4 @@ meets names number d name total lt is so_far =
 
 pub ends : (names : List (List ℕ)) (number : ℕ) (name : List ℕ) (total : Option ℕ) → length names ≤ number → number_from number (drop number names) name ≡ total → None ≡ total
 unfolding number_from
-ends names number name total le so_far = sym (ap (λ (ns : List (List ℕ)). number_from number ns name) (drop_all names number le)) ∙ so_far
+ends names number name total le so_far = sym (ap (λ (ns : List (List ℕ)). number_from number ns name) (drop_all number names le)) ∙ so_far
