@@ -1,0 +1,161 @@
+-- Lines one after the other: what a text begins with, and where it breaks.
+use Rattle.std.proofs.Common.{◌≡◌, ℕ, ◌+◌, ◌<◌, ◌≤◌, List, [], ◌∷◌, ◌++◌, length, Some, None, refl, sym, ap, ◌∙◌, append_assoc, arith}
+use Rattle.std.specs.List.{AllByRecursion}
+use Rattle.std.proofs.lemmas.List.{append-nil, length-append}
+use Rattle.std.proofs.lemmas.List.Concat.{flat_map-cons}
+use Rattle.std.proofs.lemmas.List.Elements.{All-from_recursion, recursion_from_All}
+use Rattle.std.proofs.lemmas.Grind.{flat_map-append}
+use Rattle.value_core.specs.declared.action.Line.{Line}
+use Rattle.value_texts.proofs.Items.{Fits}
+use Rattle.history_text.specs.Reading.{line_at}
+use Rattle.history_text.specs.Sound.{AreLines, AreTables, BreaksAt, IsLine}
+use Rattle.history_text.specs.Spelling.{history_text, line_text}
+use Rattle.history_text.specs.declared.names.Names.{Names}
+use Rattle.history_text.proofs.LineLaws.{line_again, line_prefix, line_some, line_spells}
+
+-- lines that have a text, one by one
+abbrev pub Are : Names → List Line → Type 0
+Are names lines = AllByRecursion (IsLine names) lines
+
+-- a history whose text another text begins with is the front of that other's history
+record Starts (names : Names) (before lines : List Line) (rest : List ℕ) : Type 0 where
+  others : List Line
+  whole : lines ≡ before ++ others
+  are : Are names others
+  rest_is : rest ≡ history_text names others
+
+text_first : (names : Names) (line : Line) (lines : List Line) (rest : List ℕ) → history_text names (line ∷ lines) ++ rest ≡ line_text names line ++ (history_text names lines ++ rest)
+text_first names line lines rest =
+    ap (λ (t : List ℕ). t ++ rest) (flat_map-cons (line_text names) line lines) ∙ append_assoc (line_text names line) (history_text names lines) rest
+
+-- a history with a line has a text
+not_nothing : (names : Names) (line : Line) (more : List ℕ) → line_text names line ++ more ≡ [] → ⊥
+not_nothing names line more is =
+    let long : length (line_text names line ++ more) ≡ 0 = ap length is in
+    let some = line_some names line in
+    let sum = length-append (line_text names line) more in
+    absurd (omega arith)
+
+starts : (names : Names) → AreTables names → (before lines : List Line) (rest : List ℕ) → Are names before → Are names lines → history_text names before ++ rest ≡ history_text names lines → Starts names before lines rest
+starts names tables [] lines rest are is same = record { others = lines; whole = refl; are = is; rest_is = same }
+starts names tables (one ∷ before) [] rest are is same = absurd (not_nothing names one (history_text names before ++ rest) (sym (text_first names one before rest) ∙ same))
+starts names tables (one ∷ before) (two ∷ lines) rest are is same =
+    let p = line_prefix names tables one two (history_text names before ++ rest) (history_text names lines) are.0 is.0 (sym (text_first names one before rest) ∙ same ∙ flat_map-cons (line_text names) two lines) in
+    let s = starts names tables before lines rest are.1 is.1 p.1 in
+    record {
+      others = s.others;
+      whole = ap (λ (l : Line). l ∷ lines) (sym p.0) ∙ ap (λ (ls : List Line). one ∷ ls) s.whole;
+      are = s.are;
+      rest_is = s.rest_is;
+    }
+
+none_left : (names : Names) (lines : List Line) → history_text names lines ≡ [] → lines ≡ []
+none_left names [] is = refl
+none_left names (line ∷ lines) is = absurd (not_nothing names line (history_text names lines) (sym (flat_map-cons (line_text names) line lines) ∙ is))
+
+-- a text is that of one history at most
+pub one_history : (names : Names) → AreTables names → (one two : List Line) → AreLines names one → AreLines names two → history_text names one ≡ history_text names two → one ≡ two
+one_history names tables one two are is same =
+    let s = starts names tables one two [] (recursion_from_All (IsLine names) one are) (recursion_from_All (IsLine names) two is) (append-nil (history_text names one) ∙ same) in
+    sym (s.whole ∙ ap (λ (ls : List Line). one ++ ls) (none_left names s.others (sym s.rest_is)) ∙ append-nil one)
+
+-- ---- the loop over lines
+
+-- what was read so far, and what is left
+pub record IsRead (names : Names) (text : List ℕ) (lines : List Line) (number : ℕ) (rest : List ℕ) : Type 0 where
+  pub are : Are names lines
+  pub parts : text ≡ history_text names lines ++ rest
+  pub counted : number ≡ length lines + 1
+  pub few : length lines + length rest ≤ length text
+
+pub begun : (names : Names) (text : List ℕ) → IsRead names text [] 1 text
+begun names text = record { are = tt; parts = refl; counted = refl; few = omega arith }
+
+and_one : (names : Names) (lines : List Line) (line : Line) → Are names lines → IsLine names line → Are names (lines ++ line ∷ [])
+and_one names [] line are is = (is, tt)
+and_one names (one ∷ lines) line are is = (are.0, and_one names lines line are.1 is)
+
+one_text : (names : Names) (line : Line) → history_text names (line ∷ []) ≡ line_text names line
+one_text names line = flat_map-cons (line_text names) line [] ∙ append-nil (line_text names line)
+
+fits_left : (names : Names) (text : List ℕ) (lines : List Line) (number : ℕ) (rest : List ℕ) → Fits text → IsRead names text lines number rest → Fits rest
+fits_left names text lines number rest fits so_far = omega (arith, so_far.few, fits)
+
+-- one line more
+pub more_read : (names : Names) (text : List ℕ) (lines : List Line) (number : ℕ) (rest : List ℕ) (line : Line) (after : List ℕ) → Fits text → line_at names rest ≡ Some (line, after) → IsRead names text lines number rest →
+    IsRead names text (lines ++ line ∷ []) (number + 1) after
+more_read names text lines number rest line after fits read so_far =
+    let t = line_spells names rest (line, after) (fits_left names text lines number rest fits so_far) read in
+    let long : length rest ≡ length (line_text names line) + length after = ap length t.0 ∙ length-append (line_text names line) after in
+    let some = line_some names line in
+    let count = length-append lines (line ∷ []) in
+    let grown : history_text names (lines ++ line ∷ []) ≡ history_text names lines ++ line_text names line =
+    flat_map-append (line_text names) lines (line ∷ []) ∙ ap (λ (t : List ℕ). history_text names lines ++ t) (one_text names line) in
+    record {
+      are = and_one names lines line so_far.are t.1;
+      parts =
+          so_far.parts
+          ∙ ap (λ (t : List ℕ). history_text names lines ++ t) t.0
+          ∙ sym (append_assoc (history_text names lines) (line_text names line) after)
+          ∙ ap (λ (t : List ℕ). t ++ after) (sym grown);
+      counted = omega (arith, so_far.counted, count);
+      few = omega (arith, so_far.few, long, some, count);
+    }
+
+-- each line takes bytes
+pub shorter : (names : Names) (rest : List ℕ) (line : Line) (after : List ℕ) → Fits rest → line_at names rest ≡ Some (line, after) → length after < length rest
+shorter names rest line after fits read =
+    let t = line_spells names rest (line, after) fits read in
+    let long : length rest ≡ length (line_text names line) + length after = ap length t.0 ∙ length-append (line_text names line) after in
+    let some = line_some names line in
+    omega arith
+
+pub left_shorter : (names : Names) (text : List ℕ) (lines : List Line) (number : ℕ) (rest : List ℕ) (line : Line) (after : List ℕ) → Fits text → line_at names rest ≡ Some (line, after) → IsRead names text lines number rest →
+    length after < length rest
+left_shorter names text lines number rest line after fits read so_far = shorter names rest line after (fits_left names text lines number rest fits so_far) read
+
+is_nothing : (rest : List ℕ) → length rest ≡ 0 → rest ≡ []
+is_nothing [] h = refl
+is_nothing (c ∷ rest) h = absurd (omega (arith, h))
+
+-- nothing is left
+pub all_read : (names : Names) (text : List ℕ) (lines : List Line) (number : ℕ) (rest : List ℕ) → length rest ≡ 0 → IsRead names text lines number rest → AreLines names lines × (text ≡ history_text names lines)
+all_read names text lines number rest none so_far =
+    (All-from_recursion (IsLine names) lines so_far.are, so_far.parts ∙ ap (λ (t : List ℕ). history_text names lines ++ t) (is_nothing rest none) ∙ append-nil (history_text names lines))
+
+pub only_read : (names : Names) → AreTables names → (text : List ℕ) (lines : List Line) (number : ℕ) (rest : List ℕ) → length rest ≡ 0 → IsRead names text lines number rest →
+    (others : List Line) → AreLines names others → text ≡ history_text names others → lines ≡ others
+only_read names tables text lines number rest none so_far others are same =
+    let a = all_read names text lines number rest none so_far in
+    one_history names tables lines others a.0 are (sym a.1 ∙ same)
+
+-- no line stands next
+none_is : {A : Type 0} (x : A) → None ≡ Some x → ⊥
+none_is x e = cc
+
+no_line : (names : Names) → AreTables names → (rest : List ℕ) → line_at names rest ≡ None → (line : Line) (more : List ℕ) → IsLine names line → rest ≡ line_text names line ++ more → ⊥
+no_line names tables rest none line more is same = none_is (line, more) (sym none ∙ ap (line_at names) same ∙ line_again names tables line more is)
+
+pub breaks : (names : Names) → AreTables names → (text : List ℕ) (lines : List Line) (number : ℕ) (rest : List ℕ) → 0 < length rest → line_at names rest ≡ None → IsRead names text lines number rest → BreaksAt names text number
+breaks names tables text lines number rest some none so_far = record {
+  lines = lines;
+  rest = rest;
+  before = All-from_recursion (IsLine names) lines so_far.are;
+  parts = so_far.parts;
+  some = some;
+  is = so_far.counted;
+  none_ = λ line more is same. no_line names tables rest none line more is same;
+}
+
+no_lines : (names : Names) → AreTables names → (rest : List ℕ) → 0 < length rest → line_at names rest ≡ None → (others : List Line) → Are names others → rest ≡ history_text names others → ⊥
+no_lines names tables rest some none [] are same =
+    let e : length rest ≡ 0 = ap length same in
+    absurd (omega arith)
+no_lines names tables rest some none (line ∷ others) are same = no_line names tables rest none line (history_text names others) are.0 (same ∙ flat_map-cons (line_text names) line others)
+
+-- so the text is that of no history
+pub none_read : (names : Names) → AreTables names → (text : List ℕ) (lines : List Line) (number : ℕ) (rest : List ℕ) → 0 < length rest → line_at names rest ≡ None → IsRead names text lines number rest →
+    (others : List Line) → AreLines names others → text ≡ history_text names others → ⊥
+none_read names tables text lines number rest some none so_far others are same =
+    let s = starts names tables lines others rest so_far.are (recursion_from_All (IsLine names) others are) (sym so_far.parts ∙ same) in
+    no_lines names tables rest some none s.others s.are s.rest_is
