@@ -1,6 +1,6 @@
 //! The names of a program's object types, operations and process texts.
 
-ghost use Rattle.std.specs.Prelude.{◌≡◌, ◌<◌, ◌≤◌, ◌^◌, IfOk, length};
+ghost use Rattle.std.specs.Prelude.{◌≡◌, ◌<◌, ◌≤◌, ◌^◌, IfOk, IfSome, length};
 ghost use Rattle.std.specs.List.{prefix_len};
 ghost use Rattle.value_texts.specs.Reading.{Gives};
 ghost use Rattle.history_text.specs.Reading.{name_len, named_at as at_name, number_from};
@@ -42,7 +42,8 @@ pub(crate) fn name_len(text: &[u8]) -> usize
 
 // The number of a name in a table.
 fn number_of(names: &[Text], name: &[u8]) -> Option<usize>
-    ensures { result ≡ number_from 0 names.now name.now }
+    ensures is { result ≡ number_from 0 names.now name.now }
+    ensures within { IfSome result (λ number. number < length names.now) }
 {
     for (number, other) in names.iter().enumerate() {
         if other.as_bytes() == name {

@@ -1,15 +1,16 @@
 //! Printing histories.
 
-ghost use Rattle.std.specs.Prelude.{◌≡◌, ◌++◌, ◌∷◌, ◌<◌, IfOk, OnOk, length, string_bytes};
+ghost use Rattle.std.specs.Prelude.{◌≡◌, ◌++◌, ◌∷◌, ◌<◌, IfOk, OnOk, codes, length, string_bytes};
+ghost use Rattle.std.specs.Fmt.{decimal};
 ghost use Rattle.std.specs.Str.{IsAscii};
-ghost use Rattle.value_core.specs.Sound.{IsSoundAction, IsSoundReply};
+ghost use Rattle.value_core.specs.Sound.{AreSoundArguments, IsSoundAction, IsSoundReply};
 ghost use Rattle.history_text.specs.Sound.{AreLines, AreTables, IsLine, IsNamed};
-ghost use Rattle.history_text.specs.Spelling.{action_text, fault_name, history_text, line_text, name_of, object_text, operation_names, place_text, reply_text};
+ghost use Rattle.history_text.specs.Spelling.{action_text, arguments_text, fault_name, history_text, line_text, name_of, object_text, operation_names, place_text, reply_text};
 
 use crate::names::{Names, operation_table};
 use orca_base::{FaultKind, KindNo, NoMemory, ObjectId, OpNo, Text};
 use std::alloc::Global;
-use value_core::{Action, Line, Reply};
+use value_core::{Action, Line, Parts, Reply};
 use value_texts::{push_integer, push_number, push_value, push_values};
 
 // Adds an object.
@@ -85,6 +86,26 @@ fn put_operation(out: &mut Vec<u8>, names: &Names, kind: KindNo, op: OpNo) -> Re
     put_name(out, operation_table(names, kind.0), op.0)
 }
 
+// Adds what stands of a call behind its operation: the object, the arguments and the guard.
+fn put_called(
+    out: &mut Vec<u8>,
+    object: ObjectId,
+    args: &Parts,
+    guard: u16,
+) -> Result<(), NoMemory>
+    requires { AreSoundArguments args.now }
+    ensures { OnOk result (out.new.items ≡ out.old.items
+        ++ 32 ∷ (object_text object ++ 32 ∷ (arguments_text args.now ++ (codes " guard " ++ decimal guard)))) }
+{
+    out.push(b' ')?;
+    put_object(out, object)?;
+    out.push(b' ')?;
+    push_values(out, args)?;
+    out.extend_from_slice(b" guard ")?;
+    push_number(out, u64::from(guard))?;
+    Ok(())
+}
+
 // Adds an action and its guard.
 #[tactic(auto, unfolding(crate::specs::Spelling::action_text))]
 fn put_action(out: &mut Vec<u8>, names: &Names, action: &Action, guard: u16) -> Result<(), NoMemory>
@@ -105,12 +126,7 @@ fn put_action(out: &mut Vec<u8>, names: &Names, action: &Action, guard: u16) -> 
         } => {
             out.extend_from_slice(b"call ")?;
             put_operation(out, names, *kind, *op)?;
-            out.push(b' ')?;
-            put_object(out, *object)?;
-            out.push(b' ')?;
-            push_values(out, args)?;
-            out.extend_from_slice(b" guard ")?;
-            push_number(out, u64::from(guard))
+            put_called(out, *object, args, guard)
         }
         Action::Fork {
             process,
