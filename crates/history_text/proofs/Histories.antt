@@ -1,14 +1,17 @@
 -- Lines one after the other: what a text begins with, and where it breaks.
-use Rattle.std.proofs.Common.{◌≡◌, ℕ, ◌+◌, ◌<◌, ◌≤◌, List, [], ◌∷◌, ◌++◌, length, Some, None, refl, sym, ap, ◌∙◌, append_assoc, arith}
+use Rattle.std.proofs.Common.{◌≡◌, ℕ, ◌+◌, ◌<◌, ◌≤◌, Bool, true, false, cond, eqb, List, [], ◌∷◌, ◌++◌, length, drop, get_or, Option, Some, None, refl, sym, ap, ◌∙◌, append_assoc, arith}
+use Rattle.std.specs.Option.{option_map}
+use Rattle.std.proofs.lemmas.Bool.{eqb-true, ne_eqb}
+use Rattle.std.proofs.lemmas.Bool.Decides.{nat_tests}
 use Rattle.std.specs.List.{AllByRecursion}
-use Rattle.std.proofs.lemmas.List.{append-nil, length-append}
+use Rattle.std.proofs.lemmas.List.{append-nil, drop_more, length-append}
 use Rattle.std.proofs.lemmas.List.Concat.{flat_map-cons}
 use Rattle.std.proofs.lemmas.List.Elements.{All-from_recursion, recursion_from_All}
 use Rattle.std.proofs.lemmas.Grind.{flat_map-append}
 use Rattle.value_core.specs.declared.action.Line.{Line}
 use Rattle.value_texts.proofs.Items.{Fits}
 use Rattle.history_text.specs.Reading.{line_at}
-use Rattle.history_text.specs.Sound.{AreLines, AreTables, BreaksAt, IsLine}
+use Rattle.history_text.specs.Sound.{AreLines, AreFirst, AreTables, IsLine}
 use Rattle.history_text.specs.Spelling.{history_text, line_text}
 use Rattle.history_text.specs.declared.names.Names.{Names}
 use Rattle.history_text.proofs.LineLaws.{line_again, line_prefix, line_some, line_spells}
@@ -118,16 +121,45 @@ is_nothing : (rest : List ℕ) → length rest ≡ 0 → rest ≡ []
 is_nothing [] h = refl
 is_nothing (c ∷ rest) h = absurd (omega (arith, h))
 
--- nothing is left
-pub all_read : (names : Names) (text : List ℕ) (lines : List Line) (number : ℕ) (rest : List ℕ) → length rest ≡ 0 → IsRead names text lines number rest → AreLines names lines × (text ≡ history_text names lines)
-all_read names text lines number rest none so_far =
-    (All-from_recursion (IsLine names) lines so_far.are, so_far.parts ∙ ap (λ (t : List ℕ). history_text names lines ++ t) (is_nothing rest none) ∙ append-nil (history_text names lines))
+-- ---- what the next line is
 
-pub only_read : (names : Names) → AreTables names → (text : List ℕ) (lines : List Line) (number : ℕ) (rest : List ℕ) → length rest ≡ 0 → IsRead names text lines number rest →
-    (others : List Line) → AreLines names others → text ≡ history_text names others → lines ≡ others
-only_read names tables text lines number rest none so_far others are same =
-    let a = all_read names text lines number rest none so_far in
-    one_history names tables lines others a.0 are (sym a.1 ∙ same)
+pub some_left : (n : ℕ) → false ≡ eqb n 0 → 0 < n
+some_left n h = grind (arith, nat_tests)
+
+pub is_none : (n : ℕ) → eqb n 0 ≡ true → n ≡ 0
+is_none n h = eqb-true n 0 h
+
+pub next_none : {B : Type 0} (now : B → List ℕ) (next : Option (Line × B)) (read : Option (Line × List ℕ)) → option_map (λ x. (x.0, now x.1)) next ≡ read → next ≡ None → read ≡ None
+next_none {B} now next read e is = sym e ∙ ap (λ (o : Option (Line × B)). option_map (λ x. (x.0, now x.1)) o) is
+
+pub next_some : {B : Type 0} (now : B → List ℕ) (next : Option (Line × B)) (read : Option (Line × List ℕ)) (line : Line) (after : B) → option_map (λ x. (x.0, now x.1)) next ≡ read → next ≡ Some (line, after) → read ≡ Some (line, now after)
+next_some {B} now next read line after e is = sym e ∙ ap (λ (o : Option (Line × B)). option_map (λ x. (x.0, now x.1)) o) is
+
+-- ---- the loop that prints
+
+-- one line more was put
+pub one_put : (names : Names) (lines : List Line) (i : ℕ) (d : Line) (out new start : List ℕ) → i < length lines → new ≡ out ++ line_text names (get_or lines i d) → out ++ history_text names (drop i lines) ≡ start →
+    new ++ history_text names (drop (i + 1) lines) ≡ start
+one_put names lines i d out new start lt put so_far =
+    let line = get_or lines i d in
+    let rest = drop (i + 1) lines in
+    ap (λ (t : List ℕ). t ++ history_text names rest) put
+    ∙ append_assoc out (line_text names line) (history_text names rest)
+    ∙ ap (λ (t : List ℕ). out ++ t) (sym (flat_map-cons (line_text names) line rest))
+    ∙ ap (λ (ls : List Line). out ++ history_text names ls) (sym (drop_more lines i d lt))
+    ∙ so_far
+
+-- ---- what was read at the end
+
+-- nothing is left
+pub all_first : (names : Names) (text : List ℕ) (lines : List Line) (number : ℕ) (rest : List ℕ) → length rest ≡ 0 → IsRead names text lines number rest → AreFirst names text lines None
+all_first names text lines number rest none so_far = record {
+  are = All-from_recursion (IsLine names) lines so_far.are;
+  rest = rest;
+  parts = so_far.parts;
+  none_ = λ line more is same. not_nothing names line more (sym same ∙ is_nothing rest none);
+  told = ap (λ (n : ℕ). cond (eqb n 0) None (Some (length lines + 1))) (sym none);
+}
 
 -- no line stands next
 none_is : {A : Type 0} (x : A) → None ≡ Some x → ⊥
@@ -136,26 +168,48 @@ none_is x e = cc
 no_line : (names : Names) → AreTables names → (rest : List ℕ) → line_at names rest ≡ None → (line : Line) (more : List ℕ) → IsLine names line → rest ≡ line_text names line ++ more → ⊥
 no_line names tables rest none line more is same = none_is (line, more) (sym none ∙ ap (line_at names) same ∙ line_again names tables line more is)
 
-pub breaks : (names : Names) → AreTables names → (text : List ℕ) (lines : List Line) (number : ℕ) (rest : List ℕ) → 0 < length rest → line_at names rest ≡ None → IsRead names text lines number rest → BreaksAt names text number
-breaks names tables text lines number rest some none so_far = record {
-  lines = lines;
+not_none : (rest : List ℕ) → 0 < length rest → eqb (length rest) 0 ≡ false
+not_none rest some = ne_eqb (length rest) 0 (λ (e : length rest ≡ 0). omega (arith, e, some))
+
+told_bad : (rest : List ℕ) (number count : ℕ) → 0 < length rest → number ≡ count → Some number ≡ cond (eqb (length rest) 0) None (Some count)
+told_bad [] number count some is = absurd (omega (arith, some))
+told_bad (c ∷ rest) number count some is = ap Some is ∙ ap (λ (b : Bool). cond b None (Some count)) (sym (not_none (c ∷ rest) some))
+
+pub bad_first : (names : Names) → AreTables names → (text : List ℕ) (lines : List Line) (number : ℕ) (rest : List ℕ) → 0 < length rest → line_at names rest ≡ None → IsRead names text lines number rest →
+    AreFirst names text lines (Some number)
+bad_first names tables text lines number rest some none so_far = record {
+  are = All-from_recursion (IsLine names) lines so_far.are;
   rest = rest;
-  before = All-from_recursion (IsLine names) lines so_far.are;
   parts = so_far.parts;
-  some = some;
-  is = so_far.counted;
   none_ = λ line more is same. no_line names tables rest none line more is same;
+  told = told_bad rest number (length lines + 1) some so_far.counted;
 }
 
-no_lines : (names : Names) → AreTables names → (rest : List ℕ) → 0 < length rest → line_at names rest ≡ None → (others : List Line) → Are names others → rest ≡ history_text names others → ⊥
-no_lines names tables rest some none [] are same =
-    let e : length rest ≡ 0 = ap length same in
-    absurd (omega arith)
-no_lines names tables rest some none (line ∷ others) are same = no_line names tables rest none line (history_text names others) are.0 (same ∙ flat_map-cons (line_text names) line others)
+pub few_read : (names : Names) (text : List ℕ) (lines : List Line) (number : ℕ) (rest : List ℕ) → IsRead names text lines number rest → length lines ≤ length text
+few_read names text lines number rest so_far = omega (arith, so_far.few)
 
--- so the text is that of no history
-pub none_read : (names : Names) → AreTables names → (text : List ℕ) (lines : List Line) (number : ℕ) (rest : List ℕ) → 0 < length rest → line_at names rest ≡ None → IsRead names text lines number rest →
+-- ---- what that says of the whole text
+
+nothing_left : (rest : List ℕ) (count : ℕ) → None ≡ cond (eqb (length rest) 0) None (Some count) → rest ≡ []
+nothing_left [] count e = refl
+nothing_left (c ∷ rest) count e = absurd (none_is count (e ∙ ap (λ (b : Bool). cond b None (Some count)) (not_none (c ∷ rest) (omega arith))))
+
+pub whole_read : (names : Names) (text : List ℕ) (lines : List Line) → AreFirst names text lines None → AreLines names lines × (text ≡ history_text names lines)
+whole_read names text lines first =
+    (first.are, first.parts ∙ ap (λ (t : List ℕ). history_text names lines ++ t) (nothing_left first.rest (length lines + 1) first.told) ∙ append-nil (history_text names lines))
+
+pub only_read : (names : Names) → AreTables names → (text : List ℕ) (lines : List Line) → AreFirst names text lines None → (others : List Line) → AreLines names others → text ≡ history_text names others → lines ≡ others
+only_read names tables text lines first others are same =
+    let a = whole_read names text lines first in
+    one_history names tables lines others a.0 are (sym a.1 ∙ same)
+
+no_lines : (names : Names) (text : List ℕ) (lines : List Line) (number : ℕ) (first : AreFirst names text lines (Some number)) (others : List Line) → Are names others → first.rest ≡ history_text names others → ⊥
+no_lines names text lines number first [] are same = none_is number (sym (first.told ∙ ap (λ (r : List ℕ). cond (eqb (length r) 0) None (Some (length lines + 1))) same))
+no_lines names text lines number first (line ∷ others) are same = first.none_ line (history_text names others) are.0 (same ∙ flat_map-cons (line_text names) line others)
+
+-- where a line is bad the text is that of no history
+pub none_read : (names : Names) → AreTables names → (text : List ℕ) (lines : List Line) (number : ℕ) → AreFirst names text lines (Some number) →
     (others : List Line) → AreLines names others → text ≡ history_text names others → ⊥
-none_read names tables text lines number rest some none so_far others are same =
-    let s = starts names tables lines others rest so_far.are (recursion_from_All (IsLine names) others are) (sym so_far.parts ∙ same) in
-    no_lines names tables rest some none s.others s.are s.rest_is
+none_read names tables text lines number first others are same =
+    let s = starts names tables lines others first.rest (recursion_from_All (IsLine names) lines first.are) (recursion_from_All (IsLine names) others are) (sym first.parts ∙ same) in
+    no_lines names text lines number first s.others s.are s.rest_is

@@ -1,25 +1,32 @@
 -- Names in tables.
 use Rattle.std.proofs.Common.{◌≡◌, ℕ, zero, suc, ◌+◌, ◌<◌, ◌≤◌, Bool, true, false, List, [], ◌∷◌, ◌++◌, length, get_or, take, drop, Option, Some, None, refl, sym, ap, subst, ◌∙◌, arith, inl, inr}
 use Rattle.std.specs.Prelude.{slice_get}
+use Rattle.std.specs.List.{position_from}
 use Rattle.std.specs.Str.{bytes_eq}
-use Rattle.std.proofs.lemmas.List.{take_at, drop_at, drop_all, drop_more, take-append-drop}
+use Rattle.std.proofs.lemmas.Iterator.Adapters.{position_from-zero}
+use Rattle.std.proofs.lemmas.List.{take_at, drop_at, take-append-drop}
 use Rattle.std.proofs.lemmas.Option.{get_or_from_slice_get, slice_get-get_or, slice_get_within}
 use Rattle.std.proofs.lemmas.Slice.Eq.{bytes_eq-Decides}
 use Rattle.value_texts.proofs.Steps.{bind_some, bound, some_is, chosen, no_is, yes_is}
 use Rattle.value_texts.proofs.Numerals.{front_is}
-use Rattle.history_text.specs.Reading.{name_len, named_at, number_from}
+use Rattle.history_text.specs.Reading.{name_len, named_at, number_of}
 use Rattle.history_text.specs.Sound.{IsTable, is_name_byte}
 use Rattle.history_text.specs.Spelling.{name_of}
 use Rattle.history_text.proofs.Chains.{Spells}
 
--- the number of a name
+-- the number of a name, where the first has this number
+abbrev number_from : ℕ → List (List ℕ) → List ℕ → Option ℕ
+number_from from names name = position_from (λ other. bytes_eq other name) from names
+
+counted : (names : List (List ℕ)) (name : List ℕ) → number_of names name ≡ number_from 0 names name
+counted names name = position_from-zero (λ other. bytes_eq other name) names
+
 pub record Stands (names : List (List ℕ)) (from : ℕ) (name : List ℕ) (number : ℕ) : Type 0 where
   pub place : ℕ
   pub is : number ≡ from + place
   pub there : slice_get names place ≡ Some name
 
 number_takes : (names : List (List ℕ)) (from : ℕ) (name : List ℕ) (number : ℕ) → number_from from names name ≡ Some number → Stands names from name number
-unfolding number_from
 number_takes [] from name number e = absurd cc
 number_takes (other ∷ names) from name number e =
     elim (chosen (bytes_eq other name) (Some from) (number_from (from + 1) names name) (Some number) e) [
@@ -36,13 +43,11 @@ record FirstPlace (names : List (List ℕ)) (from : ℕ) (name : List ℕ) : Typ
   there : slice_get names place ≡ Some name
 
 at_front : (other : List ℕ) (names : List (List ℕ)) (from : ℕ) (name : List ℕ) → bytes_eq other name ≡ true → FirstPlace (other ∷ names) from name
-unfolding number_from
 at_front other names from name e =
     let none : from + 0 ≡ from = omega arith in
     record { place = 0; found = yes_is (bytes_eq other name) (Some from) (number_from (from + 1) names name) e ∙ ap Some (sym none); there = ap Some ((bytes_eq-Decides other name).0 e) }
 
 behind_front : (other : List ℕ) (names : List (List ℕ)) (from : ℕ) (name : List ℕ) → bytes_eq other name ≡ false → FirstPlace names (from + 1) name → FirstPlace (other ∷ names) from name
-unfolding number_from
 behind_front other names from name e f =
     let more : from + 1 + f.place ≡ from + suc f.place = omega arith in
     record { place = suc f.place; found = no_is (bytes_eq other name) (Some from) (number_from (from + 1) names name) e ∙ f.found ∙ ap Some more; there = f.there }
@@ -64,8 +69,8 @@ unfolding named_at
 named_takes names text x fits e =
     let len = name_len text in
     let name = take len text in
-    let b = bind_some (number_from 0 names name) (λ n. Some (n, drop len text)) x e in
-    let s = number_takes names 0 name b.0 b.1 in
+    let b = bind_some (number_of names name) (λ n. Some (n, drop len text)) x e in
+    let s = number_takes names 0 name b.0 (sym (counted names name) ∙ b.1) in
     let place : s.place ≡ b.0 = omega (arith, s.is) in
     let there : slice_get names b.0 ≡ Some name = subst (λ (k : ℕ). slice_get names k ≡ Some name) place s.there in
     let known : name_of names b.0 ≡ name = get_or_from_slice_get names b.0 name [] there in
@@ -83,30 +88,5 @@ named_again names table number rest known ends =
     let back : drop (name_len text) text ≡ rest = drop_at name rest (name_len text) (sym len) in
     let s = first_place names 0 name number there in
     let same : 0 + s.place ≡ number = omega (arith, table.apart s.place number name s.there there) in
-    bound (number_from 0 names (take (name_len text) text)) (λ n. Some (n, drop (name_len text) text)) number (ap (number_from 0 names) front ∙ s.found ∙ ap Some same)
+    bound (number_of names (take (name_len text) text)) (λ n. Some (n, drop (name_len text) text)) number (ap (number_of names) front ∙ counted names name ∙ s.found ∙ ap Some same)
     ∙ ap (λ (t : List ℕ). Some (number, t)) back
-
--- ---- the loop over a table
-
-goes_on : (names : List (List ℕ)) (number : ℕ) (d name : List ℕ) → number < length names → bytes_eq (get_or names number d) name ≡ false →
-    number_from number (drop number names) name ≡ number_from (number + 1) (drop (number + 1) names) name
-unfolding number_from
-goes_on names number d name lt apart =
-    ap (λ (ns : List (List ℕ)). number_from number ns name) (drop_more names number d lt)
-    ∙ no_is (bytes_eq (get_or names number d) name) (Some number) (number_from (number + 1) (drop (number + 1) names) name) apart
-
--- a name that isn't the one that is looked for
-pub passes : (names : List (List ℕ)) (number : ℕ) (d name : List ℕ) (total : Option ℕ) → number < length names → bytes_eq (get_or names number d) name ≡ false →
-    number_from number (drop number names) name ≡ total → number_from (number + 1) (drop (number + 1) names) name ≡ total
-passes names number d name total lt apart so_far = sym (goes_on names number d name lt apart) ∙ so_far
-
-pub meets : (names : List (List ℕ)) (number : ℕ) (d name : List ℕ) (total : Option ℕ) → number < length names → bytes_eq (get_or names number d) name ≡ true →
-    number_from number (drop number names) name ≡ total → Some number ≡ total
-unfolding number_from
-meets names number d name total lt is so_far =
-    sym (ap (λ (ns : List (List ℕ)). number_from number ns name) (drop_more names number d lt)
-    ∙ yes_is (bytes_eq (get_or names number d) name) (Some number) (number_from (number + 1) (drop (number + 1) names) name) is) ∙ so_far
-
-pub ends : (names : List (List ℕ)) (number : ℕ) (name : List ℕ) (total : Option ℕ) → length names ≤ number → number_from number (drop number names) name ≡ total → None ≡ total
-unfolding number_from
-ends names number name total le so_far = sym (ap (λ (ns : List (List ℕ)). number_from number ns name) (drop_all number names le)) ∙ so_far

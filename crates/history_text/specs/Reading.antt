@@ -1,5 +1,5 @@
 -- Reading a line from the front of a text, where the names of these tables are known.
-use Rattle.std.specs.Prelude.{ℕ, ℤ, ◌+◌, ◌^◌, List, [], ◌∷◌, length, take, drop, codes, Option, Some, None, nat_le, if◌then◌else◌}
+use Rattle.std.specs.Prelude.{ℕ, ℤ, ◌+◌, ◌^◌, List, length, take, drop, codes, position, Option, Some, None, nat_le, if◌then◌else◌}
 use Rattle.std.specs.List.{prefix_len}
 use Rattle.std.specs.Str.{bytes_eq}
 use Rattle.orca_base.specs.declared.fault.FaultKind.{FaultKind}
@@ -22,10 +22,9 @@ use Rattle.history_text.specs.declared.names.Names.{Names}
 use Rattle.history_text.specs.Sound.{is_name_byte}
 use Rattle.history_text.specs.Spelling.{operation_names}
 
--- the number of a name in a table, where the first has this number
-unfoldable pub number_from : ℕ → List (List ℕ) → List ℕ → Option ℕ
-number_from number [] name = None
-number_from number (other ∷ names) name = if bytes_eq other name then Some number else number_from (number + 1) names name
+-- the number of a name in a table
+abbrev pub number_of : List (List ℕ) → List ℕ → Option ℕ
+number_of names name = position (λ other. bytes_eq other name) names
 
 -- how many bytes in front may belong to a name
 abbrev pub name_len : List ℕ → ℕ
@@ -33,7 +32,7 @@ name_len text = prefix_len is_name_byte text
 
 -- a name in front, with all such bytes that stand there
 unfoldable pub named_at : List (List ℕ) → List ℕ → Reads ℕ
-named_at names text = number_from 0 names (take (name_len text) text) >>= λ n. Some (n, drop (name_len text) text)
+named_at names text = number_of names (take (name_len text) text) >>= λ n. Some (n, drop (name_len text) text)
 
 unfoldable pub object_at : List ℕ → Reads ObjectId
 object_at text = sign_at 111 text >>= λ rest. object_id_at rest

@@ -1,5 +1,5 @@
 -- What has a text: sound lines, whose numbers fit their types and stand in the tables of names.
-use Rattle.std.specs.Prelude.{◌≡◌, ℕ, ℤ, ◌+◌, ◌<◌, ◌^◌, ◌||◌, ◌==◌, Bool, true, List, ◌++◌, length, Option, None, Some, slice_get, All, FitsSigned}
+use Rattle.std.specs.Prelude.{◌≡◌, ℕ, ℤ, ◌+◌, ◌<◌, ◌≤◌, ◌^◌, ◌||◌, ◌==◌, Bool, true, List, ◌++◌, length, Option, None, Some, slice_get, All, FitsSigned, if◌then◌else◌}
 use Rattle.std.specs.Char.{is_ascii_alphanumeric}
 use Rattle.std.specs.Int.{w64}
 use Rattle.std.specs.List.{list_all}
@@ -15,11 +15,11 @@ use Rattle.history_text.specs.Spelling.{history_text, line_text, operation_names
 abbrev pub is_name_byte : ℕ → Bool
 is_name_byte c = is_ascii_alphanumeric c || c == 95
 
--- a table: its names have such bytes alone and differ from each other, and their numbers fit 16 bits
+-- a table: its names have such bytes alone and differ from each other, and each number fits 16 bits
 pub record IsTable (names : List (List ℕ)) : Type 0 where
   pub named : (number : ℕ) (name : List ℕ) → slice_get names number ≡ Some name → list_all is_name_byte name ≡ true
   pub apart : (one two : ℕ) (name : List ℕ) → slice_get names one ≡ Some name → slice_get names two ≡ Some name → one ≡ two
-  pub few : length names < 2 ^ 16
+  pub few : length names ≤ 2 ^ 16
 
 -- the tables of a program
 pub record AreTables (names : Names) : Type 0 where
@@ -43,6 +43,18 @@ IsNamed names (action.Fork process args place_on) = (process.0 < length names.te
 IsNamed names action.Ended = Unit {0}
 IsNamed names (action.Faulted fault) = Unit {0}
 
+-- what a printer asks of an action: its names are known
+abbrev pub HasNames : Names → Action → Type 0
+HasNames names (action.Make kind object) = kind.0 < length names.kinds.items
+HasNames names (action.Call kind op object args) = (kind.0 < length names.kinds.items) × (op.0 < length (operation_names names kind.0))
+HasNames names (action.Fork process args place_on) = process.0 < length names.texts.items
+HasNames names action.Ended = Unit {0}
+HasNames names (action.Faulted fault) = Unit {0}
+
+-- and of a line: its values are sound, too
+abbrev pub IsPrintable : Names → Line → Type 0
+IsPrintable names line = IsSoundLine line × HasNames names line.action
+
 -- a line that has a text
 pub record IsLine (names : Names) (line : Line) : Type 0 where
   pub sound : IsSoundLine line
@@ -54,12 +66,14 @@ pub record IsLine (names : Names) (line : Line) : Type 0 where
 abbrev pub AreLines : Names → List Line → Type 0
 AreLines names lines = All (IsLine names) lines
 
--- the line with this number, from 1, is the first that isn't one: those before it are, and no line's text stands in its place
-pub record BreaksAt (names : Names) (text : List ℕ) (number : ℕ) : Type 0 where
-  pub lines : List Line
+-- these are the lines in front of a text, up to the first that isn't one, and that one's number, from 1; or all the text is theirs
+pub record AreFirst (names : Names) (text : List ℕ) (lines : List Line) (bad : Option ℕ) : Type 0 where
+  pub are : AreLines names lines
   pub rest : List ℕ
-  pub before : AreLines names lines
   pub parts : text ≡ history_text names lines ++ rest
-  pub some : 0 < length rest
-  pub is : number ≡ length lines + 1
   pub none_ : (line : Line) (more : List ℕ) → IsLine names line → rest ≡ line_text names line ++ more → ⊥
+  pub told : bad ≡ (if length rest == 0 then None else Some (length lines + 1))
+
+-- the line with this number is the first that isn't one
+abbrev pub BreaksAt : Names → List ℕ → ℕ → Type 0
+BreaksAt names text number = (lines : List Line) × AreFirst names text lines (Some number)

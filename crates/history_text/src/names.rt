@@ -3,7 +3,7 @@
 ghost use Rattle.std.specs.Prelude.{◌≡◌, ◌<◌, ◌≤◌, ◌^◌, IfOk, IfSome, length};
 ghost use Rattle.std.specs.List.{prefix_len};
 ghost use Rattle.value_texts.specs.Reading.{Gives};
-ghost use Rattle.history_text.specs.Reading.{name_len, named_at as at_name, number_from};
+ghost use Rattle.history_text.specs.Reading.{name_len, named_at as at_name, number_of};
 ghost use Rattle.history_text.specs.Sound.{is_name_byte};
 ghost use Rattle.history_text.specs.Spelling.{operation_names};
 
@@ -42,15 +42,10 @@ pub(crate) fn name_len(text: &[u8]) -> usize
 
 // The number of a name in a table.
 fn number_of(names: &[Text], name: &[u8]) -> Option<usize>
-    ensures is { result ≡ number_from 0 names.now name.now }
+    ensures is { result ≡ number_of names.now name.now }
     ensures within { IfSome result (λ number. number < length names.now) }
 {
-    for (number, other) in names.iter().enumerate() {
-        if other.as_bytes() == name {
-            return Some(number);
-        }
-    }
-    None
+    names.iter().position(|other| other.as_bytes() == name)
 }
 
 /// The names of an object type's operations, or none where there is no such type.
@@ -63,10 +58,10 @@ pub(crate) fn operation_table(names: &Names, kind: u16) -> &[Text]
     }
 }
 
-/// The number of the name in front of a text in a table of fewer than 2^16, and the text behind the name.
+/// The number of the name in front of a text in a table of at most 2^16, and the text behind the name.
 #[tactic(auto, unfolding(crate::specs::Reading::named_at))]
 pub(crate) fn named<'a>(names: &[Text], text: &'a [u8]) -> Read<'a, u16>
-    requires { length names.now < 2 ^ 16 }
+    requires { length names.now ≤ 2 ^ 16 }
     ensures { Gives (λ x. (x.0, x.1.now)) result (at_name names.now text.now) }
 {
     let (name, rest) = text.split_at(name_len(text));

@@ -1,10 +1,10 @@
 //! Printing histories.
 
-ghost use Rattle.std.specs.Prelude.{◌≡◌, ◌++◌, ◌∷◌, ◌<◌, IfOk, OnOk, codes, length, string_bytes};
+ghost use Rattle.std.specs.Prelude.{◌≡◌, ◌++◌, ◌∷◌, ◌<◌, All, IfOk, OnOk, codes, length, string_bytes};
 ghost use Rattle.std.specs.Fmt.{decimal};
 ghost use Rattle.std.specs.Str.{IsAscii};
 ghost use Rattle.value_core.specs.Sound.{AreSoundArguments, IsSoundAction, IsSoundReply};
-ghost use Rattle.history_text.specs.Sound.{AreLines, AreTables, IsLine, IsNamed};
+ghost use Rattle.history_text.specs.Sound.{AreLines, AreTables, HasNames, IsLine, IsNamed, IsPrintable, ObjectFits, PlaceFits};
 ghost use Rattle.history_text.specs.Spelling.{action_text, arguments_text, fault_name, history_text, line_text, name_of, object_text, operation_names, place_text, reply_text};
 
 use crate::names::{Names, operation_table};
@@ -15,7 +15,8 @@ use value_texts::{push_integer, push_number, push_value, push_values};
 
 // Adds an object.
 fn put_object(out: &mut Vec<u8>, object: ObjectId) -> Result<(), NoMemory>
-    ensures { OnOk result (out.new.items ≡ out.old.items ++ object_text object) }
+    ensures fits { ObjectFits object }
+    ensures put { OnOk result (out.new.items ≡ out.old.items ++ object_text object) }
 {
     out.push(b'o')?;
     push_number(out, u64::from(object.process))?;
@@ -25,7 +26,8 @@ fn put_object(out: &mut Vec<u8>, object: ObjectId) -> Result<(), NoMemory>
 
 // Adds where a fork is placed.
 fn put_place(out: &mut Vec<u8>, place_on: Option<i64>) -> Result<(), NoMemory>
-    ensures { OnOk result (out.new.items ≡ out.old.items ++ place_text place_on) }
+    ensures fits { PlaceFits place_on }
+    ensures put { OnOk result (out.new.items ≡ out.old.items ++ place_text place_on) }
 {
     match place_on {
         None => out.extend_from_slice(b"parent")?,
@@ -67,7 +69,8 @@ fn put_make(
     object: ObjectId,
 ) -> Result<(), NoMemory>
     requires { kind.0 < length names.now.kinds.items }
-    ensures { OnOk result (out.new.items ≡ out.old.items ++ (name_of names.now.kinds.items kind.0 ++ 32 ∷ object_text object)) }
+    ensures fits { ObjectFits object }
+    ensures put { OnOk result (out.new.items ≡ out.old.items ++ (name_of names.now.kinds.items kind.0 ++ 32 ∷ object_text object)) }
 {
     put_name(out, &names.kinds, kind.0)?;
     out.push(b' ')?;
@@ -94,7 +97,8 @@ fn put_called(
     guard: u16,
 ) -> Result<(), NoMemory>
     requires { AreSoundArguments args.now }
-    ensures { OnOk result (out.new.items ≡ out.old.items
+    ensures fits { ObjectFits object }
+    ensures put { OnOk result (out.new.items ≡ out.old.items
         ++ 32 ∷ (object_text object ++ 32 ∷ (arguments_text args.now ++ (codes " guard " ++ decimal guard)))) }
 {
     out.push(b' ')?;
@@ -109,9 +113,10 @@ fn put_called(
 // Adds an action and its guard.
 #[tactic(auto, unfolding(crate::specs::Spelling::action_text))]
 fn put_action(out: &mut Vec<u8>, names: &Names, action: &Action, guard: u16) -> Result<(), NoMemory>
-    requires named { IsNamed names.now action.now }
+    requires named { HasNames names.now action.now }
     requires sound { IsSoundAction action.now }
-    ensures { OnOk result (out.new.items ≡ out.old.items ++ action_text names.now action.now guard) }
+    ensures is { OnOk result (IsNamed names.now action.now) }
+    ensures put { OnOk result (out.new.items ≡ out.old.items ++ action_text names.now action.now guard) }
 {
     match action {
         Action::Make { kind, object } => {
@@ -164,8 +169,9 @@ fn put_reply(out: &mut Vec<u8>, reply: &Reply) -> Result<(), NoMemory>
 // Adds a line with its line feed.
 #[tactic(auto, unfolding(crate::specs::Spelling::line_text))]
 fn put_line(out: &mut Vec<u8>, names: &Names, line: &Line) -> Result<(), NoMemory>
-    requires { IsLine names.now line.now }
-    ensures { OnOk result (out.new.items ≡ out.old.items ++ line_text names.now line.now) }
+    requires { IsPrintable names.now line.now }
+    ensures is { OnOk result (IsLine names.now line.now) }
+    ensures put { OnOk result (out.new.items ≡ out.old.items ++ line_text names.now line.now) }
 {
     push_number(out, u64::from(line.process.0))?;
     out.push(b' ')?;
@@ -189,8 +195,9 @@ fn text_of(bytes: Vec<u8>) -> String
 /// The one spelling of a sound line whose names are known, with its line feed (docs/FORMATS.md, Histories).
 pub fn print_line(alloc: Global, names: &Names, line: &Line) -> Result<String, NoMemory>
     requires tables { AreTables names.now }
-    requires line { IsLine names.now line.now }
-    ensures { IfOk result (λ text. string_bytes text ≡ line_text names.now line.now) }
+    requires line { IsPrintable names.now line.now }
+    ensures is { IfOk result (λ text. IsLine names.now line.now) }
+    ensures text { IfOk result (λ text. string_bytes text ≡ line_text names.now line.now) }
 {
     let mut out = Vec::new(alloc);
     put_line(&mut out, names, line)?;
@@ -199,8 +206,9 @@ pub fn print_line(alloc: Global, names: &Names, line: &Line) -> Result<String, N
 
 // Adds lines, each with its line feed.
 fn put_lines(out: &mut Vec<u8>, names: &Names, lines: &[Line]) -> Result<(), NoMemory>
-    requires { AreLines names.now lines.now }
-    ensures { OnOk result (out.new.items ≡ out.old.items ++ history_text names.now lines.now) }
+    requires { All (IsPrintable names.now) lines.now }
+    ensures are { OnOk result (AreLines names.now lines.now) }
+    ensures put { OnOk result (out.new.items ≡ out.old.items ++ history_text names.now lines.now) }
 {
     'lines: for line in lines {
         put_line(out, names, line)?;
@@ -211,8 +219,9 @@ fn put_lines(out: &mut Vec<u8>, names: &Names, lines: &[Line]) -> Result<(), NoM
 /// The one spelling of sound lines whose names are known.
 pub fn print_history(alloc: Global, names: &Names, lines: &[Line]) -> Result<String, NoMemory>
     requires tables { AreTables names.now }
-    requires lines { AreLines names.now lines.now }
-    ensures { IfOk result (λ text. string_bytes text ≡ history_text names.now lines.now) }
+    requires lines { All (IsPrintable names.now) lines.now }
+    ensures are { IfOk result (λ text. AreLines names.now lines.now) }
+    ensures text { IfOk result (λ text. string_bytes text ≡ history_text names.now lines.now) }
 {
     let mut out = Vec::new(alloc);
     put_lines(&mut out, names, lines)?;
