@@ -1,9 +1,7 @@
 //! A process.
 
-ghost use Rattle.std.specs.Prelude.{◌≡◌, ◌↔◌, IfOk, IsTrue};
-ghost use Rattle.value_core.specs.Datum as datum;
-ghost use Rattle.bag_performer.specs.Bags.{only};
-ghost use Rattle.bag_processes.specs.Scripts.{action_at, forking, making, next, on_flag, on_pool, plain, with_number};
+ghost use Rattle.std.specs.Prelude.{◌≡◌, IfOk};
+ghost use Rattle.bag_processes.specs.Scripts.{action_at, forking, making, next, on_flag, on_pool, with_number};
 
 use bag_performer::Bags;
 use orca_base::{KindNo, NoMemory, ObjectId, OpNo, ProcessNo, TextNo};

@@ -213,3 +213,41 @@ pub none_read : (names : Names) → AreTables names → (text : List ℕ) (lines
 none_read names tables text lines number first others are same =
     let s = starts names tables lines others first.rest (recursion_from_All (IsLine names) lines first.are) (recursion_from_All (IsLine names) others are) (sym first.parts ∙ same) in
     no_lines names text lines number first s.others s.are s.rest_is
+
+-- ---- what a text has in front
+
+-- no line stands there
+abbrev NoLine : Names → List ℕ → Type 0
+NoLine names rest = (line : Line) (more : List ℕ) → IsLine names line → rest ≡ line_text names line ++ more → ⊥
+
+-- two fronts of one text, each up to the first place where no line stands
+same_front : (names : Names) → AreTables names → (one two : List Line) (left right : List ℕ) → Are names one → Are names two → NoLine names left → NoLine names right →
+    history_text names one ++ left ≡ history_text names two ++ right → (one ≡ two) × (left ≡ right)
+same_front names tables [] [] left right is are stops ends same = (refl, same)
+same_front names tables [] (line ∷ two) left right is are stops ends same =
+    absurd (stops line (history_text names two ++ right) are.0 (same ∙ text_first names line two right))
+same_front names tables (line ∷ one) [] left right is are stops ends same =
+    absurd (ends line (history_text names one ++ left) is.0 (sym same ∙ text_first names line one left))
+same_front names tables (line ∷ one) (other ∷ two) left right is are stops ends same =
+    let p = line_prefix names tables line other (history_text names one ++ left) (history_text names two ++ right) is.0 are.0 (sym (text_first names line one left) ∙ same ∙ text_first names other two right) in
+    let q = same_front names tables one two left right is.1 are.1 stops ends p.1 in
+    (ap (λ (l : Line). l ∷ one) p.0 ∙ ap (λ (ls : List Line). other ∷ ls) q.0, q.1)
+
+abbrev bad_of : List ℕ → List Line → Option ℕ
+bad_of rest lines = cond (eqb (length rest) 0) None (Some (length lines + 1))
+
+-- so a text has one front, and at most one first line that is none
+pub one_front : (names : Names) → AreTables names → (text : List ℕ) (one two : List Line) (bad worse : Option ℕ) → AreFirst names text one bad → AreFirst names text two worse → (one ≡ two) × (bad ≡ worse)
+one_front names tables text one two bad worse first other =
+    let s = same_front names tables one two first.rest other.rest (recursion_from_All (IsLine names) one first.are) (recursion_from_All (IsLine names) two other.are) first.none_ other.none_ (sym first.parts ∙ other.parts) in
+    (s.0, first.told ∙ ap (λ (rest : List ℕ). bad_of rest one) s.1 ∙ ap (λ (lines : List Line). bad_of other.rest lines) s.0 ∙ sym other.told)
+
+-- all of a history's text is its lines
+pub whole_front : (names : Names) (lines : List Line) → AreLines names lines → AreFirst names (history_text names lines) lines None
+whole_front names lines are = record {
+  are = are;
+  rest = [];
+  parts = sym (append-nil (history_text names lines));
+  none_ = λ line more is same. not_nothing names line more (sym same);
+  told = refl;
+}

@@ -1,10 +1,10 @@
 //! That texts of histories differ as histories do.
 
-ghost use Rattle.std.specs.Prelude.{◌≡◌, ◌<◌, ◌^◌, ◌++◌, List, ℕ, Some, length};
+ghost use Rattle.std.specs.Prelude.{◌≡◌, ◌<◌, ◌^◌, ◌++◌, List, ℕ, None, Option, Some, length};
 ghost use Rattle.std.specs.Str.{IsAscii};
 ghost use Rattle.value_core.specs.declared.action.Line.{Line};
 ghost use Rattle.history_text.specs.Reading.{line_at};
-ghost use Rattle.history_text.specs.Sound.{AreLines, AreTables, IsLine};
+ghost use Rattle.history_text.specs.Sound.{AreFirst, AreLines, AreTables, IsLine};
 ghost use Rattle.history_text.specs.Spelling.{history_text, line_text};
 ghost use Rattle.history_text.specs.declared.names.Names.{Names};
 
@@ -19,6 +19,10 @@ pub fn line_law()
         history_text names one ≡ history_text names two → one ≡ two }
     // Texts of histories are ASCII.
     ensures ascii { (names : Names) (lines : List Line) → AreTables names → AreLines names lines → IsAscii (history_text names lines) }
+    // Of the text of lines these are the first, and no line is bad; and any text has one such front.
+    ensures whole { (names : Names) (lines : List Line) → AreLines names lines → AreFirst names (history_text names lines) lines None }
+    ensures once { (names : Names) (text : List ℕ) (one two : List Line) (bad worse : Option ℕ) → AreTables names →
+        AreFirst names text one bad → AreFirst names text two worse → (one ≡ two) × (bad ≡ worse) }
 {}
 
 /// The laws of the reading function; it does nothing.
