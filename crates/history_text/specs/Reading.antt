@@ -1,5 +1,5 @@
 -- Reading a line from the front of a text, where the names of these tables are known.
-use Rattle.std.specs.Prelude.{ℕ, ℤ, ◌+◌, ◌^◌, List, length, take, drop, codes, position, Option, Some, None, nat_le, if◌then◌else◌}
+use Rattle.std.specs.Prelude.{ℕ, ℤ, ◌^◌, List, length, take, drop, codes, position, Option, Some, None, nat_le, if◌then◌else◌}
 use Rattle.std.specs.List.{prefix_len}
 use Rattle.std.specs.Str.{bytes_eq}
 use Rattle.orca_base.specs.declared.fault.FaultKind.{FaultKind}

@@ -90,12 +90,7 @@ fn put_operation(out: &mut Vec<u8>, names: &Names, kind: KindNo, op: OpNo) -> Re
 }
 
 // Adds what stands of a call behind its operation: the object, the arguments and the guard.
-fn put_called(
-    out: &mut Vec<u8>,
-    object: ObjectId,
-    args: &Parts,
-    guard: u16,
-) -> Result<(), NoMemory>
+fn put_called(out: &mut Vec<u8>, object: ObjectId, args: &Parts, guard: u16) -> Result<(), NoMemory>
     requires { AreSoundArguments args.now }
     ensures fits { ObjectFits object }
     ensures put { OnOk result (out.new.items ≡ out.old.items

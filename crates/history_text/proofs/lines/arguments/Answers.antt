@@ -1,4 +1,4 @@
-use Rattle.std.proofs.Common.{◌≡◌, ◌∙◌, sym, arith}
+use Rattle.std.proofs.Common.{arith}
 use Rattle.history_text.proofs.Pieces.{arguments_read}
 use Rattle.history_text.proofs.lines.arguments.Goals as goal
 

@@ -1,4 +1,4 @@
-use Rattle.std.proofs.Common.{◌≡◌, ◌∙◌, ◌++◌, ◌∷◌, [], ℕ, ap}
+use Rattle.std.proofs.Common.{◌∙◌, ◌++◌, ◌∷◌, [], ℕ, ap}
 use Rattle.std.specs.Fmt.{decimal}
 use Rattle.history_text.specs.Spelling.{action_text, line_text, reply_text}
 use Rattle.history_text.proofs.Grown.{eight}

@@ -1,4 +1,4 @@
-use Rattle.std.proofs.Common.{◌≡◌, subst, Option, ℕ}
+use Rattle.std.proofs.Common.{subst, Option, ℕ}
 use Rattle.history_text.specs.Sound.{AreFirst}
 use Rattle.history_text.proofs.Histories.{none_read, only_read, whole_read}
 use Rattle.history_text.proofs.reading.read_history.Goals as goal

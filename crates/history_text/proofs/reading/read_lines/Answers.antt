@@ -1,4 +1,4 @@
-use Rattle.std.proofs.Common.{◌≡◌, ◌+◌, ◌∙◌, ap, sym, subst, arith, List}
+use Rattle.std.proofs.Common.{◌+◌, ◌∙◌, sym, subst, arith, List}
 use Rattle.value_core.specs.declared.action.Line.{Line}
 use Rattle.history_text.specs.Reading.{line_at}
 use Rattle.history_text.proofs.Histories.{IsRead, all_first, bad_first, is_none, left_shorter, more_read, next_none, next_some, some_left}
