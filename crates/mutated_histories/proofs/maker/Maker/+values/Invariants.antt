@@ -8,5 +8,5 @@ decreases-put_list l = 2 * l.levels + 1
 abbrev pub decreases-put_value : goal.decreases-put_value
 decreases-put_value l = 2 * l.levels
 
-abbrev pub invariant-put_list-loop : goal.invariant-put_list-loop
-invariant-put_list-loop l = Unit {0}
+abbrev pub invariant-put_list-loop-nth : goal.invariant-put_list-loop-nth
+invariant-put_list-loop-nth l = Unit {0}
