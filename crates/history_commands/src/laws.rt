@@ -26,7 +26,7 @@ pub fn answer_law()
 
 /// The law of a program's names: they are those alone. It does nothing.
 pub fn names_law()
-    ensures only { (us : List Source) (one two : Names) → AreNamesOf us one → AreNamesOf us two → (one.kinds.items ≡ two.kinds.items)
+    ensures { (us : List Source) (one two : Names) → AreNamesOf us one → AreNamesOf us two → (one.kinds.items ≡ two.kinds.items)
         × (map (λ o. o.names.items) one.operations.items ≡ map (λ o. o.names.items) two.operations.items)
         × (one.texts.items ≡ two.texts.items) }
 {}
