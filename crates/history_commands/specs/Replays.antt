@@ -1,6 +1,6 @@
 -- What is said of a history's text (docs/FORMATS.md, Statuses): whether it is one of the program, and else the first line that is none, and
 -- its first part that differs. A line that isn't of the form differs in that.
-use Rattle.std.specs.Prelude.{◌≡◌, ℕ, List, [], ◌∷◌, ◌++◌, codes, Option, Some, None}
+use Rattle.std.specs.Prelude.{ℕ, List, [], ◌∷◌, ◌++◌, codes, Option, Some, None}
 use Rattle.std.specs.Fmt.{decimal}
 use Rattle.value_core.specs.declared.action.Line.{Line}
 use Rattle.value_core.specs.Meaning.{Performs, Computes}

@@ -10,14 +10,14 @@ mod maker;
 mod plain;
 mod tables;
 
+ghost use Rattle.history_text.specs.Sound.{AreTables};
+
 use history_text::{BadLine, Names, read_history};
 use maker::Maker;
 use orca_base::Refusal;
 use std::alloc::{AllocError, Global};
 use std::io;
 use tables::Numbers;
-
-ghost use Rattle.history_text.specs.Sound.{AreTables};
 
 // How many texts there are.
 const TEXTS: u32 = 10_000;
@@ -76,9 +76,11 @@ fn found_history(alloc: Global, names: &Names, text: &[u8]) -> Result<Numbers, R
     }
     let lines = match read_history(alloc, names, text) {
         Ok(lines) => lines,
-        Err(Refusal::Because {
-            cause: BadLine { line },
-        }) => return Err(Refusal::Because { cause: line }),
+        Err(
+            Refusal::Because {
+                cause: BadLine { line },
+            },
+        ) => return Err(Refusal::Because { cause: line }),
         Err(Refusal::NoMemory) => return Err(Refusal::NoMemory),
     };
     let mut numbers = Vec::new(alloc);
@@ -121,7 +123,10 @@ fn main(rt: HostRuntime) -> io::Result<()> {
         try_history(&rt, &mut maker, &names, &mut counts)?;
     }
     if counts.found < LEAST || counts.refused < LEAST {
-        println!(rt; "{} histories, {} other texts", counts.found, counts.refused)?;
+        println!(rt;
+            "{} histories, {} other texts",
+            counts.found, counts.refused
+        )?;
     }
     println!(rt; "{TEXTS} texts, {} told otherwise", counts.different)
 }

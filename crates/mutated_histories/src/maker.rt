@@ -150,7 +150,11 @@ impl Maker {
 
     // A value within some arrays of one part each; once in eight times within up to 17.
     fn put_deep(&mut self) -> Result<(), AllocError> {
-        let depth = if self.below(8) == 0 { self.below(18) } else { 0 };
+        let depth = if self.below(8) == 0 {
+            self.below(18)
+        } else {
+            0
+        };
         for _ in 0..depth {
             self.put("[")?;
         }
@@ -197,7 +201,8 @@ impl Maker {
                 self.put(" ")?;
             }
             if rises {
-                self.bytes.extend_from_slice(&[b'c', code.saturating_add(b'0')])?;
+                self.bytes
+                    .extend_from_slice(&[b'c', code.saturating_add(b'0')])?;
                 code = code.saturating_add(self.below(3));
             } else {
                 self.put_value(levels)?;
@@ -263,7 +268,11 @@ impl Maker {
     // A type and an operation, which is once in four times one of either type.
     fn put_called(&mut self) -> Result<(), AllocError> {
         let kind = self.below(2);
-        let of = if self.below(4) == 0 { self.below(2) } else { kind };
+        let of = if self.below(4) == 0 {
+            self.below(2)
+        } else {
+            kind
+        };
         match KINDS.get(usize::from(kind)) {
             Some(word) => self.put(word)?,
             None => {}

@@ -44,8 +44,12 @@ fn two(alloc: Global, first: &str, second: &str) -> Result<Vec<Text>, NoMemory>
 fn cell_names(alloc: Global) -> Result<Names, NoMemory>
     ensures { IfOk result (λ names. AreTables names) }
 {
-    let output = Operations { names: one(alloc, "WriteLine")? };
-    let cell = Operations { names: two(alloc, "Assign", "Value")? };
+    let output = Operations {
+        names: one(alloc, "WriteLine")?,
+    };
+    let cell = Operations {
+        names: two(alloc, "Assign", "Value")?,
+    };
     let mut operations = Vec::new(alloc);
     operations.push(output)?;
     operations.push(cell)?;
@@ -127,7 +131,10 @@ fn the_first_bad_line_is_told(rt: HostRuntime) -> Result<(), Fail> {
     let cut = "0 0 make Cell o0.1 none\n0 1 call\n0 2 call Cell$Value o0.1 () guard 0 6\n";
     assert_eq!(rt; broken(alloc, &names, cut), Some(2));
     assert_eq!(rt; broken(alloc, &names, "0 0 make Cell o0.1 none"), Some(1));
-    assert_eq!(rt; broken(alloc, &names, "0 0 make Total o0.1 none\n"), Some(1));
+    assert_eq!(rt;
+        broken(alloc, &names, "0 0 make Total o0.1 none\n"),
+        Some(1)
+    );
     assert_eq!(rt; broken(alloc, &names, ""), None);
     Ok(())
 }
