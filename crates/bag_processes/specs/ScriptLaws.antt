@@ -1,9 +1,8 @@
 -- The law of processes, for scripts: a process names its own object alone, once its making gave one.
-use Rattle.std.specs.Prelude.{◌≡◌, None, ℕ, pos, suc, zero, ◌+◌, ◌<◌, ◌≤◌, ◌==◌, ◌^◌, Bool, true, false, List, [], ◌∷◌, length, nat_lt, if◌then◌else◌, refl}
+use Rattle.std.specs.Prelude.{◌≡◌, None, ℕ, pos, ◌+◌, ◌≤◌, ◌==◌, Bool, true, false, List, [], ◌∷◌, nat_lt, if◌then◌else◌, refl}
 use Rattle.std.specs.List.{Contains}
-use Rattle.std.proofs.Common.{ap, arith, inl, inr, subst, sym, ◌∙◌}
-use Rattle.std.proofs.lemmas.Bool.{eqb-true, ltb-true, ltb-false, ne_eqb}
-use Rattle.std.specs.List.{All}
+use Rattle.std.proofs.Common.{ap, arith, subst, sym, ◌∙◌}
+use Rattle.std.proofs.lemmas.Bool.{ne_eqb}
 use Rattle.std.proofs.lemmas.List.Elements.{All-nil}
 use Rattle.orca_base.specs.declared.ids.KindNo.{KindNo}
 use Rattle.orca_base.specs.declared.ids.OpNo.{OpNo}
@@ -14,7 +13,7 @@ use Rattle.value_core.specs.Datum.{Data}
 use Rattle.value_core.specs.Datum as datum
 use Rattle.value_core.specs.Fits.{Kinds}
 use Rattle.value_core.specs.Integers.{IsInteger, integers_sound}
-use Rattle.value_core.specs.Lawful.{IsArgumentOf, IsKnownObject, IsLawful, IsLawfulDoing, KnowsIn, RepliesFit, own_from, own_objects}
+use Rattle.value_core.specs.Lawful.{IsArgumentOf, IsLawful, IsLawfulDoing, RepliesFit, own_objects}
 use Rattle.value_core.specs.Lawful.IsKnownObject.{own as knows_own}
 use Rattle.value_core.specs.Sound.{AreSoundArguments}
 use Rattle.value_core.specs.declared.action.Action.{Action}

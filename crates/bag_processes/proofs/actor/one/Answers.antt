@@ -1,7 +1,6 @@
 use Rattle.std.proofs.Common.{ℤ, ap, ◌∙◌}
 use Rattle.std.specs.Int.{w64}
 use Rattle.std.proofs.lemmas.Int.{to_z-of_z}
-use Rattle.value_core.specs.Datum as datum
 use Rattle.bag_processes.specs.Scripts.{with_number}
 use Rattle.bag_processes.proofs.Playing.{one_of}
 use Rattle.bag_processes.proofs.actor.one.Goals as goal
