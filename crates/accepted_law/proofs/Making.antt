@@ -1,6 +1,6 @@
 -- What a process makes has a specification: statements come to no make, and a variable's object type goes by one.
 use Rattle.std.proofs.Common.{◌≤◌, refl, ap, subst}
-use Rattle.std.specs.Prelude.{◌≡◌, ℕ, zero, suc, ◌+◌, Bool, true, false, List, [], ◌∷◌, ◌++◌, drop, take, filter, length, slice_get, Option, Some, None, Result, Ok, Err}
+use Rattle.std.specs.Prelude.{◌≡◌, ℕ, zero, suc, ◌+◌, true, List, [], ◌∷◌, ◌++◌, drop, take, filter, length, slice_get, Option, Some, None, Result, Ok, Err}
 use Rattle.std.specs.List.{AllByRecursion}
 use Rattle.std.proofs.lemmas.Option.{slice_get_within}
 use Rattle.orca_base.specs.declared.fault.FaultKind.{FaultKind}
@@ -23,17 +23,17 @@ use Rattle.value_core.specs.declared.meaning.Doing.{Doing}
 use Rattle.value_core.specs.declared.meaning.Doing.TheVariants as doing
 use Rattle.meaning_rules.specs.Accepted.{AreTexts}
 use Rattle.meaning_rules.specs.Functions.{all_calls}
-use Rattle.meaning_rules.specs.Loops.{Flow, On, Back, Round, Over, Again, Leave, loop, next_round}
+use Rattle.meaning_rules.specs.Loops.{Flow, Round, Over, Again, Leave, loop, next_round}
 use Rattle.meaning_rules.specs.Openings.{opening}
 use Rattle.meaning_rules.specs.Processes.{behind, block_run, doing_of, make, object_type_of, own_object, text_run, variable_made, variables_made, what_run}
 use Rattle.meaning_rules.specs.Programs.{is_specification, kind_of, process_scope, process_texts, specifications}
-use Rattle.meaning_rules.specs.States.{State, Out, Goes, Stops, Needs, Faults, Busy, act, after, begun, gives, replied, turn}
+use Rattle.meaning_rules.specs.States.{State, Out, Goes, Stops, Needs, Faults, Busy, act, after, begun, gives, replied}
 use Rattle.meaning_rules.specs.Statements.{run_all}
 use Rattle.meaning_rules.proofs.Closed.{Closed, is_of_statement}
 use Rattle.meaning_rules.proofs.Everywhere.{calls_holds, run_all_holds}
 use Rattle.accepted_law.specs.Makes.{MakesKnown}
 use Rattle.accepted_law.proofs.Operations.{filtered_place}
-use Rattle.accepted_law.proofs.Specified.{IsSpecification, IsSpecifiedLocal, process_specified}
+use Rattle.accepted_law.proofs.Specified.{IsSpecifiedLocal, process_specified}
 use Rattle.accepted_law.proofs.Tops.{IsFineTop, tops_fine}
 
 -- ---- a make to which an evaluation comes is of a type of which this holds

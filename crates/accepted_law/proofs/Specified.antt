@@ -14,7 +14,6 @@ use Rattle.orca_syntax.specs.Syntax as syn
 use Rattle.orca_syntax.specs.Syntax.{Kind, TypedName, Parameter, Variables, Operation, Head, Definition, Block}
 use Rattle.link_rules.specs.Rules.{is_role}
 use Rattle.link_rules.specs.Units.{Source}
-use Rattle.link_rules.specs.declared.role.Role.{Role}
 use Rattle.link_rules.specs.declared.role.Role.TheVariants.{Specification, Implementation, Other}
 use Rattle.link_rules.proofs.Truth.{and_first}
 use Rattle.type_rules.specs.declared.breach.Breach.{Breach}
@@ -29,7 +28,7 @@ use Rattle.type_rules.specs.TopLevel.{What, TopName, bears, is_as, number_as, nu
 use Rattle.type_rules.specs.Rules.{Found, are_new, asks, fits, unless}
 use Rattle.type_rules.specs.Constants.{View, Sense, OfBody, OfAll, bound, sense}
 use Rattle.type_rules.specs.Scopes.{Local, is_name, locals_of, own_names, parameter_found, parameter_local, specification, specification_at, view_of}
-use Rattle.type_rules.specs.TypePhrases.{array_found, array_of, array_phrase, at_most, bag_of, data_phrase, declared_top, declared_type, declared_what, declared_within, definition, distinct_fields, gathering_phrase, graph_of, graph_phrase, is_graph_bound, is_number_one, is_small, kind_found, named_type, of_data, phrase, predeclared_type, ranged_phrase, record_of, set_of, single, top_type, whole_module, with_field, within_limits}
+use Rattle.type_rules.specs.TypePhrases.{array_found, array_phrase, at_most, bag_of, data_phrase, declared_top, declared_type, declared_what, declared_within, definition, distinct_fields, gathering_phrase, graph_of, graph_phrase, is_graph_bound, is_number_one, is_small, kind_found, named_type, of_data, phrase, predeclared_type, ranged_phrase, record_of, set_of, single, top_type, whole_module, with_field, within_limits}
 use Rattle.type_rules.specs.Declarations.{is_specified_in}
 use Rattle.meaning_rules.specs.Processes.{object_type_of}
 use Rattle.meaning_rules.specs.Programs.{is_specification, process_scope}
