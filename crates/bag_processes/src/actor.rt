@@ -1,7 +1,9 @@
 //! A process.
 
 ghost use Rattle.std.specs.Prelude.{◌≡◌, IfOk};
-ghost use Rattle.bag_processes.specs.Scripts.{action_at, forking, making, next, on_flag, on_pool, with_number};
+ghost use Rattle.value_core.specs.Datum as datum;
+ghost use Rattle.value_core.specs.declared.action.Action.TheVariants as acts;
+ghost use Rattle.bag_processes.specs.Scripts.{action_at, forking, its_object, making, next, on_flag, on_pool, with_number};
 
 use bag_performer::Bags;
 use orca_base::{KindNo, NoMemory, ObjectId, OpNo, ProcessNo, TextNo};
@@ -73,7 +75,9 @@ impl Actor {
     }
 
     // A call of its object with these arguments.
-    fn call(&self, kind: KindNo, op: OpNo, args: Parts) -> Action {
+    fn call(&self, kind: KindNo, op: OpNo, args: Parts) -> Action
+        ensures { result ≡ acts.Call kind op (its_object self.now.number) args }
+    {
         Action::Call {
             kind,
             op,
@@ -91,7 +95,7 @@ impl Actor {
         } else if self.place == 2 {
             Ok(fork(alloc, TextNo(1)))
         } else if self.place == 3 {
-            Ok(self.call(Bags::FLAG, Bags::STEP, Parts::new(alloc)))
+            Ok(self.call(Bags::FLAG, Bags::STEP, nothing(alloc)))
         } else if self.place == 4 {
             Ok(fork(alloc, TextNo(2)))
         } else {
@@ -106,11 +110,18 @@ impl Actor {
         if self.place == 1 {
             Ok(self.call(Bags::POOL, Bags::PUT, one(alloc, 5)?))
         } else if self.place < 4 {
-            Ok(self.call(Bags::POOL, Bags::TAKE, Parts::new(alloc)))
+            Ok(self.call(Bags::POOL, Bags::TAKE, nothing(alloc)))
         } else {
             Ok(Action::Ended)
         }
     }
+}
+
+// No arguments.
+fn nothing(alloc: Global) -> Parts
+    ensures { result ≡ datum.none }
+{
+    Parts::new(alloc)
 }
 
 // This integer alone.
@@ -128,7 +139,7 @@ fn fork(alloc: Global, text: TextNo) -> Action
 {
     Action::Fork {
         process: text,
-        args: Parts::new(alloc),
+        args: nothing(alloc),
         place_on: None,
     }
 }

@@ -1,8 +1,8 @@
 //! A history of the scripts, and lines.
 
 use bag_performer::Bags;
-use orca_base::{CallNo, FaultKind, KindNo, ObjectId, OpNo, ProcessNo, TextNo};
-use std::alloc::{AllocError, Global};
+use orca_base::{CallNo, FaultKind, KindNo, NoMemory, ObjectId, OpNo, ProcessNo, TextNo};
+use std::alloc::Global;
 use value_core::{Action, Line, Parts, Reply, Value};
 
 // A line of this process, with this number.
@@ -46,7 +46,7 @@ pub fn call_with(
     kind: KindNo,
     op: OpNo,
     number: i64,
-) -> Result<Action, AllocError> {
+) -> Result<Action, NoMemory> {
     let mut args = Parts::new(alloc);
     args.push(Value::Int(number))?;
     Ok(Action::Call {
@@ -81,7 +81,7 @@ pub fn gave(number: i64) -> Reply {
 }
 
 // The lines of a history of two processes side by side, and a third whose making faults. It has nine.
-fn nth(alloc: Global, index: usize) -> Result<Line, AllocError> {
+fn nth(alloc: Global, index: usize) -> Result<Line, NoMemory> {
     match index {
         0 => Ok(line(0, 0, make(0, Bags::FLAG), 0, Reply::Done)),
         1 => {
@@ -105,7 +105,7 @@ fn nth(alloc: Global, index: usize) -> Result<Line, AllocError> {
 }
 
 // Its first lines, so many.
-pub fn front(alloc: Global, count: usize) -> Result<Vec<Line>, AllocError> {
+pub fn front(alloc: Global, count: usize) -> Result<Vec<Line>, NoMemory> {
     let mut lines = Vec::new(alloc);
     for index in 0..count {
         lines.push(nth(alloc, index)?)?;

@@ -24,21 +24,21 @@ fn verdict_with(alloc: Global, first: usize, next: Line) -> Result<Verdict, Fail
     verdict_of(alloc, &lines)
 }
 
-fn breach(line: u32, rule: BreachRule) -> Option<Verdict> {
-    Some(Verdict::Breach { line, rule })
+fn breach(line: u32, rule: BreachRule) -> Verdict {
+    Verdict::Breach { line, rule }
 }
 
 #[test]
 fn history_is_legal(rt: HostRuntime) -> Result<(), Fail> {
     let lines = front(rt.alloc(), 9)?;
-    assert!(rt; verdict_of(rt.alloc(), &lines).ok() == Some(Verdict::Legal));
+    assert!(rt; verdict_of(rt.alloc(), &lines)? == Verdict::Legal);
     Ok(())
 }
 
 #[test]
 fn no_lines_are_legal(rt: HostRuntime) -> Result<(), Fail> {
     let lines = Vec::new(rt.alloc());
-    assert!(rt; verdict_of(rt.alloc(), &lines).ok() == Some(Verdict::Legal));
+    assert!(rt; verdict_of(rt.alloc(), &lines)? == Verdict::Legal);
     Ok(())
 }
 
@@ -46,7 +46,7 @@ fn no_lines_are_legal(rt: HostRuntime) -> Result<(), Fail> {
 #[test]
 fn the_process_is_judged_first(rt: HostRuntime) -> Result<(), Fail> {
     let next = line(7, 9, Action::Ended, 3, gave(1));
-    let verdict = verdict_with(rt.alloc(), 3, next).ok();
+    let verdict = verdict_with(rt.alloc(), 3, next)?;
     assert!(rt; verdict == breach(4, BreachRule::Process));
     Ok(())
 }
@@ -55,10 +55,10 @@ fn the_process_is_judged_first(rt: HostRuntime) -> Result<(), Fail> {
 #[test]
 fn a_process_begins_with_its_fork(rt: HostRuntime) -> Result<(), Fail> {
     let early = line(1, 0, make(1, Bags::POOL), 0, Reply::Done);
-    let verdict = verdict_with(rt.alloc(), 2, early).ok();
+    let verdict = verdict_with(rt.alloc(), 2, early)?;
     assert!(rt; verdict == breach(3, BreachRule::Process));
     let other = line(2, 0, make(2, Bags::POOL), 0, Reply::Done);
-    let verdict = verdict_with(rt.alloc(), 3, other).ok();
+    let verdict = verdict_with(rt.alloc(), 3, other)?;
     assert!(rt; verdict == breach(4, BreachRule::Process));
     Ok(())
 }
@@ -66,10 +66,10 @@ fn a_process_begins_with_its_fork(rt: HostRuntime) -> Result<(), Fail> {
 #[test]
 fn the_number_of_the_line_is_judged_second(rt: HostRuntime) -> Result<(), Fail> {
     let again = line(0, 1, Action::Ended, 3, gave(1));
-    let verdict = verdict_with(rt.alloc(), 2, again).ok();
+    let verdict = verdict_with(rt.alloc(), 2, again)?;
     assert!(rt; verdict == breach(3, BreachRule::Call));
     let ahead = line(0, 3, fork(rt.alloc(), 1), 0, Reply::Done);
-    let verdict = verdict_with(rt.alloc(), 2, ahead).ok();
+    let verdict = verdict_with(rt.alloc(), 2, ahead)?;
     assert!(rt; verdict == breach(3, BreachRule::Call));
     Ok(())
 }
@@ -78,7 +78,7 @@ fn the_number_of_the_line_is_judged_second(rt: HostRuntime) -> Result<(), Fail> 
 #[test]
 fn the_action_is_judged_third(rt: HostRuntime) -> Result<(), Fail> {
     let other = line(0, 2, fork(rt.alloc(), 2), 3, gave(1));
-    let verdict = verdict_with(rt.alloc(), 2, other).ok();
+    let verdict = verdict_with(rt.alloc(), 2, other)?;
     assert!(rt; verdict == breach(3, BreachRule::Action));
     let unknown = line(
         0,
@@ -87,7 +87,7 @@ fn the_action_is_judged_third(rt: HostRuntime) -> Result<(), Fail> {
         0,
         Reply::Done,
     );
-    let verdict = verdict_with(rt.alloc(), 2, unknown).ok();
+    let verdict = verdict_with(rt.alloc(), 2, unknown)?;
     assert!(rt; verdict == breach(3, BreachRule::Action));
     Ok(())
 }
@@ -96,7 +96,7 @@ fn the_action_is_judged_third(rt: HostRuntime) -> Result<(), Fail> {
 #[test]
 fn an_end_is_no_line(rt: HostRuntime) -> Result<(), Fail> {
     let end = line(2, 1, Action::Ended, 0, Reply::Done);
-    let verdict = verdict_with(rt.alloc(), 9, end).ok();
+    let verdict = verdict_with(rt.alloc(), 9, end)?;
     assert!(rt; verdict == breach(10, BreachRule::Action));
     Ok(())
 }
@@ -111,10 +111,10 @@ fn the_guard_is_judged_fourth(rt: HostRuntime) -> Result<(), Fail> {
         1,
         gave(1),
     );
-    let verdict = verdict_with(rt.alloc(), 4, step).ok();
+    let verdict = verdict_with(rt.alloc(), 4, step)?;
     assert!(rt; verdict == breach(5, BreachRule::Guard));
     let made = line(0, 0, make(0, Bags::FLAG), 1, Reply::Done);
-    let verdict = verdict_with(rt.alloc(), 0, made).ok();
+    let verdict = verdict_with(rt.alloc(), 0, made)?;
     assert!(rt; verdict == breach(1, BreachRule::Guard));
     Ok(())
 }
@@ -129,7 +129,7 @@ fn a_call_that_waits_has_no_guard(rt: HostRuntime) -> Result<(), Fail> {
         1,
         gave(5),
     );
-    let verdict = verdict_with(rt.alloc(), 9, take).ok();
+    let verdict = verdict_with(rt.alloc(), 9, take)?;
     assert!(rt; verdict == breach(10, BreachRule::Guard));
     Ok(())
 }
@@ -144,10 +144,10 @@ fn the_reply_is_judged_last(rt: HostRuntime) -> Result<(), Fail> {
         1,
         gave(6),
     );
-    let verdict = verdict_with(rt.alloc(), 6, take).ok();
+    let verdict = verdict_with(rt.alloc(), 6, take)?;
     assert!(rt; verdict == breach(7, BreachRule::Reply));
     let faulted = line(0, 2, fork(rt.alloc(), 1), 0, broke());
-    let verdict = verdict_with(rt.alloc(), 2, faulted).ok();
+    let verdict = verdict_with(rt.alloc(), 2, faulted)?;
     assert!(rt; verdict == breach(3, BreachRule::Reply));
     Ok(())
 }
@@ -156,7 +156,7 @@ fn the_reply_is_judged_last(rt: HostRuntime) -> Result<(), Fail> {
 #[test]
 fn arguments_are_of_the_action(rt: HostRuntime) -> Result<(), Fail> {
     let set = call_with(rt.alloc(), 0, Bags::FLAG, Bags::SET, 2)?;
-    let verdict = verdict_with(rt.alloc(), 1, line(0, 1, set, 0, Reply::Done)).ok();
+    let verdict = verdict_with(rt.alloc(), 1, line(0, 1, set, 0, Reply::Done))?;
     assert!(rt; verdict == breach(2, BreachRule::Action));
     Ok(())
 }

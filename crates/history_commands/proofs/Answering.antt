@@ -1,0 +1,44 @@
+-- A text has one answer.
+use Rattle.std.proofs.Common.{◌≡◌, ℕ, List, Option, Some, None, refl, sym, ap, subst, ◌∙◌}
+use Rattle.value_core.specs.declared.action.Line.{Line}
+use Rattle.value_core.specs.Meaning.{Performs, Computes}
+use Rattle.history_check.specs.Verdicts.{IsVerdict}
+use Rattle.history_check.specs.declared.verdict.Verdict.{Verdict}
+use Rattle.history_check.specs.declared.verdict.Verdict.TheVariants as verdict
+use Rattle.history_check.proofs.Agreeing.{one_verdict}
+use Rattle.history_text.specs.Sound.{AreFirst, AreTables}
+use Rattle.history_text.specs.declared.names.Names.{Names}
+use Rattle.history_text.proofs.Histories.{one_front}
+use Rattle.history_commands.specs.Replays.{IsToldOf}
+use Rattle.history_commands.specs.declared.answer.Answer.{Answer}
+use Rattle.history_commands.specs.declared.answer.Answer.TheVariants as said
+
+-- what is said where this is the bad line behind the lines in front, and this the verdict on them
+answer_of : Option ℕ → Verdict → Answer
+answer_of bad (verdict.Breach number rule) = said.Part number rule
+answer_of None verdict.Legal = said.Legal
+answer_of (Some number) verdict.Legal = said.Form number
+
+-- so an answer is one of lines, the bad line behind them, and a verdict
+record Judged (p : Performs) (q : Computes) (names : Names) (text : List ℕ) (answer : Answer) : Type 0 where
+  lines : List Line
+  bad : Option ℕ
+  verdict : Verdict
+  first : AreFirst names text lines bad
+  is : IsVerdict p q lines verdict
+  told : answer ≡ answer_of bad verdict
+
+judged : (p : Performs) (q : Computes) (names : Names) (text : List ℕ) (answer : Answer) → IsToldOf p q names text answer → Judged p q names text answer
+unfolding answer_of
+judged p q names text said.Legal (lines, first, legal) = record { lines = lines; bad = None; verdict = verdict.Legal; first = first; is = legal; told = refl }
+judged p q names text (said.Form number) (lines, first, legal) = record { lines = lines; bad = Some number; verdict = verdict.Legal; first = first; is = legal; told = refl }
+judged p q names text (said.Part number rule) (lines, bad, first, breach) = record { lines = lines; bad = bad; verdict = verdict.Breach number rule; first = first; is = breach; told = refl }
+
+-- two answers to one text are the same
+pub one_answer : (p : Performs) (q : Computes) (names : Names) (text : List ℕ) (one two : Answer) → AreTables names → IsToldOf p q names text one → IsToldOf p q names text two → one ≡ two
+one_answer p q names text one two tables is are =
+    let j = judged p q names text one is in
+    let k = judged p q names text two are in
+    let front = one_front names tables text j.lines k.lines j.bad k.bad j.first k.first in
+    let same = one_verdict p q j.lines j.verdict k.verdict j.is (subst (λ (lines : List Line). IsVerdict p q lines k.verdict) (sym front.0) k.is) in
+    j.told ∙ ap (λ (bad : Option ℕ). answer_of bad j.verdict) front.1 ∙ ap (λ (v : Verdict). answer_of k.bad v) same ∙ sym k.told
