@@ -25,7 +25,7 @@ use Rattle.meaning_rules.specs.Fitting.{FitsArgsOf, FitsOperation, FitsParameter
 use Rattle.meaning_rules.specs.Programs.{ObjectType, is_specification, specifications, specified, type_at}
 use Rattle.meaning_rules.proofs.Judged.{all_at, asked, left_none, right_none}
 use Rattle.accepted_law.specs.Limits.{IsWithinLimits, has_few_parameters}
-use Rattle.accepted_law.specs.Makes.{CallsKnown, HasHead, HeadOf}
+use Rattle.accepted_law.specs.NextNamed.{CallsKnown, HasHead, HeadOf}
 use Rattle.accepted_law.proofs.Bodies.{type_is_fine}
 use Rattle.accepted_law.proofs.Lists.{Place, kept_place}
 use Rattle.accepted_law.proofs.Operations.{named_is}

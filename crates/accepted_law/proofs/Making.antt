@@ -31,7 +31,7 @@ use Rattle.meaning_rules.specs.States.{State, Out, Goes, Stops, Needs, Faults, B
 use Rattle.meaning_rules.specs.Statements.{run_all}
 use Rattle.meaning_rules.proofs.Closed.{Closed, is_of_statement}
 use Rattle.meaning_rules.proofs.Everywhere.{calls_holds, run_all_holds}
-use Rattle.accepted_law.specs.Makes.{MakesKnown}
+use Rattle.accepted_law.specs.NextNamed.{MakesKnown}
 use Rattle.accepted_law.proofs.Operations.{filtered_place}
 use Rattle.accepted_law.proofs.Specified.{IsSpecifiedLocal, process_specified}
 use Rattle.accepted_law.proofs.Tops.{IsFineTop, tops_fine}

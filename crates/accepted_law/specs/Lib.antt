@@ -3,4 +3,4 @@ pub mod Known
 pub mod StartsFit
 pub mod Numbers
 pub mod Meets
-pub mod Makes
+pub mod NextNamed

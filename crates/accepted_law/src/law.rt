@@ -11,7 +11,7 @@ ghost use Rattle.type_rules.specs.Scopes.{Scope};
 ghost use Rattle.accepted_law.specs.Meets.{Meets};
 ghost use Rattle.accepted_law.specs.Numbers.{AreNumbers};
 ghost use Rattle.accepted_law.specs.Known.{ArePhrasesKnown, AreTypesKnown};
-ghost use Rattle.accepted_law.specs.Makes.{CallsKnown, MakesKnown};
+ghost use Rattle.accepted_law.specs.NextNamed.{CallsKnown, MakesKnown};
 
 /// The law of checked programs. In a program that links and is well typed, whose words are such as a text may have, each declared type is
 /// known, and is what its definition says: none holds itself; and each type phrase of such words that breaks no rule is a type, and one of

@@ -30,7 +30,7 @@ use Rattle.history_text.specs.declared.names.Names.{Names}
 use Rattle.meaning_rules.specs.Fitting.{FitsArgs, FitsReply, FitsState, FitsText, FitsTop}
 use Rattle.meaning_rules.specs.Meanings.{computes_of, performs_of}
 use Rattle.meaning_rules.specs.Programs.{process_texts, specifications}
-use Rattle.accepted_law.specs.Makes.{CallsKnown, HasHead, HeadOf, MakesKnown}
+use Rattle.accepted_law.specs.NextNamed.{CallsKnown, HasHead, HeadOf, MakesKnown}
 use Rattle.program_names.specs.Naming.{AreNamesOf, HistoriesNamed, head_names, name_text, operation_texts}
 use Rattle.program_names.proofs.AreTables.{listed, operations_listed}
 
