@@ -15,3 +15,6 @@ pub mod Accepted
 pub mod Starting
 pub mod Numbers
 pub mod Meeting
+pub mod Specified
+pub mod Making
+pub mod Heads

@@ -175,7 +175,7 @@ module _ (us : List Source) (linked : IsLinked us) where
     is_main_text t is (top.TypeName of) f = absurd (main_breaks t.defined.name is f.0)
     is_main_text t is (top.Value of number) f = absurd (main_breaks t.defined.name is f)
     is_main_text t is (top.Specified hs) f = absurd (main_breaks t.defined.name is f.0)
-    is_main_text t is (top.Implemented os) f = absurd (main_breaks t.defined.name is f)
+    is_main_text t is (top.Implemented os) f = absurd (main_breaks t.defined.name is f.0)
     is_main_text t is (top.Function ps r b) f = absurd (main_breaks t.defined.name is f.0)
 
     pub has_main : (t : TopName) × (b : Block) × (slice_get (process_texts us) (main_text us).0 ≡ Some t) × (t.what ≡ top.Process [] b)

@@ -46,7 +46,7 @@ use Rattle.accepted_law.proofs.Tops.{HasRole, IsFine, IsFineDecl, IsFineTop, rol
 
 -- ---- lists
 
-filtered_place : {X : Type 0} (p : X → Bool) (xs : List X) (i : ℕ) (x : X) → slice_get xs i ≡ Some x → p x ≡ true → slice_get (filter p xs) (length (filter p (take i xs))) ≡ Some x
+pub filtered_place : {X : Type 0} (p : X → Bool) (xs : List X) (i : ℕ) (x : X) → slice_get xs i ≡ Some x → p x ≡ true → slice_get (filter p xs) (length (filter p (take i xs))) ≡ Some x
 filtered_place p [] i x at passes = absurd cc
 filtered_place p (y ∷ xs) zero x at passes = ap (λ b. slice_get (cond b (y ∷ filter p xs) (filter p xs)) zero) (ap p (same_some y x at) ∙ passes) ∙ at
 filtered_place p (y ∷ xs) (suc i) x at passes = by (p y) (filtered_place p xs i x at passes)
@@ -251,7 +251,7 @@ module _ (us : List Source) (linked : IsLinked us) (fine : AllByRecursion (IsFin
     specification_is : specification_at us (Some i) ≡ Some heads
     specification_is = ap specification_of at ∙ ap (heads_in t) what
 
-    named_is : specification us name ≡ Some heads
+    pub named_is : specification us t.defined.name.text ≡ Some (record { home = t.defined.by; heads = hs })
     named_is =
         ap (specification_at us) (ap (λ r. number_as us r name) (sym role) ∙ number_is us linked i t at (ap (λ r. may_share r r) role)) ∙ specification_is
 

@@ -1,6 +1,6 @@
 -- What is asked of each name of the top level, in a program whose declarations break no rule; and which role it has.
 use Rattle.std.proofs.Common.{refl}
-use Rattle.std.specs.Prelude.{◌≡◌, ℕ, zero, suc, List, [], ◌∷◌, map, flat_map}
+use Rattle.std.specs.Prelude.{◌≡◌, ℕ, true, zero, suc, List, [], ◌∷◌, map, flat_map}
 use Rattle.std.specs.List.{AllByRecursion}
 use Rattle.orca_tree.specs.declared.tree.Name.{Name}
 use Rattle.orca_syntax.specs.Sound.{IsSoundDecl, IsSoundDefinition, IsSoundSyntax}
@@ -15,9 +15,10 @@ use Rattle.type_rules.specs.Constants.{bound}
 use Rattle.type_rules.specs.TopLevel as top
 use Rattle.type_rules.specs.TopLevel.{What, TopName, top_names, unit_names, names_in, name_in, number_of, role_in, what_in, values_at, values_in}
 use Rattle.type_rules.specs.TypePhrases.{declared_type, definition}
-use Rattle.type_rules.specs.Scopes.{view_of}
-use Rattle.type_rules.specs.Declarations.{decl_breaches, function_breaches, holds_no_self, no_main, number_or_none, process_breaches, process_form, specification_breaches}
-use Rattle.meaning_rules.proofs.Judged.{left_none, right_none}
+use Rattle.type_rules.specs.Rules.{asks}
+use Rattle.type_rules.specs.Scopes.{specification, view_of}
+use Rattle.type_rules.specs.Declarations.{decl_breaches, function_breaches, holds_no_self, is_specified_in, no_main, number_or_none, process_breaches, process_form, specification_breaches}
+use Rattle.meaning_rules.proofs.Judged.{asked, left_none, right_none}
 use Rattle.meaning_rules.proofs.Orderly.{all_both, all_flat, all_map, each_none, map_none, order_none, units}
 
 -- ---- roles
@@ -63,7 +64,7 @@ module _ (us : List Source) where
       × ((definition (declared_type us) (view_of us m []) (number_or_none (number_of us n.text)) of).breaches ≡ []) × IsSoundDefinition of
   IsFine m n (top.Value of number) = no_main n ≡ []
   IsFine m n (top.Specified hs) = (no_main n ≡ []) × (specification_breaches us m n hs ≡ [])
-  IsFine m n (top.Implemented os) = no_main n ≡ []
+  IsFine m n (top.Implemented os) = (no_main n ≡ []) × (is_specified_in m (specification us n.text) ≡ true)
   IsFine m n (top.Function ps r b) = (no_main n ≡ []) × (function_breaches us m ps r b ≡ [])
   IsFine m n (top.Process ps b) = (process_form n ps ≡ []) × (process_breaches us m ps b ≡ [])
 
@@ -81,7 +82,9 @@ module _ (us : List Source) where
       let self = holds_no_self us n (number_of us n.text) in
       (left_none (no_main n) _ fine.0, left_none self _ two, right_none self _ two, fine.1.1)
   decl_fine m (syn.Specification at n hs) fine = (left_none (no_main n) _ fine.0, right_none (no_main n) _ fine.0)
-  decl_fine m (syn.Implementation at n fields os opening) fine = left_none (no_main n) _ fine.0
+  decl_fine m (syn.Implementation at n fields os opening) fine =
+      let first = asks 11 n.at (is_specified_in m (specification us n.text)) in
+      (left_none (no_main n) _ fine.0, asked 11 n.at (is_specified_in m (specification us n.text)) (left_none first _ (right_none (no_main n) _ fine.0)))
   decl_fine m (syn.Function at n ps r b) fine = (left_none (no_main n) _ fine.0, right_none (no_main n) _ fine.0)
   decl_fine m (syn.Process at n ps b) fine = (left_none (process_form n ps) _ fine.0, right_none (process_form n ps) _ fine.0)
 

@@ -3,3 +3,4 @@ pub mod Known
 pub mod StartsFit
 pub mod Numbers
 pub mod Meets
+pub mod NextNamed

@@ -3,15 +3,15 @@ use Rattle.std.proofs.Common.{refl, ap, sym, ◌∙◌, subst, arith, ◌⊎◌,
 use Rattle.std.specs.Prelude.{◌≡◌, ◌≤◌, ◌<◌, ℕ, zero, suc, ◌+◌, Bool, true, false, List, [], ◌∷◌, Option, Result, Ok, Err, if◌then◌else◌}
 use Rattle.orca_base.specs.declared.fault.FaultKind.{FaultKind}
 use Rattle.value_core.specs.Datum.{Datum}
-use Rattle.value_core.specs.Performable.{is_performable}
 use Rattle.value_core.specs.declared.action.Action.{Action}
+use Rattle.value_core.specs.declared.action.Action.TheVariants as action
 use Rattle.value_core.specs.declared.action.Reply.{Reply}
 use Rattle.value_core.specs.declared.action.Reply.TheVariants as reply
 use Rattle.meaning_rules.specs.Operators.{truth_in}
 use Rattle.meaning_rules.specs.States.{State, Stop, Out, Goes, Stops, Needs, Faults, Busy, after, gives, begun, turn, replied, act}
 use Rattle.meaning_rules.specs.Loops.{Flow, On, Back, Round, Over, Again, Leave, ended, round_if, while_round, until, until_round, loop, repeated, next_round}
 use Rattle.meaning_rules.specs.Turns.{with_left, IsEnough, Counts, CountedTo, Counted}
-use Rattle.meaning_rules.proofs.Closed.{Closed, IsRound, of_while, of_until}
+use Rattle.meaning_rules.proofs.Closed.{Closed, IsRound, Makes, of_while, of_until}
 
 -- ---- so many turns are within those that are used, or behind them
 
@@ -75,8 +75,11 @@ act_counted_to a frame left (reply.Gave value ∷ replies) =
 act_counted_to a frame left (reply.Broke fault ∷ replies) =
     (left, none_counts _ (record { frame = frame; replies = reply.Broke fault ∷ replies; left = left }) _ (λ n. refl))
 
-act_counted : (a : List Datum → Action) → ((frame : List Datum) → is_performable (a frame) ≡ true) → Counted (Option Datum) (λ s. act (a s.frame) s)
-act_counted a performable = record { counted = λ s. act_counted_to a s.frame s.left s.replies }
+act_counted : (a : List Datum → Action) → Counted (Option Datum) (λ s. act (a s.frame) s)
+act_counted a = record { counted = λ s. act_counted_to a s.frame s.left s.replies }
+
+pub make_counted : Makes Counted
+make_counted kind object = act_counted (λ frame. action.Make kind object)
 
 -- ---- a turn
 
@@ -333,7 +336,7 @@ all_counted = record {
   gives = gives_counted;
   then = then_counted;
   turns = turn_counted;
-  acts = act_counted;
+  acts = λ a asked. act_counted a;
   framed = framed_counted;
   repeats = λ round h is. repeated_counted round h (round_falls round is);
 }

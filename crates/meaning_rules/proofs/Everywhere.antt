@@ -40,7 +40,6 @@ use Rattle.link_rules.specs.Units.{Source}
 use Rattle.type_rules.specs.TopLevel as top
 use Rattle.type_rules.specs.TopLevel.{What, TopName, top_names, stands_for}
 use Rattle.value_core.specs.Datum.{list_of}
-use Rattle.value_core.specs.Performable.{is_performable}
 use Rattle.meaning_rules.specs.States.{Stops, Busy, after}
 use Rattle.meaning_rules.specs.Designators.{slot, outer_value}
 use Rattle.meaning_rules.specs.Variables.{changed_at}
@@ -48,7 +47,7 @@ use Rattle.meaning_rules.specs.Loops.{Round, go_on, while_round, until_round, re
 use Rattle.meaning_rules.specs.Programs.{function_scope, process_scope}
 use Rattle.meaning_rules.specs.Functions.{hand_back, leave, returned, own_frame, enter_body, enter_what, enter, calls, all_calls}
 use Rattle.meaning_rules.specs.Processes.{own_object, make, behind, variable_made, variables_made, object_type_of, block_run, what_run, text_run}
-use Rattle.meaning_rules.proofs.Closed.{Closed, of_while, of_until}
+use Rattle.meaning_rules.proofs.Closed.{Closed, Makes, is_of_statement, of_while, of_until}
 
 module _ (G : (A : Type 0) → (State → Out A) → Type 0) (c : Closed G) where
   given_holds : (A : Type 0) (r : Result A FaultKind) → G A (λ s. gives r s)
@@ -117,10 +116,10 @@ module _ (G : (A : Type 0) → (State → Out A) → Type 0) (c : Closed G) wher
 
   -- ---- actions
 
-  called_holds : (v : Scope) (o : Name) (a : Result Datum FaultKind → Action) → ((r : Result Datum FaultKind) → is_performable (a r) ≡ true) →
+  called_holds : (v : Scope) (o : Name) (a : Result Datum FaultKind → Action) → ((r : Result Datum FaultKind) → is_of_statement (a r) ≡ true) →
       (l : Option Local) → G (Option Datum) (λ s. act (a (value_in v o s l)) s)
-  called_holds v o a performable None = c.acts (λ frame. a (Ok (outer_value v.program (stands_for v.program v.home o.text)))) (λ frame. performable _)
-  called_holds v o a performable (Some l) = c.acts (λ frame. a (ok_or (slice_get frame (slot v o)) IndexOutside)) (λ frame. performable _)
+  called_holds v o a calls None = c.acts (λ frame. a (Ok (outer_value v.program (stands_for v.program v.home o.text)))) (λ frame. calls _)
+  called_holds v o a calls (Some l) = c.acts (λ frame. a (ok_or (slice_get frame (slot v o)) IndexOutside)) (λ frame. calls _)
 
   pub operate_holds : (v : Scope) (o m : Name) (xs : List Datum) → G (Option Datum) (operate v o m xs)
   operate_holds v o m xs =
@@ -359,9 +358,9 @@ module _ (G : (A : Type 0) → (State → Out A) → Type 0) (c : Closed G) wher
 
   -- ---- processes
 
-  module _ (us : List Source) (number : ProcessNo) where
+  module _ (makes : Makes G) (us : List Source) (number : ProcessNo) where
     make_holds : (count i : ℕ) → G Datum (make us number count i)
-    make_holds count i = c.then _ _ _ _ (c.acts (λ _. action.Make (kind_of us i) (own_object number count)) (λ _. refl)) (λ _. c.goes _ _)
+    make_holds count i = c.then _ _ _ _ (makes (kind_of us i) (own_object number count)) (λ _. c.goes _ _)
 
     behind_holds : (x : Datum) (others : State → Out (List Datum)) → G (List Datum) others → G (List Datum) (behind x others)
     behind_holds x others h = c.then _ _ _ _ h (λ xs. c.goes _ _)

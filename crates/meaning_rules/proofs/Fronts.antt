@@ -1,17 +1,17 @@
 -- Replies are used from the front: what an evaluation did with some of them it does with these alone, and others behind change nothing.
 use Rattle.std.proofs.Common.{refl, ap, sym, ◌∙◌}
-use Rattle.std.specs.Prelude.{◌≡◌, ℕ, zero, suc, true, List, [], ◌∷◌, ◌++◌, Option, Result, Ok, Err}
+use Rattle.std.specs.Prelude.{◌≡◌, ℕ, zero, suc, List, [], ◌∷◌, ◌++◌, Option, Result, Ok, Err}
 use Rattle.std.proofs.lemmas.List.{append_assoc}
 use Rattle.orca_base.specs.declared.fault.FaultKind.{FaultKind}
 use Rattle.value_core.specs.Datum.{Datum}
-use Rattle.value_core.specs.Performable.{is_performable}
 use Rattle.value_core.specs.declared.action.Action.{Action}
+use Rattle.value_core.specs.declared.action.Action.TheVariants as action
 use Rattle.value_core.specs.declared.action.Reply.{Reply}
 use Rattle.value_core.specs.declared.action.Reply.TheVariants as reply
 use Rattle.meaning_rules.specs.States.{State, Stop, Out, Goes, Stops, Needs, Faults, Busy, after, gives, begun, turn, replied, act}
 use Rattle.meaning_rules.specs.Loops.{Flow, On, Back, Round, Over, Again, Leave, loop, repeated, next_round}
 use Rattle.meaning_rules.specs.Replies.{with_replies, Fronted, Front}
-use Rattle.meaning_rules.proofs.Closed.{Closed}
+use Rattle.meaning_rules.proofs.Closed.{Closed, Makes}
 
 -- ---- one evaluation and then another
 
@@ -81,8 +81,11 @@ act_fronted a frame left (reply.Done ∷ replies) = (reply.Done ∷ [], refl, λ
 act_fronted a frame left (reply.Gave value ∷ replies) = (reply.Gave value ∷ [], refl, λ rest. refl)
 act_fronted a frame left (reply.Broke fault ∷ replies) = λ rest. refl
 
-act_front : (a : List Datum → Action) → ((frame : List Datum) → is_performable (a frame) ≡ true) → Front (Option Datum) (λ s. act (a s.frame) s)
-act_front a performable = record { front = λ s. act_fronted a s.frame s.left s.replies }
+act_front : (a : List Datum → Action) → Front (Option Datum) (λ s. act (a s.frame) s)
+act_front a = record { front = λ s. act_fronted a s.frame s.left s.replies }
+
+pub make_front : Makes Front
+make_front kind object = act_front (λ frame. action.Make kind object)
 
 -- ---- other variables
 
@@ -128,7 +131,7 @@ fronts = record {
   gives = gives_front;
   then = then_front;
   turns = turn_front;
-  acts = act_front;
+  acts = λ a asked. act_front a;
   framed = framed_front;
   repeats = λ round h is. repeated_front round h;
 }

@@ -20,11 +20,11 @@ use Rattle.meaning_rules.specs.Functions.{calls}
 use Rattle.meaning_rules.specs.Processes.{doing_of, text_run}
 use Rattle.meaning_rules.specs.Settled.{IsSettled}
 use Rattle.meaning_rules.specs.Replies.{Fronted, Front, UsesFront, IsOver, StaysOver}
-use Rattle.meaning_rules.proofs.Closed.{Closed}
+use Rattle.meaning_rules.proofs.Closed.{Closed, Makes, is_of_statement}
 use Rattle.meaning_rules.proofs.Everywhere as everywhere
 use Rattle.meaning_rules.proofs.Everywhere.{text_holds}
-use Rattle.meaning_rules.proofs.Fronts.{fronts, loop_front}
-use Rattle.meaning_rules.proofs.Steady.{Keeps, Steady, all_steady, busy_steady}
+use Rattle.meaning_rules.proofs.Fronts.{fronts, loop_front, make_front}
+use Rattle.meaning_rules.proofs.Steady.{Keeps, Steady, all_steady, busy_steady, make_steady}
 
 -- the same is done next
 doing_kept : (k : ℕ) (o o' : Out Flow) → Keeps k o o' → (doing_of o ≡ doing.Busy → ⊥) → doing_of o' ≡ doing_of o
@@ -35,7 +35,7 @@ doing_kept k (Stops Busy) o' is settled = absurd (settled refl)
 
 pub is_settled : (us : List Source) → IsSettled us
 is_settled us text number args replies n k settled =
-    doing_kept k _ _ ((text_holds (λ A f. Steady f) all_steady us number busy_steady args (slice_get (process_texts us) text.0)).steady k (record { frame = []; replies = replies; left = n })) settled
+    doing_kept k _ _ ((text_holds (λ A f. Steady f) all_steady make_steady us number busy_steady args (slice_get (process_texts us) text.0)).steady k (record { frame = []; replies = replies; left = n })) settled
 
 -- ---- replies
 
@@ -68,6 +68,14 @@ begun_waits zero s = tt
 begun_waits (suc zero) s = tt
 begun_waits (suc (suc n)) s = tt
 
+-- what statements come to gets a reply
+statement_performs : (a : Action) → is_of_statement a ≡ true → is_performable a ≡ true
+statement_performs (action.Call kind op object args) is = refl
+statement_performs (action.Fork process args place_on) is = refl
+statement_performs (action.Make kind object) is = refl
+statement_performs action.Ended is = is
+statement_performs (action.Faulted fault) is = is
+
 replied_waits : (a : Action) → is_performable a ≡ true → (s : State) (replies : List Reply) → Waits (replied a s replies)
 replied_waits a performable s [] = performable
 replied_waits a performable s (reply.Done ∷ replies) = tt
@@ -84,6 +92,9 @@ unfolding loop
 loop_waiting zero round h = record { waits = λ s. tt }
 loop_waiting (suc n) round h = then_waiting Round Flow round (λ r s1. next_round r s1 (loop n round)) h (λ r. next_waiting r (loop n round) (loop_waiting n round h))
 
+make_waiting : Makes Waiting
+make_waiting kind object = record { waits = λ s. replied_waits (action.Make kind object) refl s s.replies }
+
 all_waiting : Closed Waiting
 all_waiting = record {
   goes = λ A x. record { waits = λ s. tt };
@@ -91,7 +102,7 @@ all_waiting = record {
   gives = λ A r. record { waits = λ s. gives_waits A (r s.frame) s };
   then = then_waiting;
   turns = record { waits = λ s. begun_waits s.left s };
-  acts = λ a performable. record { waits = λ s. replied_waits (a s.frame) (performable s.frame) s s.replies };
+  acts = λ a asked. record { waits = λ s. replied_waits (a s.frame) (statement_performs (a s.frame) (asked s.frame)) s s.replies };
   framed = λ A g h all. record { waits = λ s. (all s.frame).waits (record s { frame = h s.frame }) };
   repeats = λ round h is. record { waits = λ s. (loop_waiting (suc s.left) round h).waits s };
 }
@@ -117,7 +128,7 @@ uses_front us = record {
   rounds = λ k round h. loop_front round h k;
   counted = everywhere.count_holds Front fronts;
   functions = call_front us;
-  makes = everywhere.variables_holds Front fronts us;
+  makes = everywhere.variables_holds Front fronts make_front us;
 }
 
 performs_not_over : (a : Action) → is_performable a ≡ true → IsOver (doing.At a) → ⊥
@@ -143,5 +154,5 @@ pub stays_over : (us : List Source) → StaysOver us
 stays_over us text number args replies more turns over =
     let s : State = record { frame = []; replies = replies; left = turns } in
     over_kept (text_run us number args (slice_get (process_texts us) text.0)) s more _ refl
-    ((text_holds Waiting all_waiting us number (record { waits = λ t. tt }) args (slice_get (process_texts us) text.0)).waits s)
-    ((text_holds Front fronts us number busy_front args (slice_get (process_texts us) text.0)).front s) over
+    ((text_holds Waiting all_waiting make_waiting us number (record { waits = λ t. tt }) args (slice_get (process_texts us) text.0)).waits s)
+    ((text_holds Front fronts make_front us number busy_front args (slice_get (process_texts us) text.0)).front s) over

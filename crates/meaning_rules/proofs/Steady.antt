@@ -4,10 +4,11 @@ use Rattle.std.specs.Prelude.{◌≡◌, ℕ, zero, suc, ◌+◌, List, [], ◌�
 use Rattle.orca_base.specs.declared.fault.FaultKind.{FaultKind}
 use Rattle.value_core.specs.Datum.{Datum}
 use Rattle.value_core.specs.declared.action.Action.{Action}
+use Rattle.value_core.specs.declared.action.Action.TheVariants as action
 use Rattle.value_core.specs.declared.action.Reply.{Reply}
 use Rattle.value_core.specs.declared.action.Reply.TheVariants as reply
 use Rattle.meaning_rules.specs.States.{State, Out, Goes, Stops, Needs, Faults, Busy, after, gives, begun, turn, replied, act}
-use Rattle.meaning_rules.proofs.Closed.{Closed}
+use Rattle.meaning_rules.proofs.Closed.{Closed, Makes}
 use Rattle.meaning_rules.specs.Loops.{Flow, On, Back, Round, Over, Again, Leave, go_on, loop, repeated, next_round}
 
 -- so many turns more
@@ -117,6 +118,9 @@ framed_steady g h all = record { steady = λ k s. (all s.frame).steady k (record
 pub busy_steady : {A : Type 0} → Steady {A = A} (λ s. Stops Busy)
 busy_steady = record { steady = λ k s. tt }
 
+pub make_steady : Makes (λ A f. Steady f)
+make_steady kind object = act_steady (λ frame. action.Make kind object)
+
 pub all_steady : Closed (λ A f. Steady f)
 all_steady = record {
   goes = λ A x. goes_steady x;
@@ -124,7 +128,7 @@ all_steady = record {
   gives = λ A r. result_steady r;
   then = λ A B f next first others. then_steady f next first others;
   turns = turn_steady;
-  acts = λ a performable. act_steady a;
+  acts = λ a asked. act_steady a;
   framed = λ A g h all. framed_steady g h all;
   repeats = λ round h is. repeated_steady round h;
 }

@@ -14,7 +14,7 @@ use Rattle.meaning_rules.specs.Functions.{calls}
 use Rattle.meaning_rules.specs.Processes.{doing_of, text_run}
 use Rattle.meaning_rules.specs.Turns.{with_left, Counts, CountedTo, Counted, CountsTurns, TakesTurns}
 use Rattle.meaning_rules.proofs.Everywhere as everywhere
-use Rattle.meaning_rules.proofs.Counting.{all_counted, busy_counted}
+use Rattle.meaning_rules.proofs.Counting.{all_counted, busy_counted, make_counted}
 
 module _ (us : List Source) (levels : ℕ) where
   abbrev call : Calls
@@ -38,8 +38,8 @@ counts_turns us = record {
   untils = everywhere.repeat_holds Counted all_counted;
   counted = everywhere.count_holds Counted all_counted;
   functions = call_counted us;
-  makes = everywhere.variables_holds Counted all_counted us;
-  texts = λ number. everywhere.text_holds Counted all_counted us number busy_counted;
+  makes = everywhere.variables_holds Counted all_counted make_counted us;
+  texts = λ number. everywhere.text_holds Counted all_counted make_counted us number busy_counted;
 }
 
 -- ---- processes
