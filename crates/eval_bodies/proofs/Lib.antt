@@ -1,6 +1,6 @@
 pub mod Matched
 pub mod Placed
-pub mod Local_names
-pub mod Found_first
-pub mod Standing_at
+pub mod FirstGiven
+pub mod OneMore
+pub mod SeenNames
 pub mod Few

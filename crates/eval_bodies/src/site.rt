@@ -1,17 +1,17 @@
 //! Where phrases are evaluated.
 
-ghost use Rattle.std.specs.Prelude.{◌≡◌, ◌∷◌, IfOk, bytes_eq, length, option_map, position};
+ghost use Rattle.std.specs.Prelude.{◌≡◌, ◌∷◌, ◌+◌, List, IfOk, bytes_eq, length, option_map, position};
 ghost use Rattle.orca_tree.specs.declared.tree.Name.{Name as NameTree};
 ghost use Rattle.type_rules.specs.Scopes as scopes;
 ghost use Rattle.type_rules.specs.Statements.{with_loop};
 ghost use Rattle.type_exprs.specs.Scoped.{IsScope};
 ghost use Rattle.meaning_rules.specs.Designators as rules;
 ghost use Rattle.eval_tables.specs.Layers.{type_seen};
-ghost use Rattle.eval_bodies.specs.Bodies.{IsBody, bears};
+ghost use Rattle.eval_bodies.specs.Bodies.{HasLocals, IsBody, bears};
 ghost use Rattle.eval_bodies.specs.Codes.{IsCode};
 ghost use Rattle.eval_bodies.specs.Sites.{IsSite, lent_texts};
 
-use crate::bodies::Body;
+use crate::bodies::{Body, BodyNames};
 use crate::code::Code;
 use eval_tables::Seen;
 use orca_base::NoMemory;
@@ -52,6 +52,23 @@ fn counting(loops: &[&str], name: &str) -> Option<usize>
         }
     }
     None
+}
+
+// The place of a name of a body behind the variables of loops.
+fn behind(loops: &[&str], names: &BodyNames<'_>, name: &str) -> Option<usize>
+    ensures { (ls : List scopes.Local) → HasLocals names.now ls →
+        result ≡ option_map (λ j. j + length loops.now) (position (bears name.now) ls) }
+{
+    match names.places.get(name) {
+        None => None,
+        Some(place) => {
+            if *place < names.types.len() {
+                Some(*place + loops.len())
+            } else {
+                None
+            }
+        }
+    }
 }
 
 impl<'a, 'p> Site<'a, 'p> {
@@ -105,10 +122,7 @@ impl<'a, 'p> Site<'a, 'p> {
     {
         match counting(self.loops, name.text.as_str()) {
             Some(place) => Some(place),
-            None => match self.body.names.places.get(name.text.as_str()) {
-                None => None,
-                Some(place) => Some(place.saturating_add(self.loops.len())),
-            },
+            None => behind(self.loops, &self.body.names, name.text.as_str()),
         }
     }
 

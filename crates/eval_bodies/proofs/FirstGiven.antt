@@ -1,8 +1,10 @@
 -- What is found first in lists, one behind the other.
 use Rattle.std.proofs.Common.{◌≡◌, ℕ, ◌<◌, ◌+◌, Bool, true, false, cond, List, [], ◌∷◌, ◌++◌, length, get_or, take, map, find, Option, Some, None, refl, sym, ap, ◌∙◌}
-use Rattle.std.specs.Prelude.{slice_get, option_map}
+use Rattle.std.specs.Prelude.{is_some, slice_get, option_map}
 use Rattle.std.specs.List.{cons_option, filter_map}
 use Rattle.std.proofs.lemmas.List.Elements.{filter_map-append}
+use Rattle.orca_syntax.specs.Syntax.{Decl}
+use Rattle.link_rules.specs.Declarations.{Declared}
 use Rattle.type_tables.specs.Entries.{or_other}
 
 pub other_none : {X : Type 0} (o : Option X) → o ≡ or_other o None
@@ -17,6 +19,10 @@ pub other_mapped : {X Y : Type 0} (f : X → Y) (a b : Option X) → option_map 
 other_mapped f None b = refl
 other_mapped f (Some x) b = refl
 
+pub some_mapped : {X Y : Type 0} (f : X → Y) (o : Option X) → is_some o ≡ is_some (option_map f o)
+some_mapped f None = refl
+some_mapped f (Some x) = refl
+
 pub find_push : {X : Type 0} (t : X → Bool) (xs : List X) (y : X) → find t (xs ++ y ∷ []) ≡ or_other (find t xs) (cond (t y) (Some y) None)
 find_push t [] y = refl
 find_push t (x ∷ xs) y = by_test (t x) refl (find_push t xs y)
@@ -28,10 +34,15 @@ find_push t (x ∷ xs) y = by_test (t x) refl (find_push t xs y)
 
 -- ---- the first that a function gives
 
+-- a declaration of a unit
+abbrev pub declared_as : List ℕ → List ℕ → Decl → Declared
+declared_as by file d = record { by = by; file = file; decl = d }
+
 first_of_both : {X : Type 0} (xs ys : List X) → slice_get (xs ++ ys) 0 ≡ or_other (slice_get xs 0) (slice_get ys 0)
 first_of_both [] ys = refl
 first_of_both (x ∷ xs) ys = refl
 
+-- the first that is given
 abbrev pub first_given : {X Y : Type 0} → (X → Option Y) → List X → Option Y
 first_given f xs = slice_get (filter_map f xs) 0
 
