@@ -109,8 +109,8 @@ impl<'a, 'p> Site<'a, 'p> {
         }
     }
 
-    // How many names are seen.
-    fn count(self) -> usize
+    /// How many names are seen, which is the slot that none has.
+    pub fn count(self) -> usize
         ensures { (w : scopes.Scope) → IsSite self.entry w → result ≡ length w.locals }
     {
         self.loops.len() + self.body.names.types.len()
