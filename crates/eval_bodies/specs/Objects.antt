@@ -1,7 +1,8 @@
 -- The code of object types and of their operations.
 use Rattle.std.specs.Prelude.{◌≡◌, Bool, List, map, is_some, option_map}
 use Rattle.orca_syntax.specs.Syntax.{Operation}
-use Rattle.orca_syntax.specs.Shown.{body, operation, stmts, variables}
+use Rattle.orca_syntax.specs.Shown as shown
+use Rattle.orca_syntax.specs.Shown.{operation, stmts, variables}
 use Rattle.link_rules.specs.Units.{Source}
 use Rattle.meaning_rules.specs.Programs.{ObjectType, begin_scope, operation_scope, operation_variables}
 use Rattle.eval_bodies.specs.declared.implementations.Implemented.{Implemented}
@@ -25,7 +26,7 @@ pub record IsOperationCode (us : List Source) (t : ObjectType) (c : OperationCod
   pub body : (in_guard : Bool) → IsBody c.body (operation_scope us t o in_guard)
   pub variables : c.variables.items ≡ map (λ l. l.type) (operation_variables us t o)
   pub has_result : c.has_result ≡ is_some o.head.result
-  pub form : body c.form.now ≡ o.body
+  pub form : shown.body c.form.now ≡ o.body
 
 pub record IsObjectCode (us : List Source) (c : ObjectCode) (t : ObjectType) : Type 0 where
   pub fields : IsBody c.fields (begin_scope us t)
