@@ -52,7 +52,8 @@ fn block_names<'p>(
     let mut names = BodyNames::new(alloc);
     add_parameters(alloc, forms, view, parameters, &mut names)?;
     let role = LocalRole::Variable;
-    add_variables(alloc, forms, view, objects, role, &body.variables, &mut names)?;
+    let groups = &body.variables;
+    add_variables(alloc, forms, view, objects, role, groups, &mut names)?;
     Ok(names)
 }
 
@@ -70,8 +71,10 @@ fn block_code<'p>(
     ensures { (us : List Source) → AreTyped us forms.entry → (w : RuleView) →
         w ≡ view_of us home.now (rule_own_names (map parameter_shown parameters.now) (block_shown body.now)) → (gives : Option Kind) →
         IfOk result (λ c. IsBlockCode c (record {
-        scope = rules.block_scope us home.now owner (variable_found objects w) w (map parameter_shown parameters.now) gives (block_shown body.now);
-        statements = (block_shown body.now).statements; has_result = has_result })) }
+          scope = rules.block_scope us home.now owner (variable_found objects w) w (map parameter_shown parameters.now) gives (block_shown body.now);
+          statements = (block_shown body.now).statements;
+          has_result = has_result;
+        })) }
 {
     let own = own_names(alloc, parameters, body)?;
     let set = name_set(alloc, &own)?;

@@ -84,7 +84,8 @@ pub fn add_parameters<'p>(
     'parameters: for own in parameters {
         let found = parameter_found(alloc, forms, view, own.mode, &own.kind)?;
         let kind = type_of(found);
-        add_name(alloc, names, own.name.text.as_str(), role_of(own.mode), kind)?;
+        let role = role_of(own.mode);
+        add_name(alloc, names, own.name.text.as_str(), role, kind)?;
     }
     Ok(())
 }

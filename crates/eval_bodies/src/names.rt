@@ -65,7 +65,10 @@ impl<'a, 'p> Site<'a, 'p> {
         ensures stands { (w : scopes.Scope) → IsSite self.entry w → standing result ≡ stands_for w.program w.home name.now.text }
     {
         let tables = self.code.rule_tables();
-        tables.forms.index.stands_for(self.body.home, name.text.as_str())
+        tables
+            .forms
+            .index
+            .stands_for(self.body.home, name.text.as_str())
     }
 
     /// The value of a name that the body has not.

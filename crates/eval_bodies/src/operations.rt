@@ -26,18 +26,18 @@ fn add_fields<'p>(
     alloc: Global,
     forms: Forms<'_, '_>,
     home: &str,
-    groups: &'p [Variables],
+    fields: &'p [Variables],
     names: &mut BodyNames<'p>,
 ) -> Result<(), NoMemory>
     ensures { (us : List Source) → AreTyped us forms.entry → OnOk result ((ls : List scopes.Local) → HasLocals names.old ls →
-        HasLocals names.new (ls ++ rules.field_locals us home.now (map variables groups.now))) }
+        HasLocals names.new (ls ++ rules.field_locals us home.now (map variables fields.now))) }
 {
     let mut own = Vec::new(alloc);
-    add_variable_names(&mut own, groups)?;
+    add_variable_names(&mut own, fields)?;
     let set = name_set(alloc, &own)?;
     let view = View { home, names: &set };
     let role = LocalRole::ObjectField;
-    add_variables(alloc, forms, view, false, role, groups, names)
+    add_variables(alloc, forms, view, false, role, fields, names)
 }
 
 /// The names of an implementation's fields.
@@ -45,28 +45,28 @@ pub fn field_names<'p>(
     alloc: Global,
     forms: Forms<'_, '_>,
     home: &str,
-    groups: &'p [Variables],
+    fields: &'p [Variables],
 ) -> Result<BodyNames<'p>, NoMemory>
     ensures { (us : List Source) → AreTyped us forms.entry →
-        IfOk result (λ v. HasLocals v (rules.field_locals us home.now (map variables groups.now))) }
+        IfOk result (λ v. HasLocals v (rules.field_locals us home.now (map variables fields.now))) }
 {
     let mut names = BodyNames::new(alloc);
-    add_fields(alloc, forms, home, groups, &mut names)?;
+    add_fields(alloc, forms, home, fields, &mut names)?;
     Ok(names)
 }
 
 // The names that the head of an operation sees: those of the operation, and of its object's fields.
 fn seen_names<'p>(
     alloc: Global,
-    groups: &'p [Variables],
+    fields: &'p [Variables],
     operation: &'p Operation,
 ) -> Result<Vec<&'p Name>, NoMemory>
     ensures { IfOk result (λ v. lent v.items ≡
-        rules.operation_names (operation_shown operation.now) ++ rules.field_names (map variables groups.now)) }
+        rules.operation_names (operation_shown operation.now) ++ rules.field_names (map variables fields.now)) }
 {
     let mut names = value_names(alloc, &operation.head.parameters)?;
     add_variable_names(&mut names, &operation.variables)?;
-    add_variable_names(&mut names, groups)?;
+    add_variable_names(&mut names, fields)?;
     Ok(names)
 }
 
@@ -75,20 +75,21 @@ pub fn operation_names<'p>(
     alloc: Global,
     forms: Forms<'_, '_>,
     home: &str,
-    groups: &'p [Variables],
+    fields: &'p [Variables],
     operation: &'p Operation,
 ) -> Result<BodyNames<'p>, NoMemory>
     ensures { (us : List Source) → AreTyped us forms.entry → IfOk result (λ v. HasLocals v
-        (rules.operation_locals us home.now (map variables groups.now) (operation_shown operation.now))) }
+        (rules.operation_locals us home.now (map variables fields.now) (operation_shown operation.now))) }
 {
-    let seen = seen_names(alloc, groups, operation)?;
+    let seen = seen_names(alloc, fields, operation)?;
     let set = name_set(alloc, &seen)?;
     let view = View { home, names: &set };
     let mut names = BodyNames::new(alloc);
     add_values(alloc, forms, view, &operation.head.parameters, &mut names)?;
     let role = LocalRole::Variable;
-    add_variables(alloc, forms, view, false, role, &operation.variables, &mut names)?;
-    add_fields(alloc, forms, home, groups, &mut names)?;
+    let groups = &operation.variables;
+    add_variables(alloc, forms, view, false, role, groups, &mut names)?;
+    add_fields(alloc, forms, home, fields, &mut names)?;
     Ok(names)
 }
 
@@ -97,19 +98,20 @@ pub fn variable_types(
     alloc: Global,
     forms: Forms<'_, '_>,
     home: &str,
-    groups: &[Variables],
+    fields: &[Variables],
     operation: &Operation,
 ) -> Result<Vec<Option<DataType>>, NoMemory>
     ensures { (us : List Source) → AreTyped us forms.entry → IfOk result (λ v. v.items ≡ map (λ l. l.type)
         (flat_map (locals_of roles.Variable
-        (data_found (rules.operation_view us home.now (map variables groups.now) (operation_shown operation.now))))
+        (data_found (rules.operation_view us home.now (map variables fields.now) (operation_shown operation.now))))
         (operation_shown operation.now).variables)) }
 {
-    let seen = seen_names(alloc, groups, operation)?;
+    let seen = seen_names(alloc, fields, operation)?;
     let set = name_set(alloc, &seen)?;
     let view = View { home, names: &set };
     let mut own = BodyNames::new(alloc);
     let role = LocalRole::Variable;
-    add_variables(alloc, forms, view, false, role, &operation.variables, &mut own)?;
+    let groups = &operation.variables;
+    add_variables(alloc, forms, view, false, role, groups, &mut own)?;
     Ok(own.types)
 }

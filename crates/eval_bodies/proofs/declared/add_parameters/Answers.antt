@@ -16,7 +16,7 @@ parameters-preserved c = λ us t w v ls h.
     grown c.add_name.new.names ls before (f (parameter x) ∷ []) (map f (map parameter (take (i + 1) ps)))
     (shown_more parameter f ps i x c.parameters-test.true c.own-item.is)
     (subst (λ (y : Local). HasLocals c.add_name.new.names ((ls ++ before) ++ y ∷ []))
-    (ap (λ (r : LocalRole). called c.as_str.result.now r c.type_of-kind.result) c.role_of.ensures
+    (ap (λ (r : LocalRole). called c.as_str.result.now r c.type_of-kind.result) c.role_of-role.ensures
     ∙ same_local c.as_str.result.now _ _ c.type_of-kind.result _ c.as_str.ensures
     (c.type_of-kind.ensures (parameter_found w (parameter x).mode (parameter x).kind) ((c.in_ok-found.ensures {u = tt}) us t w v)))
     ((c.in_ok-add_name.ensures {u = tt}) (ls ++ before) (c.parameters.invariant us t w v ls h)))

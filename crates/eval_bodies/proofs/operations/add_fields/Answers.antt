@@ -9,7 +9,7 @@ use Rattle.eval_bodies.proofs.operations.add_fields.Goals as goal
 
 pub returns : goal.returns
 returns c = λ us t.
-    let fs = map variables c.args.groups.now in
+    let fs = map variables c.args.fields.now in
     let seen = ap lent c.deref.ensures.value ∙ c.in_ok-add_variables.ensures {u = tt} in
     c.add_variables.ensures us t (fields_view us c.args.home.now fs)
     (record { program = refl; home = refl; names = λ n. (c.in_ok-set.ensures {u = tt}) n ∙ ap (λ (l : List Name). is_among (texts l) n) seen })

@@ -16,7 +16,7 @@ use Rattle.eval_bodies.proofs.operations.operation_names.Goals as goal
 pub returns : goal.returns
 returns c = λ us t.
     let m = c.args.home.now in
-    let fs = map variables c.args.groups.now in
+    let fs = map variables c.args.fields.now in
     let o = operation c.args.operation.now in
     let w = operation_view us m fs o in
     let seen = ap lent c.deref.ensures.value ∙ c.in_ok-seen.ensures {u = tt} in

@@ -14,7 +14,7 @@ use Rattle.eval_bodies.proofs.operations.variable_types.Goals as goal
 
 pub returns : goal.returns
 returns c = λ us t.
-    let w = operation_view us c.args.home.now (map variables c.args.groups.now) (operation c.args.operation.now) in
+    let w = operation_view us c.args.home.now (map variables c.args.fields.now) (operation c.args.operation.now) in
     let seen = ap lent c.deref.ensures.value ∙ c.in_ok-seen.ensures {u = tt} in
     let view = record { program = refl; home = refl; names = λ n. (c.in_ok-set.ensures {u = tt}) n ∙ ap (λ (l : List Name). is_among (texts l) n) seen } in
     ((c.in_ok-add_variables.ensures {u = tt}) us t w view [] c.new-own.ensures).types
