@@ -1,6 +1,6 @@
 //! The names of operations and of their objects' fields.
 
-ghost use Rattle.std.specs.Prelude.{◌≡◌, ◌++◌, List, IfOk, flat_map, map};
+ghost use Rattle.std.specs.Prelude.{◌≡◌, ◌++◌, List, IfOk, OnOk, flat_map, map};
 ghost use Rattle.orca_syntax.specs.Shown.{operation as operation_shown, variables};
 ghost use Rattle.link_rules.specs.Units.{Source};
 ghost use Rattle.type_rules.specs.declared.names.LocalRole.TheVariants as roles;
