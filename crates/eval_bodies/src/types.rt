@@ -3,9 +3,10 @@
 ghost use Rattle.std.specs.Prelude.{◌≡◌, [], List, IfOk, drop, map, option_map, slice_get};
 ghost use Rattle.std.specs.Option.{option_map_or};
 ghost use Rattle.orca_base.specs.declared.place.Place.{Place};
-ghost use Rattle.orca_syntax.specs.Shown.{expr, path as path_shown, step as step_shown};
+ghost use Rattle.orca_syntax.specs.Shown.{definition as definition_shown, expr, path as path_shown, step as step_shown};
 ghost use Rattle.orca_syntax.specs.Syntax.{Field};
 ghost use Rattle.link_rules.specs.Units.{Source};
+ghost use Rattle.link_rules.specs.Units.{values_of as rule_values_of};
 ghost use Rattle.type_rules.specs.declared.types.Base.{Base as BaseType};
 ghost use Rattle.type_rules.specs.Expressions.{field_of};
 ghost use Rattle.type_rules.specs.Scopes as scopes;
@@ -77,13 +78,21 @@ fn index_into(layers: &[Layer], index: i64) -> Step
 }
 
 // The names of an enumeration's values.
+fn values_in(definition: &Definition) -> &[Name]
+    ensures { result.now ≡ rule_values_of (definition_shown definition.now) }
+{
+    match definition {
+        Definition::Enumeration { names, .. } => names,
+        Definition::Record { .. } | Definition::Alias { .. } => &[],
+    }
+}
+
+// The names of the values of what a name of the top level is, where that is an enumeration.
 fn values_of<'p>(is: What<'p>) -> &'p [Name]
     ensures { map (λ n. n.text) result.now ≡ statements.names_in (what is.entry) }
 {
     match is {
-        What::TypeName {
-            definition: Definition::Enumeration { names, .. },
-        } => names,
+        What::TypeName { definition } => values_in(definition),
         _ => &[],
     }
 }
