@@ -16,7 +16,10 @@ use Rattle.meaning_rules.specs.Calls.{first_mode, fresh_node}
 use Rattle.meaning_rules.specs.Designators.{designator_type}
 use Rattle.meaning_rules.specs.Openings.{opening}
 
-nothing_left : {X : Type 0} (i : ℕ) → drop i ([] : List X) ≡ []
+abbrev no_modes : List Mode
+no_modes = []
+
+nothing_left : (i : ℕ) → drop i no_modes ≡ no_modes
 nothing_left zero = refl
 nothing_left (suc i) = refl
 
