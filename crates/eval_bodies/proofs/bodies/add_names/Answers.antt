@@ -1,4 +1,5 @@
-use Rattle.std.proofs.Common.{◌+◌, List, [], ◌∷◌, ◌++◌, map, subst, take}
+use Rattle.std.proofs.Common.{◌+◌, List, [], ◌∷◌, ◌++◌, map, subst, take, sym, arith}
+use Rattle.std.proofs.lemmas.List.{append-nil, take_all}
 use Rattle.orca_tree.specs.declared.tree.Name.{Name}
 use Rattle.type_rules.specs.Scopes.{Local}
 use Rattle.eval_bodies.specs.Bodies.{HasLocals}
@@ -16,3 +17,11 @@ own-preserved c = λ ls h.
     (subst (λ (y : Local). HasLocals c.add_name.new.names ((ls ++ before) ++ y ∷ []))
     (same_local c.as_str.result.now x.text c.args.role c.in_ok-kind.kind c.args.kind.now c.as_str.ensures (c.in_ok-kind.ensures {u = tt}))
     ((c.in_ok-add_name.ensures {u = tt}) (ls ++ before) (c.own.invariant ls h)))
+
+pub own-init : goal.own-init
+own-init c = λ ls h. subst (λ (l : List Local). HasLocals c.args.names.now l) (sym (append-nil ls)) h
+
+pub returns : goal.returns
+returns c = λ ls h.
+    subst (λ (ns : List Name). HasLocals c.own.names (ls ++ map (λ n. record { name = n.text; role = c.args.role; type = c.args.kind.now }) ns))
+    (take_all c.own.name-index c.args.own.now (omega (arith, c.own-test.false))) (c.own.invariant ls h)

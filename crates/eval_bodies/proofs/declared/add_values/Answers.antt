@@ -1,4 +1,6 @@
-use Rattle.std.proofs.Common.{◌+◌, List, [], ◌∷◌, ◌++◌, map, subst, take}
+use Rattle.std.proofs.Common.{◌+◌, List, [], ◌∷◌, ◌++◌, map, subst, take, sym, arith}
+use Rattle.std.proofs.lemmas.List.{append-nil, take_all}
+use Rattle.orca_tree.specs.declared.tree.TypedName as tree
 use Rattle.orca_syntax.specs.Shown.{typed_name}
 use Rattle.type_rules.specs.Scopes.{Local, value_local}
 use Rattle.eval_bodies.specs.Bodies.{HasLocals}
@@ -17,3 +19,11 @@ values-preserved c = λ us t w v ls h.
     (subst (λ (y : Local). HasLocals c.add_name.new.names ((ls ++ before) ++ y ∷ []))
     (same_local c.as_str.result.now _ _ c.in_ok-kind.kind _ c.as_str.ensures ((c.in_ok-kind.ensures {u = tt}) us t w v))
     ((c.in_ok-add_name.ensures {u = tt}) (ls ++ before) (c.values.invariant us t w v ls h)))
+
+pub values-init : goal.values-init
+values-init c = λ us t w v ls h. subst (λ (l : List Local). HasLocals c.args.names.now l) (sym (append-nil ls)) h
+
+pub returns : goal.returns
+returns c = λ us t w v ls h.
+    subst (λ (ts : List tree.TypedName). HasLocals c.values.names (ls ++ map (value_local w) (map typed_name ts)))
+    (take_all c.values.own-index c.args.values.now (omega (arith, c.values-test.false))) (c.values.invariant us t w v ls h)

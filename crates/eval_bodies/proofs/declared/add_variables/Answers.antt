@@ -1,6 +1,8 @@
-use Rattle.std.proofs.Common.{◌+◌, List, ◌++◌, Option, map, subst, take}
+use Rattle.std.proofs.Common.{◌+◌, List, ◌++◌, Option, map, subst, take, sym, arith}
 use Rattle.std.specs.Prelude.{flat_map}
+use Rattle.std.proofs.lemmas.List.{append-nil, take_all}
 use Rattle.orca_tree.specs.declared.tree.Name.{Name}
+use Rattle.orca_tree.specs.declared.tree.Variables as tree
 use Rattle.orca_syntax.specs.Shown.{kind, variables}
 use Rattle.type_rules.specs.declared.types.DataType.{DataType}
 use Rattle.type_rules.specs.Scopes.{Local, locals_of, type_of}
@@ -23,3 +25,11 @@ groups-preserved c = λ us t w v ls h.
     (subst (λ (k : Option DataType). HasLocals c.add_names.new.names ((ls ++ before) ++ map (λ n. called n.text c.args.role k) c.deref.result.now))
     ((c.in_ok-kind.ensures {u = tt}) us t w v)
     ((c.in_ok-add_names.ensures {u = tt}) (ls ++ before) (c.groups.invariant us t w v ls h))))
+
+pub groups-init : goal.groups-init
+groups-init c = λ us t w v ls h. subst (λ (l : List Local). HasLocals c.args.names.now l) (sym (append-nil ls)) h
+
+pub returns : goal.returns
+returns c = λ us t w v ls h.
+    subst (λ (gs : List tree.Variables). HasLocals c.groups.names (ls ++ flat_map (locals_of c.args.role (variable_found c.args.objects w)) (map variables gs)))
+    (take_all c.groups.group-index c.args.groups.now (omega (arith, c.groups-test.false))) (c.groups.invariant us t w v ls h)
