@@ -29,6 +29,9 @@ mode_there [] i = ap first_mode (nothing_left i)
 mode_there (p ∷ ps) zero = refl
 mode_there (p ∷ ps) (suc i) = mode_there ps i
 
+pub none_first : (k : ℕ) → mode.Value ≡ first_mode (drop k no_modes)
+none_first k = ap first_mode (sym (nothing_left k))
+
 out_by : (k : ℕ) (b : Bool) → (suc k == 0) ≡ b → cond b mode.Out mode.Value ≡ first_mode (drop k [])
 out_by k true is = let none = eqb-true (suc k) 0 is in absurd (omega (arith, none))
 out_by k false is = ap first_mode (sym (nothing_left k))
