@@ -71,7 +71,8 @@ fn block_code<'p>(
     ensures { (us : List Source) → AreTyped us forms.entry → (w : RuleView) →
         w ≡ view_of us home.now (rule_own_names (map parameter_shown parameters.now) (block_shown body.now)) → (gives : Option Kind) →
         IfOk result (λ c. IsBlockCode c (record {
-          scope = rules.block_scope us home.now owner (variable_found objects w) w (map parameter_shown parameters.now) gives (block_shown body.now);
+          scope = rules.block_scope us home.now owner (variable_found objects w) w
+              (map parameter_shown parameters.now) gives (block_shown body.now);
           statements = (block_shown body.now).statements;
           has_result = has_result;
         })) }

@@ -56,9 +56,9 @@ fn at_number<T>(table: &[Option<T>], number: usize) -> Option<&T>
 }
 
 impl<'p> Code<'p> {
-    /// The code of a checked program, whose numbers have the bits that an accepted program's have (meaning_rules and accepted_law). The only
-    /// error is want of memory. No clause says so, but the cost is that of the program's text times the logarithm of the number of names,
-    /// and each operation has its object's fields once more.
+    /// The code of a checked program, whose numbers have the bits that an accepted program's have (meaning_rules and accepted_law). The
+    /// only error is want of memory. No clause says so, but the cost is that of the program's text times the logarithm of the number of
+    /// names, and each operation has its object's fields once more.
     pub fn new(alloc: Global, checked: &'p Checked<'p>) -> Result<Code<'p>, NoMemory>
         ensures { AreSymbols (sources checked.now) checked.now.symbols → AreCoded (sources checked.now) → AreFew (sources checked.now) →
             IfOk result (λ c. IsCode (sources checked.now) c) }

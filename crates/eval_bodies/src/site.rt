@@ -19,8 +19,8 @@ use orca_tree::Name;
 use std::alloc::Global;
 use type_exprs::Scope;
 
-/// Where a phrase is evaluated: the code of its program, its body, the variables of the loops that are open, the innermost first, and whether
-/// it stands in a guard.
+/// Where a phrase is evaluated: the code of its program, its body, the variables of the loops that are open, the innermost first, and
+/// whether it stands in a guard.
 #[derive(Clone, Copy)]
 pub struct Site<'a, 'p> {
     pub code: &'a Code<'p>,
