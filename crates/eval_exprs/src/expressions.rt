@@ -108,11 +108,11 @@ fn extend<C: Levels>(
     ensures gives { (w : Scope) → IsSite site.entry w → Gives datum_of result (state_of run.new)
         (eval_links (calls w.program C.levels) w (links_shown links.now) (datum_of first) (state_of run.old)) }
 {
-    let mut left = first;
+    let mut value = first;
     'links: for one in links {
-        left = link::<C>(alloc, site, one, left, run)?;
+        value = link::<C>(alloc, site, one, value, run)?;
     }
-    Ok(left)
+    Ok(value)
 }
 
 // An operator behind its left operand. The right one is evaluated only where the left one doesn't decide.
