@@ -4,3 +4,5 @@ pub mod FirstGiven
 pub mod OneMore
 pub mod SeenNames
 pub mod Few
+pub mod Entering
+pub mod Passing

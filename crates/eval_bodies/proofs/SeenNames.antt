@@ -40,10 +40,11 @@ seen_local (k ∷ ks) own counter names n is are = by_test (bytes_eq k.now n) re
 
 -- its place
 pub seen_place : (locals : List Local) (loops : List (Bor (List ℕ))) (own : List Local) (n : List ℕ) → locals ≡ map loop_local (lent_texts loops) ++ own →
-    or_else (position (λ k. bytes_eq k n) (lent_texts loops)) (option_map (λ j. j + length loops) (position (bears n) own)) ≡ position (bears n) locals
+    or_else (position (λ k. bytes_eq k.now n) loops) (option_map (λ j. j + length loops) (position (bears n) own)) ≡ position (bears n) locals
 seen_place locals loops own n e =
     let long : length (map loop_local (lent_texts loops)) ≡ length loops = length-map (lent_texts loops) loop_local ∙ length-map loops (λ (k : Bor (List ℕ)). k.now) in
-    ap (λ (o : Option ℕ). or_else o (option_map (λ j. j + length loops) (position (bears n) own))) (sym (placed_mapped loop_local (bears n) (lent_texts loops)))
+    ap (λ (o : Option ℕ). or_else o (option_map (λ j. j + length loops) (position (bears n) own)))
+    (sym (placed_mapped loop_local (bears n) (lent_texts loops) ∙ placed_mapped (λ (k : Bor (List ℕ)). k.now) (λ (m : List ℕ). bytes_eq m n) loops))
     ∙ ap (λ (k : ℕ). or_else (position (bears n) (map loop_local (lent_texts loops))) (option_map (λ j. j + k) (position (bears n) own))) (sym long)
     ∙ sym (placed_behind (bears n) (map loop_local (lent_texts loops)) own)
     ∙ ap (position (bears n)) (sym e)

@@ -44,14 +44,9 @@ pub fn inner_loops<'p>(
 
 // The place of a name among those of loops.
 fn counting(loops: &[&str], name: &str) -> Option<usize>
-    ensures { result ≡ position (λ n. bytes_eq n name.now) (lent_texts loops.now) }
+    ensures { result ≡ position (λ n. bytes_eq n.now name.now) loops.now }
 {
-    'loops: for (place, own) in loops.iter().enumerate() {
-        if *own == name {
-            return Some(place);
-        }
-    }
-    None
+    loops.iter().position(|own| *own == name)
 }
 
 // The place of a name of a body behind the variables of loops.

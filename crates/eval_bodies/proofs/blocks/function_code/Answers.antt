@@ -1,4 +1,4 @@
-use Rattle.std.proofs.Common.{Bool, Some, is_some, map, refl, subst, sym, ap, ◌∙◌}
+use Rattle.std.proofs.Common.{Bool, Some, map, refl, subst, sym, ap, ◌∙◌}
 use Rattle.std.specs.Prelude.{option_map}
 use Rattle.orca_syntax.specs.Shown.{block, kind, parameter}
 use Rattle.type_rules.specs.declared.names.Owner.{Owner}
