@@ -3,3 +3,5 @@ mod Changing
 mod Placing
 mod Putting
 mod Pairing
+mod Fronts
+mod Handing

@@ -3,7 +3,6 @@ use Rattle.std.specs.Prelude.{◌≡◌, List, map, Result, Ok, Err}
 use Rattle.orca_base.specs.declared.fault.FaultKind.{FaultKind}
 use Rattle.orca_base.specs.declared.refusal.Refusal.{Refusal}
 use Rattle.orca_base.specs.declared.refusal.Refusal.TheVariants as refusal
-use Rattle.value_core.specs.Datum.{list_of}
 use Rattle.value_core.specs.View.{datum_of}
 use Rattle.value_paths.specs.declared.step.Step.{Step as ValueStep}
 use Rattle.value_paths.specs.declared.step.Step.TheVariants as value_step
@@ -39,7 +38,7 @@ passed_of (passed.Given value) = calls.Given (datum_of value)
 passed_of (passed.Lent to) = calls.Lent (target_of to)
 
 abbrev pub state_of : Run → State
-state_of r = record { frame = list_of r.frame; replies = r.replies.now; left = r.left }
+state_of r = record { frame = r.frame; replies = r.replies.now; left = r.left }
 
 -- a refusal, as a stop
 abbrev pub refused : Refusal FaultKind → Stop
@@ -59,3 +58,8 @@ Fails stop.Busy out = out ≡ Stops rules.Busy
 abbrev pub Gives : {X Y : Type 0} → (X → Y) → Result X Stop → State → Out Y → Type 0
 Gives view (Ok x) s out = out ≡ Goes (view x) s
 Gives view (Err why) s out = Fails why out
+
+-- the same of what is read in place, which can fault and no more
+abbrev pub Finds : {X Y : Type 0} → Result X FaultKind → (X → Y) → State → Out Y → Type 0
+Finds (Ok x) view s out = out ≡ Goes (view x) s
+Finds (Err fault) view s out = out ≡ Stops (rules.Faults fault)

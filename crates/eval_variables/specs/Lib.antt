@@ -1,2 +1,5 @@
 pub mod Gives
 pub mod Exchanges
+pub mod Frames
+pub mod Lent
+pub mod Relations

@@ -1,6 +1,7 @@
 //! Operators, of any values.
 
-ghost use Rattle.std.specs.Prelude.{◌≡◌};
+ghost use Rattle.std.specs.Prelude.{◌≡◌, MatchOption, Ok, false};
+ghost use Rattle.value_core.specs.Datum as datum;
 ghost use Rattle.value_core.specs.History.{string_in};
 ghost use Rattle.value_core.specs.View.{datum_of};
 ghost use Rattle.value_ops.specs.Integers.{negative_of};
@@ -8,6 +9,7 @@ ghost use Rattle.value_ops.specs.Texts.{joined};
 ghost use Rattle.meaning_rules.specs.Operators as rules;
 ghost use Rattle.meaning_rules.specs.States.{State, gives};
 ghost use Rattle.eval_variables.specs.Gives.{Gives};
+ghost use Rattle.eval_variables.specs.Relations.{is_relation};
 
 use crate::elements::is_in;
 use crate::stop::Stop;
@@ -82,25 +84,54 @@ fn calculated(sum: Result<i64, FaultKind>) -> Result<Value, Stop>
     Ok(Value::Int(sum?))
 }
 
-/// What an operator gives of both operands, where the left one doesn't decide alone.
-pub fn applied(alloc: Global, operator: Operator, left: &Value, right: Value) -> Result<Value, Stop>
+/// Whether two values stand in a relation, or a set or bag has an element: what an operator gives that compares its operands, with
+/// nothing copied. Of another operator `None`.
+pub fn related(operator: Operator, left: &Value, right: &Value) -> Option<bool>
+    ensures { MatchOption result (is_relation operator ≡ false)
+        (λ truth. rules.applied operator (datum_of left.now) (datum_of right.now) ≡ Ok (datum.truth truth)) }
+{
+    match operator {
+        Operator::Equal => Some(left.compare(right).is_eq()),
+        Operator::Different => Some(!left.compare(right).is_eq()),
+        Operator::Less => Some(left.compare(right).is_lt()),
+        Operator::AtMost => Some(!left.compare(right).is_gt()),
+        Operator::Greater => Some(left.compare(right).is_gt()),
+        Operator::AtLeast => Some(!left.compare(right).is_lt()),
+        Operator::In => Some(is_in(left, right)),
+        Operator::Or
+        | Operator::And
+        | Operator::Join
+        | Operator::Add
+        | Operator::Subtract
+        | Operator::Multiply
+        | Operator::Divide
+        | Operator::Remainder => None,
+    }
+}
+
+// What an operator that compares nothing gives.
+fn combined(alloc: Global, operator: Operator, left: &Value, right: Value) -> Result<Value, Stop>
+    requires { is_relation operator ≡ false }
     ensures { (s : State) → Gives datum_of result s (gives (rules.applied operator (datum_of left.now) (datum_of right)) s) }
 {
     match operator {
-        Operator::Or | Operator::And => Ok(right),
-        Operator::Equal => Ok(Value::Truth(left.compare(&right).is_eq())),
-        Operator::Different => Ok(Value::Truth(!left.compare(&right).is_eq())),
-        Operator::Less => Ok(Value::Truth(left.compare(&right).is_lt())),
-        Operator::AtMost => Ok(Value::Truth(!left.compare(&right).is_gt())),
-        Operator::Greater => Ok(Value::Truth(left.compare(&right).is_gt())),
-        Operator::AtLeast => Ok(Value::Truth(!left.compare(&right).is_lt())),
-        Operator::In => Ok(Value::Truth(is_in(left, &right))),
         Operator::Join => join(alloc, left, &right),
         Operator::Add => calculated(add(integer_in(left), integer_in(&right))),
         Operator::Subtract => calculated(subtract(integer_in(left), integer_in(&right))),
         Operator::Multiply => calculated(multiply(integer_in(left), integer_in(&right))),
         Operator::Divide => calculated(divide(integer_in(left), integer_in(&right))),
         Operator::Remainder => calculated(remainder(integer_in(left), integer_in(&right))),
+        _ => Ok(right),
+    }
+}
+
+/// What an operator gives of both operands, where the left one doesn't decide alone.
+pub fn applied(alloc: Global, operator: Operator, left: &Value, right: Value) -> Result<Value, Stop>
+    ensures { (s : State) → Gives datum_of result s (gives (rules.applied operator (datum_of left.now) (datum_of right)) s) }
+{
+    match related(operator, left, &right) {
+        Some(truth) => Ok(Value::Truth(truth)),
+        None => combined(alloc, operator, left, right),
     }
 }
 

@@ -1,5 +1,11 @@
 //! Steps through values, places of variables, and what calls pass.
 
+ghost use Rattle.std.specs.Prelude.{◌≡◌, option_map};
+ghost use Rattle.value_core.specs.View.{datum_of};
+ghost use Rattle.eval_variables.specs.Gives.{passed_of};
+ghost use Rattle.eval_variables.specs.Lent.{given_by, place_of};
+
+use std::mem;
 use value_core::Value;
 
 /// A step from a value to one of its parts. Its numbers are as wide as those of types.
@@ -27,4 +33,17 @@ pub enum Passed {
     Given { value: Value },
     /// The place where the parameter's value goes when the function returns.
     Lent { to: Target },
+}
+
+impl Passed {
+    /// The value that is given, moved out, where it isn't a place that is lent.
+    pub fn take(&mut self) -> Option<Value>
+        ensures value { option_map datum_of result ≡ given_by (passed_of self.old) }
+        ensures place { place_of (passed_of self.new) ≡ place_of (passed_of self.old) }
+    {
+        match self {
+            Passed::Given { value } => Some(mem::replace(value, Value::Int(0))),
+            Passed::Lent { .. } => None,
+        }
+    }
 }

@@ -4,16 +4,17 @@ ghost use Rattle.std.specs.Prelude.{◌≡◌, ◌≤◌, Ok, option_map, pos};
 ghost use Rattle.value_core.specs.Datum as datum;
 ghost use Rattle.value_core.specs.Datum.{Datum};
 ghost use Rattle.value_core.specs.View.{datum_of};
-ghost use Rattle.meaning_rules.specs.Operators.{fitting};
-ghost use Rattle.meaning_rules.specs.States.{State, gives};
+ghost use Rattle.orca_tree.specs.declared.tree.Operator.TheVariants.{In};
+ghost use Rattle.meaning_rules.specs.Operators.{applied, fitting};
+ghost use Rattle.meaning_rules.specs.States.{State, after, gives};
 ghost use Rattle.meaning_rules.specs.Variables as rules;
 ghost use Rattle.eval_variables.specs.Exchanges.{Exchanges, IsPut, PutsBack};
-ghost use Rattle.eval_variables.specs.Gives.{Gives, state_of, target_of};
+ghost use Rattle.eval_variables.specs.Gives.{Finds, Gives, state_of, target_of};
 
-use crate::elements::{delete, insert};
+use crate::elements::{delete, insert, is_in};
 use crate::graphs::{added, deleted};
 use crate::operators::integer_in;
-use crate::parts::{exchange_part, part};
+use crate::parts::part;
 use crate::run::Run;
 use crate::sizes::fitting as fits;
 use crate::steps::Target;
@@ -24,6 +25,30 @@ use value_core::Value;
 use value_ops::take_least;
 use value_paths::paths_law;
 
+/// What stands at a target, where it stands. `zero` stands for the value of what is no node.
+///
+/// # Errors
+/// `IndexOutside`.
+pub fn look<'a>(to: &Target, run: &'a Run<'_>, zero: &'a Value) -> Result<&'a Value, FaultKind>
+    requires { datum_of zero.now ≡ datum.int (pos 0) }
+    ensures { Finds result (λ v. datum_of v.now) (state_of run.now) (rules.held (target_of to.now) (state_of run.now)) }
+{
+    let whole = run.frame.get(to.slot).ok_or(FaultKind::IndexOutside)?;
+    part(whole, &to.path, zero)
+}
+
+/// Whether the set or bag at a target has this element: `in`, with nothing copied.
+///
+/// # Errors
+/// `IndexOutside`.
+pub fn has_at(to: &Target, element: &Value, run: &Run<'_>) -> Result<bool, FaultKind>
+    ensures { Finds result datum.truth (state_of run.now)
+        (after (rules.held (target_of to.now) (state_of run.now)) (λ all s. gives (applied In (datum_of element.now) all) s)) }
+{
+    let zero = Value::Int(0);
+    Ok(is_in(element, look(to, run, &zero)?))
+}
+
 /// What stands at a target, once more. Nothing that holds it is copied.
 ///
 /// # Errors
@@ -31,10 +56,8 @@ use value_paths::paths_law;
 pub fn held(alloc: Global, to: &Target, run: &Run<'_>) -> Result<Value, Stop>
     ensures { Gives datum_of result (state_of run.now) (rules.held (target_of to.now) (state_of run.now)) }
 {
-    let whole = run.frame.get(to.slot).ok_or(FaultKind::IndexOutside)?;
     let zero = Value::Int(0);
-    let found = part(whole, &to.path, &zero)?;
-    Ok(found.copy(alloc)?)
+    Ok(look(to, run, &zero)?.copy(alloc)?)
 }
 
 // Puts a value at a target, and gives what stood there.
@@ -42,12 +65,7 @@ fn exchange(alloc: Global, to: &Target, value: Value, run: &mut Run<'_>) -> Resu
     ensures left { run.new.left ≡ run.old.left }
     ensures put { Exchanges (target_of to.now) (datum_of value) (state_of run.old) result (state_of run.new) }
 {
-    if to.slot >= run.frame.len() {
-        return Err(Stop::Faults {
-            fault: FaultKind::IndexOutside,
-        });
-    }
-    exchange_part(alloc, run.frame.part_mut(to.slot), &to.path, value)
+    run.frame.exchange(alloc, to, value)
 }
 
 // Takes what stands at a target out of its variable for a while, where 0 stands then.

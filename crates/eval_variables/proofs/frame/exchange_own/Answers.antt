@@ -1,0 +1,16 @@
+use Rattle.std.proofs.Common.{ap, sym, ◌∙◌}
+use Rattle.std.specs.Prelude.{slice_get, slice_set}
+use Rattle.value_core.specs.Datum.{data_of, list_of, list_of-data_of}
+use Rattle.value_core.specs.View.{datum_of}
+use Rattle.eval_variables.specs.Gives.{path_of, target_of}
+use Rattle.eval_variables.proofs.Changing.{exchanges}
+use Rattle.eval_variables.proofs.frame.exchange_own.Goals as goal
+
+pub returns : goal.returns
+returns c s is =
+    let slot = c.args.to.now.slot in
+    let new = datum_of c.exchange_part.new.value in
+    let frame = slice_set (list_of c.args.own.now) slot new in
+    exchanges (target_of c.args.to.now) (record { slot = slot; path = path_of c.deref.result.now }) (datum_of c.args.value) s (list_of (data_of frame)) (datum_of c.part_mut.result.now) new
+    c.exchange_part.result (ap (λ p. record { slot = slot; path = path_of p }) c.deref.ensures.value) (ap (λ xs. slice_get xs slot) is ∙ c.part_mut.ensures.value) c.exchange_part.ensures
+    (list_of-data_of frame ∙ ap (λ xs. slice_set xs slot new) (sym is))
