@@ -20,6 +20,7 @@ ghost use Rattle.eval_exprs.specs.Prefixes.{prefixed};
 
 use crate::invoking::invoke;
 use crate::levels::Levels;
+use crate::lists::add;
 use crate::operands::{Prefix, applied_to, result_of, string};
 use crate::reading::load;
 use crate::requests::operate;
@@ -196,7 +197,7 @@ pub fn walk<'a, C: Levels>(
     let mut seen = root;
     'path: for selector in path {
         let next = step::<C>(alloc, site, seen, selector, run)?;
-        steps.push(next)?;
+        add(&mut steps, next)?;
         seen = site.behind(seen, selector);
     }
     Ok(steps)
@@ -244,7 +245,7 @@ pub fn evaluate_all<C: Levels>(
     let mut values = Vec::new(alloc);
     'given: for e in given {
         let value = evaluate::<C>(alloc, site, e, run)?;
-        values.push(value)?;
+        add(&mut values, value)?;
     }
     Ok(values)
 }
@@ -266,7 +267,7 @@ fn evaluate_passed<C: Levels>(
     let mut passed = Vec::new(alloc);
     'given: for (place, e) in given.iter().enumerate() {
         let one = pass::<C>(alloc, site, is.mode(place), e, run)?;
-        passed.push(one)?;
+        add(&mut passed, one)?;
     }
     Ok(passed)
 }

@@ -14,6 +14,7 @@
 mod expressions;
 mod invoking;
 mod levels;
+mod lists;
 mod operands;
 mod reading;
 mod requests;
