@@ -1,6 +1,6 @@
 -- Places of names: in two lists, one behind the other, and what stands there.
-use Rattle.std.proofs.Common.{◌≡◌, ℕ, ◌<◌, ◌≤◌, ◌+◌, Bool, true, false, cond, List, [], ◌∷◌, ◌++◌, length, map, find, Option, Some, None, refl, sym, ap, ◌∙◌, arith}
-use Rattle.std.specs.Prelude.{nat_lt, slice_get, unwrap_or, option_map, position}
+use Rattle.std.proofs.Common.{◌≡◌, ℕ, ◌<◌, ◌+◌, Bool, true, false, cond, List, [], ◌∷◌, ◌++◌, length, map, find, Option, Some, None, refl, sym, ap, ◌∙◌, arith}
+use Rattle.std.specs.Prelude.{unwrap_or, option_map, position}
 use Rattle.std.specs.List.{position_from, position_or_len}
 use Rattle.std.proofs.lemmas.Iterator.Adapters.{position_from-zero}
 use Rattle.type_rules.specs.TopLevel.{or_else}
@@ -27,7 +27,48 @@ from_shift t i k [] = refl
 from_shift t i k (y ∷ ys) = shift_by t i k y ys (t y) refl (from_shift t (i + 1) k ys)
 
 -- the first place in two lists, one behind the other
-pub placed_behind_by : {X : Type 0} (t : X → Bool) (i : ℕ) (x : X) (xs : List X) (b : Bool) → t x ≡ b → (position_from t (i + 1) xs ≡ None → find t xs ≡ None) →
+pub placed_behind : {X : Type 0} (t : X → Bool) (xs ys : List X) →
+    position t (xs ++ ys) ≡ or_else (position t xs) (option_map (λ j. j + length xs) (position t ys))
+placed_behind t xs ys =
+    position_from-zero t (xs ++ ys)
+    ∙ from_append t 0 xs ys
+    ∙ ap (or_else (position_from t 0 xs)) (from_shift t 0 (length xs) ys)
+    ∙ ap (λ (o : Option ℕ). or_else o (option_map (λ j. j + length xs) (position_from t 0 ys))) (sym (position_from-zero t xs))
+    ∙ ap (λ (o : Option ℕ). or_else (position t xs) (option_map (λ j. j + length xs) o)) (sym (position_from-zero t ys))
+
+mapped_from : {A X : Type 0} (view : A → X) (t : X → Bool) (i : ℕ) (xs : List A) →
+    position_from t i (map view xs) ≡ position_from (λ x. t (view x)) i xs
+mapped_from view t i [] = refl
+mapped_from view t i (x ∷ xs) = ap (cond (t (view x)) (Some i)) (mapped_from view t (i + 1) xs)
+
+pub placed_mapped : {A X : Type 0} (view : A → X) (t : X → Bool) (xs : List A) → position t (map view xs) ≡ position (λ x. t (view x)) xs
+placed_mapped view t xs =
+    position_from-zero t (map view xs) ∙ mapped_from view t 0 xs ∙ sym (position_from-zero (λ x. t (view x)) xs)
+
+-- ---- behind all where there is none
+
+from_len : {X : Type 0} (t : X → Bool) (i : ℕ) (xs : List X) → unwrap_or (position_from t i xs) (i + length xs) ≡ i + position_or_len t xs
+from_len t i [] = refl
+from_len t i (x ∷ xs) = len_by (t x) refl (from_len t (i + 1) xs)
+  where
+    len_by : (b : Bool) → t x ≡ b → unwrap_or (position_from t (i + 1) xs) (i + 1 + length xs) ≡ i + 1 + position_or_len t xs →
+        unwrap_or (position_from t i (x ∷ xs)) (i + length (x ∷ xs)) ≡ i + position_or_len t (x ∷ xs)
+    len_by true is rest = rw is (omega arith)
+    len_by false is rest =
+        rw is (ap (λ (k : ℕ). unwrap_or (position_from t (i + 1) xs) k) (omega arith) ∙ rest ∙ omega arith)
+
+pub place_or_all : {X : Type 0} (t : X → Bool) (xs : List X) → unwrap_or (position t xs) (length xs) ≡ position_or_len t xs
+place_or_all t xs =
+    let long : length xs ≡ 0 + length xs = omega arith in
+    let none : 0 + position_or_len t xs ≡ position_or_len t xs = omega arith in
+    ap (λ (o : Option ℕ). unwrap_or o (length xs)) (position_from-zero t xs)
+    ∙ ap (λ (k : ℕ). unwrap_or (position_from t 0 xs) k) long
+    ∙ from_len t 0 xs
+    ∙ none
+
+-- ---- what stands at a place
+
+behind_by : {X : Type 0} (t : X → Bool) (i : ℕ) (x : X) (xs : List X) (b : Bool) → t x ≡ b → (position_from t (i + 1) xs ≡ None → find t xs ≡ None) →
     cond b (Some i) (position_from t (i + 1) xs) ≡ None → find t (x ∷ xs) ≡ None
 behind_by t i x xs true is rest h = absurd (cc h)
 behind_by t i x xs false is rest h = rw is (rest h)
