@@ -12,4 +12,4 @@ pub few_values : (us : List Source) → IsAccepted us → AreFew us
 few_values us a = λ i t of number there is.
     let of_it = a.values i t of number there is in
     let few = a.few (types.Bare (base.Enumeration of_it.0)) in
-    omega (arith, few, of_it.1.1)
+    omega (arith, few, of_it.2)
