@@ -1,10 +1,9 @@
 -- In an accepted program the numbers of an enumeration's values have 16 bits.
-use Rattle.std.proofs.Common.{◌≡◌, ◌<◌, ◌^◌, length, arith}
+use Rattle.std.proofs.Common.{arith}
 use Rattle.link_rules.specs.Units.{Source}
 use Rattle.type_rules.specs.declared.types.Base.TheVariants as base
 use Rattle.type_rules.specs.Types as types
 use Rattle.meaning_rules.specs.Accepted.{IsAccepted}
-use Rattle.meaning_rules.specs.Statements.{names_at}
 use Rattle.eval_bodies.specs.Codes.{AreFew}
 use Rattle.std.specs.Prelude.{List}
 

@@ -1,5 +1,5 @@
 -- What code finds by a name, as the meaning has it.
-use Rattle.std.specs.Prelude.{List, map, slice_get, ok_or, Result, Ok}
+use Rattle.std.specs.Prelude.{map, slice_get, ok_or, Result, Ok}
 use Rattle.orca_base.specs.declared.fault.FaultKind.{FaultKind}
 use Rattle.orca_base.specs.declared.fault.FaultKind.TheVariants.{IndexOutside}
 use Rattle.orca_syntax.specs.Shown.{parameter}

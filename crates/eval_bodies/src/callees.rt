@@ -1,8 +1,9 @@
 //! What is called.
 
-ghost use Rattle.std.specs.Prelude.{◌≡◌, ◌==◌, IfOk, if◌then◌else◌, drop, map, option_map, unwrap_or};
+ghost use Rattle.std.specs.Prelude.{◌≡◌, ◌==◌, IfOk, if◌then◌else◌, drop, option_map, slice_get, unwrap_or};
+ghost use Rattle.std.specs.Option.{option_map_or};
 ghost use Rattle.orca_tree.specs.declared.tree.Mode.TheVariants as mode;
-ghost use Rattle.orca_syntax.specs.Shown.{exprs, parameter as parameter_shown};
+ghost use Rattle.orca_syntax.specs.Shown.{exprs};
 ghost use Rattle.type_rules.specs.Scopes as scopes;
 ghost use Rattle.type_rules.specs.Types.{object_in as rule_object_in, outside_of};
 ghost use Rattle.type_forms.specs.Indexed.{standing};
@@ -39,7 +40,7 @@ pub enum Callee<'p> {
 
 // The mode of a parameter, and of none that of a value.
 fn mode_at(parameters: &[Parameter], place: usize) -> Mode
-    ensures { result ≡ rules.first_mode (drop place (map (λ p. p.mode) (map parameter_shown parameters.now))) }
+    ensures { result ≡ option_map_or (λ p. p.mode) (slice_get parameters.now place) mode.Value }
 {
     match parameters.get(place) {
         None => Mode::Value,
@@ -95,8 +96,8 @@ fn predeclared_function(word: Predeclared) -> Callee<'static>
     }
 }
 
-// What is called by what a name stands for.
-fn function_named<'p>(is: Standing<'p>) -> Callee<'p>
+/// What is called by what a name stands for.
+pub fn function_named<'p>(is: Standing<'p>) -> Callee<'p>
     ensures { callee_seen result ≡ rules.function_named (standing is.entry) }
 {
     match is {

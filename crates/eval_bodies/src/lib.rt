@@ -24,8 +24,9 @@ mod types;
 
 pub use blocks::BlockCode;
 pub use bodies::{Body, BodyNames};
-pub use callees::Callee;
+pub use callees::{Callee, function_named};
 pub use code::Code;
+pub use implementations::Implemented;
 pub use names::Named;
 pub use objects::{ObjectCode, OperationCode};
 pub use site::{Site, inner_loops};

@@ -115,9 +115,10 @@ impl<'a, 'p> Site<'a, 'p> {
     pub fn place(self, name: &Name) -> Option<usize>
         ensures { (w : scopes.Scope) → IsSite self.entry w → result ≡ position (bears name.now.text) w.locals }
     {
-        match counting(self.loops, name.text.as_str()) {
+        let text = name.text.as_str();
+        match counting(self.loops, text) {
             Some(place) => Some(place),
-            None => behind(self.loops, &self.body.names, name.text.as_str()),
+            None => behind(self.loops, &self.body.names, text),
         }
     }
 

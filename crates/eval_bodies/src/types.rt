@@ -121,6 +121,17 @@ fn names_at<'p>(index: &Index<'p>, kind: &DataType) -> &'p [Name]
     }
 }
 
+// The names of the values of a type, where that is known, and an enumeration.
+fn known_names<'p>(index: &Index<'p>, kind: &Option<DataType>) -> &'p [Name]
+    ensures { (us : List Source) → Indexes index.now us →
+        map (λ n. n.text) result.now ≡ option_map_or (λ t. statements.names_at us (outside_of t)) kind.now [] }
+{
+    match kind {
+        None => &[],
+        Some(kind) => names_at(index, kind),
+    }
+}
+
 impl<'a, 'p> Site<'a, 'p> {
     // Of a record, the type of the field with this name.
     fn field(self, kind: Seen<'_>, name: &Name) -> Option<&'a Option<DataType>>
@@ -218,9 +229,6 @@ impl<'a, 'p> Site<'a, 'p> {
             IfOk result (λ ns. map (λ n. n.text) ns.now ≡ statements.names_of w (expr e.now)) }
     {
         let found = typed(alloc, self.scope(), e)?;
-        match &found.is {
-            None => Ok(&[]),
-            Some(kind) => Ok(names_at(self.code.rule_tables().forms.index, kind)),
-        }
+        Ok(known_names(self.code.rule_tables().forms.index, &found.is))
     }
 }

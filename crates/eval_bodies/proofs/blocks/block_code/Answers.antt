@@ -1,14 +1,11 @@
-use Rattle.std.proofs.Common.{List, map, refl, subst, sym, ap, ◌∙◌}
+use Rattle.std.proofs.Common.{List, map, refl, sym, ap, ◌∙◌}
 use Rattle.orca_tree.specs.declared.tree.Name.{Name}
 use Rattle.orca_tree.specs.declared.tree.Statement.{Statement}
 use Rattle.orca_syntax.specs.Shown.{block, parameter, stmts}
 use Rattle.type_rules.specs.Constants.{View}
 use Rattle.type_rules.specs.Rules.{is_among}
-use Rattle.type_rules.specs.Scopes.{own_names, texts, view_of}
-use Rattle.type_rules.specs.Declarations.{block_scope}
+use Rattle.type_rules.specs.Scopes.{texts}
 use Rattle.type_forms.specs.Seen.{lent}
-use Rattle.type_decls.specs.Bodies.{variable_found}
-use Rattle.eval_bodies.specs.Blocks.{IsBlockCode}
 use Rattle.eval_bodies.proofs.blocks.block_code.Goals as goal
 
 pub returns : goal.returns

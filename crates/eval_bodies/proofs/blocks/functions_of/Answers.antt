@@ -1,7 +1,6 @@
 use Rattle.std.proofs.Common.{List, map, subst, ap, ◌∙◌, arith}
 use Rattle.std.proofs.lemmas.List.{take_all}
 use Rattle.type_rules.specs.TopLevel.{TopName}
-use Rattle.type_forms.specs.declared.tops.Top.{Top}
 use Rattle.type_forms.specs.Seen.{top}
 use Rattle.eval_bodies.specs.Blocks.{IsBlockCode, function_of}
 use Rattle.eval_bodies.specs.Matching.{Both, Match}

@@ -1,4 +1,4 @@
-use Rattle.std.proofs.Common.{List, Option, None, map, sym, ap, ◌∙◌, arith, rules}
+use Rattle.std.proofs.Common.{List, Option, None, map, take, sym, ap, ◌∙◌, arith}
 use Rattle.std.specs.Prelude.{flat_map}
 use Rattle.std.proofs.lemmas.List.{take_all}
 use Rattle.link_rules.specs.declared.named_unit.NamedUnit.{NamedUnit}
@@ -14,7 +14,7 @@ units-preserved c = λ n.
     let f : Declared → Option ObjectType = λ y. implements n y.by y.decl in
     let i = c.units.unit-index in
     let x = c.unit-item.result in
-    given_further f _ (declarations_of (source x)) None _ _ (c.units.invariant n) ((c.in_ok-note_unit.ensures {u = tt}) n)
+    given_further f (flat_map declarations_of (map source (take i c.args.units.now))) (declarations_of (source x)) None _ _ (c.units.invariant n) ((c.in_ok-note_unit.ensures {u = tt}) n)
     ∙ ap (first_given f) (sym (group_more source declarations_of c.args.units.now i x c.units-test.true c.unit-item.is))
 
 pub returns : goal.returns

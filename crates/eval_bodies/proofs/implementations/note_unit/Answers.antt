@@ -1,4 +1,4 @@
-use Rattle.std.proofs.Common.{◌≡◌, ℕ, ◌<◌, ◌≤◌, List, length, get_or, map, Option, subst, sym, ap, ◌∙◌, arith}
+use Rattle.std.proofs.Common.{◌≡◌, ℕ, ◌<◌, ◌≤◌, List, length, get_or, map, take, Option, subst, sym, ap, ◌∙◌, arith}
 use Rattle.std.specs.Prelude.{option_map}
 use Rattle.std.proofs.lemmas.List.{take_all}
 use Rattle.orca_tree.specs.declared.tree.Declaration.{Declaration}
@@ -19,7 +19,7 @@ declarations-preserved c = λ n.
     let i = c.declarations.part-index in
     let x = c.part-item.result in
     let same = c.deref-part-items.ensures.value in
-    given_more f _ (at (decl x)) _ _ _ (c.declarations.invariant n) ((c.in_ok-note_declaration.ensures {u = tt}) n)
+    given_more f (map at (map decl (take i items))) (at (decl x)) (option_map object_type_seen (entry c.args.table.now n)) _ _ (c.declarations.invariant n) ((c.in_ok-note_declaration.ensures {u = tt}) n)
     ∙ ap (λ (l : List Declared). or_other (option_map object_type_seen (entry c.args.table.now n)) (first_given f l))
     (sym (shown_more decl at items i x (subst (λ (l : List Declaration). i < length l) same c.declarations-test.true)
     (subst (λ (l : List Declaration). x ≡ get_or l i x) same c.part-item.is)))

@@ -1,4 +1,4 @@
-use Rattle.std.proofs.Common.{List, Option, map, subst, ap, ◌∙◌, arith}
+use Rattle.std.proofs.Common.{List, Option, map, subst, ap, arith}
 use Rattle.std.proofs.lemmas.List.{take_all}
 use Rattle.type_rules.specs.TopLevel.{TopName}
 use Rattle.type_forms.specs.Seen.{top}

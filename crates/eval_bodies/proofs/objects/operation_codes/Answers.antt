@@ -1,4 +1,4 @@
-use Rattle.std.proofs.Common.{List, map, subst, ap, ◌∙◌, arith}
+use Rattle.std.proofs.Common.{List, map, subst, ap, arith}
 use Rattle.std.proofs.lemmas.List.{take_all}
 use Rattle.orca_syntax.specs.Syntax.{Operation}
 use Rattle.orca_syntax.specs.Shown.{operation}

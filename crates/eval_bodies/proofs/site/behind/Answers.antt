@@ -1,11 +1,6 @@
-use Rattle.std.proofs.Common.{◌≡◌, ℕ, ◌+◌, ◌<◌, List, Option, Some, None, length, sym, ap, ◌∙◌, arith}
-use Rattle.std.specs.Prelude.{option_copied, option_map, position}
+use Rattle.std.proofs.Common.{ℕ, ◌+◌, Option, length, sym, ap, ◌∙◌}
+use Rattle.std.specs.Prelude.{option_copied, option_map}
 use Rattle.std.specs.Borrow.{Bor}
-use Rattle.std.proofs.lemmas.List.{length-map}
-use Rattle.type_rules.specs.declared.types.DataType.{DataType}
-use Rattle.type_rules.specs.Scopes.{Local}
-use Rattle.eval_bodies.specs.Bodies.{bears}
-use Rattle.eval_bodies.proofs.Placed.{place_inside}
 use Rattle.eval_bodies.proofs.site.behind.Goals as goal
 
 pub returns-in-None : goal.returns-in-None

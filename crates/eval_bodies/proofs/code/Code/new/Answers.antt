@@ -2,7 +2,7 @@ use Rattle.std.proofs.Common.{List, map, subst, ap, ◌∙◌}
 use Rattle.link_rules.specs.declared.named_unit.NamedUnit.{NamedUnit}
 use Rattle.link_rules.specs.Units.{source}
 use Rattle.type_rules.specs.TopLevel.{TopName}
-use Rattle.meaning_rules.specs.Programs.{implementation, process_texts, specifications, specified}
+use Rattle.meaning_rules.specs.Programs.{implementation, specified}
 use Rattle.eval_bodies.specs.Blocks.{IsBlockCode, process_of}
 use Rattle.eval_bodies.specs.Codes.{sources}
 use Rattle.eval_bodies.specs.Matching.{Both, Match}

@@ -1,14 +1,16 @@
-use Rattle.std.proofs.Common.{List, find, sym, ap, ◌∙◌}
+use Rattle.std.proofs.Common.{◌≡◌, ℕ, List, find, sym, ap, ◌∙◌}
 use Rattle.type_rules.specs.Scopes.{Local}
 use Rattle.type_exprs.specs.declared.scope.Local as tree
 use Rattle.type_exprs.specs.Scoped.{local_as}
 use Rattle.eval_bodies.specs.Bodies.{bears}
+use Rattle.eval_bodies.specs.Codes.{loop_local}
 use Rattle.eval_bodies.proofs.SeenNames.{seen_local}
 use Rattle.eval_bodies.proofs.site.Site.scope.Goals as goal
 
 pub returns : goal.returns
 returns c = λ w s.
-    let counter = λ n. ap (λ (l : tree.Local). local_as n l) c.counter.ensures ∙ s.code.counter n in
+    let counter : (n : List ℕ) → local_as n c.counter.result.now ≡ loop_local n = λ n.
+    ap (λ (l : tree.Local). local_as n l) c.counter.ensures ∙ s.code.counter n in
     record {
       tables = c.rule_tables.ensures w.program s.code;
       home = s.home;

@@ -9,7 +9,7 @@ use Rattle.meaning_rules.specs.Openings.{opening}
 use Rattle.eval_tables.specs.declared.tables.CodeTables.{CodeTables}
 use Rattle.eval_tables.specs.Tables.{IsTables}
 use Rattle.eval_bodies.proofs.Passing.{fresh_of, node_of}
-use Rattle.eval_bodies.proofs.callees.Site.fresh.Goals as goal
+use Rattle.eval_bodies.proofs.site.Site.fresh.Goals as goal
 
 pub returns-in-None : goal.returns-in-None
 returns-in-None c = λ w s.

@@ -1,6 +1,6 @@
 use Rattle.std.proofs.Common.{ℕ, List, sym, ap, ◌∙◌}
 use Rattle.type_rules.specs.TopLevel.{stands_for}
-use Rattle.eval_bodies.proofs.names.Site.outer.Goals as goal
+use Rattle.eval_bodies.proofs.site.Site.outer.Goals as goal
 
 pub returns-clause-inside : goal.returns-clause-inside
 returns-clause-inside c = λ w s. c.stands_for.ensures.inside w.program (c.rule_tables-tables.ensures w.program s.code).typed.forms.names

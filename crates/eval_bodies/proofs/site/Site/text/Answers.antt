@@ -2,7 +2,7 @@ use Rattle.std.proofs.Common.{subst, sym, ap, ◌∙◌}
 use Rattle.meaning_rules.specs.Programs.{text_of}
 use Rattle.eval_tables.specs.declared.tables.CodeTables.{CodeTables}
 use Rattle.eval_tables.specs.Tables.{IsTables}
-use Rattle.eval_bodies.proofs.names.Site.text.Goals as goal
+use Rattle.eval_bodies.proofs.site.Site.text.Goals as goal
 
 pub returns : goal.returns
 returns c = λ w s.

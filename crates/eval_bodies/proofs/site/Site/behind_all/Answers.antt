@@ -7,7 +7,7 @@ use Rattle.type_rules.specs.declared.types.DataType.{DataType}
 use Rattle.type_forms.proofs.Loops.{rest_is}
 use Rattle.meaning_rules.specs.Designators.{path_type}
 use Rattle.eval_tables.specs.Layers.{type_seen}
-use Rattle.eval_bodies.proofs.types.Site.behind_all.Goals as goal
+use Rattle.eval_bodies.proofs.site.Site.behind_all.Goals as goal
 
 pub path-preserved : goal.path-preserved
 path-preserved c = λ w s.

@@ -5,7 +5,7 @@ use Rattle.type_rules.specs.Scopes.{Scope}
 use Rattle.meaning_rules.specs.Designators.{path_type}
 use Rattle.eval_tables.specs.Layers.{type_seen}
 use Rattle.eval_bodies.specs.Sites.{IsSite}
-use Rattle.eval_bodies.proofs.types.Site.behind_all.Given as goal
+use Rattle.eval_bodies.proofs.site.Site.behind_all.Given as goal
 
 abbrev pub invariant-path : goal.invariant-path
 invariant-path l = (w : Scope) → IsSite l.self w →
