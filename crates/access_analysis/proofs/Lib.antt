@@ -1,0 +1,4 @@
+pub mod Fields
+pub mod Changing
+pub mod Specified
+pub mod FirstHere

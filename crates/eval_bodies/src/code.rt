@@ -1,0 +1,129 @@
+//! A program as code.
+
+ghost use Rattle.std.specs.Prelude.{◌≡◌, ℕ, List, IfOk, option_map, slice_get};
+ghost use Rattle.link_rules.specs.Units.{Source};
+ghost use Rattle.type_tables.specs.Tables.{AreTables};
+ghost use Rattle.type_exprs.specs.Scoped.{local_as};
+ghost use Rattle.type_decls.specs.Symbols.{AreSymbols};
+ghost use Rattle.meaning_rules.specs.Programs.{object_type};
+ghost use Rattle.eval_tables.specs.Tables.{AreCoded};
+ghost use Rattle.eval_bodies.specs.Blocks.{IsBlockCode, function_at, process_at};
+ghost use Rattle.eval_bodies.specs.Codes.{AreFew, IsCode, loop_local, sources};
+ghost use Rattle.eval_bodies.specs.Matching.{Both, or_none};
+ghost use Rattle.eval_bodies.specs.Objects.{IsObjectCode};
+
+use crate::blocks::{BlockCode, functions_of, processes_of};
+use crate::implementations::implementations_of;
+use crate::objects::{ObjectCode, objects_of};
+use eval_tables::CodeTables;
+use orca_base::{KindNo, NoMemory, TextNo};
+use std::alloc::Global;
+use type_decls::Checked;
+use type_exprs::{Local, plain};
+use type_rules::{Base, LocalRole};
+use type_tables::Tables;
+
+/// A checked program as code: its tables, what its functions and processes run, by number at the top and by text, and its object types, by
+/// number less one. It is what the meaning says of the program's sources (`IsCode`), and no information of its own.
+#[derive(Drop)]
+pub struct Code<'p> {
+    checked: &'p Checked<'p>,
+    tables: CodeTables<'p>,
+    functions: Vec<Option<BlockCode<'p>>>,
+    processes: Vec<Option<BlockCode<'p>>>,
+    objects: Vec<Option<ObjectCode<'p>>>,
+    counter: Local,
+}
+
+// What the variable of a loop is.
+fn loop_variable(alloc: Global) -> Local
+    ensures { (n : List ℕ) → local_as n result ≡ loop_local n }
+{
+    Local {
+        role: LocalRole::LoopVariable,
+        kind: Some(plain(alloc, Base::Integer)),
+    }
+}
+
+// What a table has for a number.
+fn at_number<T>(table: &[Option<T>], number: usize) -> Option<&T>
+    ensures { option_map (λ x. x.now) result ≡ or_none (slice_get table.now number) }
+{
+    match table.get(number) {
+        None => None,
+        Some(own) => own.as_ref(),
+    }
+}
+
+impl<'p> Code<'p> {
+    /// The code of a checked program, whose numbers have the bits that an accepted program's have (meaning_rules and accepted_law). The
+    /// only error is want of memory. No clause says so, but the cost is that of the program's text times the logarithm of the number of
+    /// names, and each operation has its object's fields once more.
+    pub fn new(alloc: Global, checked: &'p Checked<'p>) -> Result<Code<'p>, NoMemory>
+        ensures { AreSymbols (sources checked.now) checked.now.symbols → AreCoded (sources checked.now) → AreFew (sources checked.now) →
+            IfOk result (λ c. IsCode (sources checked.now) c) }
+    {
+        let forms = checked.symbols.tables().forms;
+        let tables = CodeTables::new(alloc, forms)?;
+        let functions = functions_of(alloc, forms)?;
+        let processes = processes_of(alloc, forms, tables.processes())?;
+        let implementations = implementations_of(alloc, &checked.program.units)?;
+        let objects = objects_of(alloc, forms, &implementations, tables.specifications())?;
+        let counter = loop_variable(alloc);
+        Ok(Code {
+            checked,
+            tables,
+            functions,
+            processes,
+            objects,
+            counter,
+        })
+    }
+}
+
+impl<'p> Code<'p> {
+    /// The program's tables by number.
+    pub fn tables(&self) -> &CodeTables<'p>
+        ensures { result.now ≡ self.now.tables }
+    {
+        &self.tables
+    }
+
+    /// The tables that the rules of typing ask.
+    pub fn rule_tables(&self) -> Tables<'_, 'p>
+        ensures { (us : List Source) → IsCode us self.now → AreTables us result }
+    {
+        self.checked.symbols.tables()
+    }
+
+    /// What the variable of a loop is.
+    pub fn counter(&self) -> &Local
+        ensures { result.now ≡ self.now.counter }
+    {
+        &self.counter
+    }
+
+    /// The function that is this one of the top level's names, if it is one.
+    pub fn function(&self, number: usize) -> Option<&BlockCode<'p>>
+        ensures { (us : List Source) → IsCode us self.now → Both (λ c r. IsBlockCode c.now r) result (function_at us number) }
+    {
+        at_number(&self.functions, number)
+    }
+
+    /// The process with this text, if there is one.
+    pub fn process(&self, text: TextNo) -> Option<&BlockCode<'p>>
+        ensures { (us : List Source) → IsCode us self.now → Both (λ c r. IsBlockCode c.now r) result (process_at us text) }
+    {
+        at_number(&self.processes, usize::from(text.0))
+    }
+
+    /// The object type with this number, if it has an implementation. The output object's has none.
+    pub fn object_type(&self, kind: KindNo) -> Option<&ObjectCode<'p>>
+        ensures { (us : List Source) → IsCode us self.now → Both (λ c t. IsObjectCode us c.now t) result (object_type us kind) }
+    {
+        if kind.0 == 0 {
+            return None;
+        }
+        at_number(&self.objects, usize::from(kind.0 - 1))
+    }
+}

@@ -1,0 +1,83 @@
+//! Values of names and of their parts.
+
+ghost use Rattle.std.specs.Prelude.{◌≡◌, Ok, Err, MatchResult, pos};
+ghost use Rattle.type_rules.specs.Scopes.{Scope};
+ghost use Rattle.value_core.specs.Datum as datum;
+ghost use Rattle.value_core.specs.View.{datum_of};
+ghost use Rattle.value_paths.specs.Paths.{part_at};
+ghost use Rattle.meaning_rules.specs.Calls as calls;
+ghost use Rattle.meaning_rules.specs.Operators.{and_then};
+ghost use Rattle.meaning_rules.specs.Variables as rules;
+ghost use Rattle.eval_variables.specs.Gives.{Gives, path_of, state_of};
+ghost use Rattle.eval_bodies.specs.Named.{value_at};
+ghost use Rattle.eval_bodies.specs.Sites.{IsSite};
+
+use eval_bodies::{Named, Site};
+use eval_variables::{Run, Step, Stop, part};
+use orca_base::{FaultKind, ObjectId};
+use orca_tree::Name;
+use std::alloc::Global;
+use value_core::Value;
+
+// The part at the end of a path of what a name is, where it stands. `zero` stands for the value of what is no node.
+fn find<'a>(
+    is: &'a Named,
+    path: &[Step],
+    run: &'a Run<'_>,
+    zero: &'a Value,
+) -> Result<&'a Value, FaultKind>
+    requires { datum_of zero.now ≡ datum.int (pos 0) }
+    ensures { MatchResult result
+        (λ v. and_then (value_at is.now (state_of run.now)) (part_at (path_of path.now)) ≡ Ok (datum_of v.now))
+        (λ f. and_then (value_at is.now (state_of run.now)) (part_at (path_of path.now)) ≡ Err f) }
+{
+    match is {
+        Named::Own { place } => {
+            let whole = run.frame.get(*place).ok_or(FaultKind::IndexOutside)?;
+            part(whole, path, zero)
+        }
+        Named::Outer { value } => part(value, path, zero),
+    }
+}
+
+/// The value at a path of a name. It copies that part alone.
+///
+/// # Errors
+/// `IndexOutside`, and want of memory.
+pub fn load(
+    alloc: Global,
+    site: Site<'_, '_>,
+    name: &Name,
+    path: &[Step],
+    run: &Run<'_>,
+) -> Result<Value, Stop>
+    ensures { (w : Scope) → IsSite site.entry w →
+        Gives datum_of result (state_of run.now) (rules.load w name.now (path_of path.now) (state_of run.now)) }
+{
+    let is = site.named(name);
+    let zero = Value::Int(0);
+    Ok(find(&is, path, run, &zero)?.copy(alloc)?)
+}
+
+// The object that a value is, and the output object of any other value.
+fn object_in(value: &Value) -> ObjectId
+    ensures { result ≡ calls.id_in (Ok (datum_of value.now)) }
+{
+    match value {
+        Value::Object(object) => *object,
+        _ => ObjectId::OUTPUT,
+    }
+}
+
+/// The object that a name stands for.
+pub fn object_named(site: Site<'_, '_>, name: &Name, run: &Run<'_>) -> ObjectId
+    ensures { (w : Scope) → IsSite site.entry w → result ≡ calls.object_named w name.now (state_of run.now) }
+{
+    match site.named(name) {
+        Named::Own { place } => match run.frame.get(place) {
+            Some(value) => object_in(value),
+            None => ObjectId::OUTPUT,
+        },
+        Named::Outer { value } => object_in(&value),
+    }
+}
