@@ -1,0 +1,5 @@
+mod Worlds
+mod Leading
+mod Staging
+mod Keeping
+mod Lowest
