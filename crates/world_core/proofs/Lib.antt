@@ -1,5 +1,0 @@
-mod Worlds
-mod Leading
-mod Staging
-mod Keeping
-mod Lowest

@@ -15,12 +15,12 @@ use Rattle.world_rules.specs.Worlds.{World, agreed, singles_in}
 use Rattle.node_core.specs.Shown.{Left, Stood}
 use Rattle.node_core.specs.Stands.{StandsAs}
 use Rattle.node_core.specs.declared.node.Node.{Node}
-use Rattle.world_core.specs.Recorded.{of_pieces}
-use Rattle.world_core.specs.Standing.{Is, has_out, outs_of}
+use Rattle.world_parts.specs.Recorded.{of_pieces}
+use Rattle.world_parts.specs.Standing.{Is, has_out, outs_of}
 use Rattle.world_core.specs.declared.draft.Draft.{Draft}
 use Rattle.world_core.specs.declared.draft.Part.{Part}
 use Rattle.world_core.specs.declared.letters.Outgoing.{Outgoing}
-use Rattle.world_core.specs.declared.parts.Parts.{Parts}
+use Rattle.world_parts.specs.declared.parts.Parts.{Parts}
 
 -- ---- packets
 

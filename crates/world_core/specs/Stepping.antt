@@ -10,7 +10,7 @@ use Rattle.world_rules.specs.Frame.{Frame}
 use Rattle.world_rules.specs.Steps.{Next}
 use Rattle.world_rules.specs.Worlds.{Told, World}
 use Rattle.world_facts.specs.Possible.{MayStep}
-use Rattle.world_core.specs.Seen.{Of, Seen}
+use Rattle.world_parts.specs.Seen.{Of, Seen}
 
 -- a question about a packet, with its fate, as a wire tells it
 abbrev pub told_so : Told → Asked

@@ -3,8 +3,8 @@
 ghost use Rattle.std.specs.Prelude.{◌≡◌, ◌++◌, IfOk, OnOk, map};
 ghost use Rattle.book_law.specs.Performed.{IsBook};
 ghost use Rattle.world_rules.specs.Worlds.{Book};
-ghost use Rattle.world_core.specs.Recorded.{of_piece};
-ghost use Rattle.world_core.specs.Standing.{Is, Stands};
+ghost use Rattle.world_parts.specs.Recorded.{of_piece};
+ghost use Rattle.world_parts.specs.Standing.{Is, Stands};
 ghost use Rattle.world_core.specs.Telling.{AreNodeEnds, AreProcessEnds};
 
 use crate::ends::{NodeEnd, ProcessEnd, ProcessStanding, RunEnd};

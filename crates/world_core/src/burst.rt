@@ -3,9 +3,9 @@
 ghost use Rattle.std.specs.Prelude.{◌≡◌, ◌+◌, true, OnErr, OnOk};
 ghost use Rattle.world_rules.specs.Standings.{standing};
 ghost use Rattle.world_rules.specs.declared.standing.Standing.TheVariants.{Going};
-ghost use Rattle.world_core.specs.Choosing.{is_ready};
-ghost use Rattle.world_core.specs.Seen.{tasks_out};
-ghost use Rattle.world_core.specs.Standing.{Is, Stands, seen_of};
+ghost use Rattle.world_parts.specs.Choosing.{is_ready};
+ghost use Rattle.world_parts.specs.Seen.{tasks_out};
+ghost use Rattle.world_parts.specs.Standing.{Is, Stands, seen_of};
 ghost use Rattle.world_core.specs.Stepping.{ChecksIn};
 
 use crate::draft::reads_of;

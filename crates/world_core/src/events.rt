@@ -4,7 +4,7 @@ ghost use Rattle.std.specs.Prelude.{◌≡◌, Err, IfOk};
 ghost use Rattle.world_rules.specs.Standings.{standing};
 ghost use Rattle.world_rules.specs.declared.standing.Standing.TheVariants.{Going};
 ghost use Rattle.world_core.specs.Drafting.{Drafts, MayNotBe};
-ghost use Rattle.world_core.specs.Standing.{Is, Stands};
+ghost use Rattle.world_parts.specs.Standing.{Is, Stands};
 
 use crate::draft::Draft;
 use crate::letters::incoming;

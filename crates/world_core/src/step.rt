@@ -1,8 +1,8 @@
 //! One event after the other.
 
 ghost use Rattle.std.specs.Prelude.{◌≡◌, ◌⊎◌, ◌+◌, ◌≤◌, Err, OnErr, OnOk};
-ghost use Rattle.world_core.specs.Seen.{tasks_out};
-ghost use Rattle.world_core.specs.Standing.{Stands, seen_of};
+ghost use Rattle.world_parts.specs.Seen.{tasks_out};
+ghost use Rattle.world_parts.specs.Standing.{Stands, seen_of};
 ghost use Rattle.world_core.specs.Stepping.{IsRefused, Stepped};
 
 use crate::draft::Draft;

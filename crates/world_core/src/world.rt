@@ -9,8 +9,8 @@ ghost use Rattle.world_rules.specs.Steps.{Replays};
 ghost use Rattle.world_rules.specs.Worlds.{Book, World as RunWorld, home_of};
 ghost use Rattle.world_rules.specs.declared.standing.Standing.TheVariants.{Going};
 ghost use Rattle.world_book.specs.Promise.{AllStuck, IsKept};
-ghost use Rattle.world_core.specs.Choosing.{due_act, is_ready, longest_log};
-ghost use Rattle.world_core.specs.Seen.{Of, tasks_out};
+ghost use Rattle.world_parts.specs.Choosing.{due_act, is_ready, longest_log};
+ghost use Rattle.world_parts.specs.Seen.{Of, tasks_out};
 ghost use Rattle.world_core.specs.Stepping.{ChecksIn, IsRefused, Stepped};
 ghost use Rattle.world_core.specs.Telling.{AreNodeEnds, AreProcessEnds, EndsMean};
 
@@ -32,8 +32,8 @@ pub struct World<P: OneRun> {
 }
 
 impl<P: OneRun> Model for World<P> {
-    ghost use Rattle.world_core.specs.Seen.{Seen};
-    ghost use Rattle.world_core.specs.Standing.{Stands, seen_of};
+    ghost use Rattle.world_parts.specs.Seen.{Seen};
+    ghost use Rattle.world_parts.specs.Standing.{Stands, seen_of};
 
     ghost Value = { Seen };
 

@@ -1,5 +1,5 @@
 use Rattle.std.proofs.Common.{refl}
-use Rattle.world_core.proofs.Worlds.{is_world}
+use Rattle.world_parts.proofs.Worlds.{is_world}
 use Rattle.world_core.proofs.world.World.book.Goals as goal
 
 pub returns-clause-book : goal.returns-clause-book

@@ -1,4 +1,4 @@
-use Rattle.world_core.proofs.Worlds.{is_world}
+use Rattle.world_parts.proofs.Worlds.{is_world}
 use Rattle.world_core.proofs.world.World.due_packet.Goals as goal
 
 pub returns : goal.returns

@@ -1,4 +1,4 @@
-use Rattle.world_core.proofs.Worlds.{is_world}
+use Rattle.world_parts.proofs.Worlds.{is_world}
 use Rattle.world_core.proofs.world.World.home_of.Goals as goal
 
 pub returns : goal.returns

@@ -1,8 +1,8 @@
 use Rattle.std.proofs.Common.{◌≡◌, subst}
-use Rattle.world_core.proofs.Worlds.{is_world}
+use Rattle.world_parts.proofs.Worlds.{is_world}
 use Rattle.world_core.proofs.world.World.is_ready.Goals as goal
-use Rattle.world_core.specs.Choosing.{is_ready}
-use Rattle.world_core.specs.Seen.{Seen}
+use Rattle.world_parts.specs.Choosing.{is_ready}
+use Rattle.world_parts.specs.Seen.{Seen}
 
 pub returns : goal.returns
 returns g c w replays =

@@ -1,4 +1,4 @@
-use Rattle.world_core.proofs.Worlds.{is_world}
+use Rattle.world_parts.proofs.Worlds.{is_world}
 use Rattle.world_core.proofs.world.World.standing.Goals as goal
 use Rattle.std.proofs.Common.{refl}
 

@@ -1,6 +1,6 @@
 use Rattle.std.proofs.Common.{◌≡◌, subst}
 use Rattle.world_rules.specs.Steps.{Replays}
-use Rattle.world_core.specs.Seen.{Seen}
+use Rattle.world_parts.specs.Seen.{Seen}
 use Rattle.world_core.proofs.world.World.steps.Goals as goal
 
 pub returns-clause-replayed : goal.returns-clause-replayed

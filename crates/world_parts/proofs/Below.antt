@@ -1,0 +1,76 @@
+-- Tests of all numbers below one, as a loop comes to know them.
+use Rattle.std.proofs.Common.{◌≡◌, ◌<◌, ◌≤◌, ◌+◌, ◌-◌, ◌∙◌, ◌&&◌, ◌||◌, not, ℕ, zero, suc, Bool, true, false, ap, sym, subst, refl, arith}
+use Rattle.group_rules.specs.Sets.{count}
+use Rattle.world_rules.specs.Standings.{all_below, any_below}
+
+or_right : (a b : Bool) → b ≡ true → (a || b) ≡ true
+or_right true b h = refl
+or_right false b h = h
+
+and_right : (a b : Bool) → b ≡ false → (a && b) ≡ false
+and_right true b h = h
+and_right false b h = refl
+
+-- ---- some
+
+-- it is so of none below the next number either
+pub any_on : (test : ℕ → Bool) (k next : ℕ) → suc k ≡ next → any_below k test ≡ false → test k ≡ false → any_below next test ≡ false
+any_on test k next one none fails =
+    subst (λ (n : ℕ). any_below n test ≡ false) one (ap (λ (b : Bool). b || test k) none ∙ fails)
+
+any_further : (test : ℕ → Bool) (k more n : ℕ) → more + suc k ≡ n → test k ≡ true → any_below n test ≡ true
+any_further test k zero n is holds =
+    subst (λ (m : ℕ). any_below m test ≡ true) (omega (arith, is)) (or_right (any_below k test) (test k) holds)
+any_further test k (suc more) n is holds =
+    subst (λ (m : ℕ). any_below m test ≡ true) (omega (arith, is))
+    (ap (λ (b : Bool). b || test (more + suc k)) (any_further test k more (more + suc k) refl holds))
+
+-- it is so of this one
+pub any_found : (test : ℕ → Bool) (k n : ℕ) → k < n → test k ≡ true → true ≡ any_below n test
+any_found test k n lt holds = sym (any_further test k (n - suc k) n (omega (arith, lt)) holds)
+
+-- of none below the last
+pub any_none : (test : ℕ → Bool) (k n : ℕ) → k ≤ n → n ≤ k → any_below k test ≡ false → false ≡ any_below n test
+any_none test k n low high none =
+    let is : k ≡ n = omega (arith, low, high) in
+    sym (subst (λ (m : ℕ). any_below m test ≡ false) is none)
+
+-- ---- all
+
+pub all_on : (test : ℕ → Bool) (k next : ℕ) → suc k ≡ next → all_below k test ≡ true → test k ≡ true → all_below next test ≡ true
+all_on test k next one all holds =
+    subst (λ (n : ℕ). all_below n test ≡ true) one (ap (λ (b : Bool). b && test k) all ∙ holds)
+
+all_further : (test : ℕ → Bool) (k more n : ℕ) → more + suc k ≡ n → test k ≡ false → all_below n test ≡ false
+all_further test k zero n is fails =
+    subst (λ (m : ℕ). all_below m test ≡ false) (omega (arith, is)) (and_right (all_below k test) (test k) fails)
+all_further test k (suc more) n is fails =
+    subst (λ (m : ℕ). all_below m test ≡ false) (omega (arith, is))
+    (ap (λ (b : Bool). b && test (more + suc k)) (all_further test k more (more + suc k) refl fails))
+
+pub all_failed : (test : ℕ → Bool) (k n : ℕ) → k < n → test k ≡ false → false ≡ all_below n test
+all_failed test k n lt fails = sym (all_further test k (n - suc k) n (omega (arith, lt)) fails)
+
+pub all_done : (test : ℕ → Bool) (k n : ℕ) → k ≤ n → n ≤ k → all_below k test ≡ true → true ≡ all_below n test
+all_done test k n low high all =
+    let is : k ≡ n = omega (arith, low, high) in
+    sym (subst (λ (m : ℕ). all_below m test ≡ true) is all)
+
+-- ---- how many
+
+-- one more, or none more
+pub count_more : (test : ℕ → Bool) (k next n m : ℕ) → suc k ≡ next → n ≡ count k test → test k ≡ true → suc n ≡ m → m ≡ count next test
+count_more test k next n m one is holds more =
+    subst (λ (l : ℕ). m ≡ count l test) one
+    (sym more ∙ ap suc is ∙ sym (ap (λ (b : Bool). if_so b (count k test)) holds))
+  where
+    if_so : Bool → ℕ → ℕ
+    if_so true c = suc c
+    if_so false c = c
+
+pub count_same : (test : ℕ → Bool) (k next n m : ℕ) → suc k ≡ next → n ≡ count k test → test k ≡ false → n ≡ m → m ≡ count next test
+count_same test k next n m one is fails same =
+    subst (λ (l : ℕ). m ≡ count l test) one (sym same ∙ is ∙ sym (counted test k fails))
+  where
+    counted : (test : ℕ → Bool) (k : ℕ) → test k ≡ false → count (suc k) test ≡ count k test
+    counted test k fails = ap (λ (b : Bool). cond b (suc (count k test)) (count k test)) fails
