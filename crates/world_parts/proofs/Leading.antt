@@ -1,5 +1,5 @@
 -- The member that applied most entries has the list of the run.
-use Rattle.std.proofs.Common.{◌≡◌, ◌≤◌, ◌<◌, ◌+◌, ◌∙◌, ℕ, suc, zero, Bool, true, false, List, [], ◌∷◌, Option, Some, get_or, slice_get, ap, sym, subst, refl, arith, map, length, take, drop, ltb, if◌then◌else◌}
+use Rattle.std.proofs.Common.{◌≡◌, ◌≤◌, ◌<◌, ◌+◌, ◌∙◌, ℕ, suc, zero, max, Bool, true, false, List, [], ◌∷◌, Option, Some, get_or, slice_get, ap, sym, subst, refl, arith, map, length, take, drop, ltb, if◌then◌else◌}
 use Rattle.std.proofs.lemmas.Bool.{le-ltb, lt-ltb}
 use Rattle.std.proofs.lemmas.Option.{slice_get_read}
 use Rattle.std.proofs.lemmas.List.{length-drop, length-take, length-take-le, take_all}
@@ -21,6 +21,7 @@ use Rattle.world_rules.specs.Worlds.{World, agreed, applied_at, longest, process
 use Rattle.node_core.specs.Shown.{Left, Stood}
 use Rattle.node_core.specs.Stands.{on_known}
 use Rattle.node_core.specs.declared.node.Node.{Node}
+use Rattle.world_parts.specs.Choosing.{longest_below}
 use Rattle.world_parts.specs.Standing.{IsWorld}
 use Rattle.world_parts.specs.declared.parts.Parts.{Parts}
 
@@ -122,3 +123,18 @@ leader_stays stood left f s k leader most now so applied node lt at is led less 
               (subst (λ (m : ℕ). IsLeader w (suc k) leader m) (sym so_is)
                   (leads_still w k leader most applied (member_applied stood left f s w world k node found ∙ sym is) less (led.2 w world))))),
     )
+
+-- ---- logs
+
+-- the length of a member's log, by its code
+pub log_there : {P S : Type 0} (stood : Stood S) (left : Left S) (f : Frame) (s : Parts P S) (w : World) → IsWorld stood left f s w → (k : ℕ) (node : Node P S)
+    → slice_get s.nodes.items k ≡ Some node → length (w.nodes k).member.log ≡ last_number node.member.window
+log_there stood left f s w is k node at = log_length (group f) k node.member (w.nodes k).member (is.nodes k node at).member
+
+-- the longest of one member more
+pub longer_next : {P S : Type 0} (stood : Stood S) (left : Left S) (f : Frame) (s : Parts P S) (w : World) → IsWorld stood left f s w → (k next : ℕ) (node : Node P S)
+    (now more longest : ℕ) → suc k ≡ next → slice_get s.nodes.items k ≡ Some node → now ≡ last_number node.member.window → longest ≡ longest_below k w
+    → more ≡ max longest now → more ≡ longest_below next w
+longer_next stood left f s w is k next node now more longest one at here so sum =
+    let e : now ≡ length (w.nodes k).member.log = here ∙ sym (log_there stood left f s w is k node at) in
+    sum ∙ ap (λ (n : ℕ). max n now) so ∙ ap (max (longest_below k w)) e ∙ ap (λ (n : ℕ). longest_below n w) one

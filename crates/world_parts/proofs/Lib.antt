@@ -6,3 +6,6 @@ pub mod Lowest
 pub mod Below
 pub mod Waiting
 pub mod Lines
+pub mod Opening
+pub mod Outs
+pub mod Ruling

@@ -4,6 +4,7 @@ use Rattle.node_core.specs.Shown.{IsPlayed, IsPlayedIf, Left, Stood, on_stage}
 use Rattle.node_core.specs.declared.resident.Resident.{Resident}
 use Rattle.world_rules.specs.Played.{Played, Stage}
 use Rattle.world_rules.specs.Standings.{stands}
+use Rattle.world_rules.specs.Steps.{is_acting, may_act_as}
 
 -- a test of the stage of a process that is here
 pub says_there : {S : Type 0} (stood : Stood S) (left : Left S) (test : Stage → Bool) (i : ℕ) (s : Resident S) (o : Option Played)
@@ -15,3 +16,13 @@ says_there stood left test i s (Some r) h = ap test h.stage
 pub says_none : {S : Type 0} (stood : Stood S) (left : Left S) (test : Stage → Bool) (i : ℕ) (o : Option Played) → IsPlayedIf stood left i None o → false ≡ stands test o
 says_none stood left test i None h = refl
 says_none stood left test i (Some r) h = absurd h
+
+-- whether its action wasn't carried out
+pub acts_there : {S : Type 0} (stood : Stood S) (left : Left S) (i : ℕ) (s : Resident S) (o : Option Played) → IsPlayedIf stood left i (Some s) o
+    → is_acting (on_stage s.stage) ≡ may_act_as o
+acts_there stood left i s None h = absurd h
+acts_there stood left i s (Some r) h = ap is_acting h.stage
+
+pub acts_none : {S : Type 0} (stood : Stood S) (left : Left S) (i : ℕ) (o : Option Played) → IsPlayedIf stood left i None o → false ≡ may_act_as o
+acts_none stood left i None h = refl
+acts_none stood left i (Some r) h = absurd h

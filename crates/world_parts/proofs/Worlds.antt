@@ -22,7 +22,7 @@ clash : {A : Type 0} (a : A) → Some a ≡ None → ⊥
 clash a f = cc
 
 -- an index within a list finds an item
-slice_get_some : {A : Type 0} (xs : List A) (i : ℕ) → i < length xs → slice_get xs i ≡ None → ⊥
+pub slice_get_some : {A : Type 0} (xs : List A) (i : ℕ) → i < length xs → slice_get xs i ≡ None → ⊥
 slice_get_some [] i lt is = absurd (omega (arith, lt))
 slice_get_some (x ∷ xs) zero lt is = clash x is
 slice_get_some (x ∷ xs) (suc i) lt is = slice_get_some xs i (omega (arith, lt)) is

@@ -9,6 +9,8 @@ use Rattle.world_rules.specs.Nodes.{Node}
 use Rattle.world_rules.specs.Processes.{owner_in}
 use Rattle.world_rules.specs.Standings.{limit_at, waits_in}
 use Rattle.world_rules.specs.Worlds.{World, processes_of}
+use Rattle.world_rules.specs.declared.standing.Standing.{Standing}
+use Rattle.world_rules.specs.declared.standing.Standing.TheVariants.{Faulted, Blocked, Finished}
 
 -- the limit that stops member m, where it lives
 abbrev pub Stops : Frame → World → ℕ → Option (What × ℕ) → Type 0
@@ -31,3 +33,7 @@ abbrev pub has_applied_all : Frame → ℕ → Node → ℕ → Bool
 has_applied_all f m node listed =
     ((node.member.applied == length node.member.log) && (node.member.applied == listed))
     && (is_empty node.member.pending && (not (leads (group f) m node.member) || is_empty node.member.waiting))
+
+-- how a run stands that is over, by whether a process has ended by a fault, and whether each of a living member has ended
+abbrev pub how_ended : Bool → Bool → Standing
+how_ended faulted ended = if faulted then Faulted else (if ended then Finished else Blocked)

@@ -27,6 +27,7 @@ use Rattle.world_law.specs.SoundPackets.{AllLettersSound}
 use Rattle.run_law.specs.Growing.{EventsGrow}
 use Rattle.run_law.specs.Limits.{AllStopBefore}
 use Rattle.run_law.specs.Parts.{AllTickApart, InAllParts}
+use Rattle.run_law.specs.Replies.{RepliesOffBooks}
 use Rattle.run_law.specs.Sending.{SendsOwn}
 use Rattle.node_core.specs.Pieces.{resident_at}
 use Rattle.node_core.specs.Shown.{Left, Stood}
@@ -121,6 +122,7 @@ pub record Laws (p : Performs) (q : Computes) : Type 0 where
   pub own : InAllParts p q SendsOwn
   pub apart : AllTickApart
   pub grow : EventsGrow p q
+  pub replies : RepliesOffBooks p q
   pub lists : AllGrow
   pub numbers : AllNumber
   pub letters : AllLettersSound

@@ -1,6 +1,6 @@
 //! What may come next, and who is where. None of these takes memory, and none looks at packets, steps or lines of the past.
 
-ghost use Rattle.std.specs.Prelude.{◌≡◌, ◌≤◌, ◌<◌, ◌&&◌, ℕ, false, not, option_map, slice_get};
+ghost use Rattle.std.specs.Prelude.{◌≡◌, ◌≤◌, ◌<◌, ◌&&◌, ℕ, false, if◌then◌else◌, not, option_map, slice_get};
 ghost use Rattle.std.specs.Option.{option_copied};
 ghost use Rattle.net_rules.specs.Flights.{first_ready};
 ghost use Rattle.node_core.specs.Pieces.{resident_at};
@@ -49,9 +49,10 @@ impl<P: OneRun> Parts<P> {
         requires { Stands P.stood P.left P.run.frame self.now }
         ensures { Is P.stood P.left P.run.frame self.now (λ w. result ≡ longest_log P.run.frame w) }
     {
-        let mut longest = 0;
+        let mut longest = 0u64;
         'members: for member in 0..self.nodes.len() {
-            longest = self.nodes[member].member().length().max(longest);
+            let length = self.nodes[member].member().length();
+            longest = longest.max(length);
         }
         longest
     }
@@ -234,11 +235,16 @@ fn outs_at<P: OneRun>(node: &Node<P>) -> u16
 {
     let mut tasks = 0u16;
     'processes: for process in 0..node.copies().processes() {
-        if is_out(node.resident(ProcessNo(process))) {
-            tasks += 1;
-        }
+        tasks += out_of(node.resident(ProcessNo(process)));
     }
     tasks
+}
+
+// How many tasks of it are out, where it is here: one or none.
+fn out_of<S: Drop>(resident: Option<&Resident<S>>) -> u16
+    ensures { result ≡ (if has_out (option_copied resident.entry) then 1 else 0) }
+{
+    if is_out(resident) { 1 } else { 0 }
 }
 
 // Whether a task of it is out, where it is here.

@@ -12,7 +12,7 @@ use group_member::Config;
 use lossy_net::Net;
 use node_core::{Kept, Node, OneRun};
 use orca_base::{Choice, Items, NoMemory};
-use run_law::{events_grow, letters_are_own, limits_stop, ticks_are_apart};
+use run_law::{letters_are_own, limits_stop, replies_stand, ticks_are_apart};
 use std::alloc::Global;
 use world_book::legal_book;
 use world_facts::{ends_mean, processes_stand, worlds_count};
@@ -60,12 +60,16 @@ impl<P: OneRun> Parts<P> {
             events: settings.events,
             wires: settings.wires,
         };
+        let nodes = opening_nodes(alloc, machine, numbers, settings.choices)?;
+        let lives = all_live(alloc, numbers.nodes)?;
+        let net = Net::new(alloc);
+        let ledger = Ledger::new(alloc);
         Ok(Parts {
             numbers,
-            nodes: opening_nodes(alloc, machine, numbers, settings.choices)?,
-            lives: all_live(alloc, numbers.nodes)?,
-            net: Net::new(alloc),
-            ledger: Ledger::new(alloc),
+            nodes,
+            lives,
+            net,
+            ledger,
             sent: 0,
             swaps: 0,
             idle: 0,
@@ -92,7 +96,8 @@ fn laws_of_runs<P: OneRun>(machine: &P)
     limits_stop(machine);
     letters_are_own(machine);
     ticks_are_apart();
-    events_grow(machine);
+    run_law::run_law(machine);
+    replies_stand(machine);
     group_steps();
     packets_are_numbered();
     letters_are_sound();

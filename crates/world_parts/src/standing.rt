@@ -1,7 +1,7 @@
 //! How a run stands.
 
-ghost use Rattle.std.specs.Prelude.{◌≡◌, ◌<◌, ◌≤◌, ◌+◌, ◌==◌, ◌&&◌, ◌||◌, not, length, nat_le, option_map};
-ghost use Rattle.std.specs.Option.{option_copied};
+ghost use Rattle.std.specs.Prelude.{◌≡◌, ◌<◌, ◌≤◌, ◌&&◌, ◌||◌, ℕ, true, if◌then◌else◌, None, not, nat_le, option_map};
+ghost use Rattle.orca_base.specs.declared.limits.TheConstants.{IDLE_TICKS};
 ghost use Rattle.group_member.specs.StandsFor.{IsMember};
 ghost use Rattle.group_rules.specs.Sets.{count};
 ghost use Rattle.group_rules.specs.Steps.{is_empty};
@@ -13,7 +13,7 @@ ghost use Rattle.world_rules.specs.Nodes as nodes;
 ghost use Rattle.world_rules.specs.Played as played;
 ghost use Rattle.world_rules.specs.Standings as rules;
 ghost use Rattle.world_rules.specs.Worlds.{agreed, home_of, played_in};
-ghost use Rattle.world_parts.specs.Rows.{Stops, has_applied_all, is_lost, waits_on};
+ghost use Rattle.world_parts.specs.Rows.{Stops, has_applied_all, how_ended, is_lost, waits_at, waits_on};
 ghost use Rattle.world_parts.specs.Standing.{Is, Stands};
 
 use crate::choosers::is_computing;
@@ -31,9 +31,20 @@ impl<P: OneRun> Parts<P> {
         requires { Stands P.stood P.left P.run.frame self.now }
         ensures { Is P.stood P.left P.run.frame self.now (λ w. result ≡ rules.standing P.run.frame w) }
     {
-        if let Some((what, number)) = self.limit() {
-            return Standing::Limit { what, number };
+        match self.limit() {
+            Some(passed) => Standing::Limit {
+                what: passed.0,
+                number: passed.1,
+            },
+            None => self.within_limits(),
         }
+    }
+
+    // How the run stands where no limit stops it.
+    fn within_limits(&self) -> Standing
+        requires { Stands P.stood P.left P.run.frame self.now }
+        ensures { Is P.stood P.left P.run.frame self.now (λ w. result ≡ rules.after_limit P.run.frame w None) }
+    {
         if self.is_out_of_turns() {
             return Standing::OutOfTurns;
         }
@@ -43,17 +54,26 @@ impl<P: OneRun> Parts<P> {
         if self.is_no_group() {
             return Standing::NoGroup;
         }
-        if !self.is_over() {
-            return Standing::Going;
+        if self.is_over() {
+            self.how_ended()
+        } else {
+            Standing::Going
         }
+    }
+
+    // How the run stands where it is over.
+    fn how_ended(&self) -> Standing
+        requires { Stands P.stood P.left P.run.frame self.now }
+        ensures { Is P.stood P.left P.run.frame self.now (λ w.
+            result ≡ how_ended (rules.has_fault P.run.frame w) (rules.all_ended P.run.frame w)) }
+    {
         if self.has_fault() {
             return Standing::Faulted;
         }
         if self.all_ended() {
-            Standing::Finished
-        } else {
-            Standing::Blocked
+            return Standing::Finished;
         }
+        Standing::Blocked
     }
 
     // ---- limits
@@ -89,9 +109,20 @@ impl<P: OneRun> Parts<P> {
         requires within { member < P.run.frame.settings.nodes }
         ensures { Is P.stood P.left P.run.frame self.now (λ w. Stops P.run.frame w member (option_map (λ p. (p.0, p.1)) result)) }
     {
-        if !self.lives(member) {
-            return None;
+        if self.lives(member) {
+            self.limit_living(member)
+        } else {
+            None
         }
+    }
+
+    // The same of a member that lives.
+    fn limit_living(&self, member: u8) -> Option<(What, u64)>
+        requires stands { Stands P.stood P.left P.run.frame self.now }
+        requires within { member < P.run.frame.settings.nodes }
+        ensures { Is P.stood P.left P.run.frame self.now (λ w. w.lives member ≡ true →
+            option_map (λ p. (p.0, p.1)) result ≡ rules.limit_at P.run.frame (w.nodes member)) }
+    {
         match self.node(member) {
             Some(node) => limit_at(node),
             None => None,
@@ -152,13 +183,34 @@ impl<P: OneRun> Parts<P> {
         requires { Stands P.stood P.left P.run.frame self.now }
         ensures { Is P.stood P.left P.run.frame self.now (λ w. result ≡ rules.is_no_group P.run.frame w) }
     {
-        if self.lost() <= self.numbers.resilience {
-            return false;
-        }
-        if self.nobody_lives() {
-            return true;
-        }
-        self.is_quiet() && self.some_wait() && self.idle >= u64::from(IDLE_TICKS)
+        self.has_lost_too_many() && (self.nobody_lives() || self.waits_in_vain())
+    }
+
+    // Whether more than r members are crashed or outside.
+    fn has_lost_too_many(&self) -> bool
+        requires { Stands P.stood P.left P.run.frame self.now }
+        ensures { Is P.stood P.left P.run.frame self.now (λ w. result ≡ rules.has_lost_too_many P.run.frame w) }
+    {
+        self.lost() > self.numbers.resilience
+    }
+
+    // Whether the moment is quiet, a living process waits for the group, and the last 200 ticks were idle.
+    fn waits_in_vain(&self) -> bool
+        requires { Stands P.stood P.left P.run.frame self.now }
+        ensures { Is P.stood P.left P.run.frame self.now (λ w. result
+            ≡ (rules.is_quiet P.run.frame w
+            && (rules.some_process P.run.frame w (rules.waits_for_group P.run.frame w) && nat_le IDLE_TICKS w.idle))) }
+    {
+        self.is_quiet() && self.waits_idle()
+    }
+
+    // Whether a living process waits for the group, and the last 200 ticks were idle.
+    fn waits_idle(&self) -> bool
+        requires { Stands P.stood P.left P.run.frame self.now }
+        ensures { Is P.stood P.left P.run.frame self.now (λ w. result
+            ≡ (rules.some_process P.run.frame w (rules.waits_for_group P.run.frame w) && nat_le IDLE_TICKS w.idle)) }
+    {
+        self.some_wait() && self.idle >= u64::from(IDLE_TICKS)
     }
 
     // How many members are crashed or outside.
@@ -168,11 +220,19 @@ impl<P: OneRun> Parts<P> {
     {
         let mut lost = 0u8;
         'members: for member in 0..self.numbers.nodes {
-            if self.is_lost(member) {
-                lost += 1;
-            }
+            lost += self.lost_at(member);
         }
         lost
+    }
+
+    // One where the member is crashed or outside.
+    fn lost_at(&self, member: u8) -> u8
+        requires stands { Stands P.stood P.left P.run.frame self.now }
+        requires within { member < P.run.frame.settings.nodes }
+        ensures one { Is P.stood P.left P.run.frame self.now (λ w. result ≡ (if is_lost w member then 1 else 0)) }
+        ensures few { result ≤ 1 }
+    {
+        if self.is_lost(member) { 1 } else { 0 }
     }
 
     // Whether the member is crashed or outside.
@@ -181,9 +241,15 @@ impl<P: OneRun> Parts<P> {
         requires within { member < P.run.frame.settings.nodes }
         ensures { Is P.stood P.left P.run.frame self.now (λ w. result ≡ is_lost w member) }
     {
-        if !self.lives(member) {
-            return true;
-        }
+        !self.lives(member) || self.is_outside(member)
+    }
+
+    // Whether the member is outside.
+    fn is_outside(&self, member: u8) -> bool
+        requires stands { Stands P.stood P.left P.run.frame self.now }
+        requires within { member < P.run.frame.settings.nodes }
+        ensures { Is P.stood P.left P.run.frame self.now (λ w. result ≡ (w.nodes member).member.outside) }
+    {
         match self.node(member) {
             Some(node) => node.member().is_outside(),
             None => false,
@@ -270,12 +336,17 @@ impl<P: OneRun> Parts<P> {
         requires { Stands P.stood P.left P.run.frame self.now }
         ensures { Is P.stood P.left P.run.frame self.now (λ w. result ≡ waits_on P.run.frame w process.0 object) }
     {
-        let owner = self.home_of(ProcessNo(object.process));
-        if !self.lives(owner) {
-            return false;
-        }
-        match self.node(owner) {
-            Some(node) => !node.member().is_outside() && node.copies().is_waiting(process),
+        let owner = ProcessNo(object.process);
+        self.lives_at_home(owner) && self.waits_at_home(process, owner)
+    }
+
+    // Whether a call of the process stands in the queue of the member of this other process, which isn't outside.
+    fn waits_at_home(&self, process: ProcessNo, owner: ProcessNo) -> bool
+        requires { Stands P.stood P.left P.run.frame self.now }
+        ensures { Is P.stood P.left P.run.frame self.now (λ w. result ≡ waits_at w process.0 (home_of P.run.frame w owner.0)) }
+    {
+        match self.node(self.home_of(owner)) {
+            Some(node) => waits_at(node, process),
             None => false,
         }
     }
@@ -361,9 +432,15 @@ impl<P: OneRun> Parts<P> {
         ensures { Is P.stood P.left P.run.frame self.now (λ w. result
             ≡ (not (w.lives member) || rules.is_done P.run.frame w member (w.nodes member))) }
     {
-        if !self.lives(member) {
-            return true;
-        }
+        !self.lives(member) || self.is_done_at(member)
+    }
+
+    // The same of this member, also where it crashed.
+    fn is_done_at(&self, member: u8) -> bool
+        requires stands { Stands P.stood P.left P.run.frame self.now }
+        requires within { member < P.run.frame.settings.nodes }
+        ensures { Is P.stood P.left P.run.frame self.now (λ w. result ≡ rules.is_done P.run.frame w member (w.nodes member)) }
+    {
         match self.node(member) {
             Some(node) => is_done(node, self.ledger.entries().len() as u64),
             None => true,
@@ -427,7 +504,7 @@ impl<P: OneRun> Parts<P> {
             ≡ rules.waits_in process.0 (w.nodes (home_of P.run.frame w process.0)).copies.queue) }
     {
         match self.node(self.home_of(process)) {
-            Some(node) => node.copies().is_suspended(process),
+            Some(node) => is_queued(node, process),
             None => false,
         }
     }
@@ -456,6 +533,27 @@ impl<P: OneRun> Parts<P> {
             None => false,
         }
     }
+}
+
+// Whether a call of the process waits at this member, which isn't outside.
+fn waits_at<P: OneRun>(node: &Node<P>, process: ProcessNo) -> bool
+    ensures { result ≡ (not node.now.member.outside && rules.waits_in process.0 node.now.copies.waits) }
+{
+    !node.member().is_outside() && is_waiting(node, process)
+}
+
+// Whether a call of the process on a single object is suspended here.
+fn is_waiting<P: OneRun>(node: &Node<P>, process: ProcessNo) -> bool
+    ensures { result ≡ rules.waits_in process.0 node.now.copies.waits }
+{
+    node.copies().is_waiting(process)
+}
+
+// Whether a call of the process on a replicated object is suspended here.
+fn is_queued<P: OneRun>(node: &Node<P>, process: ProcessNo) -> bool
+    ensures { result ≡ rules.waits_in process.0 node.now.copies.queue }
+{
+    node.copies().is_suspended(process)
 }
 
 // The limit that the member's next accepted entry passes: a member that caught up stands before no other.
