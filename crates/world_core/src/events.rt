@@ -1,222 +1,309 @@
 //! What each event leaves, where it is possible.
 
-ghost use Rattle.std.specs.Prelude.{◌≡◌, Err, IfOk};
+ghost use Rattle.std.specs.Prelude.{◌≡◌, ◌<◌, Err, IfOk, OnOk, Some, length, slice_get};
+ghost use Rattle.node_core.specs.Stands.{fitness_of};
+ghost use Rattle.node_rules.specs.Starts.Start.{Acts, Suspects, Ticks};
 ghost use Rattle.world_rules.specs.Standings.{standing};
+ghost use Rattle.world_rules.specs.Steps.{may_swap};
 ghost use Rattle.world_rules.specs.declared.standing.Standing.TheVariants.{Going};
-ghost use Rattle.world_core.specs.Drafting.{Drafts, MayNotBe};
+ghost use Rattle.world_core.specs.Drafting.{AddsLetter, AddsPart, Drafts, MayAdd, MayAddLetter, MayNotBe};
 ghost use Rattle.world_parts.specs.Standing.{Is, Stands};
 
 use crate::draft::Draft;
 use crate::letters::incoming;
-use crate::parts::Parts;
 use crate::step::StepError;
+use group_packets::Packet;
+use history_buffer::Shared;
 use node_core::{Node, OneRun};
 use orca_base::{BURST_TURNS, NoMemory, ProcessNo};
 use std::alloc::Global;
+use value_core::Message;
+use world_parts::Parts;
 use world_rules::Event;
 
-impl<P: OneRun> Parts<P> {
-    // What the event leaves of members, processes and what was performed. It is refused where it isn't possible here.
-    pub(crate) fn happens(
-        &self,
-        alloc: Global,
-        machine: &P,
-        event: Event,
-    ) -> Result<Draft<P>, StepError>
-        requires stands { Stands P.stood P.left P.run.frame self.now }
-        requires going { Is P.stood P.left P.run.frame self.now (λ w. standing P.run.frame w ≡ Going) }
-        ensures drafts { IfOk result (Drafts P.stood P.left P.run.frame self.now (event)) }
-        ensures refused { result ≡ Err StepError.NotEnabled → MayNotBe P.stood P.left P.run.frame self.now (event) }
-    {
-        match event {
-            Event::Burst {
-                process,
-                place,
-                turns,
-            } => self.bursts(alloc, machine, process, place, turns),
-            Event::Act { process } => self.carries_out(alloc, machine, process),
-            Event::Deliver { packet, copy } => self.delivers(alloc, machine, packet, copy),
-            Event::Tick => self.ticks(alloc, machine),
-            Event::Suspect { node } => self.suspects(alloc, machine, node),
-            Event::Crash { node } => possible(alloc, self.lives(node)),
-            Event::Swap => possible(alloc, self.may_swap()),
-        }
-    }
-
-    // Fewer than all wires but one were given up.
-    fn may_swap(&self) -> bool {
-        self.swaps < self.numbers.wires.saturating_sub(1)
-    }
-
-    // A burst of a process that computes, on what the objects of its member were after so many entries.
-    fn bursts(
-        &self,
-        alloc: Global,
-        machine: &P,
-        process: ProcessNo,
-        place: u64,
-        turns: u32,
-    ) -> Result<Draft<P>, StepError>
-        requires stands { Stands P.stood P.left P.run.frame self.now }
-        requires going { Is P.stood P.left P.run.frame self.now (λ w. standing P.run.frame w ≡ Going) }
-        ensures drafts { IfOk result (Drafts P.stood P.left P.run.frame self.now (Event.Burst process place turns)) }
-        ensures refused { result ≡ Err StepError.NotEnabled → MayNotBe P.stood P.left P.run.frame self.now (Event.Burst process place turns) }
-    {
-        let home = self.home_of(process);
-        let (Some(before), Some(resident)) = (self.node(home), self.resident(process)) else {
-            return Err(StepError::NotEnabled);
-        };
-        let applied = before.copies().applied();
-        if !self.computes(process) || place < resident.place() || place > applied {
-            return Err(StepError::NotEnabled);
-        }
-        let view = if place == applied {
-            before.copies().view(alloc)?
-        } else {
-            before.view_after(alloc, machine, &self.ledger.entries()[..place as usize])?
-        };
-        let start = resident.turns();
-        let mut after = before.copy(alloc)?;
-        let done = after
-            .task_on(alloc, process, view, self.budget(start))?
-            .run(alloc, machine)?;
-        if done.turns() - start != u64::from(turns) {
-            return Err(StepError::NotEnabled);
-        }
-        let Ok(burst) = after.check_in(done) else {
-            unreachable!()
-        };
-        let mut draft = Draft::nothing(alloc);
-        draft.add_burst(before, after, burst)?;
-        Ok(draft)
-    }
-
-    // The turns of a burst of a process that took so many: no more than it has left.
-    pub(crate) fn budget(&self, turns: u64) -> u32 {
-        u64::from(BURST_TURNS).min(self.numbers.turns.saturating_sub(turns)) as u32
-    }
-
-    // The action of a process is carried out.
-    fn carries_out(
-        &self,
-        alloc: Global,
-        machine: &P,
-        process: ProcessNo,
-    ) -> Result<Draft<P>, StepError>
-        requires stands { Stands P.stood P.left P.run.frame self.now }
-        requires going { Is P.stood P.left P.run.frame self.now (λ w. standing P.run.frame w ≡ Going) }
-        ensures drafts { IfOk result (Drafts P.stood P.left P.run.frame self.now (Event.Act process)) }
-        ensures refused { result ≡ Err StepError.NotEnabled → MayNotBe P.stood P.left P.run.frame self.now (Event.Act process) }
-    {
-        if !self.may_act(process) {
-            return Err(StepError::NotEnabled);
-        }
-        let mut draft = Draft::nothing(alloc);
-        let Some(before) = self.node(self.home_of(process)) else {
-            return Err(StepError::NotEnabled);
-        };
-        let mut after = before.copy(alloc)?;
-        let moved = after.act(alloc, machine, process)?;
-        draft.add_part(alloc, self.listed(), before, after, moved)?;
-        Ok(draft)
-    }
-
-    // A copy of a packet comes to its receiver, where that lives and the copy is whole.
-    fn delivers(
-        &self,
-        alloc: Global,
-        machine: &P,
-        packet: u64,
-        copy: u8,
-    ) -> Result<Draft<P>, StepError>
-        requires stands { Stands P.stood P.left P.run.frame self.now }
-        requires going { Is P.stood P.left P.run.frame self.now (λ w. standing P.run.frame w ≡ Going) }
-        ensures drafts { IfOk result (Drafts P.stood P.left P.run.frame self.now (Event.Deliver packet copy)) }
-        ensures refused { result ≡ Err StepError.NotEnabled → MayNotBe P.stood P.left P.run.frame self.now (Event.Deliver packet copy) }
-    {
-        if !self.net.is_ready(packet, copy) {
-            return Err(StepError::NotEnabled);
-        }
-        let mut draft = Draft::nothing(alloc);
-        let flight = self.net.look(packet, copy);
-        if !self.lives(flight.to) {
-            return Ok(draft);
-        }
-        let (Some(before), Some(packet)) = (
-            self.node(flight.to),
-            incoming(alloc, flight.packet.as_slice())?,
-        ) else {
-            return Ok(draft);
-        };
-        let mut after = before.copy(alloc)?;
-        let moved = after.deliver(alloc, machine, flight.from, packet)?;
-        draft.add_part(alloc, self.listed(), before, after, moved)?;
-        Ok(draft)
-    }
-
-    // The timers of the living members run, in increasing order.
-    fn ticks(&self, alloc: Global, machine: &P) -> Result<Draft<P>, StepError>
-        requires stands { Stands P.stood P.left P.run.frame self.now }
-        requires going { Is P.stood P.left P.run.frame self.now (λ w. standing P.run.frame w ≡ Going) }
-        ensures drafts { IfOk result (Drafts P.stood P.left P.run.frame self.now (Event.Tick)) }
-        ensures refused { result ≡ Err StepError.NotEnabled → MayNotBe P.stood P.left P.run.frame self.now (Event.Tick) }
-    {
-        if !self.is_quiet() {
-            return Err(StepError::NotEnabled);
-        }
-        let mut draft = Draft::nothing(alloc);
-        'members: for before in &self.nodes {
-            if self.lives(before.member().me()) {
-                self.ticks_at(alloc, machine, before, &mut draft)?;
-            }
-        }
-        Ok(draft)
-    }
-
-    // A member's timer runs.
-    fn ticks_at(
-        &self,
-        alloc: Global,
-        machine: &P,
-        before: &Node<P>,
-        draft: &mut Draft<P>,
-    ) -> Result<(), NoMemory> {
-        let mut after = before.copy(alloc)?;
-        let moved = after.tick(alloc, machine)?;
-        draft.add_part(alloc, self.listed(), before, after, moved)
-    }
-
-    // A member suspects its sequencer.
-    fn suspects(&self, alloc: Global, machine: &P, member: u8) -> Result<Draft<P>, StepError>
-        requires stands { Stands P.stood P.left P.run.frame self.now }
-        requires going { Is P.stood P.left P.run.frame self.now (λ w. standing P.run.frame w ≡ Going) }
-        ensures drafts { IfOk result (Drafts P.stood P.left P.run.frame self.now (Event.Suspect member)) }
-        ensures refused { result ≡ Err StepError.NotEnabled → MayNotBe P.stood P.left P.run.frame self.now (Event.Suspect member) }
-    {
-        if !self.lives(member) {
-            return Err(StepError::NotEnabled);
-        }
-        let mut draft = Draft::nothing(alloc);
-        let Some(before) = self.node(member) else {
-            return Err(StepError::NotEnabled);
-        };
-        let mut after = before.copy(alloc)?;
-        let moved = after.suspect(alloc, machine)?;
-        draft.add_part(alloc, self.listed(), before, after, moved)?;
-        Ok(draft)
-    }
-
-    // How many entries the list of the run has.
-    fn listed(&self) -> u64 {
-        self.ledger.entries().len() as u64
+/// What the event leaves of members, processes and what was performed. It is refused where it isn't possible here.
+pub(crate) fn happens<P: OneRun>(
+    parts: &Parts<P>,
+    alloc: Global,
+    machine: &P,
+    event: Event,
+) -> Result<Draft<P>, StepError>
+    requires stands { Stands P.stood P.left P.run.frame parts.now }
+    requires going { Is P.stood P.left P.run.frame parts.now (λ w. standing P.run.frame w ≡ Going) }
+    ensures drafts { IfOk result (Drafts P.stood P.left P.run.frame parts.now event) }
+    ensures refused { result ≡ Err StepError.NotEnabled → MayNotBe P.stood P.left P.run.frame parts.now event }
+{
+    match event {
+        Event::Burst {
+            process,
+            place,
+            turns,
+        } => bursts(parts, alloc, machine, process, place, turns),
+        Event::Act { process } => carries_out(parts, alloc, machine, process),
+        Event::Deliver { packet, copy } => delivers(parts, alloc, machine, packet, copy),
+        Event::Tick => ticks(parts, alloc, machine),
+        Event::Suspect { node } => suspects(parts, alloc, machine, node),
+        Event::Crash { node } => crashes(parts, alloc, node),
+        Event::Swap => swaps(parts, alloc),
     }
 }
 
-// No member does anything, where the event is possible.
-fn possible<P: OneRun>(alloc: Global, is_possible: bool) -> Result<Draft<P>, StepError> {
-    if is_possible {
+// A member crashes that lives.
+fn crashes<P: OneRun>(parts: &Parts<P>, alloc: Global, node: u8) -> Result<Draft<P>, StepError>
+    requires stands { Stands P.stood P.left P.run.frame parts.now }
+    ensures drafts { IfOk result (Drafts P.stood P.left P.run.frame parts.now (Event.Crash node)) }
+    ensures refused { result ≡ Err StepError.NotEnabled → MayNotBe P.stood P.left P.run.frame parts.now (Event.Crash node) }
+{
+    if parts.lives(node) {
         Ok(Draft::nothing(alloc))
     } else {
         Err(StepError::NotEnabled)
     }
+}
+
+// The next wire takes the place of the one in use, where there is one.
+fn swaps<P: OneRun>(parts: &Parts<P>, alloc: Global) -> Result<Draft<P>, StepError>
+    requires stands { Stands P.stood P.left P.run.frame parts.now }
+    ensures drafts { IfOk result (Drafts P.stood P.left P.run.frame parts.now Event.Swap) }
+    ensures refused { result ≡ Err StepError.NotEnabled → MayNotBe P.stood P.left P.run.frame parts.now Event.Swap }
+{
+    if may_swap(parts) {
+        Ok(Draft::nothing(alloc))
+    } else {
+        Err(StepError::NotEnabled)
+    }
+}
+
+// Whether fewer than all wires but one were given up.
+fn may_swap<P: OneRun>(parts: &Parts<P>) -> bool
+    requires { Stands P.stood P.left P.run.frame parts.now }
+    ensures { Is P.stood P.left P.run.frame parts.now (λ w. result ≡ may_swap P.run.frame w) }
+{
+    parts.swaps < parts.numbers.wires.saturating_sub(1)
+}
+
+// A burst of a process that computes, on what the objects of its member were after so many entries.
+fn bursts<P: OneRun>(
+    parts: &Parts<P>,
+    alloc: Global,
+    machine: &P,
+    process: ProcessNo,
+    place: u64,
+    turns: u32,
+) -> Result<Draft<P>, StepError>
+    requires stands { Stands P.stood P.left P.run.frame parts.now }
+    requires going { Is P.stood P.left P.run.frame parts.now (λ w. standing P.run.frame w ≡ Going) }
+    ensures drafts { IfOk result (Drafts P.stood P.left P.run.frame parts.now (Event.Burst process place turns)) }
+    ensures refused { result ≡ Err StepError.NotEnabled → MayNotBe P.stood P.left P.run.frame parts.now (Event.Burst process place turns) }
+{
+    let home = parts.home_of(process);
+    let (Some(before), Some(resident)) = (parts.node(home), parts.resident(process)) else {
+        return Err(StepError::NotEnabled);
+    };
+    let applied = before.copies().applied();
+    if !parts.computes(process) || place < resident.place() || place > applied {
+        return Err(StepError::NotEnabled);
+    }
+    let view = if place == applied {
+        before.copies().view(alloc)?
+    } else {
+        before.view_after(alloc, machine, &parts.ledger.entries()[..place as usize])?
+    };
+    let start = resident.turns();
+    let mut after = before.copy(alloc)?;
+    let done = after
+        .task_on(alloc, machine, process, view, budget(parts, start))?
+        .run(alloc, machine)?;
+    if done.turns() - start != u64::from(turns) {
+        return Err(StepError::NotEnabled);
+    }
+    let Ok(burst) = after.check_in(done) else {
+        unreachable!()
+    };
+    let mut draft = Draft::nothing(alloc);
+    draft.add_burst(before, after, burst)?;
+    Ok(draft)
+}
+
+/// The turns of a burst of a process that took so many: no more than it has left.
+pub(crate) fn budget<P: OneRun>(parts: &Parts<P>, turns: u64) -> u32 {
+    u64::from(BURST_TURNS).min(parts.numbers.turns.saturating_sub(turns)) as u32
+}
+
+// The action of a process is carried out.
+fn carries_out<P: OneRun>(
+    parts: &Parts<P>,
+    alloc: Global,
+    machine: &P,
+    process: ProcessNo,
+) -> Result<Draft<P>, StepError>
+    requires stands { Stands P.stood P.left P.run.frame parts.now }
+    requires going { Is P.stood P.left P.run.frame parts.now (λ w. standing P.run.frame w ≡ Going) }
+    ensures drafts { IfOk result (Drafts P.stood P.left P.run.frame parts.now (Event.Act process)) }
+    ensures refused { result ≡ Err StepError.NotEnabled → MayNotBe P.stood P.left P.run.frame parts.now (Event.Act process) }
+{
+    if parts.may_act(process) {
+        let mut draft = Draft::nothing(alloc);
+        let home = parts.home_of(process);
+        acts_at(parts, alloc, machine, member_of(parts, home), process, &mut draft)?;
+        Ok(draft)
+    } else {
+        Err(StepError::NotEnabled)
+    }
+}
+
+// A copy of a packet comes to its receiver, where that lives and the copy is whole.
+fn delivers<P: OneRun>(
+    parts: &Parts<P>,
+    alloc: Global,
+    machine: &P,
+    packet: u64,
+    copy: u8,
+) -> Result<Draft<P>, StepError>
+    requires stands { Stands P.stood P.left P.run.frame parts.now }
+    requires going { Is P.stood P.left P.run.frame parts.now (λ w. standing P.run.frame w ≡ Going) }
+    ensures drafts { IfOk result (Drafts P.stood P.left P.run.frame parts.now (Event.Deliver packet copy)) }
+    ensures refused { result ≡ Err StepError.NotEnabled → MayNotBe P.stood P.left P.run.frame parts.now (Event.Deliver packet copy) }
+{
+    if !parts.net.is_ready(packet, copy) {
+        return Err(StepError::NotEnabled);
+    }
+    let mut draft = Draft::nothing(alloc);
+    let flight = parts.net.look(packet, copy);
+    if !parts.lives(flight.to) {
+        return Ok(draft);
+    }
+    if let Some(packet) = incoming(alloc, flight.packet.as_slice())? {
+        let before = member_of(parts, flight.to);
+        comes_to(parts, alloc, machine, before, flight.from, packet, &mut draft)?;
+    }
+    Ok(draft)
+}
+
+// The timers of the living members run, in increasing order.
+fn ticks<P: OneRun>(parts: &Parts<P>, alloc: Global, machine: &P) -> Result<Draft<P>, StepError>
+    requires stands { Stands P.stood P.left P.run.frame parts.now }
+    requires going { Is P.stood P.left P.run.frame parts.now (λ w. standing P.run.frame w ≡ Going) }
+    ensures drafts { IfOk result (Drafts P.stood P.left P.run.frame parts.now Event.Tick) }
+    ensures refused { result ≡ Err StepError.NotEnabled → MayNotBe P.stood P.left P.run.frame parts.now Event.Tick }
+{
+    if !parts.is_quiet() {
+        return Err(StepError::NotEnabled);
+    }
+    let mut draft = Draft::nothing(alloc);
+    'members: for member in 0..parts.numbers.nodes {
+        if parts.lives(member) {
+            ticks_at(parts, alloc, machine, member_of(parts, member), &mut draft)?;
+        }
+    }
+    Ok(draft)
+}
+
+// A member suspects its sequencer.
+fn suspects<P: OneRun>(
+    parts: &Parts<P>,
+    alloc: Global,
+    machine: &P,
+    member: u8,
+) -> Result<Draft<P>, StepError>
+    requires stands { Stands P.stood P.left P.run.frame parts.now }
+    requires going { Is P.stood P.left P.run.frame parts.now (λ w. standing P.run.frame w ≡ Going) }
+    ensures drafts { IfOk result (Drafts P.stood P.left P.run.frame parts.now (Event.Suspect member)) }
+    ensures refused { result ≡ Err StepError.NotEnabled → MayNotBe P.stood P.left P.run.frame parts.now (Event.Suspect member) }
+{
+    if parts.lives(member) {
+        let mut draft = Draft::nothing(alloc);
+        suspects_at(parts, alloc, machine, member_of(parts, member), &mut draft)?;
+        Ok(draft)
+    } else {
+        Err(StepError::NotEnabled)
+    }
+}
+
+// ---- members' parts
+
+// A process's action is carried out at its member.
+fn acts_at<P: OneRun>(
+    parts: &Parts<P>,
+    alloc: Global,
+    machine: &P,
+    before: &Node<P>,
+    process: ProcessNo,
+    draft: &mut Draft<P>,
+) -> Result<(), NoMemory>
+    requires { MayAdd P.stood P.left P.run.frame (fitness_of (P.fits_state machine.now) (P.fits_args machine.now) (P.fits_text machine.now) (P.fits_reply machine.now)) parts.now before.now (Acts process.0) draft.old }
+    ensures { OnOk result (AddsPart P.stood P.left P.run.frame (fitness_of (P.fits_state machine.now) (P.fits_args machine.now) (P.fits_text machine.now) (P.fits_reply machine.now)) parts.now before.now (Acts process.0) draft.old draft.new) }
+{
+    let mut after = before.copy(alloc)?;
+    let moved = after.act(alloc, machine, process)?;
+    draft.add_part(alloc, listed(parts), before, after, moved)
+}
+
+// A packet comes to a member.
+fn comes_to<P: OneRun>(
+    parts: &Parts<P>,
+    alloc: Global,
+    machine: &P,
+    before: &Node<P>,
+    from: u8,
+    packet: Packet<Shared<Message>>,
+    draft: &mut Draft<P>,
+) -> Result<(), NoMemory>
+    requires { MayAddLetter P.stood P.left P.run.frame (fitness_of (P.fits_state machine.now) (P.fits_args machine.now) (P.fits_text machine.now) (P.fits_reply machine.now)) parts.now before.now from packet draft.old }
+    ensures { OnOk result (AddsLetter P.stood P.left P.run.frame (fitness_of (P.fits_state machine.now) (P.fits_args machine.now) (P.fits_text machine.now) (P.fits_reply machine.now)) parts.now before.now from packet draft.old draft.new) }
+{
+    let mut after = before.copy(alloc)?;
+    let moved = after.deliver(alloc, machine, from, packet)?;
+    draft.add_part(alloc, listed(parts), before, after, moved)
+}
+
+// A member's timer runs.
+fn ticks_at<P: OneRun>(
+    parts: &Parts<P>,
+    alloc: Global,
+    machine: &P,
+    before: &Node<P>,
+    draft: &mut Draft<P>,
+) -> Result<(), NoMemory>
+    requires { MayAdd P.stood P.left P.run.frame (fitness_of (P.fits_state machine.now) (P.fits_args machine.now) (P.fits_text machine.now) (P.fits_reply machine.now)) parts.now before.now Ticks draft.old }
+    ensures { OnOk result (AddsPart P.stood P.left P.run.frame (fitness_of (P.fits_state machine.now) (P.fits_args machine.now) (P.fits_text machine.now) (P.fits_reply machine.now)) parts.now before.now Ticks draft.old draft.new) }
+{
+    let mut after = before.copy(alloc)?;
+    let moved = after.tick(alloc, machine)?;
+    draft.add_part(alloc, listed(parts), before, after, moved)
+}
+
+// A member suspects its sequencer.
+fn suspects_at<P: OneRun>(
+    parts: &Parts<P>,
+    alloc: Global,
+    machine: &P,
+    before: &Node<P>,
+    draft: &mut Draft<P>,
+) -> Result<(), NoMemory>
+    requires { MayAdd P.stood P.left P.run.frame (fitness_of (P.fits_state machine.now) (P.fits_args machine.now) (P.fits_text machine.now) (P.fits_reply machine.now)) parts.now before.now Suspects draft.old }
+    ensures { OnOk result (AddsPart P.stood P.left P.run.frame (fitness_of (P.fits_state machine.now) (P.fits_args machine.now) (P.fits_text machine.now) (P.fits_reply machine.now)) parts.now before.now Suspects draft.old draft.new) }
+{
+    let mut after = before.copy(alloc)?;
+    let moved = after.suspect(alloc, machine)?;
+    draft.add_part(alloc, listed(parts), before, after, moved)
+}
+
+// The member of this number.
+fn member_of<P: OneRun>(parts: &Parts<P>, member: u8) -> &Node<P>
+    requires stands { Stands P.stood P.left P.run.frame parts.now }
+    requires within { member < P.run.frame.settings.nodes }
+    ensures { Some result.now ≡ slice_get parts.now.nodes.items member }
+{
+    match parts.node(member) {
+        Some(node) => node,
+        None => unreachable!(),
+    }
+}
+
+// How many entries the list of the run has.
+fn listed<P: OneRun>(parts: &Parts<P>) -> u64
+    ensures { result ≡ length parts.now.ledger.entries }
+{
+    parts.ledger.entries().len() as u64
 }

@@ -1,18 +1,20 @@
 //! One event after the other.
 
-ghost use Rattle.std.specs.Prelude.{◌≡◌, ◌⊎◌, ◌+◌, ◌≤◌, Err, OnErr, OnOk};
+ghost use Rattle.std.specs.Prelude.{◌≡◌, ◌⊎◌, ◌+◌, ◌<◌, ◌≤◌, ◌^◌, [], if◌then◌else◌, length, vec_capacity, Err, IfOk, OnErr, OnOk};
+ghost use Rattle.world_rules.specs.Steps.{idle_after};
 ghost use Rattle.world_parts.specs.Seen.{tasks_out};
 ghost use Rattle.world_parts.specs.Standing.{Stands, seen_of};
-ghost use Rattle.world_core.specs.Stepping.{IsRefused, Stepped};
+ghost use Rattle.world_core.specs.Stepping.{HasRoomMade, IsRefused, Stepped};
 
 use crate::draft::Draft;
-use crate::parts::Parts;
+use crate::events::happens;
 use net_rules::Fate;
 use node_core::OneRun;
 use orca_base::{Items, NoMemory};
 use std::alloc::{AllocError, Global};
 use thiserror::Error;
 use wires::Wire;
+use world_parts::Parts;
 use world_rules::{Event, Standing, Step};
 
 /// Why an event wasn't done.
@@ -46,117 +48,140 @@ impl From<AllocError> for StepError {
     }
 }
 
-impl<P: OneRun> Parts<P> {
-    /// Does an event, which becomes the last step, with the fates that the wire in use gives the packets that it sends, in their order. A
-    /// Burst ends a task of its process that is out.
-    ///
-    /// NotEnabled comes exactly where the event isn't possible here: no event is in a run that isn't going. All room is made, the wire's
-    /// too, before the wire is asked. So after either error the world is as it was, and the wire was asked nothing.
-    pub(crate) fn step<W: Wire>(
-        &mut self,
-        alloc: Global,
-        machine: &P,
-        event: Event,
-        wire: &mut W,
-    ) -> Result<(), StepError>
-        requires { Stands P.stood P.left P.run.frame self.old }
-        ensures stands { Stands P.stood P.left P.run.frame self.new }
-        ensures done { OnOk result (Stepped P.run.frame event (seen_of self.old) (seen_of self.new) (W.told wire.old) (W.told wire.new)) }
-        ensures err { OnErr result (seen_of self.new ≡ seen_of self.old) }
-        ensures unasked { OnErr result (W.told wire.new ≡ W.told wire.old) }
-        ensures refused { result ≡ Err StepError.NotEnabled → IsRefused P.run.frame event (seen_of self.old) }
-        ensures enabled { IsRefused P.run.frame event (seen_of self.old) → (result ≡ Err StepError.NotEnabled) ⊎ (result ≡ Err StepError.NoMemory) }
-        ensures tasks { tasks_out (seen_of self.new) ≤ tasks_out (seen_of self.old) }
-        ensures script { W.told_script wire.new ≡ W.told_script wire.old }
-        ensures since { W.loaded wire.new ≡ W.loaded wire.old }
-    {
-        if self.standing() != Standing::Going {
-            return Err(StepError::NotEnabled);
-        }
-        let draft = self.happens(alloc, machine, event)?;
-        let fates = self.make_room(alloc, &draft, wire)?;
-        let idle = self.idle_after(event, draft.has_stirred);
-        self.leave_net(event);
-        let fates = self.close(draft, fates, wire);
-        self.idle = idle;
-        self.ledger.push_step(Step {
-            event,
-            fates: Items::new(fates),
-        });
-        Ok(())
+/// Does an event, which becomes the last step, with the fates that the wire in use gives the packets that it sends, in their order. A
+/// Burst ends a task of its process that is out.
+///
+/// NotEnabled comes exactly where the event isn't possible here: no event is in a run that isn't going. All room is made, the wire's
+/// too, before the wire is asked. So after either error the world is as it was, and the wire was asked nothing.
+pub(crate) fn step<P: OneRun, W: Wire>(
+    parts: &mut Parts<P>,
+    alloc: Global,
+    machine: &P,
+    event: Event,
+    wire: &mut W,
+) -> Result<(), StepError>
+    requires { Stands P.stood P.left P.run.frame parts.old }
+    ensures stands { Stands P.stood P.left P.run.frame parts.new }
+    ensures done { OnOk result (Stepped P.run.frame event (seen_of parts.old) (seen_of parts.new) (W.told wire.old) (W.told wire.new)) }
+    ensures err { OnErr result (seen_of parts.new ≡ seen_of parts.old) }
+    ensures unasked { OnErr result (W.told wire.new ≡ W.told wire.old) }
+    ensures refused { result ≡ Err StepError.NotEnabled → IsRefused P.run.frame event (seen_of parts.old) }
+    ensures enabled { IsRefused P.run.frame event (seen_of parts.old) → (result ≡ Err StepError.NotEnabled) ⊎ (result ≡ Err StepError.NoMemory) }
+    ensures tasks { tasks_out (seen_of parts.new) ≤ tasks_out (seen_of parts.old) }
+    ensures script { W.told_script wire.new ≡ W.told_script wire.old }
+    ensures since { W.loaded wire.new ≡ W.loaded wire.old }
+{
+    if parts.standing() != Standing::Going {
+        return Err(StepError::NotEnabled);
     }
+    let draft = happens(parts, alloc, machine, event)?;
+    let fates = make_room(parts, alloc, &draft, wire)?;
+    let idle = idle_after(parts, event, draft.has_stirred);
+    leave_net(parts, event);
+    let fates = close(parts, draft, fates, wire);
+    parts.idle = idle;
+    parts.ledger.push_step(Step {
+        event,
+        fates: Items::new(fates),
+    });
+    Ok(())
+}
 
-    // Room for all that the event leaves: for its packets in the network and at the wire, for their fates, and in what is kept, where each
-    // task that is out has room too.
-    fn make_room<W: Wire>(
-        &mut self,
-        alloc: Global,
-        draft: &Draft<P>,
-        wire: &mut W,
-    ) -> Result<Vec<Fate>, NoMemory> {
-        let packets = draft.outgoing.len();
-        let tasks = self.tasks_out() as usize;
-        let fates = Vec::with_capacity(alloc, packets)?;
-        self.net.make_room(packets as u32)?;
-        self.ledger
-            .make_room(tasks + 1, draft.entries.len(), tasks + draft.pieces.len())?;
-        wire.make_room(packets as u32)?;
-        Ok(fates)
-    }
+// Room for all that the event leaves: for its packets in the network and at the wire, for their fates, and in what is kept, where each
+// task that is out has room too. An event that sends 2^32 packets or more finds no memory.
+fn make_room<P: OneRun, W: Wire>(
+    parts: &mut Parts<P>,
+    alloc: Global,
+    draft: &Draft<P>,
+    wire: &mut W,
+) -> Result<Vec<Fate>, NoMemory>
+    requires { Stands P.stood P.left P.run.frame parts.old }
+    ensures same { HasRoomMade parts.old parts.new }
+    ensures few { OnOk result (length draft.now.outgoing.items < 2 ^ 32) }
+    ensures net { OnOk result (length draft.now.outgoing.items ≤ parts.new.net.spare) }
+    ensures wires { OnOk result (length draft.now.outgoing.items ≤ W.spare wire.new) }
+    ensures fates { IfOk result (λ fates. (fates.items ≡ []) × (length draft.now.outgoing.items ≤ vec_capacity fates)) }
+    ensures steps { OnOk result (tasks_out (seen_of parts.old) + 1 ≤ parts.new.ledger.step_room) }
+    ensures entries { OnOk result (length draft.now.entries.items ≤ parts.new.ledger.entry_room) }
+    ensures pieces { OnOk result (tasks_out (seen_of parts.old) + length draft.now.pieces.items ≤ parts.new.ledger.piece_room) }
+    ensures told { W.told wire.new ≡ W.told wire.old }
+    ensures script { W.told_script wire.new ≡ W.told_script wire.old }
+    ensures since { W.loaded wire.new ≡ W.loaded wire.old }
+{
+    let Ok(packets) = u32::try_from(draft.outgoing.len()) else {
+        return Err(NoMemory);
+    };
+    let tasks = parts.tasks_out() as usize;
+    let fates = Vec::with_capacity(alloc, packets as usize)?;
+    parts.net.make_room(packets)?;
+    parts
+        .ledger
+        .make_room(tasks + 1, draft.entries.len(), tasks + draft.pieces.len())?;
+    wire.make_room(packets)?;
+    Ok(fates)
+}
 
-    // How many ticks followed each other without a burst, once the event is done.
-    fn idle_after(&self, event: Event, has_stirred: bool) -> u64 {
-        match event {
-            _ if has_stirred => 0,
-            Event::Burst { .. } => 0,
-            Event::Tick => self.idle.saturating_add(1),
-            _ => self.idle,
-        }
+// How many ticks followed each other without a burst, once the event is done.
+fn idle_after<P: OneRun>(parts: &Parts<P>, event: Event, has_stirred: bool) -> u64
+    requires { parts.now.idle < 2 ^ 63 }
+    ensures { result ≡ (if has_stirred then 0 else idle_after event parts.now.idle) }
+{
+    match event {
+        _ if has_stirred => 0,
+        Event::Burst { .. } => 0,
+        Event::Tick => parts.idle + 1,
+        _ => parts.idle,
     }
+}
 
-    // What the event does to packets in flight, to which members live, and to the wires: a crashed member's tasks are no longer out.
-    fn leave_net(&mut self, event: Event) {
-        match event {
-            Event::Deliver { packet, copy } => {
-                let _ = self.net.take(packet, copy);
-            }
-            Event::Tick => self.net.tick(),
-            Event::Crash { node } => {
-                let at = node as usize;
-                self.lives[at] = false;
-                self.nodes[at].recall();
-            }
-            Event::Swap => self.swaps += 1,
-            Event::Burst { .. } | Event::Act { .. } | Event::Suspect { .. } => {}
-        }
+// What the event does to packets in flight, to which members live, and to the wires: a crashed member's tasks are no longer out.
+fn leave_net<P: OneRun>(parts: &mut Parts<P>, event: Event) {
+    match event {
+        Event::Deliver { packet, copy } => {
+            let _ = parts.net.take(packet, copy);
+        },
+        Event::Tick => parts.net.tick(),
+        Event::Crash { node } => {
+            let at = node as usize;
+            parts.lives[at] = false;
+            parts.nodes[at].recall();
+        },
+        Event::Swap => parts.swaps += 1,
+        Event::Burst { .. } | Event::Act { .. } | Event::Suspect { .. } => {},
     }
+}
 
-    // The members that did their parts take their places, what was performed is kept, and the packets are sent. It takes no memory.
-    fn close<W: Wire>(&mut self, draft: Draft<P>, fates: Vec<Fate>, wire: &mut W) -> Vec<Fate> {
-        let Draft {
-            parts,
-            outgoing,
-            entries,
-            pieces,
-            has_stirred: _,
-        } = draft;
-        'parts: for part in parts {
-            self.nodes[part.member as usize] = part.node;
-        }
-        'entries: for entry in entries {
-            self.ledger.push_entry(entry);
-        }
-        'pieces: for piece in pieces {
-            self.ledger.push_piece(piece);
-        }
-        let mut fates = fates;
-        'packets: for one in outgoing {
-            self.sent += 1;
-            let fate = wire.fate(self.sent, one.kind, one.from, one.to, one.length);
-            self.net
-                .put(self.sent, one.from, one.to, one.bytes, one.twin, fate);
-            fates.push_reserved(fate);
-        }
-        fates
+// The members that did their parts take their places, what was performed is kept, and the packets are sent. It takes no memory.
+fn close<P: OneRun, W: Wire>(
+    parts: &mut Parts<P>,
+    draft: Draft<P>,
+    fates: Vec<Fate>,
+    wire: &mut W,
+) -> Vec<Fate> {
+    let Draft {
+        parts: members,
+        outgoing,
+        entries,
+        pieces,
+        has_stirred: _,
+    } = draft;
+    'members: for part in members {
+        parts.nodes[part.member as usize] = part.node;
     }
+    'entries: for entry in entries {
+        parts.ledger.push_entry(entry);
+    }
+    'pieces: for piece in pieces {
+        parts.ledger.push_piece(piece);
+    }
+    let mut fates = fates;
+    'packets: for one in outgoing {
+        parts.sent += 1;
+        let fate = wire.fate(parts.sent, one.kind, one.from, one.to, one.length);
+        parts
+            .net
+            .put(parts.sent, one.from, one.to, one.bytes, one.twin, fate);
+        fates.push_reserved(fate);
+    }
+    fates
 }

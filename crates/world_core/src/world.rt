@@ -14,8 +14,10 @@ ghost use Rattle.world_parts.specs.Seen.{Of, tasks_out};
 ghost use Rattle.world_core.specs.Stepping.{ChecksIn, IsRefused, Stepped};
 ghost use Rattle.world_core.specs.Telling.{AreNodeEnds, AreProcessEnds, EndsMean};
 
+use crate::book;
+use crate::burst;
 use crate::ends::{NodeEnd, ProcessEnd, RunEnd};
-use crate::parts::Parts;
+use crate::step;
 use crate::step::StepError;
 use node_core::{Done, OneRun, Stray, Task};
 use orca_base::{NoMemory, ProcessNo};
@@ -23,6 +25,7 @@ use std::alloc::Global;
 use std::marker::Model;
 use value_core::Line;
 use wires::Wire;
+use world_parts::Parts;
 use world_rules::{Event, Settings, Standing, Step};
 
 /// The world of one run. It stores the steps of the run, and stands for the world to which they lead.
@@ -48,6 +51,7 @@ impl<P: OneRun> World<P> {
         requires settings { settings ≡ P.run.frame.settings }
         requires ranges { AreSettings settings }
         ensures steps { IfOk result (λ w. w.steps ≡ []) }
+        ensures tasks { IfOk result (λ w. tasks_out w ≡ 0) }
     {
         Ok(World {
             parts: Parts::new(alloc, machine, settings)?,
@@ -91,7 +95,7 @@ impl<P: OneRun> World<P> {
         ensures script { W.told_script wire.new ≡ W.told_script wire.old }
         ensures since { W.loaded wire.new ≡ W.loaded wire.old }
     {
-        self.parts.step(alloc, machine, event, wire)
+        step::step(&mut self.parts, alloc, machine, event, wire)
     }
 
     /// Hands out a process that is ready, in a run that is going, with its member's view. It is no event. It makes the room that the
@@ -110,7 +114,7 @@ impl<P: OneRun> World<P> {
         ensures out { OnOk result (tasks_out self.new ≡ tasks_out self.old + 1) }
         ensures err { OnErr result (self.new ≡ self.old) }
     {
-        self.parts.check_out(alloc, machine, process)
+        burst::check_out(&mut self.parts, alloc, machine, process)
     }
 
     /// Does the Burst event of what was computed from a task, which becomes the last step. It takes no memory.
@@ -122,7 +126,7 @@ impl<P: OneRun> World<P> {
         ensures out { OnOk result (tasks_out self.new + 1 ≡ tasks_out self.old) }
         ensures err { OnErr result (self.new ≡ self.old) }
     {
-        self.parts.check_in(done)
+        burst::check_in(&mut self.parts, done)
     }
 
     /// Ends every task that is out. Those processes are ready again, and nothing else changes. It takes no memory.
@@ -130,7 +134,7 @@ impl<P: OneRun> World<P> {
         ensures steps { self.new.steps ≡ self.old.steps }
         ensures out { tasks_out self.new ≡ 0 }
     {
-        self.parts.recall();
+        burst::recall(&mut self.parts);
     }
 }
 
@@ -214,7 +218,7 @@ impl<P: OneRun> World<P> {
         ensures legal { IfOk result (λ lines. Legal P.run.frame.performs P.run.frame.computes lines.items) }
         ensures kept { Of P.run.frame self.now (IsKept P.run.frame) }
     {
-        self.parts.book(alloc)
+        book::book(&self.parts, alloc)
     }
 
     /// The members as they stand, by their numbers.
@@ -222,7 +226,7 @@ impl<P: OneRun> World<P> {
         ensures ends { Of P.run.frame self.now (λ w. IfOk result (λ ends. AreNodeEnds P.run.frame w ends.items)) }
         ensures kept { Of P.run.frame self.now (IsKept P.run.frame) }
     {
-        self.parts.node_ends(alloc)
+        book::node_ends(&self.parts, alloc)
     }
 
     /// The processes as they stand, by their numbers. Each that its member began stands at what it does next after its replies (`mean`).
@@ -231,7 +235,7 @@ impl<P: OneRun> World<P> {
         ensures mean { Of P.run.frame self.now (EndsMean P.run.frame) }
         ensures kept { Of P.run.frame self.now (IsKept P.run.frame) }
     {
-        self.parts.process_ends(alloc)
+        book::process_ends(&self.parts, alloc)
     }
 
     /// All that is kept of the run, as `book`, `node_ends` and `process_ends` tell it: nothing of its history is copied but replies. Where
@@ -245,6 +249,6 @@ impl<P: OneRun> World<P> {
         ensures mean { Of P.run.frame self (EndsMean P.run.frame) }
         ensures kept { Of P.run.frame self (IsKept P.run.frame) }
     {
-        self.parts.into_end(alloc)
+        book::into_end(self.parts, alloc)
     }
 }

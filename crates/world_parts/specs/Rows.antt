@@ -28,11 +28,14 @@ waits_at w i owner = not (w.nodes owner).member.outside && waits_in i (w.nodes o
 abbrev pub waits_on : Frame → World → ℕ → ObjectId → Bool
 waits_on f w i object = w.lives (owner_in (processes_of f w) object) && waits_at w i (owner_in (processes_of f w) object)
 
--- member m applied its whole log, and so many entries, and nothing is pending with it or waits at it as sequencer
+-- nothing is pending with member m, and nothing waits at it as sequencer
+abbrev pub has_nothing_left : Frame → ℕ → Node → Bool
+has_nothing_left f m node = is_empty node.member.pending && (not (leads (group f) m node.member) || is_empty node.member.waiting)
+
+-- and it applied its whole log, and so many entries
 abbrev pub has_applied_all : Frame → ℕ → Node → ℕ → Bool
 has_applied_all f m node listed =
-    ((node.member.applied == length node.member.log) && (node.member.applied == listed))
-    && (is_empty node.member.pending && (not (leads (group f) m node.member) || is_empty node.member.waiting))
+    ((node.member.applied == length node.member.log) && (node.member.applied == listed)) && has_nothing_left f m node
 
 -- how a run stands that is over, by whether a process has ended by a fault, and whether each of a living member has ended
 abbrev pub how_ended : Bool → Bool → Standing

@@ -1,9 +1,10 @@
 //! How a run stands.
 
-ghost use Rattle.std.specs.Prelude.{◌≡◌, ◌<◌, ◌≤◌, ◌&&◌, ◌||◌, ℕ, true, if◌then◌else◌, None, not, nat_le, option_map};
+ghost use Rattle.std.specs.Prelude.{◌≡◌, ◌<◌, ◌≤◌, ◌==◌, ◌&&◌, ◌||◌, ℕ, true, if◌then◌else◌, None, not, nat_le, option_map};
 ghost use Rattle.orca_base.specs.declared.limits.TheConstants.{IDLE_TICKS};
 ghost use Rattle.group_member.specs.StandsFor.{IsMember};
 ghost use Rattle.group_rules.specs.Sets.{count};
+ghost use Rattle.history_buffer.specs.Window.{last_number};
 ghost use Rattle.group_rules.specs.Steps.{is_empty};
 ghost use Rattle.node_core.specs.Shown.{on_stage};
 ghost use Rattle.node_core.specs.Stands.{StandsAs};
@@ -13,7 +14,7 @@ ghost use Rattle.world_rules.specs.Nodes as nodes;
 ghost use Rattle.world_rules.specs.Played as played;
 ghost use Rattle.world_rules.specs.Standings as rules;
 ghost use Rattle.world_rules.specs.Worlds.{agreed, home_of, played_in};
-ghost use Rattle.world_parts.specs.Rows.{Stops, has_applied_all, how_ended, is_lost, waits_at, waits_on};
+ghost use Rattle.world_parts.specs.Rows.{Stops, has_applied_all, has_nothing_left, how_ended, is_lost, waits_at, waits_on};
 ghost use Rattle.world_parts.specs.Standing.{Is, Stands};
 
 use crate::choosers::is_computing;
@@ -588,11 +589,25 @@ fn is_done<P: OneRun>(node: &Node<P>, listed: u64) -> bool
     requires { IsMember node.now.member }
     ensures { (f : Frame) (m : ℕ) (v : nodes.Node) → StandsAs P.stood P.left f m node.now v → result ≡ has_applied_all f m v listed }
 {
+    has_applied(node, listed) && has_none_left(node)
+}
+
+// Whether it has applied its whole log, and so many entries.
+fn has_applied<P: OneRun>(node: &Node<P>, listed: u64) -> bool
+    requires { IsMember node.now.member }
+    ensures { result ≡ ((node.now.member.applied == last_number node.now.member.window) && (node.now.member.applied == listed)) }
+{
     let member = node.member();
-    member.applied() == member.length()
-        && member.applied() == listed
-        && !member.has_pending()
-        && !member.has_waiting()
+    member.applied() == member.length() && member.applied() == listed
+}
+
+// Whether nothing is pending with it, and nothing waits at it as sequencer.
+fn has_none_left<P: OneRun>(node: &Node<P>) -> bool
+    requires { IsMember node.now.member }
+    ensures { (f : Frame) (m : ℕ) (v : nodes.Node) → StandsAs P.stood P.left f m node.now v → result ≡ has_nothing_left f m v }
+{
+    let member = node.member();
+    !member.has_pending() && !member.has_waiting()
 }
 
 // Whether it has taken so many turns, and computes.
