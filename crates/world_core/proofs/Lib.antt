@@ -2,3 +2,4 @@ pub mod Adding
 pub mod Keeping
 pub mod Growing
 pub mod Progressing
+pub mod Eventing
