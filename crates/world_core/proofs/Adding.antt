@@ -66,6 +66,7 @@ nodes_added {P} {S} stood left f ns more m after v u h is stands =
         subst (λ (j : ℕ). StandsAs stood left f j node (with_at u.world.nodes m v.node j)) (sym same.0)
         (subst (λ (n : Node P S). StandsAs stood left f m n (with_at u.world.nodes m v.node m)) same.1
         (subst (StandsAs stood left f m after) (sym (with_own u.world.nodes m v.node)) stands))
+
     other : (k : ℕ) (node : Node P S) → (k ≡ m → ⊥) × (slice_get ns k ≡ Some node) → StandsAs stood left f k node (with_at u.world.nodes m v.node k)
     other k node apart = subst (StandsAs stood left f k node) (sym (with_other u.world.nodes m v.node k apart.0)) (h.each k node apart.1)
 
@@ -154,6 +155,7 @@ grew w n (x ∷ xs) more low is = apart (w == more) refl ∙ sym (or_true (not (
     or_true : (a : Bool) → (a || true) ≡ true
     or_true true = refl
     or_true false = refl
+
     apart : (b : Bool) → (w == more) ≡ b → not b ≡ true
     apart true e = absurd (omega (arith, low, is, eqb-true w more e))
     apart false e = refl

@@ -143,17 +143,23 @@ may_add {P} {S} stood left f fitness s w end m start node draft walks grows come
         StandsAs stood left f n node (w.nodes m) × EventFits f fitness n start (w.nodes m) × Each (IsSoundMail f) (mails_of (part f n start (w.nodes m)).deeds)
         × ((w.nodes m).copies.applied + length (stands.entries_of (part f n start (w.nodes m)).deeds) ≡ length (entries_of (part f n start (w.nodes m)).node))
         × (length (entries_of (part f n start (w.nodes m)).node) < 2 ^ 62)
+
     now : ℕ
     now = (end.nodes m).copies.applied
+
     many : length (entries_of (end.nodes m)) ≡ now
     many = ap length (grows.begin m comes.within) ∙ length-take-le now (agreed f end) (grows.within m comes.within)
+
     there : length (entries_of (part f m start (w.nodes m)).node) ≡ now
     there = ap (λ (n : nodes.Node). length (entries_of n)) (sym comes.tells.node) ∙ many
+
     told : (w.nodes m).copies.applied + length (stands.entries_of (part f m start (w.nodes m)).deeds) ≡ length (entries_of (part f m start (w.nodes m)).node)
     told = ap (λ l. (w.nodes m).copies.applied + length l) (told_same (part f m start (w.nodes m)).deeds) ∙ comes.tells.count ∙ sym there
+
     small : length (entries_of (part f m start (w.nodes m)).node) < 2 ^ 62
     small =
         let last = fits.moments (at_work (part f m start (w.nodes m))) (walks f m start (w.nodes m)) in
         omega (arith, there, ap (λ (n : nodes.Node). n.copies.applied) comes.tells.node, last.within, last.small.accepted)
+
     joined : Joins node.member.me → MayAdd stood left f fitness s node start draft
     joined j = record { node = w.nodes m; stands = j.0; fits = j.1.0; sound = j.1.1.0; told = j.1.1.1.0; had = comes.had; small = j.1.1.1.1; few = few }

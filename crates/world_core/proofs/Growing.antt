@@ -43,6 +43,7 @@ first_at n known place x xs front is = go (ltb known (suc place)) is
   where
     rest : List Placed
     rest = lines_behind known (suc place) xs
+
     go : (b : Bool) → aside_at n (cond b (placed (suc place) x) []) ≡ front → aside_at n (cond b (placed (suc place) x ++ rest) rest) ≡ front ++ aside_at n rest
     go true e = both_at n (placed (suc place) x) rest ∙ ap (λ (l : List Line). l ++ aside_at n rest) e
     go false e = ap (λ (l : List Line). l ++ aside_at n rest) e
@@ -118,12 +119,14 @@ fronts_on list entries before messages now front within low had =
   where
     known : ℕ
     known = length entries
+
     rest : behind known (length before) messages ≡ drop known (take now list)
     rest =
         behind_by known (length before) (known - length before) messages (omega (arith, low))
         ∙ sym (drop-append-add before messages (known - length before))
         ∙ ap (λ (n : ℕ). drop n (before ++ messages)) (let e : length before + (known - length before) ≡ known = omega (arith, low) in e)
         ∙ ap (drop known) had
+
     far : known < now → Fronts list known now (entries ++ behind known (length before) messages)
     far lt =
         let long : length (take now list) ≡ now = length-take-le now list within in
@@ -137,6 +140,7 @@ fronts_on list entries before messages now front within low had =
           applied = omega (arith, count);
           one = inr (omega (arith, count));
         }
+
     near : now ≤ known → Fronts list known now (entries ++ behind known (length before) messages)
     near le =
         let long : length (take now list) ≡ now = length-take-le now list within in
@@ -192,17 +196,23 @@ drafted_on f w u entries before messages performed beside more told now h within
   where
     known : ℕ
     known = length entries
+
     place : ℕ
     place = length before
+
     list : List Message
     list = agreed f u
+
     fronts : Fronts list known now (entries ++ behind known place messages)
     fronts = fronts_on list entries before messages now h.front within low had
+
     most : (length (entries ++ behind known place messages) ≤ known) ⊎ (length (entries ++ behind known place messages) ≤ now) → length (entries ++ behind known place messages) ≤ length list
     most (inl e) = omega (arith, e, h.most)
     most (inr e) = omega (arith, e, within)
+
     parts : (n : ℕ) → aside_at n (performed ++ (lines_behind known place told ++ more)) ≡ aside_at n performed ++ (aside_at n (lines_behind known place told) ++ aside_at n more)
     parts n = both_at n performed (lines_behind known place told ++ more) ∙ ap (λ (l : List Line). aside_at n performed ++ l) (both_at n (lines_behind known place told) more)
+
     kept : (n : ℕ) (x : Message) → length (agreed f w) ≤ n → slice_get list n ≡ Some x → n < known
         → aside_at (suc n) (performed ++ (lines_behind known place told ++ more)) ≡ lines_at f u n x ++ aside_at (suc n) (beside ++ more)
     kept n x le at lt =
@@ -211,6 +221,7 @@ drafted_on f w u entries before messages performed beside more told now h within
         ∙ ap (λ (l : List Line). (lines_at f u n x ++ aside_at (suc n) beside) ++ (l ++ aside_at (suc n) more)) (low_none (suc n) known place told (omega (arith, lt)))
         ∙ append_assoc (lines_at f u n x) (aside_at (suc n) beside) (aside_at (suc n) more)
         ∙ ap (λ (l : List Line). lines_at f u n x ++ l) (sym (both_at (suc n) beside more))
+
     fresh : (n : ℕ) (x : Message) → length (agreed f w) ≤ n → n < length (entries ++ behind known place messages) → slice_get list n ≡ Some x → known ≤ n
         → aside_at (suc n) (performed ++ (lines_behind known place told ++ more)) ≡ lines_at f u n x ++ aside_at (suc n) (beside ++ more)
     fresh n x le lt at past =

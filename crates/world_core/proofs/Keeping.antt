@@ -18,8 +18,8 @@ pub kept_next : {A : Type 0} (known place next : ℕ) (x : A) (rest left all tot
 kept_next {A} known place next x rest left all total new one is so more =
     ap (λ (l : List A). l ++ behind known next left) more
     ∙ subst (λ (n : ℕ). (all ++ cond (ltb known n) (x ∷ []) []) ++ behind known n left ≡ total) one
-        (append_assoc all (cond (ltb known (suc place)) (x ∷ []) []) (behind known (suc place) left)
-        ∙ ap (λ (l : List A). all ++ l) (sym (first_behind known place x left) ∙ ap (behind known place) (sym is)) ∙ so)
+    (append_assoc all (cond (ltb known (suc place)) (x ∷ []) []) (behind known (suc place) left)
+    ∙ ap (λ (l : List A). all ++ l) (sym (first_behind known place x left) ∙ ap (behind known place) (sym is)) ∙ so)
 
 first_lines : (known place : ℕ) (x : List Line) (xs : List (List Line)) → lines_behind known place (x ∷ xs) ≡ cond (ltb known (suc place)) (placed (suc place) x) [] ++ lines_behind known (suc place) xs
 first_lines known place x xs = go (ltb known (suc place))
@@ -33,5 +33,5 @@ pub lines_next : (known place next : ℕ) (x : List Line) (rest left : List (Lis
 lines_next known place next x rest left all total new one is so more =
     ap (λ (l : List Placed). l ++ lines_behind known next left) more
     ∙ subst (λ (n : ℕ). (all ++ cond (ltb known n) (placed n x) []) ++ lines_behind known n left ≡ total) one
-        (append_assoc all (cond (ltb known (suc place)) (placed (suc place) x) []) (lines_behind known (suc place) left)
-        ∙ ap (λ (l : List Placed). all ++ l) (sym (first_lines known place x left) ∙ ap (lines_behind known place) (sym is)) ∙ so)
+    (append_assoc all (cond (ltb known (suc place)) (placed (suc place) x) []) (lines_behind known (suc place) left)
+    ∙ ap (λ (l : List Placed). all ++ l) (sym (first_lines known place x left) ∙ ap (lines_behind known place) (sym is)) ∙ so)

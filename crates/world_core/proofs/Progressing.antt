@@ -113,20 +113,27 @@ progress_on {P} {S} stood left f s w end old new u m start before after moved is
   where
     v : NodeWork
     v = part f m start (w.nodes m)
+
     known : List Message
     known = s.ledger.entries ++ old.entries.items
+
     front : List Message
     front = entries_of (w.nodes m)
+
     now : ℕ
     now = (end.nodes m).copies.applied
+
     me : before.member.me ≡ m
     me = comes.stands.member.me
+
     next : taken new.parts.items s.nodes.items ≡ slice_set (taken old.parts.items s.nodes.items) m after
     next =
         ap (λ (l : List (Part P S)). taken l s.nodes.items) added.parts ∙ taken_push old.parts.items (record { member = before.member.me; node = after }) s.nodes.items
         ∙ ap (λ (n : ℕ). slice_set (taken old.parts.items s.nodes.items) n after) me
+
     moves_by : ℕ → ℕ → ℕ → ℕ → List Placed → Bool
     moves_by a b c d xs = not ((a == b) && (c == d)) || not (is_empty xs)
+
     moves : has_moved before after moved ≡ (has_stirred_at (w.nodes m) v.node || not (is_empty (aside_of v.deeds)))
     moves =
         ap (λ (a : ℕ). moves_by a after.member.applied before.member.installed after.member.installed moved.aside.items) (sym comes.stands.member.applied)
@@ -134,36 +141,47 @@ progress_on {P} {S} stood left f s w end old new u m start before after moved is
         ∙ ap (λ (c : ℕ). moves_by (w.nodes m).member.applied v.node.member.applied c after.member.installed moved.aside.items) (sym comes.stands.member.installed)
         ∙ ap (λ (d : ℕ). moves_by (w.nodes m).member.applied v.node.member.applied (w.nodes m).member.installed d moved.aside.items) (sym done.node.member.installed)
         ∙ ap (λ (xs : List Placed). moves_by (w.nodes m).member.applied v.node.member.applied (w.nodes m).member.installed v.node.member.installed xs) done.did.aside
+
     applied : before.copies.applied ≡ length front
     applied = ap (λ (c : Copied). c.applied) comes.stands.copies ∙ comes.had
+
     count : length s.ledger.entries + length old.entries.items ≡ length known
     count = sym (length-append s.ledger.entries old.entries.items)
+
     listed : s.ledger.entries ++ new.entries.items ≡ known ++ behind (length known) (length front) moved.messages.items
     listed =
         ap (λ (l : List Message). s.ledger.entries ++ l) added.entries
         ∙ sym (append_assoc s.ledger.entries old.entries.items (behind (length s.ledger.entries + length old.entries.items) before.copies.applied moved.messages.items))
         ∙ ap (λ (n : ℕ). known ++ behind n before.copies.applied moved.messages.items) count ∙ ap (λ (n : ℕ). known ++ behind (length known) n moved.messages.items) applied
+
     performed : of_pieces new.pieces.items ≡ of_pieces old.pieces.items ++ (lines_behind (length known) (length front) moved.entries.items ++ aside_of v.deeds)
     performed =
         added.pieces
         ∙ ap (λ (n : ℕ). of_pieces old.pieces.items ++ (lines_behind n before.copies.applied moved.entries.items ++ moved.aside.items)) count
         ∙ ap (λ (n : ℕ). of_pieces old.pieces.items ++ (lines_behind (length known) n moved.entries.items ++ moved.aside.items)) applied
         ∙ ap (λ (l : List Placed). of_pieces old.pieces.items ++ (lines_behind (length known) (length front) moved.entries.items ++ l)) done.did.aside
+
     low : length front ≤ length known
     low = omega (arith, comes.low, h.drafted.least)
+
     had : front ++ moved.messages.items ≡ take now (agreed f end)
     had = done.messages ∙ ap entries_of (sym comes.tells.node) ∙ grows.begin m comes.within
+
     told : moved.entries.items ≡ told_of v.deeds
     told = done.did.entries ∙ told_same v.deeds
+
     tells : Tells f end (length front) now moved.entries.items (aside_of v.deeds)
     tells =
         subst (λ (n : ℕ). Tells f end n now moved.entries.items (aside_of v.deeds)) comes.had
         (subst (λ (l : List (List Line)). Tells f end (w.nodes m).copies.applied now l (aside_of v.deeds)) (sym told)
         (record { count = comes.tells.count; lines = comes.tells.lines; beside = comes.places }))
+
     fronts : Fronts (agreed f end) (length known) now (known ++ behind (length known) (length front) moved.messages.items)
     fronts = fronts_on (agreed f end) known front moved.messages.items now h.drafted.front (grows.within m comes.within) low had
+
     own : (k : ℕ) → k ≡ m → ((end.nodes k).copies.applied ≤ length (s.ledger.entries ++ new.entries.items)) ⊎ ((after_part f m v u).world.nodes k ≡ w.nodes k)
     own k same = inl (omega (arith, ap (λ (j : ℕ). (end.nodes j).copies.applied) same, fronts.applied, ap length listed))
+
     other : (k : ℕ) → k < f.settings.nodes → (k ≡ m → ⊥) → ((end.nodes k).copies.applied ≤ length (s.ledger.entries ++ new.entries.items)) ⊎ ((after_part f m v u).world.nodes k ≡ w.nodes k)
     other k lt apart =
         ⊎_elim (λ (le : (end.nodes k).copies.applied ≤ length known). inl (omega (arith, le, fronts.known, ap length listed))) (λ (same : u.world.nodes k ≡ w.nodes k). inr (with_other u.world.nodes m v.node k apart ∙ same)) (h.covered k lt)
@@ -185,5 +203,6 @@ progress_done stood left f s w draft u is grows law low h = record {
     all m lt =
         ⊎_elim (λ (le : (u.world.nodes m).copies.applied ≤ length (s.ledger.entries ++ draft.entries.items)). le)
         (λ (same : u.world.nodes m ≡ w.nodes m). omega (arith, ap (λ (n : nodes.Node). n.copies.applied) same, low m lt, h.drafted.least)) (h.covered m lt)
+
     whole : s.ledger.entries ++ draft.entries.items ≡ agreed f u.world
     whole = drafted_list f w u.world (s.ledger.entries ++ draft.entries.items) (of_pieces draft.pieces.items) h.beside h.drafted grows all

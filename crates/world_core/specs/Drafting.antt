@@ -175,6 +175,7 @@ pub record IsDraft {P S : Type 0} (stood : Stood S) (left : Left S) (f : Frame) 
   pub performed : Performed (singles_in f u.world) f.performs (agreed f u.world) u.world.aside (s.ledger.performed ++ of_pieces draft.pieces.items)
   pub stirred : draft.has_stirred ≡ has_stirred f w u.world
   pub tasks : KeepTasks s.nodes.items (taken draft.parts.items s.nodes.items)
+  pub members : Each (λ (part : Part P S). part.member < f.settings.nodes) draft.parts.items
 
 -- of an event that is possible
 abbrev pub Drafts : {P S : Type 0} → Stood S → Left S → Frame → Parts P S → Event → Draft P S → Type 0

@@ -1,5 +1,5 @@
 -- What a call that does an event says.
-use Rattle.std.specs.Prelude.{◌≡◌, ◌≤◌, ◌++◌, ◌∷◌, [], ℕ, List, map}
+use Rattle.std.specs.Prelude.{◌≡◌, ◌++◌, ◌∷◌, [], ℕ, List, map}
 use Rattle.net_rules.specs.declared.asked.Asked.{Asked}
 use Rattle.net_rules.specs.declared.asked.Asked.TheVariants.{Packet}
 use Rattle.orca_base.specs.declared.ids.ProcessNo.{ProcessNo}
@@ -11,7 +11,6 @@ use Rattle.world_rules.specs.Steps.{Next}
 use Rattle.world_rules.specs.Worlds.{Told, World}
 use Rattle.world_facts.specs.Possible.{MayStep}
 use Rattle.world_parts.specs.Seen.{Of, Seen}
-use Rattle.world_parts.specs.declared.parts.Parts.{Parts}
 
 -- a question about a packet, with its fate, as a wire tells it
 abbrev pub told_so : Told → Asked
@@ -31,21 +30,6 @@ pub record Stepped (f : Frame) (event : Event) (old new : Seen) (before after : 
   pub event_is : step.event ≡ event
   pub steps : new.steps ≡ old.steps ++ step ∷ []
   pub leads : Of f old (λ w. Leads f w step before after)
-
--- room was made, and nothing else changed; room that there was stays
-pub record HasRoomMade {P S : Type 0} (old new : Parts P S) : Type 0 where
-  pub numbers : new.numbers ≡ old.numbers
-  pub nodes : new.nodes ≡ old.nodes
-  pub lives : new.lives ≡ old.lives
-  pub flights : new.net.flights ≡ old.net.flights
-  pub steps : new.ledger.steps ≡ old.ledger.steps
-  pub entries : new.ledger.entries ≡ old.ledger.entries
-  pub performed : new.ledger.performed ≡ old.ledger.performed
-  pub step_room : old.ledger.step_room ≤ new.ledger.step_room
-  pub piece_room : old.ledger.piece_room ≤ new.ledger.piece_room
-  pub sent : new.sent ≡ old.sent
-  pub swaps : new.swaps ≡ old.swaps
-  pub idle : new.idle ≡ old.idle
 
 -- the event isn't possible
 abbrev pub IsRefused : Frame → Event → Seen → Type 0

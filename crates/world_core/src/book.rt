@@ -29,7 +29,10 @@ pub(crate) fn book<P: OneRun>(parts: &Parts<P>, alloc: Global) -> Result<Vec<Lin
 }
 
 /// The members as they stand, by their numbers.
-pub(crate) fn node_ends<P: OneRun>(parts: &Parts<P>, alloc: Global) -> Result<Vec<NodeEnd>, NoMemory>
+pub(crate) fn node_ends<P: OneRun>(
+    parts: &Parts<P>,
+    alloc: Global,
+) -> Result<Vec<NodeEnd>, NoMemory>
     requires { Stands P.stood P.left P.run.frame parts.now }
     ensures { Is P.stood P.left P.run.frame parts.now (λ w. IfOk result (λ ends. AreNodeEnds P.run.frame w ends.items)) }
 {
@@ -42,7 +45,10 @@ pub(crate) fn node_ends<P: OneRun>(parts: &Parts<P>, alloc: Global) -> Result<Ve
 }
 
 /// The processes as they stand, by their numbers.
-pub(crate) fn process_ends<P: OneRun>(parts: &Parts<P>, alloc: Global) -> Result<Vec<ProcessEnd>, NoMemory>
+pub(crate) fn process_ends<P: OneRun>(
+    parts: &Parts<P>,
+    alloc: Global,
+) -> Result<Vec<ProcessEnd>, NoMemory>
     requires { Stands P.stood P.left P.run.frame parts.now }
     ensures { Is P.stood P.left P.run.frame parts.now (λ w. IfOk result (λ ends. AreProcessEnds P.run.frame w ends.items)) }
 {

@@ -145,7 +145,14 @@ fn carries_out<P: OneRun>(
     if parts.may_act(process) {
         let mut draft = Draft::nothing(alloc);
         let home = parts.home_of(process);
-        acts_at(parts, alloc, machine, member_of(parts, home), process, &mut draft)?;
+        acts_at(
+            parts,
+            alloc,
+            machine,
+            member_of(parts, home),
+            process,
+            &mut draft,
+        )?;
         Ok(draft)
     } else {
         Err(StepError::NotEnabled)
@@ -175,7 +182,15 @@ fn delivers<P: OneRun>(
     }
     if let Some(packet) = incoming(alloc, flight.packet.as_slice())? {
         let before = member_of(parts, flight.to);
-        comes_to(parts, alloc, machine, before, flight.from, packet, &mut draft)?;
+        comes_to(
+            parts,
+            alloc,
+            machine,
+            before,
+            flight.from,
+            packet,
+            &mut draft,
+        )?;
     }
     Ok(draft)
 }

@@ -1,20 +1,28 @@
 //! One event after the other.
 
-ghost use Rattle.std.specs.Prelude.{◌≡◌, ◌⊎◌, ◌+◌, ◌<◌, ◌≤◌, ◌^◌, [], if◌then◌else◌, length, vec_capacity, Err, IfOk, OnErr, OnOk};
+ghost use Rattle.std.specs.Prelude.{◌≡◌, ◌⊎◌, ◌+◌, ◌-◌, ◌<◌, ◌≤◌, ◌^◌, ◌++◌, [], if◌then◌else◌, length, vec_capacity, Err, IfOk, OnErr, OnOk};
 ghost use Rattle.world_rules.specs.Steps.{idle_after};
 ghost use Rattle.world_parts.specs.Seen.{tasks_out};
 ghost use Rattle.world_parts.specs.Standing.{Stands, seen_of};
-ghost use Rattle.world_core.specs.Stepping.{HasRoomMade, IsRefused, Stepped};
+ghost use Rattle.world_core.specs.Stepping.{IsRefused, Stepped};
+ghost use Rattle.world_core.specs.Closing.{HasClosed, HasCrashed, HasLeft, HasRoomMade, MayLeave, asked_all, sent_all};
+ghost use Rattle.world_core.specs.Drafting.{taken};
+ghost use Rattle.world_parts.specs.Recorded.{of_pieces};
+ghost use Rattle.std.specs.List.{AllByRecursion as Each};
 
-use crate::draft::Draft;
+use crate::draft::{Draft, Part};
 use crate::events::happens;
+use crate::letters::Outgoing;
+use history_buffer::Shared;
+use lossy_net::Net;
 use net_rules::Fate;
-use node_core::OneRun;
+use node_core::{Node, OneRun};
 use orca_base::{Items, NoMemory};
 use std::alloc::{AllocError, Global};
 use thiserror::Error;
+use value_core::Message;
 use wires::Wire;
-use world_parts::Parts;
+use world_parts::{Ledger, Parts, Piece};
 use world_rules::{Event, Standing, Step};
 
 /// Why an event wasn't done.
@@ -135,29 +143,53 @@ fn idle_after<P: OneRun>(parts: &Parts<P>, event: Event, has_stirred: bool) -> u
 }
 
 // What the event does to packets in flight, to which members live, and to the wires: a crashed member's tasks are no longer out.
-fn leave_net<P: OneRun>(parts: &mut Parts<P>, event: Event) {
+fn leave_net<P: OneRun>(parts: &mut Parts<P>, event: Event)
+    requires { MayLeave event parts.old }
+    ensures { HasLeft P.stood P.left event parts.old parts.new }
+{
     match event {
         Event::Deliver { packet, copy } => {
             let _ = parts.net.take(packet, copy);
         },
         Event::Tick => parts.net.tick(),
-        Event::Crash { node } => {
-            let at = node as usize;
-            parts.lives[at] = false;
-            parts.nodes[at].recall();
-        },
+        Event::Crash { node } => crash(parts, node as usize),
         Event::Swap => parts.swaps += 1,
         Event::Burst { .. } | Event::Act { .. } | Event::Suspect { .. } => {},
     }
 }
 
-// The members that did their parts take their places, what was performed is kept, and the packets are sent. It takes no memory.
+// The member of this number crashes.
+fn crash<P: OneRun>(parts: &mut Parts<P>, at: usize)
+    requires nodes { at < length parts.old.nodes.items }
+    requires lives { at < length parts.old.lives.items }
+    ensures { HasCrashed P.stood P.left at parts.old parts.new }
+{
+    parts.lives[at] = false;
+    parts.nodes[at].recall();
+}
+
+// The members that did their parts take their places, what was performed is kept, and the packets are sent: these are their fates. It takes
+// no memory.
 fn close<P: OneRun, W: Wire>(
     parts: &mut Parts<P>,
     draft: Draft<P>,
     fates: Vec<Fate>,
     wire: &mut W,
-) -> Vec<Fate> {
+) -> Vec<Fate>
+    requires members { Each (λ part. part.member < length parts.old.nodes.items) draft.parts.items }
+    requires entries { length draft.entries.items ≤ parts.old.ledger.entry_room }
+    requires pieces { length draft.pieces.items ≤ parts.old.ledger.piece_room }
+    requires net { length draft.outgoing.items ≤ parts.old.net.spare }
+    requires wires { length draft.outgoing.items ≤ W.spare wire.old }
+    requires fates { (fates.items ≡ []) × (length draft.outgoing.items ≤ vec_capacity fates) }
+    requires twins { Each (λ one. one.twin ≡ one.bytes) draft.outgoing.items }
+    requires below { Each (λ flight. flight.number ≤ parts.old.sent) parts.old.net.flights }
+    requires small { parts.old.sent + length draft.outgoing.items < 2 ^ 63 }
+    ensures closed { HasClosed draft parts.old result.items parts.new }
+    ensures told { W.told wire.new ≡ W.told wire.old ++ asked_all parts.old.sent draft.outgoing.items result.items }
+    ensures script { W.told_script wire.new ≡ W.told_script wire.old }
+    ensures since { W.loaded wire.new ≡ W.loaded wire.old }
+{
     let Draft {
         parts: members,
         outgoing,
@@ -165,22 +197,77 @@ fn close<P: OneRun, W: Wire>(
         pieces,
         has_stirred: _,
     } = draft;
+    take_places(&mut parts.nodes, members);
+    keep_entries(&mut parts.ledger, entries);
+    keep_pieces(&mut parts.ledger, pieces);
+    let count = outgoing.len() as u64;
+    let fates = send_all(&mut parts.net, parts.sent, outgoing, fates, wire);
+    parts.sent += count;
+    fates
+}
+
+// The members that did their parts take their places.
+fn take_places<P: OneRun>(nodes: &mut Vec<Node<P>>, members: Vec<Part<P>>)
+    requires { Each (λ part. part.member < length nodes.old.items) members.items }
+    ensures { nodes.new.items ≡ taken members.items nodes.old.items }
+{
     'members: for part in members {
-        parts.nodes[part.member as usize] = part.node;
+        nodes[part.member as usize] = part.node;
     }
+}
+
+// These entries stand behind those of the list. There is room for them.
+fn keep_entries(ledger: &mut Ledger, entries: Vec<Shared<Message>>)
+    requires { length entries.items ≤ ledger.old.entry_room }
+    ensures { ledger.new ≡ record ledger.old {
+      entries = ledger.old.entries ++ entries.items;
+      entry_room = ledger.old.entry_room - length entries.items;
+    } }
+{
     'entries: for entry in entries {
-        parts.ledger.push_entry(entry);
+        ledger.push_entry(entry);
     }
+}
+
+// And what was performed behind that which was. There is room for it.
+fn keep_pieces(ledger: &mut Ledger, pieces: Vec<Piece>)
+    requires { length pieces.items ≤ ledger.old.piece_room }
+    ensures { ledger.new ≡ record ledger.old {
+      performed = ledger.old.performed ++ of_pieces pieces.items;
+      piece_room = ledger.old.piece_room - length pieces.items;
+    } }
+{
     'pieces: for piece in pieces {
-        parts.ledger.push_piece(piece);
+        ledger.push_piece(piece);
     }
+}
+
+// The packets are sent, with the numbers behind this one. The wire is asked of each, and these are their fates.
+fn send_all<W: Wire>(
+    net: &mut Net,
+    sent: u64,
+    outgoing: Vec<Outgoing>,
+    fates: Vec<Fate>,
+    wire: &mut W,
+) -> Vec<Fate>
+    requires net { length outgoing.items ≤ net.old.spare }
+    requires wires { length outgoing.items ≤ W.spare wire.old }
+    requires fates { (fates.items ≡ []) × (length outgoing.items ≤ vec_capacity fates) }
+    requires twins { Each (λ one. one.twin ≡ one.bytes) outgoing.items }
+    requires below { Each (λ flight. flight.number ≤ sent) net.old.flights }
+    requires small { sent + length outgoing.items < 2 ^ 63 }
+    ensures flights { net.new.flights ≡ sent_all sent outgoing.items result.items net.old.flights }
+    ensures count { length result.items ≡ length outgoing.items }
+    ensures told { W.told wire.new ≡ W.told wire.old ++ asked_all sent outgoing.items result.items }
+    ensures script { W.told_script wire.new ≡ W.told_script wire.old }
+    ensures since { W.loaded wire.new ≡ W.loaded wire.old }
+{
     let mut fates = fates;
+    let mut number = sent;
     'packets: for one in outgoing {
-        parts.sent += 1;
-        let fate = wire.fate(parts.sent, one.kind, one.from, one.to, one.length);
-        parts
-            .net
-            .put(parts.sent, one.from, one.to, one.bytes, one.twin, fate);
+        number += 1;
+        let fate = wire.fate(number, one.kind, one.from, one.to, one.length);
+        net.put(number, one.from, one.to, one.bytes, one.twin, fate);
         fates.push_reserved(fate);
     }
     fates

@@ -14,11 +14,9 @@ ghost use Rattle.world_parts.specs.Seen.{Of, tasks_out};
 ghost use Rattle.world_core.specs.Stepping.{ChecksIn, IsRefused, Stepped};
 ghost use Rattle.world_core.specs.Telling.{AreNodeEnds, AreProcessEnds, EndsMean};
 
-use crate::book;
-use crate::burst;
 use crate::ends::{NodeEnd, ProcessEnd, RunEnd};
-use crate::step;
 use crate::step::StepError;
+use crate::{book, burst, step};
 use node_core::{Done, OneRun, Stray, Task};
 use orca_base::{NoMemory, ProcessNo};
 use std::alloc::Global;

@@ -103,10 +103,10 @@ leader_on stood left f s k leader most now so applied node lt at is led more now
       omega (arith, now_is),
       (λ some. omega (arith, now_is)),
       (λ w world.
-      subst (λ (n : ℕ). IsLeader w n now so) one
+          subst (λ (n : ℕ). IsLeader w n now so) one
           (subst (λ (l : ℕ). IsLeader w (suc k) l so) (sym now_is)
-              (subst (λ (m : ℕ). IsLeader w (suc k) k m) (sym so_is)
-                  (leads_on w k leader most applied (member_applied stood left f s w world k node found ∙ sym is) more (led.2 w world))))),
+          (subst (λ (m : ℕ). IsLeader w (suc k) k m) (sym so_is)
+          (leads_on w k leader most applied (member_applied stood left f s w world k node found ∙ sym is) more (led.2 w world))))),
     )
 
 pub leader_stays : {P S : Type 0} (stood : Stood S) (left : Left S) (f : Frame) (s : Parts P S) (k leader most now so applied : ℕ) (node : Node P S) → k < length s.nodes.items
@@ -118,10 +118,10 @@ leader_stays stood left f s k leader most now so applied node lt at is led less 
       omega (arith, now_is, low),
       (λ some. omega (arith, now_is, low)),
       (λ w world.
-      subst (λ (n : ℕ). IsLeader w n now so) one
+          subst (λ (n : ℕ). IsLeader w n now so) one
           (subst (λ (l : ℕ). IsLeader w (suc k) l so) (sym now_is)
-              (subst (λ (m : ℕ). IsLeader w (suc k) leader m) (sym so_is)
-                  (leads_still w k leader most applied (member_applied stood left f s w world k node found ∙ sym is) less (led.2 w world))))),
+          (subst (λ (m : ℕ). IsLeader w (suc k) leader m) (sym so_is)
+          (leads_still w k leader most applied (member_applied stood left f s w world k node found ∙ sym is) less (led.2 w world))))),
     )
 
 -- ---- logs

@@ -25,6 +25,7 @@ there (call ∷ calls) i h = go (call.process.0 == i.0) refl
   where
     later : IsWaiting calls i → IsWaiting (call ∷ calls) i
     later k = (suc k.0, k.1, omega (arith, k.2.0), k.2.1.0, k.2.1.1)
+
     go : (b : Bool) → (call.process.0 == i.0) ≡ b → IsWaiting (call ∷ calls) i
     go true is = (0, call, omega arith, refl, ap (λ (n : ℕ). record { 0 = n }) (eqb-true call.process.0 i.0 is))
     go false is =

@@ -116,12 +116,7 @@ impl Ledger {
     }
 
     /// Makes room for at least so many steps, entries and pieces more. Room that there is stays.
-    pub fn make_room(
-        &mut self,
-        steps: usize,
-        entries: usize,
-        pieces: usize,
-    ) -> Result<(), NoMemory>
+    pub fn make_room(&mut self, steps: usize, entries: usize, pieces: usize) -> Result<(), NoMemory>
         ensures steps { OnOk result (steps ≤ self.new.step_room) }
         ensures entries { OnOk result (entries ≤ self.new.entry_room) }
         ensures pieces { OnOk result (pieces ≤ self.new.piece_room) }

@@ -19,9 +19,10 @@ overflow_add-place c =
 
 pub entries-preserved : goal.entries-preserved
 entries-preserved c =
-    let left = (some_left c.next.result c.in-Some.lines _ _ c.in-Some.is c.next.ensures.steps).0 in
-    (lines_next c.args.known c.entries.place _ c.in-Some.lines _ _ (of_pieces c.entries.pieces.items) _ _ (omega arith) left c.entries.invariant.0 c.in_ok-keep_entry.ensures,
-    omega (arith, c.entries.invariant.1, ap length left))
+    let left = (some_left c.next.result c.in-Some.lines _ _ c.in-Some.is c.next.ensures.steps).0 in (
+      lines_next c.args.known c.entries.place _ c.in-Some.lines _ _ (of_pieces c.entries.pieces.items) _ _ (omega arith) left c.entries.invariant.0 c.in_ok-keep_entry.ensures,
+      omega (arith, c.entries.invariant.1, ap length left),
+    )
 
 pub returns : goal.returns
 returns c =

@@ -18,9 +18,10 @@ overflow_add-place c =
 
 pub messages-preserved : goal.messages-preserved
 messages-preserved c =
-    let left = (some_left c.next.result c.in-Some.message _ _ c.in-Some.is c.next.ensures.steps).0 in
-    (kept_next c.args.known c.messages.place _ c.in-Some.message _ _ c.messages.entries.items _ _ (omega arith) left c.messages.invariant.0 c.in_ok-keep_message.ensures,
-    omega (arith, c.messages.invariant.1, ap length left))
+    let left = (some_left c.next.result c.in-Some.message _ _ c.in-Some.is c.next.ensures.steps).0 in (
+      kept_next c.args.known c.messages.place _ c.in-Some.message _ _ c.messages.entries.items _ _ (omega arith) left c.messages.invariant.0 c.in_ok-keep_message.ensures,
+      omega (arith, c.messages.invariant.1, ap length left),
+    )
 
 pub returns : goal.returns
 returns c =

@@ -11,10 +11,11 @@ members-preserved g c =
     let s = c.args.self.now in
     let lt : c.members.member < length s.nodes.items = omega (arith, c.members-test.true, c.len-member-end.ensures, s.nodes.ok.0) in
     let is = c.applied-applied.ensures ∙ ap (λ (m : Member Message Reply). m.applied) c.member.ensures in
-    elim c.if-applied-most.branch
-    [ then-applied-most x ↦
-        leader_on g.P.OneRun.stood g.P.OneRun.left g.P.OneRun.run.frame s c.members.member c.members.leader c.members.most c.if-applied-most.leader c.if-applied-most.most
-        c.applied-applied.result c.index.result.now lt c.index.ensures is c.members.invariant (omega (arith, x.if-applied-most)) x.leader-is x.most-is
-    | else-applied-most x ↦
-        leader_stays g.P.OneRun.stood g.P.OneRun.left g.P.OneRun.run.frame s c.members.member c.members.leader c.members.most c.if-applied-most.leader c.if-applied-most.most
-        c.applied-applied.result c.index.result.now lt c.index.ensures is c.members.invariant (omega (arith, x.if-applied-most)) x.leader-is x.most-is ]
+    elim c.if-applied-most.branch [
+      | then-applied-most x ↦
+          leader_on g.P.OneRun.stood g.P.OneRun.left g.P.OneRun.run.frame s c.members.member c.members.leader c.members.most c.if-applied-most.leader c.if-applied-most.most
+          c.applied-applied.result c.index.result.now lt c.index.ensures is c.members.invariant (omega (arith, x.if-applied-most)) x.leader-is x.most-is
+      | else-applied-most x ↦
+          leader_stays g.P.OneRun.stood g.P.OneRun.left g.P.OneRun.run.frame s c.members.member c.members.leader c.members.most c.if-applied-most.leader c.if-applied-most.most
+          c.applied-applied.result c.index.result.now lt c.index.ensures is c.members.invariant (omega (arith, x.if-applied-most)) x.leader-is x.most-is
+    ]
