@@ -3,3 +3,4 @@ pub mod Keeping
 pub mod Growing
 pub mod Progressing
 pub mod Eventing
+pub mod Doing

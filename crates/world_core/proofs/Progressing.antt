@@ -41,6 +41,7 @@ pub record Progress {P S : Type 0} (stood : Stood S) (left : Left S) (f : Frame)
   pub letters : AreOutgoing f.settings.nodes draft.outgoing.items u.mails
   pub stirred : draft.has_stirred ≡ has_stirred f w u.world
   pub tasks : KeepTasks s.nodes.items (taken draft.parts.items s.nodes.items)
+  pub members : Each (λ (part : Part P S). part.member < f.settings.nodes) draft.parts.items
   pub beside : List Placed
   pub grown : u.world.aside ≡ w.aside ++ beside
   pub drafted : HasDrafted f w end (s.ledger.entries ++ draft.entries.items) (of_pieces draft.pieces.items) beside
@@ -74,12 +75,17 @@ progress_first {P} {S} stood left f s w v end draft is same aside empty grows = 
   letters = subst (λ (l : List Outgoing). AreOutgoing f.settings.nodes l []) (sym empty.outgoing) tt;
   stirred = empty.stirred ∙ sym (still f w v same aside);
   tasks = subst (λ (l : List (Part P S)). KeepTasks s.nodes.items (taken l s.nodes.items)) (sym empty.parts) (λ m i node r view at here out. (node, (at, here)));
+  members = subst (λ (l : List (Part P S)). Each (λ (part : Part P S). part.member < f.settings.nodes) l) (sym empty.parts) tt;
   beside = [];
   grown = aside ∙ sym (append-nil w.aside);
   drafted = subst (λ (l : List Message). HasDrafted f w end l (of_pieces draft.pieces.items) []) (sym (ap (λ (l : List Message). s.ledger.entries ++ l) empty.entries ∙ append-nil s.ledger.entries ∙ is.entries))
       (subst (λ (l : List Placed). HasDrafted f w end (agreed f w) l []) (sym empty.pieces) (drafted_first f w end grows));
   covered = λ m lt. inr (ap (λ (k : ℕ → nodes.Node). k m) same);
 }
+
+each_push : {A : Type 0} (Q : A → Type 0) (xs : List A) (x : A) → Each Q xs → Q x → Each Q (xs ++ x ∷ [])
+each_push Q [] x h k = (k, tt)
+each_push Q (y ∷ xs) x h k = (h.0, each_push Q xs x h.1 k)
 
 -- what is known of the member whose part comes next
 pub record Comes {P S : Type 0} (stood : Stood S) (left : Left S) (f : Frame) (s : Parts P S) (w end : World) (m : ℕ) (start : Start) (before : Node P S) : Type 0 where
@@ -103,6 +109,8 @@ progress_on {P} {S} stood left f s w end old new u m start before after moved is
   stirred = added.stirred ∙ ap (λ (b : Bool). b || has_moved before after moved) h.stirred ∙ ap (λ (b : Bool). has_stirred f w u.world || b) moves
       ∙ sym (stirred_added f w u m v h.beside comes.within stood_there h.grown);
   tasks = tasks_added s.nodes.items _ _ m before after h.tasks next comes.at keeps.only;
+  members = subst (λ (l : List (Part P S)). Each (λ (part : Part P S). part.member < f.settings.nodes) l) (sym added.parts)
+      (each_push (λ (part : Part P S). part.member < f.settings.nodes) old.parts.items (record { member = before.member.me; node = after }) h.members (omega (arith, me, comes.within)));
   beside = h.beside ++ aside_of v.deeds;
   grown = ap (λ (l : List Placed). l ++ aside_of v.deeds) h.grown ∙ append_assoc w.aside h.beside (aside_of v.deeds);
   drafted = subst (λ (l : List Message). HasDrafted f w end l (of_pieces new.pieces.items) (h.beside ++ aside_of v.deeds)) (sym listed)
@@ -197,6 +205,7 @@ progress_done stood left f s w draft u is grows law low h = record {
   performed = drafted_all f w u.world (s.ledger.entries ++ draft.entries.items) (of_pieces draft.pieces.items) h.beside s.ledger.performed h.drafted grows whole h.grown law is.performed;
   stirred = h.stirred;
   tasks = h.tasks;
+  members = h.members;
 }
   where
     all : (m : ℕ) → m < f.settings.nodes → (u.world.nodes m).copies.applied ≤ length (s.ledger.entries ++ draft.entries.items)

@@ -15,7 +15,9 @@ use crate::step::StepError;
 use group_packets::Packet;
 use history_buffer::Shared;
 use node_core::{Node, OneRun};
+use node_rules::walking_law;
 use orca_base::{BURST_TURNS, NoMemory, ProcessNo};
+use run_law::{parts_fit_apart, ticks_are_apart};
 use std::alloc::Global;
 use value_core::Message;
 use world_parts::Parts;
@@ -51,6 +53,7 @@ pub(crate) fn happens<P: OneRun>(
 // A member crashes that lives.
 fn crashes<P: OneRun>(parts: &Parts<P>, alloc: Global, node: u8) -> Result<Draft<P>, StepError>
     requires stands { Stands P.stood P.left P.run.frame parts.now }
+    requires going { Is P.stood P.left P.run.frame parts.now (λ w. standing P.run.frame w ≡ Going) }
     ensures drafts { IfOk result (Drafts P.stood P.left P.run.frame parts.now (Event.Crash node)) }
     ensures refused { result ≡ Err StepError.NotEnabled → MayNotBe P.stood P.left P.run.frame parts.now (Event.Crash node) }
 {
@@ -64,6 +67,7 @@ fn crashes<P: OneRun>(parts: &Parts<P>, alloc: Global, node: u8) -> Result<Draft
 // The next wire takes the place of the one in use, where there is one.
 fn swaps<P: OneRun>(parts: &Parts<P>, alloc: Global) -> Result<Draft<P>, StepError>
     requires stands { Stands P.stood P.left P.run.frame parts.now }
+    requires going { Is P.stood P.left P.run.frame parts.now (λ w. standing P.run.frame w ≡ Going) }
     ensures drafts { IfOk result (Drafts P.stood P.left P.run.frame parts.now Event.Swap) }
     ensures refused { result ≡ Err StepError.NotEnabled → MayNotBe P.stood P.left P.run.frame parts.now Event.Swap }
 {
@@ -172,6 +176,8 @@ fn delivers<P: OneRun>(
     ensures drafts { IfOk result (Drafts P.stood P.left P.run.frame parts.now (Event.Deliver packet copy)) }
     ensures refused { result ≡ Err StepError.NotEnabled → MayNotBe P.stood P.left P.run.frame parts.now (Event.Deliver packet copy) }
 {
+    parts_fit_apart(machine);
+    walking_law();
     if !parts.net.is_ready(packet, copy) {
         return Err(StepError::NotEnabled);
     }
@@ -202,14 +208,15 @@ fn ticks<P: OneRun>(parts: &Parts<P>, alloc: Global, machine: &P) -> Result<Draf
     ensures drafts { IfOk result (Drafts P.stood P.left P.run.frame parts.now Event.Tick) }
     ensures refused { result ≡ Err StepError.NotEnabled → MayNotBe P.stood P.left P.run.frame parts.now Event.Tick }
 {
+    parts_fit_apart(machine);
+    walking_law();
+    ticks_are_apart();
     if !parts.is_quiet() {
         return Err(StepError::NotEnabled);
     }
     let mut draft = Draft::nothing(alloc);
     'members: for member in 0..parts.numbers.nodes {
-        if parts.lives(member) {
-            ticks_at(parts, alloc, machine, member_of(parts, member), &mut draft)?;
-        }
+        tick(parts, alloc, machine, member, &mut draft)?;
     }
     Ok(draft)
 }
@@ -226,9 +233,12 @@ fn suspects<P: OneRun>(
     ensures drafts { IfOk result (Drafts P.stood P.left P.run.frame parts.now (Event.Suspect member)) }
     ensures refused { result ≡ Err StepError.NotEnabled → MayNotBe P.stood P.left P.run.frame parts.now (Event.Suspect member) }
 {
+    parts_fit_apart(machine);
+    walking_law();
     if parts.lives(member) {
         let mut draft = Draft::nothing(alloc);
-        suspects_at(parts, alloc, machine, member_of(parts, member), &mut draft)?;
+        let before = member_of(parts, member);
+        suspects_at(parts, alloc, machine, before, &mut draft)?;
         Ok(draft)
     } else {
         Err(StepError::NotEnabled)

@@ -20,6 +20,8 @@ use Rattle.world_book.specs.Submitting.{ProcessesMaySubmit}
 use Rattle.world_facts.specs.Counted.{AllCounted}
 use Rattle.world_facts.specs.Ends.{EndsMean}
 use Rattle.world_facts.specs.Processes.{AllBegin, AllStand, HomesAreMembers}
+use Rattle.world_facts.specs.Rows.{AllRead}
+use Rattle.world_law.specs.Counts.{AllCount}
 use Rattle.world_law.specs.Homes.{AllHome}
 use Rattle.world_law.specs.Lists.{AllGrow}
 use Rattle.world_law.specs.Packets.{AllNumber}
@@ -127,6 +129,8 @@ pub record Laws (p : Performs) (q : Computes) : Type 0 where
   pub numbers : AllNumber
   pub letters : AllLettersSound
   pub home : AllHome
+  pub count : AllCount
+  pub read : AllRead
   pub counted : AllCounted
   pub begin : AllBegin
   pub stand : AllStand

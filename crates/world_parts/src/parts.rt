@@ -15,8 +15,10 @@ use orca_base::{Choice, Items, NoMemory};
 use run_law::{letters_are_own, limits_stop, replies_stand, ticks_are_apart};
 use std::alloc::Global;
 use world_book::legal_book;
-use world_facts::{ends_mean, processes_stand, worlds_count};
-use world_law::{group_steps, letters_are_sound, packets_are_numbered, processes_are_home};
+use world_facts::{ends_mean, processes_stand, standings_mean, worlds_count};
+use world_law::{
+    group_steps, letters_are_sound, numbers_stay_small, packets_are_numbered, processes_are_home,
+};
 use world_rules::Settings;
 
 /// The numbers of a run's settings.
@@ -102,6 +104,8 @@ fn laws_of_runs<P: OneRun>(machine: &P)
     packets_are_numbered();
     letters_are_sound();
     processes_are_home();
+    numbers_stay_small();
+    standings_mean();
     worlds_count();
     processes_stand();
 }

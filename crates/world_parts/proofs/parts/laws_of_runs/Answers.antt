@@ -3,7 +3,7 @@ use Rattle.world_parts.proofs.parts.laws_of_runs.Goals as goal
 
 pub returns : goal.returns
 returns g c =
-    laws_of _ _ _ _ (g.P.OneRun.performs_run c.args.machine.now) (g.P.OneRun.computes_run c.args.machine.now) (record {
+    laws_of _ _ _ _ (g.met.P.OneRun.performs_run c.args.machine.now) (g.met.P.OneRun.computes_run c.args.machine.now) (record {
       kept = c.legal_book.ensures.kept;
       hold = c.legal_book.ensures.holds;
       go = c.legal_book.ensures.goes;
@@ -21,6 +21,8 @@ returns g c =
       numbers = c.packets_are_numbered.ensures;
       letters = c.letters_are_sound.ensures;
       home = c.processes_are_home.ensures;
+      count = c.numbers_stay_small.ensures.steps;
+      read = c.standings_mean.ensures;
       counted = c.worlds_count.ensures.counted;
       begin = c.processes_stand.ensures.begins;
       stand = c.processes_stand.ensures.stands;

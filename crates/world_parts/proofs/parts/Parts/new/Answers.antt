@@ -28,9 +28,9 @@ returns-clause-stands g c =
       turns = ap (λ (s : Settings). s.turns) c.requires.settings;
       events = ap (λ (s : Settings). s.events) c.requires.settings;
       wires = ap (λ (s : Settings). s.wires) c.requires.settings;
-    }) (subst AreSettings c.requires.settings c.requires.ranges) c.laws_of_runs.ensures c.in_ok-nodes.ensures
-    (c.in_ok-lives.ensures ∙ ap (λ (s : Settings). replicate s.nodes true) c.requires.settings)
+    }) (subst AreSettings c.requires.settings c.requires.ranges) c.laws_of_runs.ensures (c.in_ok-nodes.ensures {u = tt})
+    ((c.in_ok-lives.ensures {u = tt}) ∙ ap (λ (s : Settings). replicate s.nodes true) c.requires.settings)
     (record { flights = c.new-net.ensures.empty; steps = ap (λ (r : Recorded). r.steps) c.new-ledger.ensures; entries = ap (λ (r : Recorded). r.entries) c.new-ledger.ensures; performed = ap (λ (r : Recorded). r.performed) c.new-ledger.ensures; sent = refl; swaps = refl; idle = refl })
 
 pub returns-clause-tasks : goal.returns-clause-tasks
-returns-clause-tasks g c = tasks_none g.P.OneRun.stood g.P.OneRun.left g.P.OneRun.run.frame _ c.in_ok-nodes.ensures
+returns-clause-tasks g c = tasks_none g.P.OneRun.stood g.P.OneRun.left g.P.OneRun.run.frame _ (c.in_ok-nodes.ensures {u = tt})
