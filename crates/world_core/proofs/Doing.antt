@@ -1,5 +1,6 @@
 -- Events in which no member does a part, and those in which one does.
-use Rattle.std.proofs.Common.{◌≡◌, ◌≤◌, ◌<◌, ◌+◌, ◌^◌, ◌∙◌, ℕ, true, List, [], Some, slice_get, ap, sym, subst, refl, arith, length}
+use Rattle.std.proofs.Common.{◌≡◌, ◌≤◌, ◌<◌, ◌+◌, ◌^◌, ◌∙◌, ◌&&◌, ltb, ℕ, Bool, true, false, List, [], Some, slice_get, ap, sym, subst, refl, arith, length}
+use Rattle.std.proofs.lemmas.Bool.{ltb-true}
 use Rattle.std.specs.List.{AllByRecursion as Each}
 use Rattle.book_law.proofs.Processes.{get_some}
 use Rattle.node_rules.specs.Conditions.{Fitness}
@@ -13,7 +14,7 @@ use Rattle.world_rules.specs.declared.standing.Standing.TheVariants.{Going}
 use Rattle.world_rules.specs.Frame.{Frame}
 use Rattle.world_rules.specs.Nodes as nodes_of
 use Rattle.world_rules.specs.Standings.{standing}
-use Rattle.world_rules.specs.Steps.{AtWork, Known, Possible, after_part, happens, untouched}
+use Rattle.world_rules.specs.Steps.{AtWork, Known, Possible, after_part, happens, lives_in, untouched}
 use Rattle.world_rules.specs.Worlds.{World, agreed}
 use Rattle.node_core.specs.Shown.{Left, Stood}
 use Rattle.node_core.specs.Stands.{IsDone, StandsAs}
@@ -23,7 +24,8 @@ use Rattle.world_parts.specs.declared.parts.Parts.{Parts}
 use Rattle.world_core.specs.Drafting.{AddsPart, IsDraft, MayAdd}
 use Rattle.world_core.specs.declared.draft.Draft.{Draft}
 use Rattle.world_core.proofs.Eventing.{comes_now, entries_had, letters_sound, may_add}
-use Rattle.world_core.proofs.Progressing.{Comes, IsEmpty, Progress, progress_done, progress_first, progress_on}
+use Rattle.world_core.specs.Growing.{Progress}
+use Rattle.world_core.proofs.Progressing.{Comes, IsEmpty, progress_done, progress_first, progress_on}
 
 -- a run that is going, for which the parts stand, and an event that is possible in it
 pub record Here {P S : Type 0} (stood : Stood S) (left : Left S) (f : Frame) (s : Parts P S) (w : World) (event : Event) (given : Known event) : Type 0 where
@@ -98,3 +100,16 @@ one_draft {P} {S} stood left f fitness s w v event given m start before old new 
     (subst (λ (u : AtWork). Progress stood left f s w end new u) (sym is)
     (progress_on stood left f s w end old new (untouched v) m start before adds.after adds.moved h.is g.list comes (ap (λ (k : ℕ → nodes_of.Node). k m) nodes) adds.added adds.tasks done
     (progress_first stood left f s w v end old h.is nodes aside empty g.list)))
+
+-- what is false isn't true
+pub not_both : (b : Bool) → b ≡ false → b ≡ true → ⊥
+not_both true no_it is = cc
+not_both false no_it is = cc
+
+-- one that lives is a member
+pub within_of : (f : Frame) (w : World) (m : ℕ) → lives_in f w m ≡ true → m < f.settings.nodes
+within_of f w m is = go (ltb m f.settings.nodes) refl is
+  where
+    go : (b : Bool) → ltb m f.settings.nodes ≡ b → (b && w.lives m) ≡ true → m < f.settings.nodes
+    go true is h = ltb-true m f.settings.nodes is
+    go false is h = absurd (cc h)

@@ -4,3 +4,4 @@ pub mod Growing
 pub mod Progressing
 pub mod Eventing
 pub mod Doing
+pub mod Ticking

@@ -28,26 +28,12 @@ use Rattle.world_parts.specs.Standing.{IsWorld}
 use Rattle.world_parts.specs.declared.ledger.Piece.{Piece}
 use Rattle.world_parts.specs.declared.parts.Parts.{Parts}
 use Rattle.world_core.specs.Drafting.{AreNodes, AreOutgoing, HasAdded, HasSpelled, IsDraft, KeepTasks, behind, has_moved, lines_behind, taken}
-use Rattle.world_core.specs.Growing.{HasDrafted}
+use Rattle.world_core.specs.Growing.{HasDrafted, Progress}
 use Rattle.world_core.specs.declared.draft.Draft.{Draft}
 use Rattle.world_core.specs.declared.draft.Part.{Part}
 use Rattle.world_core.specs.declared.letters.Outgoing.{Outgoing}
 use Rattle.world_core.proofs.Adding.{letters_added, nodes_added, set_length, stays_at, stirred_added, taken_push, tasks_added, with_other}
 use Rattle.world_core.proofs.Growing.{Fronts, Tells, drafted_all, drafted_first, drafted_list, drafted_on, fronts_on, told_same}
-
--- of an event from w to `end`, whose members have done their parts up to u: the draft has what they did
-pub record Progress {P S : Type 0} (stood : Stood S) (left : Left S) (f : Frame) (s : Parts P S) (w end : World) (draft : Draft P S) (u : AtWork) : Type 0 where
-  pub nodes : AreNodes stood left f (taken draft.parts.items s.nodes.items) u.world
-  pub letters : AreOutgoing f.settings.nodes draft.outgoing.items u.mails
-  pub stirred : draft.has_stirred ≡ has_stirred f w u.world
-  pub tasks : KeepTasks s.nodes.items (taken draft.parts.items s.nodes.items)
-  pub members : Each (λ (part : Part P S). part.member < f.settings.nodes) draft.parts.items
-  pub beside : List Placed
-  pub grown : u.world.aside ≡ w.aside ++ beside
-  pub drafted : HasDrafted f w end (s.ledger.entries ++ draft.entries.items) (of_pieces draft.pieces.items) beside
-  pub covered :
-      (m : ℕ) → m < f.settings.nodes →
-      ((end.nodes m).copies.applied ≤ length (s.ledger.entries ++ draft.entries.items)) ⊎ (u.world.nodes m ≡ w.nodes m)
 
 -- nothing is drafted
 pub record IsEmpty {P S : Type 0} (draft : Draft P S) : Type 0 where

@@ -1,5 +1,5 @@
 pub mod Stepping
 pub mod Telling
 pub mod Drafting
-pub mod Growing
 pub mod Closing
+pub mod Growing

@@ -1,11 +1,13 @@
 //! What each event leaves, where it is possible.
 
-ghost use Rattle.std.specs.Prelude.{◌≡◌, ◌<◌, Err, IfOk, OnOk, Some, length, slice_get};
+ghost use Rattle.std.specs.Prelude.{◌≡◌, ◌<◌, Err, IfOk, OnOk, Some, length, slice_get, suc, true};
 ghost use Rattle.node_core.specs.Stands.{fitness_of};
 ghost use Rattle.node_rules.specs.Starts.Start.{Acts, Suspects, Ticks};
-ghost use Rattle.world_rules.specs.Standings.{standing};
+ghost use Rattle.world_calls.specs.Law.{ticking};
+ghost use Rattle.world_rules.specs.Standings.{is_quiet, standing};
 ghost use Rattle.world_rules.specs.Steps.{may_swap};
 ghost use Rattle.world_rules.specs.declared.standing.Standing.TheVariants.{Going};
+ghost use Rattle.world_core.specs.Growing.{Progress};
 ghost use Rattle.world_core.specs.Drafting.{AddsLetter, AddsPart, Drafts, MayAdd, MayAddLetter, MayNotBe};
 ghost use Rattle.world_parts.specs.Standing.{Is, Stands};
 
@@ -17,7 +19,7 @@ use history_buffer::Shared;
 use node_core::{Node, OneRun};
 use node_rules::walking_law;
 use orca_base::{BURST_TURNS, NoMemory, ProcessNo};
-use run_law::{parts_fit_apart, ticks_are_apart};
+use run_law::parts_fit_apart;
 use std::alloc::Global;
 use value_core::Message;
 use world_parts::Parts;
@@ -208,9 +210,6 @@ fn ticks<P: OneRun>(parts: &Parts<P>, alloc: Global, machine: &P) -> Result<Draf
     ensures drafts { IfOk result (Drafts P.stood P.left P.run.frame parts.now Event.Tick) }
     ensures refused { result ≡ Err StepError.NotEnabled → MayNotBe P.stood P.left P.run.frame parts.now Event.Tick }
 {
-    parts_fit_apart(machine);
-    walking_law();
-    ticks_are_apart();
     if !parts.is_quiet() {
         return Err(StepError::NotEnabled);
     }
@@ -219,6 +218,32 @@ fn ticks<P: OneRun>(parts: &Parts<P>, alloc: Global, machine: &P) -> Result<Draf
         tick(parts, alloc, machine, member, &mut draft)?;
     }
     Ok(draft)
+}
+
+// The timer of this member runs, if it lives.
+fn tick<P: OneRun>(
+    parts: &Parts<P>,
+    alloc: Global,
+    machine: &P,
+    member: u8,
+    draft: &mut Draft<P>,
+) -> Result<(), NoMemory>
+    requires stands { Stands P.stood P.left P.run.frame parts.now }
+    requires going { Is P.stood P.left P.run.frame parts.now (λ w. standing P.run.frame w ≡ Going) }
+    requires quiet { Is P.stood P.left P.run.frame parts.now (λ w. is_quiet P.run.frame w ≡ true) }
+    requires within { member < P.run.frame.settings.nodes }
+    requires drafted { Is P.stood P.left P.run.frame parts.now (λ w.
+        Progress P.stood P.left P.run.frame parts.now w (ticking P.run.frame w P.run.frame.settings.nodes).world draft.old (ticking P.run.frame w member)) }
+    ensures { OnOk result (Is P.stood P.left P.run.frame parts.now (λ w.
+        Progress P.stood P.left P.run.frame parts.now w (ticking P.run.frame w P.run.frame.settings.nodes).world draft.new (ticking P.run.frame w (suc member)))) }
+{
+    parts_fit_apart(machine);
+    walking_law();
+    if parts.lives(member) {
+        let before = member_of(parts, member);
+        ticks_at(parts, alloc, machine, before, draft)?;
+    }
+    Ok(())
 }
 
 // A member suspects its sequencer.
