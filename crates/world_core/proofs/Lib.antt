@@ -5,3 +5,4 @@ pub mod Progressing
 pub mod Eventing
 pub mod Doing
 pub mod Ticking
+pub mod Recalls

@@ -3,3 +3,4 @@ pub mod Telling
 pub mod Drafting
 pub mod Closing
 pub mod Growing
+pub mod Recalling

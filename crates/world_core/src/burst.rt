@@ -3,6 +3,7 @@
 ghost use Rattle.std.specs.Prelude.{◌≡◌, ◌+◌, true, OnErr, OnOk};
 ghost use Rattle.world_rules.specs.Standings.{standing};
 ghost use Rattle.world_rules.specs.declared.standing.Standing.TheVariants.{Going};
+ghost use Rattle.world_core.specs.Recalling.{AreRecalled};
 ghost use Rattle.world_core.specs.Stepping.{ChecksIn};
 ghost use Rattle.world_parts.specs.Choosing.{is_ready};
 ghost use Rattle.world_parts.specs.Seen.{tasks_out};
@@ -10,7 +11,7 @@ ghost use Rattle.world_parts.specs.Standing.{Is, Stands, seen_of};
 
 use crate::draft::reads_of;
 use crate::events::budget;
-use node_core::{Done, OneRun, Stray, Task};
+use node_core::{Done, Node, OneRun, Stray, Task};
 use orca_base::{Items, NoMemory, ProcessNo};
 use std::alloc::Global;
 use world_calls::calls_fit;
@@ -86,4 +87,13 @@ pub(crate) fn recall<P: OneRun>(parts: &mut Parts<P>)
     ensures out { tasks_out (seen_of parts.new) ≡ 0 }
 {
     recall_all(&mut parts.nodes);
+}
+
+// No task is out any more at any member.
+fn recall_all<P: OneRun>(nodes: &mut Vec<Node<P>>)
+    ensures { AreRecalled P.stood P.left nodes.old.items nodes.new.items }
+{
+    'members: for at in 0..nodes.len() {
+        nodes[at].recall();
+    }
 }
