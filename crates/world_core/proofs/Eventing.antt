@@ -15,6 +15,7 @@ use Rattle.node_rules.specs.Starts.{EventFits, Start, part}
 use Rattle.run_law.specs.Growing.{ListGrows, TellsPart, told_of}
 use Rattle.run_law.specs.Sending.{SendsOwn}
 use Rattle.group_rules.specs.Sets.{In}
+use Rattle.group_rules.specs.World.{Past}
 use Rattle.world_law.specs.Grouped.{Submits}
 use Rattle.world_law.specs.Lists.{OneList}
 use Rattle.world_law.specs.SoundPackets.{IsSoundMail, SaidSound}
@@ -97,8 +98,8 @@ letters_sound f laws settings steps w replays going event given possible =
     let now = laws.sound f refl refl settings steps w replays in
     let hold = laws.hold f refl refl settings steps w replays in
     let said : SaidSound u.world = record {
-      submitted = λ i x among. sound.said.submitted i x (subst (λ past. In x (past.submitted i)) (sym (past_kept f u.world u.mails step.fates)) among);
-      performed = λ one among. sound.said.performed one (subst (λ aside. In one aside) (sym (aside_kept f u.world u.mails step.fates)) among);
+      submitted = λ i x among. sound.said.submitted i x (subst (λ (past : Past Message). In x (past.submitted i)) (sym (past_kept f u.world u.mails step.fates)) among);
+      performed = λ one among. sound.said.performed one (subst (λ (aside : List Placed). In one aside) (sym (aside_kept f u.world u.mails step.fates)) among);
     } in
     (laws.letters f settings.resilience settings.few).letters w event given possible (may_submit f laws settings steps w replays event) hold.grouped hold.places hold.numbered hold.answers now.next said now.flies
 

@@ -1,6 +1,5 @@
 -- Tests of all numbers below one, as a loop comes to know them.
 use Rattle.std.proofs.Common.{◌≡◌, ◌<◌, ◌≤◌, ◌+◌, ◌-◌, ◌∙◌, ◌&&◌, ◌||◌, not, ℕ, zero, suc, Bool, true, false, ap, sym, subst, refl, arith}
-use Rattle.group_rules.specs.Sets.{count}
 use Rattle.world_rules.specs.Standings.{all_below, any_below}
 
 or_right : (a b : Bool) → b ≡ true → (a || b) ≡ true
@@ -55,22 +54,3 @@ pub all_done : (test : ℕ → Bool) (k n : ℕ) → k ≤ n → n ≤ k → all
 all_done test k n low high all =
     let is : k ≡ n = omega (arith, low, high) in
     sym (subst (λ (m : ℕ). all_below m test ≡ true) is all)
-
--- ---- how many
-
--- one more, or none more
-pub count_more : (test : ℕ → Bool) (k next n m : ℕ) → suc k ≡ next → n ≡ count k test → test k ≡ true → suc n ≡ m → m ≡ count next test
-count_more test k next n m one is holds more =
-    subst (λ (l : ℕ). m ≡ count l test) one
-    (sym more ∙ ap suc is ∙ sym (ap (λ (b : Bool). if_so b (count k test)) holds))
-  where
-    if_so : Bool → ℕ → ℕ
-    if_so true c = suc c
-    if_so false c = c
-
-pub count_same : (test : ℕ → Bool) (k next n m : ℕ) → suc k ≡ next → n ≡ count k test → test k ≡ false → n ≡ m → m ≡ count next test
-count_same test k next n m one is fails same =
-    subst (λ (l : ℕ). m ≡ count l test) one (sym same ∙ is ∙ sym (counted test k fails))
-  where
-    counted : (test : ℕ → Bool) (k : ℕ) → test k ≡ false → count (suc k) test ≡ count k test
-    counted test k fails = ap (λ (b : Bool). cond b (suc (count k test)) (count k test)) fails

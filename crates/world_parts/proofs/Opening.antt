@@ -1,9 +1,10 @@
 -- Before the first event the parts of a run are the opening world.
-use Rattle.std.proofs.Common.{◌≡◌, ◌≤◌, ◌<◌, ◌+◌, ◌∙◌, ◌⊎◌, inl, inr, ⊎_elim, ℕ, zero, suc, Bool, true, false, List, [], ◌∷◌, ◌++◌, Option, Some, None, slice_get, slice_index_or, is_some, replicate, ap, sym, subst, refl, arith, map, length}
+use Rattle.std.proofs.Common.{◌≡◌, ◌≤◌, ◌<◌, ◌+◌, ◌∙◌, ◌⊎◌, inl, inr, ⊎_elim, ℕ, zero, suc, Bool, true, false, List, [], ◌∷◌, ◌++◌, Option, Some, None, slice_get, slice_index_or, is_some, if◌then◌else◌, replicate, ap, sym, subst, refl, arith, map, length}
 use Rattle.std.proofs.lemmas.List.{length_push}
 use Rattle.book_law.proofs.Lists.{at_push}
 use Rattle.book_law.proofs.Sorting.{performed_none}
 use Rattle.book_law.specs.Performed.{Performed}
+use Rattle.object_manager.specs.Viewed.{Viewed}
 use Rattle.value_core.specs.Meaning.{Computes, Performs}
 use Rattle.value_core.specs.declared.message.Message.{Message}
 use Rattle.world_rules.specs.Frame.{AreSettings, Frame}
@@ -35,7 +36,7 @@ none_out [] h = refl
 none_out (None ∷ rs) h = let e = none_out rs (λ i r is. h (suc i) r is) in omega (arith, e)
 none_out (Some r ∷ rs) h =
     let e = none_out rs (λ i q is. h (suc i) q is) in
-    let d : (if is_some r.out then 1 else 0) ≡ 0 = ap (λ o. if is_some o then 1 else 0) (h 0 r refl) in
+    let d : (if is_some r.out then 1 else 0) ≡ 0 = ap (λ (o : Option Viewed). if is_some o then 1 else 0) (h 0 r refl) in
     omega (arith, e, d)
 
 pub nobody_out : {P S : Type 0} (nodes : List (Node P S)) →

@@ -6,7 +6,15 @@ use Rattle.orca_base.specs.declared.limits.TheConstants.{HISTORY_LINES, NODES}
 use Rattle.orca_base.specs.declared.what.What.{What}
 use Rattle.orca_base.specs.declared.what.What.TheVariants.{HistoryLines}
 use Rattle.group_rules.specs.Member.{leads}
-use Rattle.group_rules.specs.Sets.{count}
+use Rattle.group_member.specs.StandsFor.{EntryLaw}
+use Rattle.group_rules.specs.Sets.{count, entry_at}
+use Rattle.history_buffer.specs.Slots.{slot_at, slot_of}
+use Rattle.history_buffer.specs.declared.history.Slot.{Slot}
+use Rattle.history_buffer.specs.declared.history.Slot.TheVariants.{Found, NotYet, Purged}
+use Rattle.node_rules.specs.Moments.{IsDue}
+use Rattle.run_law.specs.Limits.{StopsBefore, limit_of}
+use Rattle.value_core.specs.declared.action.Reply.{Reply}
+use Rattle.value_core.specs.declared.message.Message.{Message}
 use Rattle.group_rules.specs.Steps.{is_empty}
 use Rattle.object_manager.specs.After.{Copied}
 use Rattle.world_rules.specs.Frame.{Frame, group}
@@ -192,3 +200,46 @@ few_lines stood left f s w is lines so few =
     let most : HISTORY_LINES ≡ 2000000 = refl in
     let e : length (Book f w) < HISTORY_LINES = omega (arith, so, few, most, book_lines stood left f s w is) in
     sym (ap (λ (b : Bool). cond b (Some (HistoryLines, HISTORY_LINES)) None) (lt-leb HISTORY_LINES (length (Book f w)) e))
+
+-- ---- the entry before which a member stands
+
+-- it is kept, and due
+slot_is : {P S : Type 0} (stood : Stood S) (left : Left S) (f : Frame) (m : ℕ) (node : Node P S) (v : nodes.Node) → EntryLaw Message Reply → StandsAs stood left f m node v → StopsBefore f v
+    → v.copies.applied < v.member.accepted → (number : ℕ) → number ≡ suc v.copies.applied → (x : Message) × IsDue v x × (slot_at node.member.window number ≡ Found x)
+slot_is stood left f m node v law stands stops lt number is =
+    let kept = stops.kept lt in
+    let due = kept.1 in
+    let past : leb number v.member.base ≡ false = lt-leb number v.member.base (omega (arith, is, kept.0)) in (
+      due.0,
+      (
+        due.1,
+        law (group f) m node.member v.member number stands.member
+            ∙ ap (λ (b : Bool). cond b Purged (slot_of (entry_at v.member.log number))) past
+            ∙ ap (λ (n : ℕ). slot_of (entry_at v.member.log n)) is ∙ ap slot_of due.1.there,
+      ),
+    )
+
+applied_of : {P S : Type 0} (stood : Stood S) (left : Left S) (f : Frame) (m : ℕ) (node : Node P S) (v : nodes.Node) → StandsAs stood left f m node v → node.copies.applied ≡ v.copies.applied
+applied_of stood left f m node v stands = ap (λ (c : Copied). c.applied) stands.copies
+
+pub limit_none : {P S : Type 0} (stood : Stood S) (left : Left S) (f : Frame) (m : ℕ) (node : Node P S) (v : nodes.Node) → StandsAs stood left f m node v → StopsBefore f v
+    → node.member.accepted ≤ node.copies.applied → None ≡ limit_at f v
+limit_none stood left f m node v stands stops le =
+    sym (stops.none (omega (arith, le, applied_of stood left f m node v stands, stands.member.accepted)))
+
+pub limit_found : {P S : Type 0} (stood : Stood S) (left : Left S) (f : Frame) (m : ℕ) (node : Node P S) (v : nodes.Node) (number : ℕ) (x : Message) (passed : Option (What × ℕ)) → EntryLaw Message Reply
+    → StandsAs stood left f m node v → StopsBefore f v → node.copies.applied < node.member.accepted → number ≡ node.copies.applied + 1 → Found x ≡ slot_at node.member.window number
+    → passed ≡ limit_of x.action → passed ≡ limit_at f v
+limit_found stood left f m node v number x passed law stands stops lt is at says =
+    let e = applied_of stood left f m node v stands in
+    let slot = slot_is stood left f m node v law stands stops (omega (arith, lt, e, stands.member.accepted)) number (omega (arith, is, e)) in
+    let same : x ≡ slot.0 = let f : Found x ≡ Found slot.0 = at ∙ slot.1.1 in cc in
+    says ∙ ap (λ (y : Message). limit_of y.action) same ∙ sym (stops.due slot.0 slot.1.0)
+
+pub limit_lost : {P S : Type 0} (stood : Stood S) (left : Left S) (f : Frame) (m : ℕ) (node : Node P S) (v : nodes.Node) (number : ℕ) (is_slot : Slot Message) → EntryLaw Message Reply
+    → StandsAs stood left f m node v → StopsBefore f v → node.copies.applied < node.member.accepted → number ≡ node.copies.applied + 1 → is_slot ≡ slot_at node.member.window number
+    → ((x : Message) → is_slot ≡ Found x → ⊥) → ⊥
+limit_lost stood left f m node v number is_slot law stands stops lt is at other =
+    let e = applied_of stood left f m node v stands in
+    let slot = slot_is stood left f m node v law stands stops (omega (arith, lt, e, stands.member.accepted)) number (omega (arith, is, e)) in
+    other slot.0 (at ∙ slot.1.1)

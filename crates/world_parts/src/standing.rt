@@ -569,7 +569,8 @@ fn limit_at<P: OneRun>(node: &Node<P>) -> Option<(What, u64)>
     }
     match node.member().entry(applied + 1) {
         Slot::Found { item } => limit_of(&item.message().action),
-        _ => None,
+        Slot::Purged => None,
+        Slot::NotYet => None,
     }
 }
 
