@@ -123,7 +123,7 @@ pub comes_now : {P S : Type 0} (stood : Stood S) (left : Left S) (f : Frame) (s 
     → m < f.settings.nodes → slice_get s.nodes.items m ≡ Some node → SendsOwn f w m start → TellsPart f w end m start → Comes stood left f s w end m start node
 comes_now stood left f s w end h is m start node lt at own tells = record {
   within = lt;
-  at = at;
+  there = at;
   stands = is.nodes m node at;
   own = each_of (λ (mail : Mail). (posted f.settings.nodes mail).from ≡ m) _ own;
   tells = tells;

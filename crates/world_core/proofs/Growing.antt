@@ -108,8 +108,8 @@ behind_by {A} known place (suc more) (x ∷ xs) is =
 -- the entries of the list so far, with those that a member that applied so many adds
 pub record Fronts (list : List Message) (known applied : ℕ) (entries : List Message) : Type 0 where
   pub front : entries ≡ take (length entries) list
-  pub known : known ≤ length entries
-  pub applied : applied ≤ length entries
+  pub from_known : known ≤ length entries
+  pub from_applied : applied ≤ length entries
   pub one : (length entries ≤ known) ⊎ (length entries ≤ applied)
 
 fronts_on : (list entries before messages : List Message) (now : ℕ) → entries ≡ take (length entries) list → now ≤ length list → length before ≤ length entries
@@ -136,8 +136,8 @@ fronts_on list entries before messages now front within low had =
         let count : length (entries ++ behind known (length before) messages) ≡ now = ap length is ∙ long in
         record {
           front = is ∙ ap (λ (n : ℕ). take n list) (sym count);
-          known = omega (arith, count, lt);
-          applied = omega (arith, count);
+          from_known = omega (arith, count, lt);
+          from_applied = omega (arith, count);
           one = inr (omega (arith, count));
         }
 
@@ -149,8 +149,8 @@ fronts_on list entries before messages now front within low had =
         let count : length (entries ++ behind known (length before) messages) ≡ known = ap length is in
         record {
           front = is ∙ front ∙ ap (λ (n : ℕ). take n list) (sym count);
-          known = omega (arith, count);
-          applied = omega (arith, count, le);
+          from_known = omega (arith, count);
+          from_applied = omega (arith, count, le);
           one = inl (omega (arith, count));
         }
 
@@ -183,15 +183,15 @@ pub drafted_on : (f : Frame) (w u : World) (entries before messages : List Messa
     → HasDrafted f w u (entries ++ behind (length entries) (length before) messages) (performed ++ (lines_behind (length entries) (length before) told ++ more)) (beside ++ more)
 drafted_on f w u entries before messages performed beside more told now h within low had tells = record {
   front = fronts.front;
-  least = omega (arith, h.least, fronts.known);
-  most = omega (arith, ap length fronts.front, length-take-le (length (entries ++ behind known place messages)) list (most fronts.one));
+  least = omega (arith, h.least, fronts.from_known);
+  most = under_list fronts.one;
   old = λ n le. parts n ∙ ap (λ (l : List Line). l ++ (aside_at n (lines_behind known place told) ++ aside_at n more)) (h.old n le)
       ∙ ap (λ (l : List Line). aside_at n beside ++ (l ++ aside_at n more)) (low_none n known place told (omega (arith, le, h.least))) ∙ sym (both_at n beside more);
   new = λ n x le lt at. ⊎_elim (kept n x le at) (fresh n x le lt at) (cases_lt n known);
-  above = λ n lt. parts n ∙ ap (λ (l : List Line). l ++ (aside_at n (lines_behind known place told) ++ aside_at n more)) (h.above n (omega (arith, lt, fronts.known)))
-      ∙ ap (λ (l : List Line). l ++ aside_at n more) (high_none n known place told (omega (arith, tells.count, lt, fronts.applied)))
-      ∙ up_to_none now n more tells.beside (omega (arith, lt, fronts.applied));
-  behind = λ n lt. both_at n beside more ∙ ap (λ (l : List Line). l ++ aside_at n more) (h.behind n (omega (arith, lt, fronts.known))) ∙ up_to_none now n more tells.beside (omega (arith, lt, fronts.applied));
+  above = λ n lt. parts n ∙ ap (λ (l : List Line). l ++ (aside_at n (lines_behind known place told) ++ aside_at n more)) (h.above n (omega (arith, lt, fronts.from_known)))
+      ∙ ap (λ (l : List Line). l ++ aside_at n more) (high_none n known place told (omega (arith, tells.count, lt, fronts.from_applied)))
+      ∙ up_to_none now n more tells.beside (omega (arith, lt, fronts.from_applied));
+  behind = λ n lt. both_at n beside more ∙ ap (λ (l : List Line). l ++ aside_at n more) (h.behind n (omega (arith, lt, fronts.from_known))) ∙ up_to_none now n more tells.beside (omega (arith, lt, fronts.from_applied));
 }
   where
     known : ℕ
@@ -206,9 +206,9 @@ drafted_on f w u entries before messages performed beside more told now h within
     fronts : Fronts list known now (entries ++ behind known place messages)
     fronts = fronts_on list entries before messages now h.front within low had
 
-    most : (length (entries ++ behind known place messages) ≤ known) ⊎ (length (entries ++ behind known place messages) ≤ now) → length (entries ++ behind known place messages) ≤ length list
-    most (inl e) = omega (arith, e, h.most)
-    most (inr e) = omega (arith, e, within)
+    under_list : (length (entries ++ behind known place messages) ≤ known) ⊎ (length (entries ++ behind known place messages) ≤ now) → length (entries ++ behind known place messages) ≤ length list
+    under_list (inl e) = omega (arith, e, h.most)
+    under_list (inr e) = omega (arith, e, within)
 
     parts : (n : ℕ) → aside_at n (performed ++ (lines_behind known place told ++ more)) ≡ aside_at n performed ++ (aside_at n (lines_behind known place told) ++ aside_at n more)
     parts n = both_at n performed (lines_behind known place told ++ more) ∙ ap (λ (l : List Line). aside_at n performed ++ l) (both_at n (lines_behind known place told) more)

@@ -6,3 +6,4 @@ pub mod Eventing
 pub mod Doing
 pub mod Ticking
 pub mod Recalls
+pub mod Ticks

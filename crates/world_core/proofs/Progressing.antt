@@ -76,7 +76,7 @@ each_push Q (y ∷ xs) x h k = (h.0, each_push Q xs x h.1 k)
 -- what is known of the member whose part comes next
 pub record Comes {P S : Type 0} (stood : Stood S) (left : Left S) (f : Frame) (s : Parts P S) (w end : World) (m : ℕ) (start : Start) (before : Node P S) : Type 0 where
   pub within : m < f.settings.nodes
-  pub at : slice_get s.nodes.items m ≡ Some before
+  pub there : slice_get s.nodes.items m ≡ Some before
   pub stands : StandsAs stood left f m before (w.nodes m)
   pub own : Each (λ (mail : Mail). (posted f.settings.nodes mail).from ≡ m) (mails_of (part f m start (w.nodes m)).deeds)
   pub tells : TellsPart f w end m start
@@ -94,7 +94,7 @@ progress_on {P} {S} stood left f s w end old new u m start before after moved is
       (subst (λ (n : ℕ). HasSpelled n moved.sends.items old.outgoing.items new.outgoing.items) me added.outgoing) done.did.sends comes.own;
   stirred = added.stirred ∙ ap (λ (b : Bool). b || has_moved before after moved) h.stirred ∙ ap (λ (b : Bool). has_stirred f w u.world || b) moves
       ∙ sym (stirred_added f w u m v h.beside comes.within stood_there h.grown);
-  tasks = tasks_added s.nodes.items _ _ m before after h.tasks next comes.at keeps.only;
+  tasks = tasks_added s.nodes.items _ _ m before after h.tasks next comes.there keeps.only;
   members = subst (λ (l : List (Part P S)). Each (λ (part : Part P S). part.member < f.settings.nodes) l) (sym added.parts)
       (each_push (λ (part : Part P S). part.member < f.settings.nodes) old.parts.items (record { member = before.member.me; node = after }) h.members (omega (arith, me, comes.within)));
   beside = h.beside ++ aside_of v.deeds;
@@ -174,11 +174,11 @@ progress_on {P} {S} stood left f s w end old new u m start before after moved is
     fronts = fronts_on (agreed f end) known front moved.messages.items now h.drafted.front (grows.within m comes.within) low had
 
     own : (k : ℕ) → k ≡ m → ((end.nodes k).copies.applied ≤ length (s.ledger.entries ++ new.entries.items)) ⊎ ((after_part f m v u).world.nodes k ≡ w.nodes k)
-    own k same = inl (omega (arith, ap (λ (j : ℕ). (end.nodes j).copies.applied) same, fronts.applied, ap length listed))
+    own k same = inl (omega (arith, ap (λ (j : ℕ). (end.nodes j).copies.applied) same, fronts.from_applied, ap length listed))
 
     other : (k : ℕ) → k < f.settings.nodes → (k ≡ m → ⊥) → ((end.nodes k).copies.applied ≤ length (s.ledger.entries ++ new.entries.items)) ⊎ ((after_part f m v u).world.nodes k ≡ w.nodes k)
     other k lt apart =
-        ⊎_elim (λ (le : (end.nodes k).copies.applied ≤ length known). inl (omega (arith, le, fronts.known, ap length listed))) (λ (same : u.world.nodes k ≡ w.nodes k). inr (with_other u.world.nodes m v.node k apart ∙ same)) (h.covered k lt)
+        ⊎_elim (λ (le : (end.nodes k).copies.applied ≤ length known). inl (omega (arith, le, fronts.from_known, ap length listed))) (λ (same : u.world.nodes k ≡ w.nodes k). inr (with_other u.world.nodes m v.node k apart ∙ same)) (h.covered k lt)
 
 -- once all members are done, that is the event's draft
 pub progress_done : {P S : Type 0} (stood : Stood S) (left : Left S) (f : Frame) (s : Parts P S) (w : World) (draft : Draft P S) (u : AtWork) → IsWorld stood left f s w

@@ -210,9 +210,20 @@ fn ticks<P: OneRun>(parts: &Parts<P>, alloc: Global, machine: &P) -> Result<Draf
     ensures drafts { IfOk result (Drafts P.stood P.left P.run.frame parts.now Event.Tick) }
     ensures refused { result ≡ Err StepError.NotEnabled → MayNotBe P.stood P.left P.run.frame parts.now Event.Tick }
 {
-    if !parts.is_quiet() {
-        return Err(StepError::NotEnabled);
+    if parts.is_quiet() {
+        Ok(all_tick(parts, alloc, machine)?)
+    } else {
+        Err(StepError::NotEnabled)
     }
+}
+
+// The timers of the living members run, where the moment is quiet.
+fn all_tick<P: OneRun>(parts: &Parts<P>, alloc: Global, machine: &P) -> Result<Draft<P>, NoMemory>
+    requires stands { Stands P.stood P.left P.run.frame parts.now }
+    requires going { Is P.stood P.left P.run.frame parts.now (λ w. standing P.run.frame w ≡ Going) }
+    requires quiet { Is P.stood P.left P.run.frame parts.now (λ w. is_quiet P.run.frame w ≡ true) }
+    ensures { IfOk result (Drafts P.stood P.left P.run.frame parts.now Event.Tick) }
+{
     let mut draft = Draft::nothing(alloc);
     'members: for member in 0..parts.numbers.nodes {
         tick(parts, alloc, machine, member, &mut draft)?;
