@@ -1,5 +1,5 @@
 -- How an event that was drafted is done: what each call changes of the parts of a run.
-use Rattle.std.specs.Prelude.{◌≡◌, ◌≤◌, ◌<◌, ◌+◌, ◌-◌, ◌^◌, ◌++◌, ◌∷◌, [], ℕ, suc, false, List, length, take, is_some, true, Some, slice_get, slice_set}
+use Rattle.std.specs.Prelude.{◌≡◌, ◌≤◌, ◌<◌, ◌+◌, ◌-◌, ◌^◌, ◌++◌, ◌∷◌, [], ℕ, suc, Bool, false, List, length, take, is_some, true, Some, slice_get, slice_set}
 use Rattle.net_rules.specs.Asked.{packet_asked}
 use Rattle.net_rules.specs.Flights.{copies, joined, ready_copy, ticked, without}
 use Rattle.net_rules.specs.declared.asked.Asked.{Asked}
@@ -49,34 +49,68 @@ flights_after event.Swap flights = flights
 -- the copy is there that comes, the member that crashes, and a wire behind the one in use
 abbrev pub MayLeave : {P S : Type 0} → Event → Parts P S → Type 0
 MayLeave (event.Deliver packet copy) s = is_some (ready_copy packet copy s.net.flights) ≡ true
-MayLeave (event.Crash node) s = (node < length s.nodes.items) × (node < length s.lives.items)
+MayLeave (event.Crash node) s = node < length s.lives.items
 MayLeave event.Swap s = s.swaps + 1 < 2 ^ 16
 MayLeave event.Tick s = Unit {0}
 MayLeave (event.Burst process place turns) s = Unit {0}
 MayLeave (event.Act process) s = Unit {0}
 MayLeave (event.Suspect node) s = Unit {0}
 
--- this member crashed: it has no task out
-pub record HasCrashed {P S : Type 0} (stood : Stood S) (left : Left S) (at_member : ℕ) (old new : Parts P S) : Type 0 where
-  pub others : new ≡ record old { nodes = new.nodes; lives = new.lives }
-  pub lives : new.lives.items ≡ slice_set old.lives.items at_member false
+abbrev pub lives_after : Event → List Bool → List Bool
+lives_after (event.Crash node) lives = slice_set lives node false
+lives_after (event.Deliver packet copy) lives = lives
+lives_after event.Tick lives = lives
+lives_after (event.Burst process place turns) lives = lives
+lives_after (event.Act process) lives = lives
+lives_after (event.Suspect node) lives = lives
+lives_after event.Swap lives = lives
+
+abbrev pub swaps_after : Event → ℕ → ℕ
+swaps_after event.Swap swaps = swaps + 1
+swaps_after (event.Crash node) swaps = swaps
+swaps_after (event.Deliver packet copy) swaps = swaps
+swaps_after event.Tick swaps = swaps
+swaps_after (event.Burst process place turns) swaps = swaps
+swaps_after (event.Act process) swaps = swaps
+swaps_after (event.Suspect node) swaps = swaps
+
+-- that is so, and nothing else changed
+pub record HasLeft {P S : Type 0} (event : Event) (old new : Parts P S) : Type 0 where
+  pub others : new ≡ record old { net = new.net; lives = new.lives; swaps = new.swaps }
+  pub flights : new.net.flights ≡ flights_after event old.net.flights
+  pub spare : new.net.spare ≡ old.net.spare
+  pub lives : new.lives.items ≡ lives_after event old.lives.items
+  pub swaps : new.swaps ≡ swaps_after event old.swaps
+
+-- ---- the tasks of a crashed member
+
+abbrev pub MayEnd : {P S : Type 0} → Event → Parts P S → Type 0
+MayEnd (event.Crash node) s = node < length s.nodes.items
+MayEnd (event.Deliver packet copy) s = Unit {0}
+MayEnd event.Tick s = Unit {0}
+MayEnd (event.Burst process place turns) s = Unit {0}
+MayEnd (event.Act process) s = Unit {0}
+MayEnd (event.Suspect node) s = Unit {0}
+MayEnd event.Swap s = Unit {0}
+
+-- this member has no task out, and nothing else changed
+pub record HasLost {P S : Type 0} (stood : Stood S) (left : Left S) (member : ℕ) (old new : Parts P S) : Type 0 where
+  pub others : new ≡ record old { nodes = new.nodes }
   pub before : Node P S
   pub after : Node P S
-  pub here : slice_get old.nodes.items at_member ≡ Some before
-  pub nodes : new.nodes.items ≡ slice_set old.nodes.items at_member after
+  pub here : slice_get old.nodes.items member ≡ Some before
+  pub nodes : new.nodes.items ≡ slice_set old.nodes.items member after
   pub recalled : HasRecalled before after
   pub alike : StandsAlike stood left before after
 
-abbrev pub HasLeft : {P S : Type 0} → Stood S → Left S → Event → Parts P S → Parts P S → Type 0
-HasLeft stood left (event.Deliver packet copy) old new =
-    (new ≡ record old { net = new.net }) × (new.net.flights ≡ without packet copy old.net.flights) × (new.net.spare ≡ old.net.spare)
-HasLeft stood left event.Tick old new =
-    (new ≡ record old { net = new.net }) × (new.net.flights ≡ ticked old.net.flights) × (new.net.spare ≡ old.net.spare)
-HasLeft stood left (event.Crash node) old new = HasCrashed stood left node old new
-HasLeft stood left event.Swap old new = new ≡ record old { swaps = old.swaps + 1 }
-HasLeft stood left (event.Burst process place turns) old new = new ≡ old
-HasLeft stood left (event.Act process) old new = new ≡ old
-HasLeft stood left (event.Suspect node) old new = new ≡ old
+abbrev pub HasEnded : {P S : Type 0} → Stood S → Left S → Event → Parts P S → Parts P S → Type 0
+HasEnded stood left (event.Crash node) old new = HasLost stood left node old new
+HasEnded stood left (event.Deliver packet copy) old new = new ≡ old
+HasEnded stood left event.Tick old new = new ≡ old
+HasEnded stood left (event.Burst process place turns) old new = new ≡ old
+HasEnded stood left (event.Act process) old new = new ≡ old
+HasEnded stood left (event.Suspect node) old new = new ≡ old
+HasEnded stood left event.Swap old new = new ≡ old
 
 -- ---- packets
 

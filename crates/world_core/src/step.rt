@@ -5,7 +5,7 @@ ghost use Rattle.world_rules.specs.Steps.{idle_after};
 ghost use Rattle.world_parts.specs.Seen.{tasks_out};
 ghost use Rattle.world_parts.specs.Standing.{Stands, seen_of};
 ghost use Rattle.world_core.specs.Stepping.{IsRefused, Stepped};
-ghost use Rattle.world_core.specs.Closing.{HasClosed, HasCrashed, HasLeft, HasRoomMade, MayLeave, asked_all, sent_all};
+ghost use Rattle.world_core.specs.Closing.{HasClosed, HasEnded, HasLeft, HasRoomMade, MayEnd, MayLeave, asked_all, sent_all};
 ghost use Rattle.world_core.specs.Drafting.{taken};
 ghost use Rattle.world_parts.specs.Recorded.{of_pieces};
 ghost use Rattle.std.specs.List.{AllByRecursion as Each};
@@ -87,6 +87,7 @@ pub(crate) fn step<P: OneRun, W: Wire>(
     let idle = idle_after(parts, event, draft.has_stirred);
     leave_net(parts, event);
     let fates = close(parts, draft, fates, wire);
+    end_tasks(parts, event);
     parts.idle = idle;
     parts.ledger.push_step(Step {
         event,
@@ -142,30 +143,30 @@ fn idle_after<P: OneRun>(parts: &Parts<P>, event: Event, has_stirred: bool) -> u
     }
 }
 
-// What the event does to packets in flight, to which members live, and to the wires: a crashed member's tasks are no longer out.
+// What the event does to packets in flight, to which members live, and to the wires.
 fn leave_net<P: OneRun>(parts: &mut Parts<P>, event: Event)
     requires { MayLeave event parts.old }
-    ensures { HasLeft P.stood P.left event parts.old parts.new }
+    ensures { HasLeft event parts.old parts.new }
 {
     match event {
         Event::Deliver { packet, copy } => {
             let _ = parts.net.take(packet, copy);
         },
         Event::Tick => parts.net.tick(),
-        Event::Crash { node } => crash(parts, node as usize),
+        Event::Crash { node } => parts.lives[node as usize] = false,
         Event::Swap => parts.swaps += 1,
         Event::Burst { .. } | Event::Act { .. } | Event::Suspect { .. } => {},
     }
 }
 
-// The member of this number crashes.
-fn crash<P: OneRun>(parts: &mut Parts<P>, at: usize)
-    requires nodes { at < length parts.old.nodes.items }
-    requires lives { at < length parts.old.lives.items }
-    ensures { HasCrashed P.stood P.left at parts.old parts.new }
+// A crashed member's tasks are no longer out.
+fn end_tasks<P: OneRun>(parts: &mut Parts<P>, event: Event)
+    requires { MayEnd event parts.old }
+    ensures { HasEnded P.stood P.left event parts.old parts.new }
 {
-    parts.lives[at] = false;
-    parts.nodes[at].recall();
+    if let Event::Crash { node } = event {
+        parts.nodes[node as usize].recall();
+    }
 }
 
 // The members that did their parts take their places, what was performed is kept, and the packets are sent: these are their fates. It takes
