@@ -7,3 +7,4 @@ pub mod Doing
 pub mod Ticking
 pub mod Recalls
 pub mod Ticks
+pub mod Sending
