@@ -45,10 +45,10 @@ got_set (z ∷ xs) (suc k) zero x y is = inr ((λ e. absurd (omega (arith, e))),
 got_set (z ∷ xs) (suc k) (suc j) x y is =
     ⊎_elim (λ (own : (j ≡ k) × (x ≡ y)). inl (omega (arith, own.0), own.1)) (λ (other : (j ≡ k → ⊥) × (slice_get xs j ≡ Some y)). inr ((λ e. other.0 (omega (arith, e))), other.1)) (got_set xs k j x y is)
 
-with_own : {A : Type 0} (f : ℕ → A) (k : ℕ) (v : A) → with_at f k v k ≡ v
+pub with_own : {A : Type 0} (f : ℕ → A) (k : ℕ) (v : A) → with_at f k v k ≡ v
 with_own f k v = ap (λ (b : Bool). cond b v (f k)) (eq-eqb k k refl)
 
-with_other : {A : Type 0} (f : ℕ → A) (k : ℕ) (v : A) (x : ℕ) → (x ≡ k → ⊥) → with_at f k v x ≡ f x
+pub with_other : {A : Type 0} (f : ℕ → A) (k : ℕ) (v : A) (x : ℕ) → (x ≡ k → ⊥) → with_at f k v x ≡ f x
 with_other f k v x apart = ap (λ (b : Bool). cond b v (f x)) (ne_eqb x k apart)
 
 -- ---- members
@@ -109,7 +109,7 @@ letters_added nodes from old new sends before mails h spelled is own =
 
 -- ---- whether anything stirred
 
-stays_at : (n : nodes.Node) → has_stirred_at n n ≡ false
+pub stays_at : (n : nodes.Node) → has_stirred_at n n ≡ false
 stays_at n =
     ap (λ (b : Bool). not (b && (n.member.installed == n.member.installed))) (eq-eqb n.member.applied n.member.applied refl)
     ∙ ap not (eq-eqb n.member.installed n.member.installed refl)

@@ -8,3 +8,4 @@ pub mod Ticking
 pub mod Recalls
 pub mod Ticks
 pub mod Sending
+pub mod Leaving

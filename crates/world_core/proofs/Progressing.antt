@@ -32,7 +32,7 @@ use Rattle.world_core.specs.Growing.{HasDrafted, Progress}
 use Rattle.world_core.specs.declared.draft.Draft.{Draft}
 use Rattle.world_core.specs.declared.draft.Part.{Part}
 use Rattle.world_core.specs.declared.letters.Outgoing.{Outgoing}
-use Rattle.world_core.proofs.Adding.{letters_added, nodes_added, set_length, stays_at, stirred_added, taken_push, tasks_added, with_other}
+use Rattle.world_core.proofs.Adding.{letters_added, nodes_added, set_length, stays_at, stirred_added, taken_push, tasks_added, with_other, with_own}
 use Rattle.world_core.proofs.Growing.{Fronts, Tells, drafted_all, drafted_first, drafted_list, drafted_on, fronts_on, told_same}
 
 -- nothing is drafted
@@ -66,6 +66,7 @@ progress_first {P} {S} stood left f s w v end draft is same aside empty grows = 
   grown = aside ∙ sym (append-nil w.aside);
   drafted = subst (λ (l : List Message). HasDrafted f w end l (of_pieces draft.pieces.items) []) (sym (ap (λ (l : List Message). s.ledger.entries ++ l) empty.entries ∙ append-nil s.ledger.entries ∙ is.entries))
       (subst (λ (l : List Placed). HasDrafted f w end (agreed f w) l []) (sym empty.pieces) (drafted_first f w end grows));
+  later = λ m. let e = ap (λ (k : ℕ → nodes.Node). (k m).copies.applied) same in omega (arith, e);
   covered = λ m lt. inr (ap (λ (k : ℕ → nodes.Node). k m) same);
 }
 
@@ -102,6 +103,7 @@ progress_on {P} {S} stood left f s w end old new u m start before after moved is
   drafted = subst (λ (l : List Message). HasDrafted f w end l (of_pieces new.pieces.items) (h.beside ++ aside_of v.deeds)) (sym listed)
       (subst (λ (l : List Placed). HasDrafted f w end (known ++ behind (length known) (length front) moved.messages.items) l (h.beside ++ aside_of v.deeds)) (sym performed)
       (drafted_on f w end known front moved.messages.items (of_pieces old.pieces.items) h.beside (aside_of v.deeds) moved.entries.items now h.drafted (grows.within m comes.within) low had tells));
+  later = λ k. ⊎_elim (own_later k) (other_later k) (cases_eq k m);
   covered = λ k lt. ⊎_elim (own k) (other k lt) (cases_eq k m);
 }
   where
@@ -173,6 +175,14 @@ progress_on {P} {S} stood left f s w end old new u m start before after moved is
     fronts : Fronts (agreed f end) (length known) now (known ++ behind (length known) (length front) moved.messages.items)
     fronts = fronts_on (agreed f end) known front moved.messages.items now h.drafted.front (grows.within m comes.within) low had
 
+    own_later : (k : ℕ) → k ≡ m → (w.nodes k).copies.applied ≤ ((after_part f m v u).world.nodes k).copies.applied
+    own_later k same =
+        subst (λ (j : ℕ). (w.nodes j).copies.applied ≤ ((after_part f m v u).world.nodes j).copies.applied) (sym same)
+        (omega (arith, comes.tells.count, ap (λ (n : nodes.Node). n.copies.applied) comes.tells.node, ap (λ (n : nodes.Node). n.copies.applied) (with_own u.world.nodes m v.node)))
+
+    other_later : (k : ℕ) → (k ≡ m → ⊥) → (w.nodes k).copies.applied ≤ ((after_part f m v u).world.nodes k).copies.applied
+    other_later k apart = omega (arith, h.later k, ap (λ (n : nodes.Node). n.copies.applied) (with_other u.world.nodes m v.node k apart))
+
     own : (k : ℕ) → k ≡ m → ((end.nodes k).copies.applied ≤ length (s.ledger.entries ++ new.entries.items)) ⊎ ((after_part f m v u).world.nodes k ≡ w.nodes k)
     own k same = inl (omega (arith, ap (λ (j : ℕ). (end.nodes j).copies.applied) same, fronts.from_applied, ap length listed))
 
@@ -192,6 +202,7 @@ progress_done stood left f s w draft u is grows law low h = record {
   stirred = h.stirred;
   tasks = h.tasks;
   members = h.members;
+  later = h.later;
 }
   where
     all : (m : ℕ) → m < f.settings.nodes → (u.world.nodes m).copies.applied ≤ length (s.ledger.entries ++ draft.entries.items)

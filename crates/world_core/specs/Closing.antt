@@ -37,7 +37,7 @@ pub record HasRoomMade {P S : Type 0} (old new : Parts P S) : Type 0 where
 -- ---- the network, and who lives
 
 -- what an event does to packets in flight
-abbrev pub flights_after : Event → List (Flight (List ℕ)) → List (Flight (List ℕ))
+abbrev pub flights_after : {X : Type 0} → Event → List (Flight X) → List (Flight X)
 flights_after (event.Deliver packet copy) flights = without packet copy flights
 flights_after event.Tick flights = ticked flights
 flights_after (event.Burst process place turns) flights = flights

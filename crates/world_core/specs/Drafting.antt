@@ -1,5 +1,5 @@
 -- What an event leaves, before it is done.
-use Rattle.std.specs.Prelude.{◌≡◌, ◌<◌, ◌+◌, ◌-◌, ◌^◌, ◌++◌, ◌==◌, ◌&&◌, ◌||◌, not, nat_lt, if◌then◌else◌, ℕ, suc, Bool, List, [], ◌∷◌, length, Option, None, Some, slice_get, slice_set}
+use Rattle.std.specs.Prelude.{◌≡◌, ◌<◌, ◌≤◌, ◌+◌, ◌-◌, ◌^◌, ◌++◌, ◌==◌, ◌&&◌, ◌||◌, not, nat_lt, if◌then◌else◌, ℕ, suc, Bool, List, [], ◌∷◌, length, Option, None, Some, slice_get, slice_set}
 use Rattle.value_core.specs.declared.action.Line.{Line}
 use Rattle.value_core.specs.declared.action.Reply.{Reply}
 use Rattle.value_core.specs.declared.message.Message.{Message}
@@ -176,6 +176,7 @@ pub record IsDraft {P S : Type 0} (stood : Stood S) (left : Left S) (f : Frame) 
   pub stirred : draft.has_stirred ≡ has_stirred f w u.world
   pub tasks : KeepTasks s.nodes.items (taken draft.parts.items s.nodes.items)
   pub members : Each (λ (part : Part P S). part.member < f.settings.nodes) draft.parts.items
+  pub later : (m : ℕ) → (w.nodes m).copies.applied ≤ (u.world.nodes m).copies.applied
 
 -- of an event that is possible
 abbrev pub Drafts : {P S : Type 0} → Stood S → Left S → Frame → Parts P S → Event → Draft P S → Type 0

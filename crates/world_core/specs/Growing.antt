@@ -38,6 +38,7 @@ pub record Progress {P S : Type 0} (stood : Stood S) (left : Left S) (f : Frame)
   pub beside : List Placed
   pub grown : u.world.aside ≡ w.aside ++ beside
   pub drafted : HasDrafted f w end (s.ledger.entries ++ draft.entries.items) (of_pieces draft.pieces.items) beside
+  pub later : (m : ℕ) → (w.nodes m).copies.applied ≤ (u.world.nodes m).copies.applied
   pub covered :
       (m : ℕ) → m < f.settings.nodes →
       ((end.nodes m).copies.applied ≤ length (s.ledger.entries ++ draft.entries.items)) ⊎ (u.world.nodes m ≡ w.nodes m)
