@@ -188,17 +188,18 @@ done_there stood left f s w is m node listed b at many says =
 book_lines : {P S : Type 0} (stood : Stood S) (left : Left S) (f : Frame) (s : Parts P S) (w : World) → IsWorld stood left f s w → length s.ledger.performed ≡ length (Book f w)
 book_lines stood left f s w is = lines_counted (singles_in f w) f.performs (agreed f w) w.aside s.ledger.performed is.performed
 
-pub many_lines : {P S : Type 0} (stood : Stood S) (left : Left S) (f : Frame) (s : Parts P S) (w : World) → IsWorld stood left f s w → (lines : ℕ)
-    → lines ≡ min (length s.ledger.performed) (2 ^ 64 - 1) → HISTORY_LINES ≤ lines → Some (HistoryLines, HISTORY_LINES) ≡ lines_limit f w
-many_lines stood left f s w is lines so many =
-    let e : HISTORY_LINES ≤ length (Book f w) = omega (arith, so, many, book_lines stood left f s w is) in
-    sym (ap (λ (b : Bool). cond b (Some (HistoryLines, HISTORY_LINES)) None) (le-leb HISTORY_LINES (length (Book f w)) e))
+pub many_lines : {P S : Type 0} (stood : Stood S) (left : Left S) (f : Frame) (s : Parts P S) (w : World) → IsWorld stood left f s w → (lines most : ℕ)
+    → lines ≡ min (length s.ledger.performed) (2 ^ 64 - 1) → most ≡ HISTORY_LINES → most ≤ lines → Some (HistoryLines, most) ≡ lines_limit f w
+many_lines stood left f s w is lines most so at many =
+    let e : HISTORY_LINES ≤ length (Book f w) = omega (arith, so, at, many, book_lines stood left f s w is) in
+    ap (λ (n : ℕ). let passed : Option (What × ℕ) = Some (HistoryLines, n) in passed) at
+    ∙ sym (ap (λ (b : Bool). cond b (Some (HistoryLines, HISTORY_LINES)) None) (le-leb HISTORY_LINES (length (Book f w)) e))
 
-pub few_lines : {P S : Type 0} (stood : Stood S) (left : Left S) (f : Frame) (s : Parts P S) (w : World) → IsWorld stood left f s w → (lines : ℕ)
-    → lines ≡ min (length s.ledger.performed) (2 ^ 64 - 1) → lines < HISTORY_LINES → None ≡ lines_limit f w
-few_lines stood left f s w is lines so few =
-    let most : HISTORY_LINES ≡ 2000000 = refl in
-    let e : length (Book f w) < HISTORY_LINES = omega (arith, so, few, most, book_lines stood left f s w is) in
+pub few_lines : {P S : Type 0} (stood : Stood S) (left : Left S) (f : Frame) (s : Parts P S) (w : World) → IsWorld stood left f s w → (lines most : ℕ)
+    → lines ≡ min (length s.ledger.performed) (2 ^ 64 - 1) → most ≡ HISTORY_LINES → lines < most → None ≡ lines_limit f w
+few_lines stood left f s w is lines most so at few =
+    let limit : HISTORY_LINES ≡ 2000000 = refl in
+    let e : length (Book f w) < HISTORY_LINES = omega (arith, so, few, at, limit, book_lines stood left f s w is) in
     sym (ap (λ (b : Bool). cond b (Some (HistoryLines, HISTORY_LINES)) None) (lt-leb HISTORY_LINES (length (Book f w)) e))
 
 -- ---- the entry before which a member stands

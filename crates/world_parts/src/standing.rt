@@ -135,8 +135,10 @@ impl<P: OneRun> Parts<P> {
         requires { Stands P.stood P.left P.run.frame self.now }
         ensures { Is P.stood P.left P.run.frame self.now (λ w. option_map (λ p. (p.0, p.1)) result ≡ rules.lines_limit P.run.frame w) }
     {
-        if self.ledger.lines() >= u64::from(HISTORY_LINES) {
-            Some((What::HistoryLines, u64::from(HISTORY_LINES)))
+        let lines = self.ledger.lines();
+        let most = u64::from(HISTORY_LINES);
+        if lines >= most {
+            Some((What::HistoryLines, most))
         } else {
             None
         }
