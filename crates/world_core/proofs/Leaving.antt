@@ -24,7 +24,7 @@ use Rattle.world_core.specs.Closing.{flights_after}
 
 -- ---- packets in flight
 
-one_or : {A : Type 0} (b : Bool) (x y : A) (Q : A → Type 0) → Q x → Q y → Q (cond b x y)
+pub one_or : {A : Type 0} (b : Bool) (x y : A) (Q : A → Type 0) → Q x → Q y → Q (cond b x y)
 one_or true x y Q h k = h
 one_or false x y Q h k = k
 

@@ -9,3 +9,4 @@ pub mod Recalls
 pub mod Ticks
 pub mod Sending
 pub mod Leaving
+pub mod Stepped

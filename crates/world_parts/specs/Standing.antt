@@ -9,7 +9,7 @@ use Rattle.net_rules.specs.declared.flight.Flight.{Flight}
 use Rattle.packet_bytes.specs.Sound.{IsPacket}
 use Rattle.packet_bytes.specs.Spelling.{packet_spelling}
 use Rattle.world_rules.specs.Frame.{AreSettings, Frame}
-use Rattle.world_rules.specs.Mail.{Carried, bytes_in, posted}
+use Rattle.world_rules.specs.Mail.{Carried, Mail, bytes_in, posted}
 use Rattle.world_rules.specs.Steps.{Replays, objects_after}
 use Rattle.world_rules.specs.Worlds.{World, agreed, singles_in}
 use Rattle.object_manager.specs.Viewed.{Viewed}
@@ -53,10 +53,10 @@ cut_at (Some length) bytes = take length bytes
 abbrev pub spelled : ℕ → Carried → List ℕ
 spelled nodes one = cut_at one.cut (packet_spelling (posted nodes one.mail).packet)
 
--- it can be read where it is whole, and a wire was told its length
-pub record CanBeRead (nodes : ℕ) (flight : Flight Carried) : Type 0 where
-  pub packet : IsPacket (posted nodes flight.packet.mail).packet
-  pub short : bytes_in (posted nodes flight.packet.mail).packet < 2 ^ 32 - 1
+-- a letter can be read where it is whole, and a wire was told its length
+pub record CanBeRead (nodes : ℕ) (mail : Mail) : Type 0 where
+  pub packet : IsPacket (posted nodes mail).packet
+  pub short : bytes_in (posted nodes mail).packet < 2 ^ 32 - 1
 
 -- ---- tasks
 
@@ -90,7 +90,7 @@ pub record IsWorld {P S : Type 0} (stood : Stood S) (left : Left S) (f : Frame) 
   pub all : length s.lives.items ≡ f.settings.nodes
   pub living : (m : ℕ) (b : Bool) → slice_get s.lives.items m ≡ Some b → b ≡ w.lives m
   pub flights : s.net.flights ≡ map (seen (spelled f.settings.nodes)) w.flights
-  pub read : Each (CanBeRead f.settings.nodes) w.flights
+  pub read : Each (λ (flight : Flight Carried). CanBeRead f.settings.nodes flight.packet.mail) w.flights
   pub entries : s.ledger.entries ≡ agreed f w
   pub performed : Performed (singles_in f w) f.performs (agreed f w) w.aside s.ledger.performed
   pub sent : s.sent ≡ w.sent
