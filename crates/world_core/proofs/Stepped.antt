@@ -1,6 +1,6 @@
 -- The parts of a run after a step stand for the world after it.
 use Rattle.std.proofs.Common.{◌≡◌, ◌≤◌, ◌<◌, ◌+◌, ◌*◌, ◌^◌, ◌∙◌, ◌⊎◌, ⊎_elim, if◌then◌else◌, ℕ, zero, suc, Bool, true, false, cond, List, [], ◌∷◌, ◌++◌, Option, Some, None, slice_get, slice_set, map, ap, sym, subst, refl, arith, length}
-use Rattle.std.proofs.lemmas.List.{length_map, length_push}
+use Rattle.std.proofs.lemmas.List.{length-map, length_push}
 use Rattle.std.specs.List.{AllByRecursion as Each}
 use Rattle.object_manager.specs.Viewed.{Viewed}
 use Rattle.book_law.specs.Performed.{Performed}
@@ -198,7 +198,7 @@ step_world {P} {S} stood left f s new w event given draft fates h drafted same c
     works = event_works f w event given h.possible
 
     told : length p.more ≡ length fates
-    told = sym (length_map (λ (t : Told). t.fate) p.more) ∙ ap length p.fates
+    told = sym (length-map p.more (λ (t : Told). t.fate)) ∙ ap length p.fates
 
     task : (m i : ℕ) (node : Node P S) (r : Resident S) (view : Viewed) → slice_get new.nodes.items m ≡ Some node → resident_at node i ≡ Some r → r.out ≡ Some view → IsTask f v m r view
     task m i node r view at here out =

@@ -8,11 +8,11 @@ members-init g c w is = refl
 
 pub members-preserved : goal.members-preserved
 members-preserved g c w is =
-    all_on (λ (i : ℕ). not (w.lives i) || is_done g.P.OneRun.run.frame w i (w.nodes i)) c.members.member _ (omega arith) (c.members.invariant w is) (sym (c.is_done_living.ensures w is) ∙ c.if-not-is_done_living.true)
+    all_on (λ (i : ℕ). not (w.lives i) || is_done g.P.OneRun.run.frame w i (w.nodes i)) c.members.member _ (omega arith) (c.members.invariant w is) (sym (c.is_done_living.ensures w is) ∙ c.if-not-is_done_living.false)
 
 pub returns-then-not-is_done_living : goal.returns-then-not-is_done_living
 returns-then-not-is_done_living g c w is =
-    all_failed (λ (i : ℕ). not (w.lives i) || is_done g.P.OneRun.run.frame w i (w.nodes i)) c.members.member (g.P.OneRun.run.frame.settings.nodes) (omega (arith, c.members-test.true, c.requires.numbers.nodes)) (sym (c.is_done_living.ensures w is) ∙ c.if-not-is_done_living.false)
+    all_failed (λ (i : ℕ). not (w.lives i) || is_done g.P.OneRun.run.frame w i (w.nodes i)) c.members.member (g.P.OneRun.run.frame.settings.nodes) (omega (arith, c.members-test.true, c.requires.numbers.nodes)) (sym (c.is_done_living.ensures w is) ∙ c.if-not-is_done_living.true)
 
 pub returns : goal.returns
 returns g c w is =
