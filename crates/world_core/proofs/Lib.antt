@@ -10,3 +10,4 @@ pub mod Ticks
 pub mod Sending
 pub mod Leaving
 pub mod Stepped
+pub mod Handing

@@ -17,3 +17,6 @@ returns-then-not-is_done_living g c w is =
 pub returns : goal.returns
 returns g c w is =
     all_done (λ (i : ℕ). not (w.lives i) || is_done g.P.OneRun.run.frame w i (w.nodes i)) c.members.member (g.P.OneRun.run.frame.settings.nodes) (omega (arith, c.members.auto.member-end, c.requires.numbers.nodes)) (omega (arith, c.members-test.false, c.requires.numbers.nodes)) (c.members.invariant w is)
+
+pub is_done_living-requires-clause-within : goal.is_done_living-requires-clause-within
+is_done_living-requires-clause-within g c = omega (arith, c.members-test.true, c.requires.numbers.nodes)
