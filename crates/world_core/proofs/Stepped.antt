@@ -18,7 +18,8 @@ use Rattle.world_rules.specs.Frame.{Frame}
 use Rattle.world_rules.specs.Mail.{Carried, Mail, is_whole, posted, receiver_of}
 use Rattle.world_rules.specs.Nodes as nodes_of
 use Rattle.world_rules.specs.Steps.{AtWork, Known, Next, Replays, after_step, comes, comes_whole, happens, has_stirred, idle_after, lives_in, posts_all, ticks_below, untouched}
-use Rattle.world_rules.specs.Worlds.{Told, World}
+use Rattle.value_core.specs.declared.message.Message.{Message}
+use Rattle.world_rules.specs.Worlds.{Told, World, agreed, singles_in}
 use Rattle.node_core.specs.Pieces.{resident_at}
 use Rattle.node_core.specs.Shown.{Left, Stood}
 use Rattle.node_core.specs.Stands.{StandsAs}
@@ -133,44 +134,58 @@ read_after nodes event.Swap flights h = h
 
 -- ---- the step
 
+-- what an event leaves: these packets, entries that are new to the list, and operations, and whether anything stirred
+pub record Leaves {P S : Type 0} (f : Frame) (s : Parts P S) (w : World) (outgoing : List Outgoing) (entries : List Message) (performed : List Placed) (stirred : Bool)
+    (u : AtWork) : Type 0 where
+  pub letters : AreOutgoing f.settings.nodes outgoing u.mails
+  pub listed : s.ledger.entries ++ entries ≡ agreed f u.world
+  pub did : Performed (singles_in f u.world) f.performs (agreed f u.world) u.world.aside (s.ledger.performed ++ performed)
+  pub stirs : stirred ≡ has_stirred f w u.world
+  pub later : (m : ℕ) → (w.nodes m).copies.applied ≤ (u.world.nodes m).copies.applied
+
+pub draft_leaves : {P S : Type 0} (stood : Stood S) (left : Left S) (f : Frame) (s : Parts P S) (w : World) (draft : Draft P S) (u : AtWork) → IsDraft stood left f s w draft u
+    → Leaves f s w draft.outgoing.items draft.entries.items (of_pieces draft.pieces.items) draft.has_stirred u
+draft_leaves stood left f s w draft u h = record { letters = h.letters; listed = h.entries; did = h.performed; stirs = h.stirred; later = h.later }
+
 -- what a step changed of the parts
-pub record Changed {P S : Type 0} (stood : Stood S) (left : Left S) (f : Frame) (s new : Parts P S) (event : Event) (draft : Draft P S) (fates : List Fate) (u : AtWork) : Type 0 where
+pub record Changed {P S : Type 0} (stood : Stood S) (left : Left S) (f : Frame) (s new : Parts P S) (event : Event) (outgoing : List Outgoing) (entries : List Message) (performed : List Placed) (stirred : Bool) (fates : List Fate)
+    (u : AtWork) : Type 0 where
   pub nodes : AreNodes stood left f new.nodes.items u.world
   pub tasks :
       (m i : ℕ) (node : Node P S) (r : Resident S) (view : Viewed) → slice_get new.nodes.items m ≡ Some node → resident_at node i ≡ Some r → r.out ≡ Some view →
       (u.world.lives m ≡ true) × ((before : Node P S) × (slice_get s.nodes.items m ≡ Some before) × (resident_at before i ≡ Some r))
   pub lives : new.lives.items ≡ lives_after event s.lives.items
-  pub flights : new.net.flights ≡ sent_all s.sent draft.outgoing.items fates (flights_after event s.net.flights)
+  pub flights : new.net.flights ≡ sent_all s.sent outgoing fates (flights_after event s.net.flights)
   pub steps : new.ledger.steps ≡ s.ledger.steps ++ record { event = event; fates = fates } ∷ []
-  pub entries : new.ledger.entries ≡ s.ledger.entries ++ draft.entries.items
-  pub performed : new.ledger.performed ≡ s.ledger.performed ++ of_pieces draft.pieces.items
-  pub sent : new.sent ≡ s.sent + length draft.outgoing.items
-  pub few : length draft.outgoing.items < 2 ^ 32
+  pub listed : new.ledger.entries ≡ s.ledger.entries ++ entries
+  pub did : new.ledger.performed ≡ s.ledger.performed ++ performed
+  pub sent : new.sent ≡ s.sent + length outgoing
+  pub few : length outgoing < 2 ^ 32
   pub swaps : new.swaps ≡ swaps_after event s.swaps
-  pub idle : new.idle ≡ cond draft.has_stirred 0 (idle_after event s.idle)
+  pub idle : new.idle ≡ cond stirred 0 (idle_after event s.idle)
   pub step_room : tasks_out (seen_of new) ≤ new.ledger.step_room
   pub piece_room : tasks_out (seen_of new) ≤ new.ledger.piece_room
 
-pub step_world : {P S : Type 0} (stood : Stood S) (left : Left S) (f : Frame) (s new : Parts P S) (w : World) (event : Event) (given : Known event) (draft : Draft P S) (fates : List Fate)
-    → Here stood left f s w event given → IsDraft stood left f s w draft (happens f w event given) → length fates ≡ length (happens f w event given).mails
-    → Changed stood left f s new event draft fates (happens f w event given) → IsWorld stood left f new (after_step f w (record { event = event; fates = fates }) given)
-step_world {P} {S} stood left f s new w event given draft fates h drafted same changed = record {
+pub step_world : {P S : Type 0} (stood : Stood S) (left : Left S) (f : Frame) (s new : Parts P S) (w : World) (event : Event) (given : Known event) (outgoing : List Outgoing) (entries : List Message) (performed : List Placed) (stirred : Bool) (fates : List Fate)
+    → Here stood left f s w event given → Leaves f s w outgoing entries performed stirred (happens f w event given) → length fates ≡ length (happens f w event given).mails
+    → Changed stood left f s new event outgoing entries performed stirred fates (happens f w event given) → IsWorld stood left f new (after_step f w (record { event = event; fates = fates }) given)
+step_world {P} {S} stood left f s new w event given outgoing entries performed stirred fates h drafted same changed = record {
   replays = subst (λ (l : List Step). Replays f l v) (sym changed.steps) replays;
   members = changed.nodes.count;
   nodes = λ m node at. subst (λ (k : ℕ → nodes_of.Node). StandsAs stood left f m node (k m)) (sym p.nodes) (changed.nodes.each m node at);
   all = ap length changed.lives ∙ lives_length event s.lives.items ∙ h.is.all;
   living = λ m b at. living_after f w event given s.lives.items h.is.living m b (ap (λ (l : List Bool). slice_get l m) (sym changed.lives) ∙ at) ∙ sym (ap (λ (l : ℕ → Bool). l m) p.lives);
-  flights = changed.flights ∙ sent_flights f u.world draft.outgoing.items u.mails fates (flights_after event s.net.flights) s.sent drafted.letters same (h.is.sent ∙ sym works.sent)
+  flights = changed.flights ∙ sent_flights f u.world outgoing u.mails fates (flights_after event s.net.flights) s.sent drafted.letters same (h.is.sent ∙ sym works.sent)
       (ap (flights_after event) h.is.flights ∙ seen_after (spelled f.settings.nodes) event w.flights ∙ ap (map (seen (spelled f.settings.nodes))) (sym (event_flights f w event given)));
-  read = each_posted f (CanBeRead f.settings.nodes) u.mails fates u.world (can_read f.settings.nodes draft.outgoing.items u.mails drafted.letters)
+  read = each_posted f (CanBeRead f.settings.nodes) u.mails fates u.world (can_read f.settings.nodes outgoing u.mails drafted.letters)
       (subst (Each (λ (flight : Flight Carried). CanBeRead f.settings.nodes flight.packet.mail)) (sym (event_flights f w event given)) (read_after f.settings.nodes event w.flights h.is.read));
-  entries = changed.entries ∙ drafted.entries ∙ sym (agreed_by f u.world v p.nodes);
-  performed = subst (Performed _ f.performs _ v.aside) (sym changed.performed) (performed_by f u.world v (s.ledger.performed ++ of_pieces draft.pieces.items) p.nodes p.aside drafted.performed);
-  sent = omega (arith, changed.sent, h.is.sent, works.sent, p.sent, told, same, outgoing_count f.settings.nodes draft.outgoing.items u.mails drafted.letters);
+  entries = changed.listed ∙ drafted.listed ∙ sym (agreed_by f u.world v p.nodes);
+  performed = subst (Performed _ f.performs _ v.aside) (sym changed.did) (performed_by f u.world v (s.ledger.performed ++ performed) p.nodes p.aside drafted.did);
+  sent = omega (arith, changed.sent, h.is.sent, works.sent, p.sent, told, same, outgoing_count f.settings.nodes outgoing u.mails drafted.letters);
   swaps = changed.swaps ∙ swaps_so event s.swaps ∙ ap (λ (n : ℕ). n + swap_of event) h.is.swaps ∙ sym (event_swaps f w event given) ∙ sym p.swaps;
-  idle = changed.idle ∙ ap (λ (b : Bool). cond b 0 (idle_after event s.idle)) drafted.stirred ∙ ap (λ (n : ℕ). cond (has_stirred f w u.world) 0 (idle_after event n)) h.is.idle;
+  idle = changed.idle ∙ ap (λ (b : Bool). cond b 0 (idle_after event s.idle)) drafted.stirs ∙ ap (λ (n : ℕ). cond (has_stirred f w u.world) 0 (idle_after event n)) h.is.idle;
   few = omega (arith, changed.sent, changed.few, h.is.few, ap length changed.steps, length_push s.ledger.steps step);
-  ticks = omega (arith, changed.idle, idle_few draft.has_stirred event s.idle, h.is.ticks, ap length changed.steps, length_push s.ledger.steps step);
+  ticks = omega (arith, changed.idle, idle_few stirred event s.idle, h.is.ticks, ap length changed.steps, length_push s.ledger.steps step);
   tasks = task;
   step_room = changed.step_room;
   piece_room = changed.piece_room;
