@@ -11,3 +11,4 @@ pub mod Sending
 pub mod Leaving
 pub mod Stepped
 pub mod Handing
+pub mod Computed
