@@ -12,3 +12,4 @@ pub mod Leaving
 pub mod Stepped
 pub mod Handing
 pub mod Computed
+pub mod TakenIn
