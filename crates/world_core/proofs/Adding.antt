@@ -81,7 +81,7 @@ tasks_added {P} {S} old ns more m before after h is at keeps =
     own : (k i : ℕ) (node : Node P S) (r : Resident S) (view : Viewed) → resident_at node i ≡ Some r → r.out ≡ Some view → (k ≡ m) × (after ≡ node)
         → (before : Node P S) × (slice_get old k ≡ Some before) × (resident_at before i ≡ Some r)
     own k i node r view here out same =
-        (before, (ap (λ (j : ℕ). slice_get old j) same.0 ∙ at, keeps i r view (ap (λ (n : Node P S). resident_at n i) same.1 ∙ here) out))
+        (before, ap (λ (j : ℕ). slice_get old j) same.0 ∙ at, keeps i r view (ap (λ (n : Node P S). resident_at n i) same.1 ∙ here) out)
 
 -- ---- letters
 
@@ -104,8 +104,8 @@ pub letters_added : (nodes from : ℕ) (old new : List Outgoing) (sends : List (
     → HasSpelled from sends old new → sends ≡ map (sent nodes) mails → Each (λ (mail : Mail). (posted nodes mail).from ≡ from) mails → AreOutgoing nodes new (before ++ mails)
 letters_added nodes from old new sends before mails h spelled is own =
     let more = spelled.0 in
-    subst (λ (l : List Outgoing). AreOutgoing nodes l (before ++ mails)) (sym spelled.1.0)
-    (outgoing_more nodes old more before mails h (own_letters nodes from mails more own (subst (λ (l : List (Letter Message Reply)). AreLetters from l more) is spelled.1.1)))
+    subst (λ (l : List Outgoing). AreOutgoing nodes l (before ++ mails)) (sym spelled.1)
+    (outgoing_more nodes old more before mails h (own_letters nodes from mails more own (subst (λ (l : List (Letter Message Reply)). AreLetters from l more) is spelled.2)))
 
 -- ---- whether anything stirred
 

@@ -53,11 +53,11 @@ list_small stood left f s w h is going =
     let hold = h.laws.hold f refl refl h.settings s.ledger.steps w is.replays in
     let one = (h.laws.lists f h.settings.resilience).one w hold.grouped in
     let some = one.some in
-    let node = get_some s.nodes.items some.0 (omega (arith, some.1.0, is.members)) in
-    let had = entries_had stood left f s w h is some.0 node.0 some.1.0 node.1 in
+    let node = get_some s.nodes.items some.0 (omega (arith, some.1, is.members)) in
+    let had = entries_had stood left f s w h is some.0 node.0 some.1 node.1 in
     let goes = ((h.laws.read f w).says Going going).0.events in
     let small = ((h.laws.count f h.settings.resilience).small w w.steps h.settings.few (omega (arith, goes, h.settings.events)) hold.counted).members some.0 in
-    omega (arith, ap length is.entries, ap length some.1.1, ap length (one.copies some.0 some.1.0), had.0, sym (hold.grouped.level some.0), small.applied)
+    omega (arith, ap length is.entries, ap length some.2, ap length (one.copies some.0 some.1), had.0, sym (hold.grouped.level some.0), small.applied)
 
 -- ---- no member does a part
 

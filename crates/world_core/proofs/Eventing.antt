@@ -54,8 +54,8 @@ one_of P xs h k x at = subst P (get_or_from_slice_get xs k x x at) (h k x (slice
 -- ---- a step, whatever its fates
 
 pub leads_push : (f : Frame) (w : World) (steps : List Step) (u : World) (step : Step) (v : World) → Leads f w steps u → Next f u step v → Leads f w (steps ++ step ∷ []) v
-leads_push f w [] u step v h next = (v, (subst (λ (x : World). Next f x step v) h next, refl))
-leads_push f w (first ∷ steps) u step v h next = (h.0, (h.1.0, leads_push f h.0 steps u step v h.1.1 next))
+leads_push f w [] u step v h next = (v, subst (λ (x : World). Next f x step v) h next, refl)
+leads_push f w (first ∷ steps) u step v h next = (h.0, h.1, leads_push f h.0 steps u step v h.2 next)
 
 passes : {A : Type 0} → List A → List Fate
 passes [] = []
@@ -137,7 +137,7 @@ pub may_add : {P S : Type 0} (stood : Stood S) (left : Left S) (f : Frame) (fitn
     → PartsAreWalks → ListGrows f w end → Comes stood left f s w end m start node → EventFits f fitness m start (w.nodes m) → Each (IsSoundMail f) (mails_of (part f m start (w.nodes m)).deeds)
     → length s.ledger.entries + length draft.entries.items < 2 ^ 62 → MayAdd stood left f fitness s node start draft
 may_add {P} {S} stood left f fitness s w end m start node draft walks grows comes fits sound few =
-    joined (subst Joins (sym comes.stands.member.me) (comes.stands, (fits, (sound, (told, small)))))
+    joined (subst Joins (sym comes.stands.member.me) (comes.stands, fits, sound, told, small))
   where
     Joins : ℕ → Type 0
     Joins n =
@@ -163,4 +163,4 @@ may_add {P} {S} stood left f fitness s w end m start node draft walks grows come
         omega (arith, there, ap (λ (n : nodes.Node). n.copies.applied) comes.tells.node, last.within, last.small.accepted)
 
     joined : Joins node.member.me → MayAdd stood left f fitness s node start draft
-    joined j = record { node = w.nodes m; stands = j.0; fits = j.1.0; sound = j.1.1.0; told = j.1.1.1.0; had = comes.had; small = j.1.1.1.1; few = few }
+    joined j = record { node = w.nodes m; stands = j.0; fits = j.1; sound = j.2; told = j.3; had = comes.had; small = j.4; few = few }

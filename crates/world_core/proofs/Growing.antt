@@ -257,7 +257,7 @@ pub drafted_list : (f : Frame) (w u : World) (entries : List Message) (performed
     → ((m : ℕ) → m < f.settings.nodes → (u.nodes m).copies.applied ≤ length entries) → entries ≡ agreed f u
 drafted_list f w u entries performed beside h grows all =
     let some = grows.some in
-    h.front ∙ take_all (length entries) (agreed f u) (omega (arith, all some.0 some.1.0, some.1.1))
+    h.front ∙ take_all (length entries) (agreed f u) (omega (arith, all some.0 some.1, some.2))
 
 -- and what was performed is what was, with what was drafted
 pub drafted_all : (f : Frame) (w u : World) (entries : List Message) (performed beside before : List Placed) → HasDrafted f w u entries performed beside → ListGrows f w u

@@ -60,7 +60,7 @@ progress_first {P} {S} stood left f s w v end draft is same aside empty grows = 
       (record { count = is.members; each = λ m node at. subst (λ (k : ℕ → nodes.Node). StandsAs stood left f m node (k m)) (sym same) (is.nodes m node at) });
   letters = subst (λ (l : List Outgoing). AreOutgoing f.settings.nodes l []) (sym empty.outgoing) tt;
   stirred = empty.stirred ∙ sym (still f w v same aside);
-  tasks = subst (λ (l : List (Part P S)). KeepTasks s.nodes.items (taken l s.nodes.items)) (sym empty.parts) (λ m i node r view at here out. (node, (at, here)));
+  tasks = subst (λ (l : List (Part P S)). KeepTasks s.nodes.items (taken l s.nodes.items)) (sym empty.parts) (λ m i node r view at here out. (node, at, here));
   members = subst (λ (l : List (Part P S)). Each (λ (part : Part P S). part.member < f.settings.nodes) l) (sym empty.parts) tt;
   beside = [];
   grown = aside ∙ sym (append-nil w.aside);

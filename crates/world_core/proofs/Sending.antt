@@ -65,19 +65,17 @@ asked_one f w one mail given is =
 
 pub sent_asked : (f : Frame) (w : World) (outgoing : List Outgoing) (mails : List Mail) (fates : List Fate) (sent : ℕ) → AreOutgoing f.settings.nodes outgoing mails → length fates ≡ length mails → sent ≡ w.sent
     → (more : List Told) × ((posts_all f w mails fates).told ≡ w.told ++ more) × (asked_all sent outgoing fates ≡ map told_so more)
-sent_asked f w [] [] fates sent h same at = ([], (sym (append-nil w.told), refl))
+sent_asked f w [] [] fates sent h same at = ([], sym (append-nil w.told), refl)
 sent_asked f w (one ∷ outgoing) (mail ∷ mails) [] sent h same at = absurd (cc same)
 sent_asked f w (one ∷ outgoing) (mail ∷ mails) (given ∷ fates) sent h same at =
     let next = posts f w mail given in
     let first : Told = told_of w (posted f.settings.nodes mail) given in
     let rest = sent_asked f next outgoing mails fates (suc sent) h.1 (omega (arith, same)) (ap suc at) in (
       first ∷ rest.0,
-      (
-        rest.1.0 ∙ append_assoc w.told (first ∷ []) rest.0,
-        ap (λ (l : List Asked). packet_asked (suc sent) one.kind one.from one.to one.length given ∷ l) rest.1.1
-            ∙ ap (λ (n : ℕ). packet_asked (suc n) one.kind one.from one.to one.length given ∷ map told_so rest.0) at
-            ∙ ap (λ (a : Asked). a ∷ map told_so rest.0) (asked_one f w one mail given h.0),
-      ),
+      rest.1 ∙ append_assoc w.told (first ∷ []) rest.0,
+      ap (λ (l : List Asked). packet_asked (suc sent) one.kind one.from one.to one.length given ∷ l) rest.2
+          ∙ ap (λ (n : ℕ). packet_asked (suc n) one.kind one.from one.to one.length given ∷ map told_so rest.0) at
+          ∙ ap (λ (a : Asked). a ∷ map told_so rest.0) (asked_one f w one mail given h.0),
     )
 sent_asked f w [] (mail ∷ mails) fates sent h same at = absurd h
 sent_asked f w (one ∷ outgoing) [] fates sent h same at = absurd h

@@ -218,7 +218,7 @@ step_world {P} {S} stood left f s new w event given outgoing entries performed s
     task : (m i : ℕ) (node : Node P S) (r : Resident S) (view : Viewed) → slice_get new.nodes.items m ≡ Some node → resident_at node i ≡ Some r → r.out ≡ Some view → IsTask f v m r view
     task m i node r view at here out =
         let was = changed.tasks m i node r view at here out in
-        let old = h.is.tasks m i was.1.0 r view was.1.1.0 was.1.1.1 out in
+        let old = h.is.tasks m i was.1.0 r view was.1.1 was.1.2 out in
         let laws = h.stands.laws in
         let hold = laws.hold f refl refl h.stands.settings s.ledger.steps w h.is.replays in
         let later = laws.hold f refl refl h.stands.settings (s.ledger.steps ++ step ∷ []) v replays in

@@ -25,7 +25,7 @@ use Rattle.world_parts.specs.declared.parts.Parts.{Parts}
 -- the process that is here, as the world has it
 played_as : {S : Type 0} (stood : Stood S) (left : Left S) (i : ℕ) (s : Resident S) (o : Option Played) → IsPlayedIf stood left i (Some s) o → (r : Played) × (o ≡ Some r) × IsPlayed stood left i s r
 played_as stood left i s None h = absurd h
-played_as stood left i s (Some r) h = (r, (refl, h))
+played_as stood left i s (Some r) h = (r, refl, h)
 
 -- what is checked in
 pub record Checks {P S : Type 0} (stood : Stood S) (left : Left S) (f : Frame) (s : Parts P S) (w : World) (home : ℕ) (done : Computed S) (checked : CheckedIn) (before after : Node P S) : Type 0 where
@@ -52,10 +52,10 @@ burst_of {P} {S} stood left f s w home done checked before after h =
     let stands = h.is.nodes home before h.there in
     let known = played_as stood left done.process.0 resident ((w.nodes home).played done.process.0) (subst (λ (o : Option (Resident S)). IsPlayedIf stood left done.process.0 o ((w.nodes home).played done.process.0)) h.has.here (stands.residents done.process.0)) in
     let r = known.0 in
-    let plays = known.1.1 in
-    let becomes = h.has.becomes home (w.nodes home) r stands known.1.0 in
+    let plays = known.2 in
+    let becomes = h.has.becomes home (w.nodes home) r stands known.1 in
     let ended = becomes.0 in
-    let ran = becomes.1.0 in
+    let ran = becomes.1 in
     let task = h.is.tasks home done.process.0 before resident done.view h.there h.has.here h.has.out.0 in
     let turns : ended.turns ≡ r.turns + (done.turns - resident.turns) = omega (arith, ran.turns, ran.least, plays.turns) in
     let last : last_turn f r ≤ r.turns + 10000 = omega arith in
@@ -64,7 +64,7 @@ burst_of {P} {S} stood left f s w home done checked before after h =
       reads = refl;
       possible = record {
         start = r;
-        here = subst (λ (k : ℕ). (w.nodes k).played done.process.0 ≡ Some r) h.at_home known.1.0;
+        here = subst (λ (k : ℕ). (w.nodes k).played done.process.0 ≡ Some r) h.at_home known.1;
         lives = subst (λ (k : ℕ). w.lives k ≡ true) h.at_home task.lives;
         computing = sym plays.stage ∙ ap on_stage task.computing;
         after = omega (arith, task.after, plays.place);
@@ -75,5 +75,5 @@ burst_of {P} {S} stood left f s w home done checked before after h =
       };
       least = omega (arith, ran.least, ran.turns, plays.turns);
       most = omega (arith, ran.most, ran.turns, plays.turns, last);
-      stands = becomes.1.1;
+      stands = becomes.2;
     }

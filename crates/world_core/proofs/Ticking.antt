@@ -44,25 +44,20 @@ split P (x ∷ xs) ys h = let rest = split P xs ys h.1 in ((h.0, rest.0), rest.1
 pub tick_letters : (f : Frame) (w : World) (P : Mail → Type 0) → ((n : ℕ) → TicksApart f w n) → (n m : ℕ) → m < n → w.lives m ≡ true → Each P (ticking f w n).mails
     → Each P (mails_of (part f m Ticks (w.nodes m)).deeds)
 tick_letters f w P apart zero m lt lives h = absurd (omega (arith, lt))
-tick_letters f w P apart (suc n) m lt lives h = ⊎_elim here below (cases_eq m n)
+tick_letters f w P apart (suc n) m lt lives h =
+    ⊎_elim here (λ (other : m ≡ n → ⊥). tick_letters f w P apart n m (under other) lives (front (w.lives n) refl)) (cases_eq m n)
   where
-    u : AtWork
-    u = ticking f w n
-
     here : m ≡ n → Each P (mails_of (part f m Ticks (w.nodes m)).deeds)
     here e =
         subst (λ (k : ℕ). Each P (mails_of (part f k Ticks (w.nodes k)).deeds)) (sym e)
-        (split P u.mails (mails_of (part f n Ticks (w.nodes n)).deeds) (subst (λ (x : AtWork). Each P x.mails) (tick_part f w n (apart n) (sym (ap w.lives e) ∙ lives)) h)).1
+        (split P (ticking f w n).mails (mails_of (part f n Ticks (w.nodes n)).deeds) (subst (λ (x : AtWork). Each P x.mails) (tick_part f w n (apart n) (sym (ap w.lives e) ∙ lives)) h)).1
 
-    front : (b : Bool) → w.lives n ≡ b → Each P u.mails
-    front true on = (split P u.mails (mails_of (part f n Ticks (w.nodes n)).deeds) (subst (λ (x : AtWork). Each P x.mails) (tick_part f w n (apart n) on) h)).0
+    front : (b : Bool) → w.lives n ≡ b → Each P (ticking f w n).mails
+    front true on = (split P (ticking f w n).mails (mails_of (part f n Ticks (w.nodes n)).deeds) (subst (λ (x : AtWork). Each P x.mails) (tick_part f w n (apart n) on) h)).0
     front false off = subst (λ (x : AtWork). Each P x.mails) (tick_none f w n (apart n) off) h
 
-    below : (m ≡ n → ⊥) → Each P (mails_of (part f m Ticks (w.nodes m)).deeds)
-    below other = tick_letters f w P apart n m (under other) lives (front (w.lives n) refl)
-      where
-        under : (m ≡ n → ⊥) → m < n
-        under other = ⊎_elim (λ (l : m < n). l) (λ (ge : n ≤ m). absurd (other (omega (arith, ge, lt)))) (cases_lt m n)
+    under : (m ≡ n → ⊥) → m < n
+    under other = ⊎_elim (λ (l : m < n). l) (λ (ge : n ≤ m). absurd (other (omega (arith, ge, lt)))) (cases_lt m n)
 
 -- ---- numbers
 
@@ -72,7 +67,7 @@ pub tick_small : (f : Frame) (fitness : Fitness) (w : World) → PartsAreWalks �
     → length (agreed f (ticking f w f.settings.nodes).world) < 2 ^ 62
 tick_small f fitness w walks apart grows fits low =
     let some = grows.some in
-    go some.0 some.1.0 some.1.1 (w.lives some.0) refl
+    go some.0 some.1 some.2 (w.lives some.0) refl
   where
     end : World
     end = (ticking f w f.settings.nodes).world

@@ -19,9 +19,11 @@ any_on test k next one none fails =
 
 any_further : (test : ℕ → Bool) (k more n : ℕ) → more + suc k ≡ n → test k ≡ true → any_below n test ≡ true
 any_further test k zero n is holds =
-    subst (λ (m : ℕ). any_below m test ≡ true) (omega (arith, is)) (or_right (any_below k test) (test k) holds)
+    let e : suc k ≡ n = omega (arith, is) in
+    subst (λ (m : ℕ). any_below m test ≡ true) e (or_right (any_below k test) (test k) holds)
 any_further test k (suc more) n is holds =
-    subst (λ (m : ℕ). any_below m test ≡ true) (omega (arith, is))
+    let e : suc (more + suc k) ≡ n = omega (arith, is) in
+    subst (λ (m : ℕ). any_below m test ≡ true) e
     (ap (λ (b : Bool). b || test (more + suc k)) (any_further test k more (more + suc k) refl holds))
 
 -- it is so of this one
@@ -42,9 +44,11 @@ all_on test k next one all holds =
 
 all_further : (test : ℕ → Bool) (k more n : ℕ) → more + suc k ≡ n → test k ≡ false → all_below n test ≡ false
 all_further test k zero n is fails =
-    subst (λ (m : ℕ). all_below m test ≡ false) (omega (arith, is)) (and_right (all_below k test) (test k) fails)
+    let e : suc k ≡ n = omega (arith, is) in
+    subst (λ (m : ℕ). all_below m test ≡ false) e (and_right (all_below k test) (test k) fails)
 all_further test k (suc more) n is fails =
-    subst (λ (m : ℕ). all_below m test ≡ false) (omega (arith, is))
+    let e : suc (more + suc k) ≡ n = omega (arith, is) in
+    subst (λ (m : ℕ). all_below m test ≡ false) e
     (ap (λ (b : Bool). b && test (more + suc k)) (all_further test k more (more + suc k) refl fails))
 
 pub all_failed : (test : ℕ → Bool) (k n : ℕ) → k < n → test k ≡ false → false ≡ all_below n test

@@ -7,7 +7,8 @@ use Rattle.value_core.specs.declared.action.Line.{Line}
 use Rattle.value_core.specs.declared.message.Message.{Message}
 use Rattle.value_core.specs.Meaning.{Performs}
 use Rattle.book_law.specs.Passes.{Test, lines_after}
-use Rattle.book_law.specs.Book.{Placed, aside_at, book, copies_at, up_to}
+use Rattle.book_law.specs.Book.{aside_at, book, copies_at, up_to}
+use Rattle.book_law.specs.declared.placing.Placed.{Placed}
 use Rattle.book_law.specs.Performed.{Performed}
 use Rattle.book_law.proofs.Books.{book-append, copies_applied, take_at, up_to_all}
 use Rattle.book_law.proofs.Processes.{get_some}

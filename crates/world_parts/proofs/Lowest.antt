@@ -10,10 +10,12 @@ lowest_on test k next one none fails =
 -- it is so of this one, and of none below it
 further : (test : ℕ → Bool) (k more n : ℕ) → more + suc k ≡ n → lowest k test ≡ None → test k ≡ true → lowest n test ≡ Some k
 further test k zero n is none holds =
-    subst (λ (m : ℕ). lowest m test ≡ Some k) (omega (arith, is))
+    let e : suc k ≡ n = omega (arith, is) in
+    subst (λ (m : ℕ). lowest m test ≡ Some k) e
     (ap (λ (b : Bool). or_at k b (lowest k test)) holds ∙ ap (λ (o : Option ℕ). or_at k true o) none)
 further test k (suc more) n is none holds =
-    subst (λ (m : ℕ). lowest m test ≡ Some k) (omega (arith, is))
+    let e : suc (more + suc k) ≡ n = omega (arith, is) in
+    subst (λ (m : ℕ). lowest m test ≡ Some k) e
     (ap (λ (o : Option ℕ). or_at (more + suc k) (test (more + suc k)) o) (further test k more (more + suc k) refl none holds))
 
 pub lowest_found : (test : ℕ → Bool) (k n : ℕ) → k < n → lowest k test ≡ None → test k ≡ true → Some k ≡ lowest n test

@@ -1,5 +1,5 @@
 -- How many tasks are out.
-use Rattle.std.proofs.Common.{◌≡◌, ◌≤◌, ◌<◌, ◌+◌, ◌*◌, ◌∙◌, ℕ, zero, suc, Bool, true, false, List, [], ◌∷◌, Option, Some, None, slice_get, slice_index_or, get_or, take, cond, ap, sym, subst, refl, arith, map, length}
+use Rattle.std.proofs.Common.{◌≡◌, ◌≤◌, ◌<◌, ◌+◌, ◌*◌, ◌^◌, ◌∙◌, ℕ, zero, suc, Bool, true, false, List, [], ◌∷◌, Option, Some, None, slice_get, slice_index_or, get_or, take, cond, ap, sym, subst, refl, arith, map, length}
 use Rattle.std.proofs.Math.ListN.{get_or-map}
 use Rattle.std.proofs.lemmas.List.{take_all}
 use Rattle.std.proofs.lemmas.Option.{slice_get_read}
@@ -22,7 +22,8 @@ use Rattle.world_parts.specs.declared.parts.Parts.{Parts}
 
 -- one process more
 pub outs_next : (bs : List Bool) (k : ℕ) → outs (take (suc k) bs) ≡ outs (take k bs) + cond (get_or bs k false) 1 0
-outs_next [] k = refl
+outs_next [] zero = refl
+outs_next [] (suc k) = refl
 outs_next (b ∷ bs) zero = omega arith
 outs_next (b ∷ bs) (suc k) = let e = outs_next bs k in omega (arith, e)
 
@@ -34,7 +35,7 @@ outs_past [] n h = ap outs (take_none n)
     take_none zero = refl
     take_none (suc n) = refl
 outs_past (b ∷ bs) zero h =
-    let e : cond b 1 0 ≡ 0 = ap (λ (c : Bool). cond c 1 0) (h 0 (omega arith)) in
+    let e : ◌≡◌ {A = ℕ} (cond b 1 0) 0 = ap (λ (c : Bool). cond c 1 0) (h 0 (omega arith)) in
     let d = outs_past bs zero (λ i low. h (suc i) (omega arith)) in
     omega (arith, e, d)
 outs_past (b ∷ bs) (suc n) h = let d = outs_past bs n (λ i low. h (suc i) (omega (arith, low))) in omega (arith, d)
@@ -83,7 +84,8 @@ none_past {P} {S} stood left f s h m node at i low =
 -- ---- at all members
 
 all_next : (bss : List (List Bool)) (k : ℕ) → all_outs (take (suc k) bss) ≡ all_outs (take k bss) + outs (get_or bss k [])
-all_next [] k = refl
+all_next [] zero = refl
+all_next [] (suc k) = refl
 all_next (bs ∷ bss) zero = omega arith
 all_next (bs ∷ bss) (suc k) = let e = all_next bss k in omega (arith, e)
 

@@ -6,7 +6,7 @@ use Rattle.orca_base.specs.declared.limits.TheConstants.{HISTORY_LINES, NODES}
 use Rattle.orca_base.specs.declared.what.What.{What}
 use Rattle.orca_base.specs.declared.what.What.TheVariants.{HistoryLines}
 use Rattle.group_rules.specs.Member.{leads}
-use Rattle.group_member.specs.StandsFor.{EntryLaw}
+use Rattle.group_member.specs.Laws.{EntryLaw}
 use Rattle.group_rules.specs.Sets.{count, entry_at}
 use Rattle.history_buffer.specs.Slots.{slot_at, slot_of}
 use Rattle.history_buffer.specs.declared.history.Slot.{Slot}
@@ -116,7 +116,7 @@ rests_none stood left f w i (Some q) h = absurd h
 -- ---- the table
 
 -- by its tests, one after the other
-table : Bool → Bool → Bool → Bool → Bool → Bool → Standing
+abbrev table : Bool → Bool → Bool → Bool → Bool → Bool → Standing
 table turns events lost over fault ended =
     cond turns OutOfTurns (cond events OutOfEvents (cond lost NoGroup (cond (over && fault) Faulted (cond (over && not ended) Blocked (cond over Finished Going)))))
 
@@ -159,9 +159,11 @@ limits_next f w k next one none stops =
 
 first_past : (f : Frame) (w : World) (k more n : ℕ) (passed : What × ℕ) → more + suc k ≡ n → limit_below f w k ≡ None → Stops f w k (Some passed) → limit_below f w n ≡ Some passed
 first_past f w k zero n passed is none stops =
-    subst (λ (m : ℕ). limit_below f w m ≡ Some passed) (omega (arith, is)) (ap (λ o. first_of o (cond (w.lives k) (limit_at f (w.nodes k)) None)) none ∙ sym stops)
+    let e : suc k ≡ n = omega (arith, is) in
+    subst (λ (m : ℕ). limit_below f w m ≡ Some passed) e (ap (λ o. first_of o (cond (w.lives k) (limit_at f (w.nodes k)) None)) none ∙ sym stops)
 first_past f w k (suc more) n passed is none stops =
-    subst (λ (m : ℕ). limit_below f w m ≡ Some passed) (omega (arith, is))
+    let e : suc (more + suc k) ≡ n = omega (arith, is) in
+    subst (λ (m : ℕ). limit_below f w m ≡ Some passed) e
     (ap (λ o. first_of o (cond (w.lives (more + suc k)) (limit_at f (w.nodes (more + suc k))) None)) (first_past f w k more (more + suc k) passed refl none stops))
 
 pub limits_found : (f : Frame) (w : World) (k n : ℕ) (passed : What × ℕ) → k < n → limit_below f w k ≡ None → Stops f w k (Some passed) → Some passed ≡ limit_below f w n
@@ -234,8 +236,8 @@ pub limit_found : {P S : Type 0} (stood : Stood S) (left : Left S) (f : Frame) (
 limit_found stood left f m node v number x passed law stands stops lt is at says =
     let e = applied_of stood left f m node v stands in
     let slot = slot_is stood left f m node v law stands stops (omega (arith, lt, e, stands.member.accepted)) number (omega (arith, is, e)) in
-    let same : x ≡ slot.0 = let f : Found x ≡ Found slot.0 = at ∙ slot.1.1 in cc in
-    says ∙ ap (λ (y : Message). limit_of y.action) same ∙ sym (stops.due slot.0 slot.1.0)
+    let same : x ≡ slot.0 = let f : Found x ≡ Found slot.0 = at ∙ slot.2 in cc in
+    says ∙ ap (λ (y : Message). limit_of y.action) same ∙ sym (stops.due slot.0 slot.1)
 
 pub limit_lost : {P S : Type 0} (stood : Stood S) (left : Left S) (f : Frame) (m : ℕ) (node : Node P S) (v : nodes.Node) (number : ℕ) (is_slot : Slot Message) → EntryLaw Message Reply
     → StandsAs stood left f m node v → StopsBefore f v → node.copies.applied < node.member.accepted → number ≡ node.copies.applied + 1 → is_slot ≡ slot_at node.member.window number
@@ -243,4 +245,4 @@ pub limit_lost : {P S : Type 0} (stood : Stood S) (left : Left S) (f : Frame) (m
 limit_lost stood left f m node v number is_slot law stands stops lt is at other =
     let e = applied_of stood left f m node v stands in
     let slot = slot_is stood left f m node v law stands stops (omega (arith, lt, e, stands.member.accepted)) number (omega (arith, is, e)) in
-    other slot.0 (at ∙ slot.1.1)
+    other slot.0 (at ∙ slot.2)

@@ -1,6 +1,6 @@
 -- Who waits in a queue, as the table of standings counts it.
 use Rattle.std.proofs.Common.{◌≡◌, ◌<◌, ◌≤◌, ◌∙◌, ◌↔◌, ◌==◌, ◌&&◌, not, IsTrue, ℕ, zero, suc, Bool, true, false, List, [], ◌∷◌, Some, length, get_or, slice_get, ap, sym, subst, refl, arith, ltb}
-use Rattle.core.specs.Bool.{one_answer}
+use Rattle.std.specs.Bool.{one_answer}
 use Rattle.std.specs.List.{Any}
 use Rattle.std.proofs.lemmas.Bool.{eqb-true, eqb-false, le-ltb, lt-ltb}
 use Rattle.std.proofs.lemmas.Option.{slice_get-get_or}
@@ -15,8 +15,8 @@ use Rattle.world_rules.specs.Standings.{waits_in}
 counted : (queue : List Suspended) (i : ProcessNo) → IsWaiting queue i → 1 ≤ waiting i.0 queue
 counted queue i h =
     let call = h.1 in
-    let found : slice_get queue h.0 ≡ Some call = slice_get-get_or queue h.0 call h.2.0 ∙ ap (λ (c : Suspended). Some c) h.2.1.0 in
-    subst (λ (j : ProcessNo). 1 ≤ waiting j.0 queue) h.2.1.1 (in_waits call queue (in_at call queue h.0 found))
+    let found : slice_get queue h.0 ≡ Some call = slice_get-get_or queue h.0 call h.2 ∙ ap (λ (c : Suspended). Some c) h.3 in
+    subst (λ (j : ProcessNo). 1 ≤ waiting j.0 queue) h.4 (in_waits call queue (in_at call queue h.0 found))
 
 -- and where one is counted there is one
 there : (queue : List Suspended) (i : ProcessNo) → 1 ≤ waiting i.0 queue → IsWaiting queue i
@@ -24,7 +24,7 @@ there [] i h = absurd (omega (arith, h))
 there (call ∷ calls) i h = go (call.process.0 == i.0) refl
   where
     later : IsWaiting calls i → IsWaiting (call ∷ calls) i
-    later k = (suc k.0, k.1, omega (arith, k.2.0), k.2.1.0, k.2.1.1)
+    later k = (suc k.0, k.1, omega (arith, k.2), k.3, k.4)
 
     go : (b : Bool) → (call.process.0 == i.0) ≡ b → IsWaiting (call ∷ calls) i
     go true is = (0, call, omega arith, refl, ap (λ (n : ℕ). record { 0 = n }) (eqb-true call.process.0 i.0 is))
