@@ -135,12 +135,14 @@ or_swap false false false = refl
 stirs_past : (more n m : ℕ) (w u v : World) → more + suc m ≡ n → ((k : ℕ) → (k ≡ m → ⊥) → v.nodes k ≡ u.nodes k) → u.nodes m ≡ w.nodes m
     → has_stirred_below n w v ≡ (has_stirred_below n w u || has_stirred_at (w.nodes m) (v.nodes m))
 stirs_past zero n m w u v is others stood =
-    subst (λ (k : ℕ). has_stirred_below k w v ≡ (has_stirred_below k w u || has_stirred_at (w.nodes m) (v.nodes m))) (omega (arith, is))
+    let e : suc m ≡ n = omega (arith, is) in
+    subst (λ (k : ℕ). has_stirred_below k w v ≡ (has_stirred_below k w u || has_stirred_at (w.nodes m) (v.nodes m))) e
     (ap (λ (b : Bool). b || has_stirred_at (w.nodes m) (v.nodes m)) (stirs_below m m w u v (omega arith) others
     ∙ sym (or_false (has_stirred_below m w u))
     ∙ sym (ap (λ (b : Bool). has_stirred_below m w u || b) (ap (has_stirred_at (w.nodes m)) stood ∙ stays_at (w.nodes m)))))
 stirs_past (suc more) n m w u v is others stood =
-    subst (λ (k : ℕ). has_stirred_below k w v ≡ (has_stirred_below k w u || has_stirred_at (w.nodes m) (v.nodes m))) (omega (arith, is))
+    let e : suc (more + suc m) ≡ n = omega (arith, is) in
+    subst (λ (k : ℕ). has_stirred_below k w v ≡ (has_stirred_below k w u || has_stirred_at (w.nodes m) (v.nodes m))) e
     (ap (λ (b : Bool). b || has_stirred_at (w.nodes (more + suc m)) (v.nodes (more + suc m))) (stirs_past more (more + suc m) m w u v refl others stood)
     ∙ or_swap (has_stirred_below (more + suc m) w u) (has_stirred_at (w.nodes m) (v.nodes m)) (has_stirred_at (w.nodes (more + suc m)) (v.nodes (more + suc m)))
     ∙ ap (λ (k : nodes.Node). (has_stirred_below (more + suc m) w u || has_stirred_at (w.nodes (more + suc m)) k) || has_stirred_at (w.nodes m) (v.nodes m)) (others (more + suc m) (λ e. absurd (omega (arith, e)))))

@@ -54,7 +54,7 @@ computes_copies i place lines end node = ap (λ (n : nodes.Node). n.copies) (rea
 
 -- ---- the list
 
-applied_of : Member Message → List Message
+abbrev applied_of : Member Message → List Message
 applied_of m = take m.applied m.log
 
 longest_same : (n : ℕ) (w v : World) → ((m : ℕ) → (v.nodes m).member ≡ (w.nodes m).member) → longest n v ≡ longest n w

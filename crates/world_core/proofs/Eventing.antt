@@ -57,7 +57,7 @@ pub leads_push : (f : Frame) (w : World) (steps : List Step) (u : World) (step :
 leads_push f w [] u step v h next = (v, subst (λ (x : World). Next f x step v) h next, refl)
 leads_push f w (first ∷ steps) u step v h next = (h.0, h.1, leads_push f h.0 steps u step v h.2 next)
 
-passes : {A : Type 0} → List A → List Fate
+abbrev passes : {A : Type 0} → List A → List Fate
 passes [] = []
 passes (x ∷ xs) = Pass ∷ passes xs
 

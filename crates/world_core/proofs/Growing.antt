@@ -112,7 +112,7 @@ pub record Fronts (list : List Message) (known applied : ℕ) (entries : List Me
   pub from_applied : applied ≤ length entries
   pub one : (length entries ≤ known) ⊎ (length entries ≤ applied)
 
-fronts_on : (list entries before messages : List Message) (now : ℕ) → entries ≡ take (length entries) list → now ≤ length list → length before ≤ length entries
+pub fronts_on : (list entries before messages : List Message) (now : ℕ) → entries ≡ take (length entries) list → now ≤ length list → length before ≤ length entries
     → before ++ messages ≡ take now list → Fronts list (length entries) now (entries ++ behind (length entries) (length before) messages)
 fronts_on list entries before messages now front within low had =
     ⊎_elim far near (cases_lt (length entries) now)
@@ -156,7 +156,7 @@ fronts_on list entries before messages now front within low had =
 
 -- ---- a member's part
 
-told_same : (deeds : List Deed) → stands.entries_of deeds ≡ told_of deeds
+pub told_same : (deeds : List Deed) → stands.entries_of deeds ≡ told_of deeds
 told_same [] = refl
 told_same (Submits x ∷ deeds) = told_same deeds
 told_same (Acts act ∷ deeds) = told_same deeds

@@ -77,7 +77,7 @@ outs_changed {P} {S} i r old new h lt =
     let a = ap (λ (l : List (Option (Resident S))). outs (map has_out l)) (residents_set i r old new h lt) in
     let b = ap outs (map_set has_out old.residents.items i (Some r)) in
     let c = outs_set (outs_of old) i (is_some r.out) (omega (arith, lt, map_count has_out old.residents.items)) in
-    let d = ap (λ (x : Bool). cond x 1 0) (has_at old.residents.items i) in
+    let d : ◌≡◌ {A = ℕ} (cond (get_or (outs_of old) i false) 1 0) (cond (has_out (resident_at old i)) 1 0) = ap (λ (x : Bool). cond x 1 0) (has_at old.residents.items i) in
     omega (arith, a, b, c, d)
 
 -- ---- at all of them

@@ -92,7 +92,19 @@ recalled_stands {P} {S} stood left f old new same h stands =
     clash (Some b) a e d = cc
 
     is : IsWorld stood left f (record old { nodes = new.nodes }) stands.world
-    is = record stands.is {
+    is = record {
+      replays = stands.is.replays;
+      all = stands.is.all;
+      living = stands.is.living;
+      flights = stands.is.flights;
+      read = stands.is.read;
+      entries = stands.is.entries;
+      performed = stands.is.performed;
+      sent = stands.is.sent;
+      swaps = stands.is.swaps;
+      idle = stands.is.idle;
+      few = stands.is.few;
+      ticks = stands.is.ticks;
       members = h.count ∙ stands.is.members;
       nodes = λ m node at. let r = h.each m node at in r.alike f m (stands.world.nodes m) (stands.is.nodes m r.before r.here);
       tasks = λ m i node r view at here out. absurd (clash r.out view (nobody m i node r at here) out);

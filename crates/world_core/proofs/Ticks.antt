@@ -42,8 +42,7 @@ pub tick_may : {P S : Type 0} (stood : Stood S) (left : Left S) (f : Frame) (fit
 tick_may stood left f fitness s w m before draft h is going quiet walks fits lt at lives progress =
     let grows = h.laws.grow f refl refl h.settings s.ledger.steps w is.replays going event.Tick tt quiet in
     let sound = letters_sound f h.laws h.settings s.ledger.steps w is.replays going event.Tick tt quiet in
-    let low = λ n within. let few = low_all stood left f s w h is n within in (let small = list_small stood left f s w h is going in
-    (let e = ap length is.entries in (let d : (w.nodes n).copies.applied < 2 ^ 62 = omega (arith, few, small, e) in d))) in
+    let low : (n : ℕ) → n < f.settings.nodes → (w.nodes n).copies.applied < 2 ^ 62 = λ n within. omega (arith, low_all stood left f s w h is n within, list_small stood left f s w h is going, ap length is.entries) in
     let small = tick_small f fitness w walks (h.laws.apart f w) grows.list fits low in
     may_add stood left f fitness s w (ticking f w f.settings.nodes).world m Ticks before draft walks grows.list (comes_tick stood left f s w m before h is going quiet lt at lives) (fits m lt lives)
     (tick_letters f w (IsSoundMail f) (h.laws.apart f w) f.settings.nodes m lt lives sound)

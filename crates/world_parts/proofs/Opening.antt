@@ -1,5 +1,5 @@
 -- Before the first event the parts of a run are the opening world.
-use Rattle.std.proofs.Common.{◌≡◌, ◌≤◌, ◌<◌, ◌+◌, ◌∙◌, ◌⊎◌, inl, inr, ⊎_elim, ℕ, zero, suc, Bool, true, false, List, [], ◌∷◌, ◌++◌, Option, Some, None, slice_get, slice_index_or, is_some, if◌then◌else◌, replicate, ap, sym, subst, refl, arith, map, length}
+use Rattle.std.proofs.Common.{◌≡◌, ◌≤◌, ◌<◌, ◌+◌, ◌∙◌, ◌⊎◌, inl, inr, ⊎_elim, ℕ, zero, suc, Bool, true, false, List, [], ◌∷◌, ◌++◌, Option, Some, None, slice_get, slice_index_or, is_some, cond, replicate, ap, sym, subst, refl, arith, map, length}
 use Rattle.std.proofs.lemmas.List.{length_push}
 use Rattle.book_law.proofs.Lists.{at_push}
 use Rattle.book_law.proofs.Sorting.{performed_none}
@@ -36,7 +36,7 @@ none_out [] h = refl
 none_out (None ∷ rs) h = let e = none_out rs (λ i r is. h (suc i) r is) in omega (arith, e)
 none_out (Some r ∷ rs) h =
     let e = none_out rs (λ i q is. h (suc i) q is) in
-    let d : (if is_some r.out then 1 else 0) ≡ 0 = ap (λ (o : Option Viewed). if is_some o then 1 else 0) (h 0 r refl) in
+    let d : ◌≡◌ {A = ℕ} (cond (is_some r.out) 1 0) 0 = ap (λ (o : Option Viewed). cond (is_some o) 1 0) (h 0 r refl) in
     omega (arith, e, d)
 
 pub nobody_out : {P S : Type 0} (nodes : List (Node P S)) →
@@ -49,8 +49,8 @@ nobody_out (node ∷ nodes) h =
 
 -- ---- the members
 
-pub opening_begins : {P S : Type 0} (stood : Stood S) (left : Left S) (f : Frame) → AreOpening {P} {S} stood left f 0 []
-opening_begins stood left f = record { many = refl; each = λ m node is. absurd (cc is); none = λ m i node r is here. absurd (cc is) }
+pub opening_begins : {P S : Type 0} (stood : Stood S) (left : Left S) (f : Frame) → AreOpening {P = P} {S = S} stood left f 0 []
+opening_begins {P} {S} stood left f = record { many = refl; each = λ m node is. absurd (cc is); none = λ m i node r is here. absurd (cc is) }
 
 pub opening_more : {P S : Type 0} (stood : Stood S) (left : Left S) (f : Frame) (k next : ℕ) (nodes more : List (Node P S)) (node : Node P S) → suc k ≡ next
     → AreOpening stood left f k nodes → more ≡ nodes ++ node ∷ [] → StandsAs stood left f k node (opening_node f k)

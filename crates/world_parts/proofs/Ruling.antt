@@ -212,15 +212,11 @@ slot_is : {P S : Type 0} (stood : Stood S) (left : Left S) (f : Frame) (m : ℕ)
 slot_is stood left f m node v law stands stops lt number is =
     let kept = stops.kept lt in
     let due = kept.1 in
-    let past : leb number v.member.base ≡ false = lt-leb number v.member.base (omega (arith, is, kept.0)) in (
-      due.0,
-      (
-        due.1,
-        law (group f) m node.member v.member number stands.member
-            ∙ ap (λ (b : Bool). cond b Purged (slot_of (entry_at v.member.log number))) past
-            ∙ ap (λ (n : ℕ). slot_of (entry_at v.member.log n)) is ∙ ap slot_of due.1.there,
-      ),
-    )
+    let past : leb number v.member.base ≡ false = lt-leb number v.member.base (omega (arith, is, kept.0)) in
+    let found : slot_at node.member.window number ≡ Found due.0 =
+    law (group f) m node.member v.member number stands.member ∙ ap (λ (b : Bool). cond b Purged (slot_of (entry_at v.member.log number))) past
+    ∙ ap (λ (n : ℕ). slot_of (entry_at v.member.log n)) is ∙ ap slot_of due.1.there in
+    (due.0, due.1, found)
 
 applied_of : {P S : Type 0} (stood : Stood S) (left : Left S) (f : Frame) (m : ℕ) (node : Node P S) (v : nodes.Node) → StandsAs stood left f m node v → node.copies.applied ≡ v.copies.applied
 applied_of stood left f m node v stands = ap (λ (c : Copied). c.applied) stands.copies

@@ -21,17 +21,15 @@ counted queue i h =
 -- and where one is counted there is one
 there : (queue : List Suspended) (i : ProcessNo) → 1 ≤ waiting i.0 queue → IsWaiting queue i
 there [] i h = absurd (omega (arith, h))
-there (call ∷ calls) i h = go (call.process.0 == i.0) refl
+there (call ∷ calls) i h = go (call.process.0 == i.0) refl (there calls i)
   where
-    later : IsWaiting calls i → IsWaiting (call ∷ calls) i
-    later k = (suc k.0, k.1, omega (arith, k.2), k.3, k.4)
-
-    go : (b : Bool) → (call.process.0 == i.0) ≡ b → IsWaiting (call ∷ calls) i
-    go true is = (0, call, omega arith, refl, ap (λ (n : ℕ). record { 0 = n }) (eqb-true call.process.0 i.0 is))
-    go false is =
+    go : (b : Bool) → (call.process.0 == i.0) ≡ b → (1 ≤ waiting i.0 calls → IsWaiting calls i) → IsWaiting (call ∷ calls) i
+    go true is rest = (0, call, omega arith, refl, ap (λ (n : ℕ). record { 0 = n }) (eqb-true call.process.0 i.0 is))
+    go false is rest =
         let a = waiting-cons i.0 call calls in
         let b = one_other call.process.0 i.0 (eqb-false call.process.0 i.0 is) in
-        later (there calls i (omega (arith, h, a, b)))
+        let k = rest (omega (arith, h, a, b)) in
+        (suc k.0, k.1, omega (arith, k.2), k.3, k.4)
 
 some_of : (n : ℕ) → ltb 0 n ≡ true → 1 ≤ n
 some_of zero is = absurd (cc is)
