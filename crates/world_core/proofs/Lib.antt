@@ -1,0 +1,15 @@
+pub mod Adding
+pub mod Keeping
+pub mod Growing
+pub mod Progressing
+pub mod Eventing
+pub mod Doing
+pub mod Ticking
+pub mod Recalls
+pub mod Ticks
+pub mod Sending
+pub mod Leaving
+pub mod Stepped
+pub mod Handing
+pub mod Computed
+pub mod TakenIn
