@@ -9,3 +9,4 @@ pub mod Lines
 pub mod Opening
 pub mod Outs
 pub mod Ruling
+pub mod Quiet

@@ -28,7 +28,7 @@ use Rattle.world_law.specs.Packets.{AllNumber}
 use Rattle.world_law.specs.SoundPackets.{AllLettersSound}
 use Rattle.run_law.specs.Growing.{EventsGrow}
 use Rattle.run_law.specs.Limits.{AllStopBefore}
-use Rattle.run_law.specs.Parts.{AllTickApart, InAllParts}
+use Rattle.run_law.specs.Parts.{AllTicksApart, InAllParts}
 use Rattle.run_law.specs.Replies.{RepliesOffBooks}
 use Rattle.run_law.specs.Sending.{SendsOwn}
 use Rattle.node_core.specs.Pieces.{resident_at}
@@ -122,7 +122,7 @@ pub record Laws (p : Performs) (q : Computes) : Type 0 where
   pub mean : EndsMean q
   pub stops : AllStopBefore p q
   pub own : InAllParts p q SendsOwn
-  pub apart : AllTickApart
+  pub apart : AllTicksApart
   pub grow : EventsGrow p q
   pub replies : RepliesOffBooks p q
   pub lists : AllGrow

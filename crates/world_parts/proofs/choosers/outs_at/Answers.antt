@@ -11,8 +11,8 @@ processes-init g c = counted_first c.args.node.now
 
 pub processes-preserved : goal.processes-preserved
 processes-preserved g c =
-    counted_next c.args.node.now c.processes.process _ c.processes.tasks c.out_of.result _ (omega arith) c.processes.invariant
-    (c.out_of.ensures ∙ ap (λ (o : Option (Resident g.P.State)). cond (has_out o) 1 0) c.resident.ensures) refl
+    counted_next c.args.node.now c.processes.process (c.processes.process + 1) c.processes.tasks c.out_of-tasks.result _ (omega arith) c.processes.invariant
+    (c.out_of-tasks.ensures ∙ ap (λ (o : Option (Resident g.row.P-State.Denot)). cond (has_out o) 1 0) c.resident.ensures) refl
 
 pub returns-clause-outs : goal.returns-clause-outs
 returns-clause-outs g c =

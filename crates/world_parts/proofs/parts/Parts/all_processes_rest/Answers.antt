@@ -9,12 +9,12 @@ processes-init g c w is = refl
 
 pub processes-preserved : goal.processes-preserved
 processes-preserved g c w is =
-    all_on (λ (i : ℕ). not (lives_at_home g.P.OneRun.run.frame w i) || rests g.P.OneRun.run.frame w i (played_in g.P.OneRun.run.frame w i)) c.processes.process _ (omega arith) (c.processes.invariant w is) (sym (c.rests_living.ensures w is) ∙ c.if-not-rests_living.false)
+    all_on (λ (i : ℕ). not (lives_at_home g.P.OneRun.run.frame w i) || rests g.P.OneRun.run.frame w i (played_in g.P.OneRun.run.frame w i)) c.processes.process (c.processes.process + 1) (omega arith) (c.processes.invariant w is) (sym (c.rests_living.ensures w is) ∙ c.if-not-rests_living.false)
 
 pub returns-then-not-rests_living : goal.returns-then-not-rests_living
 returns-then-not-rests_living g c w is =
-    all_failed (λ (i : ℕ). not (lives_at_home g.P.OneRun.run.frame w i) || rests g.P.OneRun.run.frame w i (played_in g.P.OneRun.run.frame w i)) c.processes.process (process_count g.P.OneRun.run.frame w) (omega (arith, c.processes-test.true, c.process_count.ensures w is)) (sym (c.rests_living.ensures w is) ∙ c.if-not-rests_living.true)
+    all_failed (λ (i : ℕ). not (lives_at_home g.P.OneRun.run.frame w i) || rests g.P.OneRun.run.frame w i (played_in g.P.OneRun.run.frame w i)) c.processes.process (process_count g.P.OneRun.run.frame w) (omega (arith, c.processes-test.true, c.process_count-process-end.ensures w is)) (sym (c.rests_living.ensures w is) ∙ c.if-not-rests_living.true)
 
 pub returns : goal.returns
 returns g c w is =
-    all_done (λ (i : ℕ). not (lives_at_home g.P.OneRun.run.frame w i) || rests g.P.OneRun.run.frame w i (played_in g.P.OneRun.run.frame w i)) c.processes.process (process_count g.P.OneRun.run.frame w) (omega (arith, c.processes.auto.process-end, c.process_count.ensures w is)) (omega (arith, c.processes-test.false, c.process_count.ensures w is)) (c.processes.invariant w is)
+    all_done (λ (i : ℕ). not (lives_at_home g.P.OneRun.run.frame w i) || rests g.P.OneRun.run.frame w i (played_in g.P.OneRun.run.frame w i)) c.processes.process (process_count g.P.OneRun.run.frame w) (omega (arith, c.processes.auto.process-end, c.process_count-process-end.ensures w is)) (omega (arith, c.processes-test.false, c.process_count-process-end.ensures w is)) (c.processes.invariant w is)

@@ -8,16 +8,16 @@ use Rattle.world_parts.proofs.parts.Parts.lost.Goals as goal
 pub members-init : goal.members-init
 members-init g c = (omega arith, λ w is. refl)
 
-pub lost_at-requires-clause-within : goal.lost_at-requires-clause-within
-lost_at-requires-clause-within g c = omega (arith, c.members-test.true, c.requires.numbers.nodes)
+pub lost_at-lost-requires-clause-within : goal.lost_at-lost-requires-clause-within
+lost_at-lost-requires-clause-within g c = omega (arith, c.members-test.true, c.requires.numbers.nodes)
 
 pub overflow_add-lost : goal.overflow_add-lost
-overflow_add-lost g c = few_lost c.members.member g.P.OneRun.run.frame.settings.nodes c.members.lost c.lost_at.result (omega (arith, c.members-test.true, c.requires.numbers.nodes)) c.requires.settings.few c.members.invariant.0 c.lost_at.ensures.few
+overflow_add-lost g c = record { fits = few_lost c.members.member g.P.OneRun.run.frame.settings.nodes c.members.lost c.lost_at-lost.result (omega (arith, c.members-test.true, c.requires.numbers.nodes)) c.requires.settings.few c.members.invariant.0 c.lost_at-lost.ensures.few }
 
 pub members-preserved : goal.members-preserved
 members-preserved g c = (
-  omega (arith, c.members.invariant.0, c.lost_at.ensures.few),
-  λ w is. count_next (is_lost w) c.members.member _ c.members.lost c.lost_at.result _ (omega arith) (c.members.invariant.1 w is) (c.lost_at.ensures.one w is) refl,
+  omega (arith, c.members.invariant.0, c.lost_at-lost.ensures.few),
+  λ w is. count_next (is_lost w) c.members.member (c.members.member + 1) c.members.lost c.lost_at-lost.result _ (omega arith) (c.members.invariant.1 w is) (c.lost_at-lost.ensures.one w is) refl,
 )
 
 pub returns : goal.returns

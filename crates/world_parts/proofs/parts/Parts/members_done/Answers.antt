@@ -8,7 +8,7 @@ members-init g c w is = refl
 
 pub members-preserved : goal.members-preserved
 members-preserved g c w is =
-    all_on (λ (i : ℕ). not (w.lives i) || is_done g.P.OneRun.run.frame w i (w.nodes i)) c.members.member _ (omega arith) (c.members.invariant w is) (sym (c.is_done_living.ensures w is) ∙ c.if-not-is_done_living.false)
+    all_on (λ (i : ℕ). not (w.lives i) || is_done g.P.OneRun.run.frame w i (w.nodes i)) c.members.member (c.members.member + 1) (omega arith) (c.members.invariant w is) (sym (c.is_done_living.ensures w is) ∙ c.if-not-is_done_living.false)
 
 pub returns-then-not-is_done_living : goal.returns-then-not-is_done_living
 returns-then-not-is_done_living g c w is =

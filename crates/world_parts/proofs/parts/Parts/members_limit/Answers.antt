@@ -13,7 +13,7 @@ returns-in-Some g c w is =
     limits_found g.P.OneRun.run.frame w c.members.member g.P.OneRun.run.frame.settings.nodes _ (omega (arith, c.members-test.true, c.requires.numbers.nodes)) (c.members.invariant w is) (c.in-Some.ensures {u = tt} w is)
 
 pub members-preserved : goal.members-preserved
-members-preserved g c w is = limits_next g.P.OneRun.run.frame w c.members.member _ (omega arith) (c.members.invariant w is) (c.in_default.ensures {u = tt} w is)
+members-preserved g c w is = limits_next g.P.OneRun.run.frame w c.members.member (c.members.member + 1) (omega arith) (c.members.invariant w is) (c.in_default.ensures {u = tt} w is)
 
 pub returns : goal.returns
 returns g c w is = limits_none g.P.OneRun.run.frame w c.members.member g.P.OneRun.run.frame.settings.nodes (omega (arith, c.members.auto.member-end, c.members-test.false, c.requires.numbers.nodes)) (c.members.invariant w is)

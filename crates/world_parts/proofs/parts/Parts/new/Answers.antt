@@ -2,7 +2,7 @@ use Rattle.std.proofs.Common.{◌≡◌, ◌∙◌, ap, sym, subst, refl, replic
 use Rattle.world_parts.specs.Recorded.{Recorded}
 use Rattle.world_rules.specs.Frame.{AreSettings}
 use Rattle.world_rules.specs.declared.settings.Settings.{Settings}
-use Rattle.world_parts.proofs.Opening.{first_stands, tasks_none}
+use Rattle.world_parts.proofs.Opening.{first_stands, nobody_out}
 use Rattle.world_parts.proofs.parts.Parts.new.Goals as goal
 
 pub opening_nodes-requires-clause-numbers : goal.opening_nodes-requires-clause-numbers
@@ -33,4 +33,4 @@ returns-clause-stands g c =
     (record { flights = c.new-net.ensures.empty; steps = ap (λ (r : Recorded). r.steps) c.new-ledger.ensures; entries = ap (λ (r : Recorded). r.entries) c.new-ledger.ensures; performed = ap (λ (r : Recorded). r.performed) c.new-ledger.ensures; sent = refl; swaps = refl; idle = refl })
 
 pub returns-clause-tasks : goal.returns-clause-tasks
-returns-clause-tasks g c = tasks_none g.P.OneRun.stood g.P.OneRun.left g.P.OneRun.run.frame _ (c.in_ok-nodes.ensures {u = tt})
+returns-clause-tasks g c = nobody_out c.in_ok-nodes.nodes.items (c.in_ok-nodes.ensures {u = tt}).none

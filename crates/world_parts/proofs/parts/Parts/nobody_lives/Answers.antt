@@ -8,12 +8,12 @@ members-init g c w is = refl
 
 pub members-preserved : goal.members-preserved
 members-preserved g c w is =
-    let lt = omega (arith, c.members-test.true, c.requires.numbers.nodes) in
-    all_on (λ (m : ℕ). not (w.lives m)) c.members.member _ (omega arith) (c.members.invariant w is) (ap not (sym (lives_within g.P.OneRun.run.frame w c.members.member lt) ∙ sym (c.lives.ensures w is) ∙ c.if-lives.false))
+    let lt : c.members.member < g.P.OneRun.run.frame.settings.nodes = omega (arith, c.members-test.true, c.requires.numbers.nodes) in
+    all_on (λ (m : ℕ). not (w.lives m)) c.members.member (c.members.member + 1) (omega arith) (c.members.invariant w is) (ap not (sym (lives_within g.P.OneRun.run.frame w c.members.member lt) ∙ sym (c.lives.ensures w is) ∙ c.if-lives.false))
 
 pub returns-then-lives : goal.returns-then-lives
 returns-then-lives g c w is =
-    let lt = omega (arith, c.members-test.true, c.requires.numbers.nodes) in
+    let lt : c.members.member < g.P.OneRun.run.frame.settings.nodes = omega (arith, c.members-test.true, c.requires.numbers.nodes) in
     all_failed (λ (m : ℕ). not (w.lives m)) c.members.member g.P.OneRun.run.frame.settings.nodes lt (ap not (sym (lives_within g.P.OneRun.run.frame w c.members.member lt) ∙ sym (c.lives.ensures w is) ∙ c.if-lives.true))
 
 pub returns : goal.returns
