@@ -13,3 +13,17 @@ pub mod Stepped
 pub mod Handing
 pub mod Computed
 pub mod TakenIn
+pub mod Numbering
+pub mod SendingAll
+pub mod Storing
+pub mod Fewer
+pub mod Closed
+pub mod Asking
+pub mod Parting
+pub mod Coming
+pub mod Delivers
+pub mod Running
+pub mod CheckingOut
+pub mod CheckingIn
+pub mod Letters
+pub mod Books

@@ -59,7 +59,7 @@ recalled_over stood left k old new past h = record {
 
 -- ---- the run
 
-none_there : {P S : Type 0} (before after : Node P S) → HasRecalled before after → (i : ℕ) (r : Resident S) → resident_at after i ≡ Some r → r.out ≡ None
+pub none_there : {P S : Type 0} (before after : Node P S) → HasRecalled before after → (i : ℕ) (r : Resident S) → resident_at after i ≡ Some r → r.out ≡ None
 none_there {P} {S} before after h i r at =
     go before.residents.items i (ap (λ (l : List (Option (Resident S))). slice_index_or l i None) (sym h.ended) ∙ at)
   where

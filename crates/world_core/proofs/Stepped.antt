@@ -44,11 +44,11 @@ use Rattle.world_core.proofs.Sending.{sent_flights}
 comes_lives : (f : Frame) (v : World) (mail : Mail) → (comes f v mail).world.lives ≡ v.lives
 comes_lives f v mail = one_or (lives_in f v (receiver_of mail)) _ _ (λ (u : AtWork). u.world.lives ≡ v.lives) refl refl
 
-whole_lives : (f : Frame) (v : World) (o : Option (Flight Carried)) → (comes_whole f v o).world.lives ≡ v.lives
+pub whole_lives : (f : Frame) (v : World) (o : Option (Flight Carried)) → (comes_whole f v o).world.lives ≡ v.lives
 whole_lives f v None = refl
 whole_lives f v (Some flight) = one_or (is_whole f.settings.nodes flight.packet) _ _ (λ (u : AtWork). u.world.lives ≡ v.lives) (comes_lives f v flight.packet.mail) refl
 
-tick_lives : (f : Frame) (n : ℕ) (u : AtWork) → (ticks_below f n u).world.lives ≡ u.world.lives
+pub tick_lives : (f : Frame) (n : ℕ) (u : AtWork) → (ticks_below f n u).world.lives ≡ u.world.lives
 tick_lives f zero u = refl
 tick_lives f (suc n) u =
     let below = ticks_below f n u in
@@ -110,7 +110,7 @@ idle_few false event n = idle_low event n
 
 -- ---- letters
 
-outgoing_count : (nodes : ℕ) (outgoing : List Outgoing) (mails : List Mail) → AreOutgoing nodes outgoing mails → length outgoing ≡ length mails
+pub outgoing_count : (nodes : ℕ) (outgoing : List Outgoing) (mails : List Mail) → AreOutgoing nodes outgoing mails → length outgoing ≡ length mails
 outgoing_count nodes [] [] h = refl
 outgoing_count nodes (one ∷ outgoing) (mail ∷ mails) h = ap suc (outgoing_count nodes outgoing mails h.1)
 outgoing_count nodes [] (mail ∷ mails) h = absurd h

@@ -23,7 +23,7 @@ use Rattle.world_parts.specs.Standing.{IsTask, IsWorld, Stands}
 use Rattle.world_parts.specs.declared.parts.Parts.{Parts}
 
 -- the process that is here, as the world has it
-played_as : {S : Type 0} (stood : Stood S) (left : Left S) (i : ℕ) (s : Resident S) (o : Option Played) → IsPlayedIf stood left i (Some s) o → (r : Played) × (o ≡ Some r) × IsPlayed stood left i s r
+pub played_as : {S : Type 0} (stood : Stood S) (left : Left S) (i : ℕ) (s : Resident S) (o : Option Played) → IsPlayedIf stood left i (Some s) o → (r : Played) × (o ≡ Some r) × IsPlayed stood left i s r
 played_as stood left i s None h = absurd h
 played_as stood left i s (Some r) h = (r, refl, h)
 

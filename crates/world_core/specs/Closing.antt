@@ -22,8 +22,8 @@ use Rattle.world_core.specs.declared.letters.Outgoing.{Outgoing}
 -- room was made, and nothing else changed; room that there was stays
 pub record HasRoomMade {P S : Type 0} (old new : Parts P S) : Type 0 where
   pub numbers : new.numbers ≡ old.numbers
-  pub nodes : new.nodes ≡ old.nodes
-  pub lives : new.lives ≡ old.lives
+  pub nodes : new.nodes.items ≡ old.nodes.items
+  pub lives : new.lives.items ≡ old.lives.items
   pub flights : new.net.flights ≡ old.net.flights
   pub steps : new.ledger.steps ≡ old.ledger.steps
   pub entries : new.ledger.entries ≡ old.ledger.entries
@@ -132,7 +132,7 @@ asked_all sent (one ∷ more) [] = []
 pub record HasClosed {P S : Type 0} (draft : Draft P S) (old : Parts P S) (fates : List Fate) (new : Parts P S) : Type 0 where
   pub numbers : new.numbers ≡ old.numbers
   pub nodes : new.nodes.items ≡ taken draft.parts.items old.nodes.items
-  pub lives : new.lives ≡ old.lives
+  pub lives : new.lives.items ≡ old.lives.items
   pub flights : new.net.flights ≡ sent_all old.sent draft.outgoing.items fates old.net.flights
   pub count : length fates ≡ length draft.outgoing.items
   pub steps : new.ledger.steps ≡ old.ledger.steps

@@ -4,3 +4,4 @@ pub mod Drafting
 pub mod Closing
 pub mod Growing
 pub mod Recalling
+pub mod Bursting

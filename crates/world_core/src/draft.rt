@@ -94,17 +94,16 @@ impl<P: OneRun> Draft<P> {
     /// A process's burst was computed.
     pub(crate) fn add_burst(
         &mut self,
-        before: &Node<P>,
+        member: u8,
         after: Node<P>,
         burst: CheckedIn,
     ) -> Result<(), NoMemory>
-        ensures parts { OnOk result (self.new.parts.items ≡ self.old.parts.items ++ record { member = before.now.member.me; node = after } ∷ []) }
+        ensures parts { OnOk result (self.new.parts.items ≡ self.old.parts.items ++ record { member = member; node = after } ∷ []) }
         ensures outgoing { self.new.outgoing.items ≡ self.old.outgoing.items }
         ensures entries { self.new.entries.items ≡ self.old.entries.items }
         ensures pieces { OnOk result (of_pieces self.new.pieces.items ≡ of_pieces self.old.pieces.items ++ placed burst.place burst.reads.items) }
         ensures stirred { OnOk result (self.new.has_stirred ≡ (self.old.has_stirred || not (length burst.reads.items == 0))) }
     {
-        let member = before.member().me();
         let has_read = !burst.reads.is_empty();
         self.has_stirred = self.has_stirred || has_read;
         self.pieces.push(reads_of(burst))?;

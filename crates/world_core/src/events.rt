@@ -1,6 +1,12 @@
 //! What each event leaves, where it is possible.
 
-ghost use Rattle.std.specs.Prelude.{◌≡◌, ◌<◌, Err, IfOk, OnOk, Some, length, slice_get, suc, true};
+ghost use Rattle.std.specs.Prelude.{◌≡◌, ◌<◌, ◌≤◌, ◌-◌, ◌&&◌, Err, IfOk, OnOk, Some, is_some, length, min, nat_le, slice_get, suc, true};
+ghost use Rattle.net_rules.specs.Flights.{ready_copy};
+ghost use Rattle.orca_base.specs.declared.limits.TheConstants.{BURST_TURNS};
+ghost use Rattle.run_law.specs.Earlier.{view_at};
+ghost use Rattle.world_facts.specs.Ends.{turns_in};
+ghost use Rattle.world_rules.specs.Worlds.{home_of, played_in};
+ghost use Rattle.world_core.specs.Bursting.{is_between, may_burst};
 ghost use Rattle.node_core.specs.Stands.{fitness_of};
 ghost use Rattle.node_rules.specs.Starts.Start.{Acts, Suspects, Ticks};
 ghost use Rattle.world_calls.specs.Law.{ticking};
@@ -11,17 +17,21 @@ ghost use Rattle.world_core.specs.Growing.{Progress};
 ghost use Rattle.world_core.specs.Drafting.{AddsLetter, AddsPart, Drafts, MayAdd, MayAddLetter, MayNotBe};
 ghost use Rattle.world_parts.specs.Standing.{Is, Stands};
 
+use crate::burst::{run_on, with_burst};
 use crate::draft::Draft;
 use crate::letters::incoming;
 use crate::step::StepError;
 use group_packets::Packet;
 use history_buffer::Shared;
-use node_core::{Node, OneRun};
+use node_core::{Node, OneRun, Resident};
 use node_rules::walking_law;
+use object_manager::View;
 use orca_base::{BURST_TURNS, NoMemory, ProcessNo};
+use packet_bytes::spelling_law;
 use run_law::parts_fit_apart;
 use std::alloc::Global;
 use value_core::Message;
+use world_law::replay_law;
 use world_parts::Parts;
 use world_rules::Event;
 
@@ -102,38 +112,121 @@ fn bursts<P: OneRun>(
     ensures drafts { IfOk result (Drafts P.stood P.left P.run.frame parts.now (Event.Burst process place turns)) }
     ensures refused { result ≡ Err StepError.NotEnabled → MayNotBe P.stood P.left P.run.frame parts.now (Event.Burst process place turns) }
 {
-    let home = parts.home_of(process);
-    let (Some(before), Some(resident)) = (parts.node(home), parts.resident(process)) else {
-        return Err(StepError::NotEnabled);
-    };
-    let applied = before.copies().applied();
-    if !parts.computes(process) || place < resident.place() || place > applied {
-        return Err(StepError::NotEnabled);
-    }
-    let view = if place == applied {
-        before.copies().view(alloc)?
+    if may_burst(parts, process, place) {
+        computes(parts, alloc, machine, process, place, turns)
     } else {
-        before.view_after(alloc, machine, &parts.ledger.entries()[..place as usize])?
-    };
-    let start = resident.turns();
-    let mut after = before.copy(alloc)?;
-    let done = after
-        .task_on(alloc, machine, process, view, budget(parts, start))?
-        .run(alloc, machine)?;
-    if done.turns() - start != u64::from(turns) {
-        return Err(StepError::NotEnabled);
+        Err(StepError::NotEnabled)
     }
-    let Ok(burst) = after.check_in(done) else {
-        unreachable!()
-    };
-    let mut draft = Draft::nothing(alloc);
-    draft.add_burst(before, after, burst)?;
-    Ok(draft)
+}
+
+// Whether the process computes on a living member, and the place lies between its own and what its member applied.
+fn may_burst<P: OneRun>(parts: &Parts<P>, process: ProcessNo, place: u64) -> bool
+    requires { Stands P.stood P.left P.run.frame parts.now }
+    ensures { Is P.stood P.left P.run.frame parts.now (λ w. result ≡ may_burst P.run.frame w process.0 place) }
+{
+    parts.computes(process) && is_between(parts, process, place)
+}
+
+// Whether the place lies between the process's and what its member applied.
+fn is_between<P: OneRun>(parts: &Parts<P>, process: ProcessNo, place: u64) -> bool
+    requires { Stands P.stood P.left P.run.frame parts.now }
+    ensures { Is P.stood P.left P.run.frame parts.now (λ w.
+        result ≡ is_between place (w.nodes (home_of P.run.frame w process.0)).member.applied (played_in P.run.frame w process.0)) }
+{
+    let applied = applied_for(parts, process);
+    match parts.resident(process) {
+        Some(resident) => lies_between(resident, place, applied),
+        None => false,
+    }
+}
+
+// Whether the place lies between the process's and this one.
+fn lies_between<S: Drop>(resident: &Resident<S>, place: u64, applied: u64) -> bool
+    ensures { result ≡ (nat_le resident.now.place place && nat_le place applied) }
+{
+    resident.place() <= place && place <= applied
+}
+
+// How many entries the process's member applied.
+fn applied_for<P: OneRun>(parts: &Parts<P>, process: ProcessNo) -> u64
+    requires { Stands P.stood P.left P.run.frame parts.now }
+    ensures { Is P.stood P.left P.run.frame parts.now (λ w. result ≡ (w.nodes (home_of P.run.frame w process.0)).member.applied) }
+{
+    let home = parts.home_of(process);
+    let node = member_of(parts, home);
+    node.member().applied()
+}
+
+// The process computes there. It is refused where it takes other turns.
+fn computes<P: OneRun>(
+    parts: &Parts<P>,
+    alloc: Global,
+    machine: &P,
+    process: ProcessNo,
+    place: u64,
+    turns: u32,
+) -> Result<Draft<P>, StepError>
+    requires stands { Stands P.stood P.left P.run.frame parts.now }
+    requires going { Is P.stood P.left P.run.frame parts.now (λ w. standing P.run.frame w ≡ Going) }
+    requires may { Is P.stood P.left P.run.frame parts.now (λ w. may_burst P.run.frame w process.0 place ≡ true) }
+    ensures drafts { IfOk result (Drafts P.stood P.left P.run.frame parts.now (Event.Burst process place turns)) }
+    ensures refused { result ≡ Err StepError.NotEnabled → MayNotBe P.stood P.left P.run.frame parts.now (Event.Burst process place turns) }
+{
+    replay_law(machine);
+    run_law::run_law(machine);
+    let home = parts.home_of(process);
+    let before = member_of(parts, home);
+    let view = view_at(parts, alloc, machine, home, place)?;
+    let start = turns_of(parts, process);
+    let budget = budget(parts, start);
+    let ran = run_on(alloc, machine, before, process, view, budget)?;
+    if ran.turns - start == u64::from(turns) {
+        Ok(with_burst(alloc, home, ran)?)
+    } else {
+        Err(StepError::NotEnabled)
+    }
+}
+
+/// The turns that the process took in all.
+pub(crate) fn turns_of<P: OneRun>(parts: &Parts<P>, process: ProcessNo) -> u64
+    requires { Stands P.stood P.left P.run.frame parts.now }
+    ensures { Is P.stood P.left P.run.frame parts.now (λ w. result ≡ turns_in (played_in P.run.frame w process.0)) }
+{
+    match parts.resident(process) {
+        Some(resident) => resident.turns(),
+        None => 0,
+    }
 }
 
 /// The turns of a burst of a process that took so many: no more than it has left.
-pub(crate) fn budget<P: OneRun>(parts: &Parts<P>, turns: u64) -> u32 {
+pub(crate) fn budget<P: OneRun>(parts: &Parts<P>, turns: u64) -> u32
+    ensures { result ≡ min BURST_TURNS (parts.now.numbers.turns - turns) }
+{
     u64::from(BURST_TURNS).min(parts.numbers.turns.saturating_sub(turns)) as u32
+}
+
+// What a member's objects were after so many entries.
+fn view_at<P: OneRun>(
+    parts: &Parts<P>,
+    alloc: Global,
+    machine: &P,
+    member: u8,
+    place: u64,
+) -> Result<View, NoMemory>
+    requires stands { Stands P.stood P.left P.run.frame parts.now }
+    requires going { Is P.stood P.left P.run.frame parts.now (λ w. standing P.run.frame w ≡ Going) }
+    requires within { member < P.run.frame.settings.nodes }
+    requires low { Is P.stood P.left P.run.frame parts.now (λ w. place ≤ (w.nodes member).member.applied) }
+    ensures { IfOk result (λ view. Is P.stood P.left P.run.frame parts.now (λ w. view ≡ view_at P.run.frame (w.nodes member) place)) }
+{
+    run_law::run_law(machine);
+    let node = member_of(parts, member);
+    if place == node.copies().applied() {
+        node.copies().view(alloc)
+    } else {
+        let entries = parts.ledger.entries();
+        node.view_after(alloc, machine, &entries[..place as usize])
+    }
 }
 
 // The action of a process is carried out.
@@ -148,17 +241,13 @@ fn carries_out<P: OneRun>(
     ensures drafts { IfOk result (Drafts P.stood P.left P.run.frame parts.now (Event.Act process)) }
     ensures refused { result ≡ Err StepError.NotEnabled → MayNotBe P.stood P.left P.run.frame parts.now (Event.Act process) }
 {
+    parts_fit_apart(machine);
+    walking_law();
     if parts.may_act(process) {
         let mut draft = Draft::nothing(alloc);
         let home = parts.home_of(process);
-        acts_at(
-            parts,
-            alloc,
-            machine,
-            member_of(parts, home),
-            process,
-            &mut draft,
-        )?;
+        let before = member_of(parts, home);
+        acts_at(parts, alloc, machine, before, process, &mut draft)?;
         Ok(draft)
     } else {
         Err(StepError::NotEnabled)
@@ -178,29 +267,42 @@ fn delivers<P: OneRun>(
     ensures drafts { IfOk result (Drafts P.stood P.left P.run.frame parts.now (Event.Deliver packet copy)) }
     ensures refused { result ≡ Err StepError.NotEnabled → MayNotBe P.stood P.left P.run.frame parts.now (Event.Deliver packet copy) }
 {
+    if parts.net.is_ready(packet, copy) {
+        Ok(arrives(parts, alloc, machine, packet, copy)?)
+    } else {
+        Err(StepError::NotEnabled)
+    }
+}
+
+// The copy comes to its receiver, where that lives and the copy is whole.
+fn arrives<P: OneRun>(
+    parts: &Parts<P>,
+    alloc: Global,
+    machine: &P,
+    packet: u64,
+    copy: u8,
+) -> Result<Draft<P>, NoMemory>
+    requires stands { Stands P.stood P.left P.run.frame parts.now }
+    requires going { Is P.stood P.left P.run.frame parts.now (λ w. standing P.run.frame w ≡ Going) }
+    requires ready { is_some (ready_copy packet copy parts.now.net.flights) ≡ true }
+    ensures { IfOk result (Drafts P.stood P.left P.run.frame parts.now (Event.Deliver packet copy)) }
+{
     parts_fit_apart(machine);
     walking_law();
-    if !parts.net.is_ready(packet, copy) {
-        return Err(StepError::NotEnabled);
-    }
+    spelling_law();
     let mut draft = Draft::nothing(alloc);
     let flight = parts.net.look(packet, copy);
     if !parts.lives(flight.to) {
         return Ok(draft);
     }
-    if let Some(packet) = incoming(alloc, flight.packet.as_slice())? {
-        let before = member_of(parts, flight.to);
-        comes_to(
-            parts,
-            alloc,
-            machine,
-            before,
-            flight.from,
-            packet,
-            &mut draft,
-        )?;
+    match incoming(alloc, flight.packet.as_slice())? {
+        Some(one) => {
+            let before = member_of(parts, flight.to);
+            comes_to(parts, alloc, machine, before, flight.from, one, &mut draft)?;
+            Ok(draft)
+        },
+        None => Ok(draft),
     }
-    Ok(draft)
 }
 
 // The timers of the living members run, in increasing order.
@@ -297,7 +399,9 @@ fn acts_at<P: OneRun>(
 {
     let mut after = before.copy(alloc)?;
     let moved = after.act(alloc, machine, process)?;
-    draft.add_part(alloc, listed(parts), before, after, moved)
+    let listed = listed(parts);
+    draft.add_part(alloc, listed, before, after, moved)?;
+    Ok(())
 }
 
 // A packet comes to a member.
@@ -315,7 +419,9 @@ fn comes_to<P: OneRun>(
 {
     let mut after = before.copy(alloc)?;
     let moved = after.deliver(alloc, machine, from, packet)?;
-    draft.add_part(alloc, listed(parts), before, after, moved)
+    let listed = listed(parts);
+    draft.add_part(alloc, listed, before, after, moved)?;
+    Ok(())
 }
 
 // A member's timer runs.
@@ -331,7 +437,9 @@ fn ticks_at<P: OneRun>(
 {
     let mut after = before.copy(alloc)?;
     let moved = after.tick(alloc, machine)?;
-    draft.add_part(alloc, listed(parts), before, after, moved)
+    let listed = listed(parts);
+    draft.add_part(alloc, listed, before, after, moved)?;
+    Ok(())
 }
 
 // A member suspects its sequencer.
@@ -347,11 +455,13 @@ fn suspects_at<P: OneRun>(
 {
     let mut after = before.copy(alloc)?;
     let moved = after.suspect(alloc, machine)?;
-    draft.add_part(alloc, listed(parts), before, after, moved)
+    let listed = listed(parts);
+    draft.add_part(alloc, listed, before, after, moved)?;
+    Ok(())
 }
 
-// The member of this number.
-fn member_of<P: OneRun>(parts: &Parts<P>, member: u8) -> &Node<P>
+/// The member of this number.
+pub(crate) fn member_of<P: OneRun>(parts: &Parts<P>, member: u8) -> &Node<P>
     requires stands { Stands P.stood P.left P.run.frame parts.now }
     requires within { member < P.run.frame.settings.nodes }
     ensures { Some result.now ≡ slice_get parts.now.nodes.items member }

@@ -1,10 +1,12 @@
 //! One event after the other.
 
 ghost use Rattle.std.specs.Prelude.{◌≡◌, ◌⊎◌, ◌+◌, ◌-◌, ◌<◌, ◌≤◌, ◌^◌, ◌++◌, [], if◌then◌else◌, length, vec_capacity, Err, IfOk, OnErr, OnOk};
+ghost use Rattle.world_rules.specs.Standings.{standing};
 ghost use Rattle.world_rules.specs.Steps.{idle_after};
+ghost use Rattle.world_rules.specs.declared.standing.Standing.TheVariants.{Going};
 ghost use Rattle.world_parts.specs.Seen.{tasks_out};
-ghost use Rattle.world_parts.specs.Standing.{Stands, seen_of};
-ghost use Rattle.world_core.specs.Stepping.{IsRefused, Stepped};
+ghost use Rattle.world_parts.specs.Standing.{Is, Stands, seen_of};
+ghost use Rattle.world_core.specs.Stepping.{IsRefused, OutBefore, Stepped, is_going};
 ghost use Rattle.world_core.specs.Closing.{HasClosed, HasEnded, HasLeft, HasRoomMade, MayEnd, MayLeave, asked_all, sent_all};
 ghost use Rattle.world_core.specs.Drafting.{taken};
 ghost use Rattle.world_parts.specs.Recorded.{of_pieces};
@@ -75,13 +77,46 @@ pub(crate) fn step<P: OneRun, W: Wire>(
     ensures unasked { OnErr result (W.told wire.new ≡ W.told wire.old) }
     ensures refused { result ≡ Err StepError.NotEnabled → IsRefused P.run.frame event (seen_of parts.old) }
     ensures enabled { IsRefused P.run.frame event (seen_of parts.old) → (result ≡ Err StepError.NotEnabled) ⊎ (result ≡ Err StepError.NoMemory) }
-    ensures tasks { tasks_out (seen_of parts.new) ≤ tasks_out (seen_of parts.old) }
+    ensures tasks { OutBefore (seen_of parts.old) (seen_of parts.new) }
+    ensures fewer { tasks_out (seen_of parts.new) ≤ tasks_out (seen_of parts.old) }
     ensures script { W.told_script wire.new ≡ W.told_script wire.old }
     ensures since { W.loaded wire.new ≡ W.loaded wire.old }
 {
-    if parts.standing() != Standing::Going {
-        return Err(StepError::NotEnabled);
+    if is_going(parts.standing()) {
+        does(parts, alloc, machine, event, wire)
+    } else {
+        Err(StepError::NotEnabled)
     }
+}
+
+/// Whether the run is going.
+pub(crate) fn is_going(standing: Standing) -> bool
+    ensures { result ≡ is_going standing }
+{
+    matches!(standing, Standing::Going)
+}
+
+// The same in a run that is going.
+fn does<P: OneRun, W: Wire>(
+    parts: &mut Parts<P>,
+    alloc: Global,
+    machine: &P,
+    event: Event,
+    wire: &mut W,
+) -> Result<(), StepError>
+    requires stands { Stands P.stood P.left P.run.frame parts.old }
+    requires going { Is P.stood P.left P.run.frame parts.old (λ w. standing P.run.frame w ≡ Going) }
+    ensures stands { Stands P.stood P.left P.run.frame parts.new }
+    ensures done { OnOk result (Stepped P.run.frame event (seen_of parts.old) (seen_of parts.new) (W.told wire.old) (W.told wire.new)) }
+    ensures err { OnErr result (seen_of parts.new ≡ seen_of parts.old) }
+    ensures unasked { OnErr result (W.told wire.new ≡ W.told wire.old) }
+    ensures refused { result ≡ Err StepError.NotEnabled → IsRefused P.run.frame event (seen_of parts.old) }
+    ensures enabled { IsRefused P.run.frame event (seen_of parts.old) → (result ≡ Err StepError.NotEnabled) ⊎ (result ≡ Err StepError.NoMemory) }
+    ensures tasks { OutBefore (seen_of parts.old) (seen_of parts.new) }
+    ensures fewer { tasks_out (seen_of parts.new) ≤ tasks_out (seen_of parts.old) }
+    ensures script { W.told_script wire.new ≡ W.told_script wire.old }
+    ensures since { W.loaded wire.new ≡ W.loaded wire.old }
+{
     let draft = happens(parts, alloc, machine, event)?;
     let fates = make_room(parts, alloc, &draft, wire)?;
     let idle = idle_after(parts, event, draft.has_stirred);

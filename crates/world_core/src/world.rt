@@ -1,6 +1,6 @@
 //! The world of one run.
 
-ghost use Rattle.std.specs.Prelude.{◌≡◌, ◌⊎◌, ◌+◌, ◌≤◌, [], true, Err, IfOk, OnErr, OnOk, option_map};
+ghost use Rattle.std.specs.Prelude.{◌≡◌, ◌⊎◌, ◌+◌, ◌≤◌, [], true, Err, IfErr, IfOk, OnErr, OnOk, option_map};
 ghost use Rattle.value_core.specs.History.{Legal};
 ghost use Rattle.net_rules.specs.Flights.{first_ready};
 ghost use Rattle.world_rules.specs.Frame.{AreSettings};
@@ -11,7 +11,7 @@ ghost use Rattle.world_rules.specs.declared.standing.Standing.TheVariants.{Going
 ghost use Rattle.world_book.specs.Promise.{AllStuck, IsKept};
 ghost use Rattle.world_parts.specs.Choosing.{due_act, is_ready, longest_log};
 ghost use Rattle.world_parts.specs.Seen.{Of, tasks_out};
-ghost use Rattle.world_core.specs.Stepping.{ChecksIn, IsRefused, Stepped};
+ghost use Rattle.world_core.specs.Stepping.{ChecksIn, HandsOutOf, IsAstray, IsRefused, OutBefore, Stepped};
 ghost use Rattle.world_core.specs.Telling.{AreNodeEnds, AreProcessEnds, EndsMean};
 
 use crate::ends::{NodeEnd, ProcessEnd, RunEnd};
@@ -33,10 +33,14 @@ pub struct World<P: OneRun> {
 }
 
 impl<P: OneRun> Model for World<P> {
+    ghost use Rattle.std.specs.Coded.{codes};
+    ghost use Rattle.value_core.specs.Code.{data_code};
     ghost use Rattle.world_parts.specs.Seen.{Seen};
     ghost use Rattle.world_parts.specs.Standing.{Stands, seen_of};
 
-    ghost Value = { Seen };
+    ghost Value = { Seen P.State };
+
+    ghost coded = { Prim.hlevel (codes, data_code, P.State.code) };
 
     ghost view = { λ w. seen_of w.parts };
 
@@ -89,7 +93,8 @@ impl<P: OneRun> World<P> {
         ensures unasked { OnErr result (W.told wire.new ≡ W.told wire.old) }
         ensures refused { result ≡ Err StepError.NotEnabled → IsRefused P.run.frame event self.old }
         ensures enabled { IsRefused P.run.frame event self.old → (result ≡ Err StepError.NotEnabled) ⊎ (result ≡ Err StepError.NoMemory) }
-        ensures tasks { tasks_out self.new ≤ tasks_out self.old }
+        ensures tasks { OutBefore self.old self.new }
+        ensures fewer { tasks_out self.new ≤ tasks_out self.old }
         ensures script { W.told_script wire.new ≡ W.told_script wire.old }
         ensures since { W.loaded wire.new ≡ W.loaded wire.old }
     {
@@ -109,7 +114,8 @@ impl<P: OneRun> World<P> {
         requires going { Of P.run.frame self.old (λ w. rules.standing P.run.frame w ≡ Going) }
         requires ready { Of P.run.frame self.old (λ w. is_ready P.run.frame self.old w process.0 ≡ true) }
         ensures steps { self.new.steps ≡ self.old.steps }
-        ensures out { OnOk result (tasks_out self.new ≡ tasks_out self.old + 1) }
+        ensures out { IfOk result (λ task. HandsOutOf P.run.frame process task self.old self.new) }
+        ensures more { OnOk result (tasks_out self.new ≡ tasks_out self.old + 1) }
         ensures err { OnErr result (self.new ≡ self.old) }
     {
         burst::check_out(&mut self.parts, alloc, machine, process)
@@ -120,8 +126,9 @@ impl<P: OneRun> World<P> {
     /// Stray comes exactly where the run isn't going, no task of that process is out, or its state or its view isn't what was handed out.
     /// The world is then as it was.
     pub fn check_in(&mut self, done: Done<P>) -> Result<(), Stray<P>>
-        ensures done { OnOk result (ChecksIn P.run.frame done.process self.old self.new) }
-        ensures out { OnOk result (tasks_out self.new + 1 ≡ tasks_out self.old) }
+        ensures done { OnOk result (ChecksIn P.run.frame done self.old self.new) }
+        ensures fewer { OnOk result (tasks_out self.new + 1 ≡ tasks_out self.old) }
+        ensures astray { IfErr result (λ stray. IsAstray P.run.frame done stray.done self.old) }
         ensures err { OnErr result (self.new ≡ self.old) }
     {
         burst::check_in(&mut self.parts, done)

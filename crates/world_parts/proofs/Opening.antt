@@ -16,10 +16,11 @@ use Rattle.node_core.specs.Shown.{Left, Stood}
 use Rattle.node_core.specs.Stands.{StandsAs}
 use Rattle.node_core.specs.declared.node.Node.{Node}
 use Rattle.node_core.specs.declared.resident.Resident.{Resident}
+use Rattle.world_parts.proofs.Outs.{seen_out}
 use Rattle.world_parts.specs.Opening.{AreOpening}
 use Rattle.world_parts.specs.Recorded.{Recorded}
 use Rattle.world_parts.specs.Seen.{all_outs, outs, tasks_out}
-use Rattle.world_parts.specs.Standing.{HasNumbers, IsWorld, Laws, Stands, has_out, outs_of, seen_of}
+use Rattle.world_parts.specs.Standing.{HasNumbers, IsWorld, Laws, Stands, out_of, outs_of, seen_of}
 use Rattle.world_parts.specs.declared.parts.Parts.{Parts}
 
 -- ---- laws
@@ -31,12 +32,12 @@ laws_of p p' q q' e d laws = subst (λ (r : Performs). Laws r q') e (subst (λ (
 -- ---- no task is out
 
 none_out : {S : Type 0} (rs : List (Option (Resident S))) → ((i : ℕ) (r : Resident S) → slice_index_or rs i None ≡ Some r → r.out ≡ None)
-    → outs (map has_out rs) ≡ 0
+    → outs (map out_of rs) ≡ 0
 none_out [] h = refl
 none_out (None ∷ rs) h = let e = none_out rs (λ i r is. h (suc i) r is) in omega (arith, e)
 none_out (Some r ∷ rs) h =
     let e = none_out rs (λ i q is. h (suc i) q is) in
-    let d : ◌≡◌ {A = ℕ} (cond (is_some r.out) 1 0) 0 = ap (λ (o : Option Viewed). cond (is_some o) 1 0) (h 0 r refl) in
+    let d : ◌≡◌ {A = ℕ} (cond (is_some (out_of (Some r))) 1 0) 0 = ap (λ (b : Bool). cond b 1 0) (seen_out (Some r)) ∙ ap (λ (o : Option Viewed). cond (is_some o) 1 0) (h 0 r refl) in
     omega (arith, e, d)
 
 pub nobody_out : {P S : Type 0} (nodes : List (Node P S)) →

@@ -1,5 +1,5 @@
 -- How many tasks are out.
-use Rattle.std.proofs.Common.{◌≡◌, ◌≤◌, ◌<◌, ◌+◌, ◌*◌, ◌^◌, ◌∙◌, ℕ, zero, suc, Bool, true, false, List, [], ◌∷◌, Option, Some, None, slice_get, slice_index_or, get_or, take, cond, ap, sym, subst, refl, arith, map, length}
+use Rattle.std.proofs.Common.{◌≡◌, ◌≤◌, ◌<◌, ◌+◌, ◌*◌, ◌^◌, ◌∙◌, ℕ, zero, suc, Bool, true, false, List, [], ◌∷◌, Option, Some, None, is_some, option_map, slice_get, slice_index_or, get_or, take, cond, ap, sym, subst, refl, arith, map, length}
 use Rattle.std.proofs.Math.ListN.{get_or-map}
 use Rattle.std.proofs.lemmas.List.{take_all}
 use Rattle.std.proofs.lemmas.Option.{slice_get_read}
@@ -14,34 +14,46 @@ use Rattle.node_core.specs.Pieces.{resident_at}
 use Rattle.node_core.specs.Shown.{IsPlayedIf, Left, Stood}
 use Rattle.node_core.specs.declared.node.Node.{Node}
 use Rattle.node_core.specs.declared.resident.Resident.{Resident}
-use Rattle.world_parts.specs.Seen.{all_outs, is_out, outs, tasks_out}
-use Rattle.world_parts.specs.Standing.{IsWorld, Stands, has_out, outs_of, seen_of}
+use Rattle.world_parts.specs.Seen.{Out, all_outs, is_out, outs}
+use Rattle.world_parts.specs.Standing.{IsWorld, Stands, has_out, out_of, outs_of, seen_of}
 use Rattle.world_parts.specs.declared.parts.Parts.{Parts}
 
 -- ---- at a member
 
 -- one process more
-pub outs_next : (bs : List Bool) (k : ℕ) → outs (take (suc k) bs) ≡ outs (take k bs) + cond (get_or bs k false) 1 0
+pub outs_next : {A : Type 0} (bs : List (Option A)) (k : ℕ) → outs (take (suc k) bs) ≡ outs (take k bs) + cond (is_some (get_or bs k None)) 1 0
 outs_next [] zero = refl
 outs_next [] (suc k) = refl
 outs_next (b ∷ bs) zero = omega arith
 outs_next (b ∷ bs) (suc k) = let e = outs_next bs k in omega (arith, e)
 
 -- those behind n have none out
-outs_past : (bs : List Bool) (n : ℕ) → ((i : ℕ) → n ≤ i → get_or bs i false ≡ false) → outs (take n bs) ≡ outs bs
-outs_past [] n h = ap outs (take_none n)
+outs_past : {A : Type 0} (bs : List (Option A)) (n : ℕ) → ((i : ℕ) → n ≤ i → is_some (get_or bs i None) ≡ false) → outs (take n bs) ≡ outs bs
+outs_past {A} [] n h = ap outs (take_none n)
   where
-    take_none : (n : ℕ) → take {A = Bool} n [] ≡ []
+    take_none : (n : ℕ) → take {A = Option A} n [] ≡ []
     take_none zero = refl
     take_none (suc n) = refl
 outs_past (b ∷ bs) zero h =
-    let e : ◌≡◌ {A = ℕ} (cond b 1 0) 0 = ap (λ (c : Bool). cond c 1 0) (h 0 (omega arith)) in
+    let e : ◌≡◌ {A = ℕ} (cond (is_some b) 1 0) 0 = ap (λ (c : Bool). cond c 1 0) (h 0 (omega arith)) in
     let d = outs_past bs zero (λ i low. h (suc i) (omega arith)) in
     omega (arith, e, d)
 outs_past (b ∷ bs) (suc n) h = let d = outs_past bs n (λ i low. h (suc i) (omega (arith, low))) in omega (arith, d)
 
-out_at : {S : Type 0} (rs : List (Option (Resident S))) (i : ℕ) → get_or (map has_out rs) i false ≡ has_out (slice_index_or rs i None)
-out_at rs i = get_or-map has_out rs i None
+-- it is out where it is seen to be
+pub seen_out : {S : Type 0} (o : Option (Resident S)) → is_some (out_of o) ≡ has_out o
+seen_out None = refl
+seen_out (Some r) = some_mapped _ r.out
+  where
+    some_mapped : {A B : Type 0} (see : A → B) (o : Option A) → is_some (option_map see o) ≡ is_some o
+    some_mapped see None = refl
+    some_mapped see (Some x) = refl
+
+out_there_of : {S : Type 0} (rs : List (Option (Resident S))) (i : ℕ) → get_or (map out_of rs) i None ≡ out_of (slice_index_or rs i None)
+out_there_of rs i = get_or-map out_of rs i None
+
+out_at : {S : Type 0} (rs : List (Option (Resident S))) (i : ℕ) → is_some (get_or (map out_of rs) i None) ≡ has_out (slice_index_or rs i None)
+out_at rs i = ap is_some (out_there_of rs i) ∙ seen_out (slice_index_or rs i None)
 
 -- what the loop over processes knows
 pub record Counted {P S : Type 0} (node : Node P S) (k tasks : ℕ) : Type 0 where
@@ -55,7 +67,7 @@ pub counted_next : {P S : Type 0} (node : Node P S) (k next tasks one more : ℕ
     → one ≡ cond (has_out (resident_at node k)) 1 0 → more ≡ tasks + one → Counted node next more
 counted_next {P} {S} node k next tasks one more is h so sum =
     let e = outs_next (outs_of node) k in
-    let d : cond (get_or (outs_of node) k false) 1 0 ≡ one = ap (λ (b : Bool). cond b 1 0) (out_at node.residents.items k) ∙ sym so in
+    let d : cond (is_some (get_or (outs_of node) k None)) 1 0 ≡ one = ap (λ (b : Bool). cond b 1 0) (out_at node.residents.items k) ∙ sym so in
     let few = at_most (has_out (resident_at node k)) in
     subst (λ (n : ℕ). Counted node n more) is (record { outs = omega (arith, h.outs, e, d, sum); few = omega (arith, h.few, so, sum, few) })
   where
@@ -83,7 +95,7 @@ none_past {P} {S} stood left f s h m node at i low =
 
 -- ---- at all members
 
-all_next : (bss : List (List Bool)) (k : ℕ) → all_outs (take (suc k) bss) ≡ all_outs (take k bss) + outs (get_or bss k [])
+all_next : {A : Type 0} (bss : List (List (Option A))) (k : ℕ) → all_outs (take (suc k) bss) ≡ all_outs (take k bss) + outs (get_or bss k [])
 all_next [] zero = refl
 all_next [] (suc k) = refl
 all_next (bs ∷ bss) zero = omega arith
@@ -98,7 +110,7 @@ got f (y ∷ xs) (suc k) x d is = got f xs k x d is
 pub out_there : {P S : Type 0} (s : Parts P S) (home i : ℕ) (node : Node P S) → Some node ≡ slice_get s.nodes.items home
     → has_out (resident_at node i) ≡ is_out (seen_of s) home i
 out_there {P} {S} s home i node at =
-    sym (ap (λ (bs : List Bool). get_or bs i false) (got outs_of s.nodes.items home node [] (sym at)) ∙ out_at node.residents.items i)
+    sym (ap (λ (bs : List (Option (Out S))). is_some (get_or bs i None)) (got outs_of s.nodes.items home node [] (sym at)) ∙ out_at node.residents.items i)
 
 -- what the loop over members knows
 pub record CountedAll {P S : Type 0} (nodes : List (Node P S)) (k tasks : ℕ) : Type 0 where

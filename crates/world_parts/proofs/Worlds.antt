@@ -28,10 +28,10 @@ slice_get_some (x ∷ xs) zero lt is = clash x is
 slice_get_some (x ∷ xs) (suc i) lt is = slice_get_some xs i (omega (arith, lt)) is
 
 -- the world to which the seen steps lead is the one for which it stands
-pub is_world : {P S : Type 0} (stood : Stood S) (left : Left S) (f : Frame) (s : Parts P S) (shown : Seen) → seen_of s ≡ shown → Stands stood left f s
+pub is_world : {P S : Type 0} (stood : Stood S) (left : Left S) (f : Frame) (s : Parts P S) (shown : Seen S) → seen_of s ≡ shown → Stands stood left f s
     → (w : World) → Replays f shown.steps w → IsWorld stood left f s w
-is_world stood left f s shown is stands w replays =
-    subst (IsWorld stood left f s) (stands.laws.one f refl s.ledger.steps stands.world w stands.is.replays (subst (λ (v : Seen). Replays f v.steps w) (sym is) replays)) stands.is
+is_world {P} {S} stood left f s shown is stands w replays =
+    subst (IsWorld stood left f s) (stands.laws.one f refl s.ledger.steps stands.world w stands.is.replays (subst (λ (v : Seen S). Replays f v.steps w) (sym is) replays)) stands.is
 
 -- its list
 pub one_list : {P S : Type 0} (stood : Stood S) (left : Left S) (f : Frame) (s : Parts P S) (w : World) → Stands stood left f s → IsWorld stood left f s w → OneList f w

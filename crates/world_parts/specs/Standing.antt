@@ -1,5 +1,5 @@
 -- How a run in code stands for a world.
-use Rattle.std.specs.Prelude.{◌≡◌, ◌≤◌, ◌<◌, ◌^◌, ◌-◌, ◌*◌, ℕ, Bool, true, false, List, map, length, take, Option, None, Some, slice_get, is_some, replicate}
+use Rattle.std.specs.Prelude.{◌≡◌, ◌≤◌, ◌<◌, ◌^◌, ◌-◌, ◌*◌, ℕ, Bool, true, false, List, map, length, take, Option, None, Some, slice_get, is_some, option_map}
 use Rattle.std.specs.List.{AllByRecursion as Each}
 use Rattle.value_core.specs.Meaning.{Computes, Performs}
 use Rattle.book_law.specs.Performed.{Performed}
@@ -40,7 +40,7 @@ use Rattle.node_core.specs.declared.resident.Stage.TheVariants.{Computing}
 use Rattle.world_rules.specs.declared.settings.Settings.{Settings}
 use Rattle.world_parts.specs.declared.parts.Numbers.{Numbers}
 use Rattle.world_parts.specs.declared.parts.Parts.{Parts}
-use Rattle.world_parts.specs.Seen.{Seen, tasks_out}
+use Rattle.world_parts.specs.Seen.{Out, Seen, tasks_out}
 
 -- ---- packets on their way
 
@@ -64,8 +64,13 @@ abbrev pub has_out : {S : Type 0} → Option (Resident S) → Bool
 has_out None = false
 has_out (Some s) = is_some s.out
 
-abbrev pub outs_of : {P S : Type 0} → Node P S → List Bool
-outs_of s = map has_out s.residents.items
+-- its task that is out, as contracts see it
+abbrev pub out_of : {S : Type 0} → Option (Resident S) → Option (Out S)
+out_of None = None
+out_of (Some s) = option_map (λ view. record { start = s.state; calls = s.calls; view = view }) s.out
+
+abbrev pub outs_of : {P S : Type 0} → Node P S → List (Option (Out S))
+outs_of s = map out_of s.residents.items
 
 -- a process of member m, which lives, computes, and its task is over this view: of the member's objects at a place that it applied, which
 -- isn't before the process's
@@ -79,7 +84,7 @@ pub record IsTask {S : Type 0} (f : Frame) (w : World) (m : ℕ) (s : Resident S
 -- ---- a run
 
 -- as contracts see it
-abbrev pub seen_of : {P S : Type 0} → Parts P S → Seen
+abbrev pub seen_of : {P S : Type 0} → Parts P S → Seen S
 seen_of s = record { steps = s.ledger.steps; out = map outs_of s.nodes.items }
 
 -- it is this world, to which its steps lead

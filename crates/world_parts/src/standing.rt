@@ -14,6 +14,7 @@ ghost use Rattle.world_rules.specs.Nodes as nodes;
 ghost use Rattle.world_rules.specs.Played as played;
 ghost use Rattle.world_rules.specs.Standings as rules;
 ghost use Rattle.world_rules.specs.Worlds.{agreed, home_of, played_in};
+ghost use Rattle.world_parts.specs.Choosing.{spent_process};
 ghost use Rattle.world_parts.specs.Rows.{Stops, has_applied_all, has_nothing_left, how_ended, is_lost, waits_at, waits_on};
 ghost use Rattle.world_parts.specs.Standing.{Is, Stands};
 
@@ -145,6 +146,19 @@ impl<P: OneRun> Parts<P> {
     }
 
     // ---- turns and events
+
+    /// The lowest process that has used its turns, and computes.
+    pub fn spent_process(&self) -> Option<ProcessNo>
+        requires { Stands P.stood P.left P.run.frame self.now }
+        ensures { Is P.stood P.left P.run.frame self.now (λ w. option_map (λ i. i.0) result ≡ spent_process P.run.frame w) }
+    {
+        'processes: for process in 0..self.process_count() {
+            if self.has_no_turns(ProcessNo(process)) {
+                return Some(ProcessNo(process));
+            }
+        }
+        None
+    }
 
     // Whether a process has used its turns, and isn't at an action.
     fn is_out_of_turns(&self) -> bool

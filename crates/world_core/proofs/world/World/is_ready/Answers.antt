@@ -6,5 +6,5 @@ use Rattle.world_parts.specs.Seen.{Seen}
 
 pub returns : goal.returns
 returns g c w replays =
-    subst (λ (v : Seen). c.is_ready.result ≡ is_ready g.P.OneRun.run.frame v w c.args.process.0) c.self.view_is
+    subst (λ (v : Seen g.row.P-State.Denot). c.is_ready.result ≡ is_ready g.P.OneRun.run.frame v w c.args.process.0) c.self.view_is
     (c.is_ready.ensures w (is_world g.P.OneRun.stood g.P.OneRun.left g.P.OneRun.run.frame c.self.inside.parts c.args.self.now c.self.view_is c.self.invariant w replays))

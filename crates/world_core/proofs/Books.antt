@@ -1,0 +1,152 @@
+-- The book of a run in code, and the ends that are told of it.
+use Rattle.std.proofs.Common.{◌≡◌, ◌≤◌, ◌<◌, ◌+◌, ◌∙◌, ◌⊎◌, ⊎_elim, ◌==◌, ltb, not, ℕ, zero, suc, Bool, true, false, cond, List, [], ◌∷◌, ◌++◌, Option, None, Some, slice_get, slice_set, take, map, ap, sym, subst, refl, arith, length, append-nil, append_assoc, length-append}
+use Rattle.std.proofs.lemmas.Bool.{cases_eq, cases_lt, eq-eqb, le-ltb, lt-ltb, ne_eqb}
+use Rattle.std.proofs.lemmas.List.{length-take, length_push, map-append, take-append-le, take_all}
+use Rattle.std.proofs.lemmas.Option.{slice_get_within}
+use Rattle.value_core.specs.declared.action.Line.{Line}
+use Rattle.value_core.specs.declared.action.Reply.{Reply}
+use Rattle.book_law.proofs.Lists.{at_push}
+use Rattle.book_law.specs.Events.{lines_by, replies_to}
+use Rattle.book_law.specs.Performed.{IsBook, Performed, placed}
+use Rattle.book_law.specs.declared.placing.Placed.{Placed}
+use Rattle.world_facts.specs.Ends.{node_end, replies_in}
+use Rattle.world_rules.specs.Frame.{Frame}
+use Rattle.world_rules.specs.Played.{Played}
+use Rattle.world_rules.specs.Worlds.{Book, World, home_of, played_in}
+use Rattle.node_core.specs.Shown.{IsPlayedIf, Left, Stood}
+use Rattle.node_core.specs.declared.node.Node.{Node}
+use Rattle.node_core.specs.declared.resident.Resident.{Resident}
+use Rattle.world_parts.proofs.Keeping.{one_more}
+use Rattle.world_parts.specs.Recorded.{of_piece, of_pieces}
+use Rattle.world_parts.specs.Standing.{IsWorld, Stands}
+use Rattle.world_parts.specs.declared.ledger.Piece.{Piece}
+use Rattle.world_parts.specs.declared.parts.Parts.{Parts}
+use Rattle.world_core.specs.Telling.{HasHeard, IsNodeEnd, TellsNode}
+use Rattle.world_core.specs.declared.ends.NodeEnd.{NodeEnd}
+use Rattle.world_core.proofs.Adding.{got_set, set_length}
+use Rattle.world_core.proofs.Letters.{take_next}
+
+-- ---- the book
+
+pub pieces_next : (all : List Piece) (k next : ℕ) (piece : Piece) (now new : List Placed) → suc k ≡ next → slice_get all k ≡ Some piece → new ≡ now ++ of_piece piece → now ≡ of_pieces (take k all) → new ≡ of_pieces (take next all)
+pieces_next all k next piece now new up at is h =
+    is ∙ ap (λ (l : List Placed). l ++ of_piece piece) h ∙ sym (ap of_pieces (take_next all k piece at) ∙ one_more (take k all) piece) ∙ ap (λ (n : ℕ). of_pieces (take n all)) up
+
+pub lines_next : (place : ℕ) (all : List Line) (k next : ℕ) (line : Line) (old now new : List Placed) → suc k ≡ next → slice_get all k ≡ Some line → new ≡ now ++ record { place = place; line = line } ∷ [] → now ≡ old ++ placed place (take k all)
+    → new ≡ old ++ placed place (take next all)
+lines_next place all k next line old now new up at is h =
+    is ∙ ap (λ (l : List Placed). l ++ record { place = place; line = line } ∷ []) h ∙ append_assoc old (placed place (take k all)) _
+    ∙ ap (λ (l : List Placed). old ++ l) (sym (ap (placed place) (take_next all k line at) ∙ map-append _ (take k all) (line ∷ []))) ∙ ap (λ (n : ℕ). old ++ placed place (take n all)) up
+
+-- the sorted lines are the book
+pub book_is : {P S : Type 0} (stood : Stood S) (left : Left S) (f : Frame) (s : Parts P S) (w : World) (performed sorted : List Placed) (lines : List Line) → IsWorld stood left f s w → performed ≡ s.ledger.performed → IsBook performed sorted
+    → lines ≡ map (λ (r : Placed). r.line) sorted → lines ≡ Book f w
+book_is stood left f s w performed sorted lines is same book of = of ∙ book _ f.performs _ w.aside (subst (λ (l : List Placed). Performed _ f.performs _ w.aside l) (sym same) is.performed)
+
+-- ---- members
+
+-- what the loop over members knows
+abbrev pub Ended : {P S : Type 0} → Stood S → Left S → Frame → Parts P S → ℕ → List NodeEnd → Type 0
+Ended stood left f s k ends =
+    (length ends ≡ k) × ((w : World) → IsWorld stood left f s w → (m : ℕ) (end : NodeEnd) → slice_get ends m ≡ Some end → IsNodeEnd end (node_end w m))
+
+pub ended_next : {P S : Type 0} (stood : Stood S) (left : Left S) (f : Frame) (s : Parts P S) (k next : ℕ) (node : Node P S) (lives : Bool) (end : NodeEnd) (ends more : List NodeEnd) → suc k ≡ next → Some node ≡ slice_get s.nodes.items k
+    → ((w : World) → IsWorld stood left f s w → lives ≡ w.lives k) → TellsNode stood left node lives end → more ≡ ends ++ end ∷ [] → Ended stood left f s k ends → Ended stood left f s next more
+ended_next {P} {S} stood left f s k next node lives end ends more up at living tells is h =
+    subst (Ended stood left f s next) (sym is) (omega (arith, length_push ends end, h.0, up), λ w world m other there. ⊎_elim (λ old. h.1 w world m other old) (λ new. last w world m other new) (at_push ends end m other there))
+  where
+    last : (w : World) → IsWorld stood left f s w → (m : ℕ) (other : NodeEnd) → (m ≡ length ends) × (end ≡ other) → IsNodeEnd other (node_end w m)
+    last w world m other new =
+        let told = tells f k (w.nodes k) (world.nodes k node (sym at)) in
+        let e : k ≡ m = omega (arith, h.0, new.0) in
+        subst (λ (n : NodeEnd). IsNodeEnd n (node_end w m)) new.1
+        (subst (λ (j : ℕ). IsNodeEnd end (node_end w j)) e
+        (record { applied = told.applied; incarnation = told.incarnation; crashed = told.crashed ∙ ap not (living w world); outside = told.outside; copies = told.copies }))
+
+-- ---- replies
+
+by_push : (i : ℕ) (lines : List Line) (line : Line) → lines_by i (lines ++ line ∷ []) ≡ lines_by i lines ++ lines_by i (line ∷ [])
+by_push i [] line = refl
+by_push i (first ∷ lines) line = go (first.process.0 == i) (by_push i lines line)
+  where
+    go : (b : Bool) → lines_by i (lines ++ line ∷ []) ≡ lines_by i lines ++ lines_by i (line ∷ [])
+        → cond b (first ∷ lines_by i (lines ++ line ∷ [])) (lines_by i (lines ++ line ∷ [])) ≡ cond b (first ∷ lines_by i lines) (lines_by i lines) ++ lines_by i (line ∷ [])
+    go true h = ap (λ (l : List Line). first ∷ l) h
+    go false h = h
+
+to_push : (i : ℕ) (lines : List Line) (line : Line) → replies_to (lines_by i (lines ++ line ∷ [])) ≡ replies_to (lines_by i lines) ++ replies_to (lines_by i (line ∷ []))
+to_push i lines line = ap replies_to (by_push i lines line) ∙ map-append _ (lines_by i lines) (lines_by i (line ∷ []))
+
+own_line : (i : ℕ) (line : Line) → line.process.0 ≡ i → replies_to (lines_by i (line ∷ [])) ≡ line.reply ∷ []
+own_line i line is = ap (λ (b : Bool). replies_to (cond b (line ∷ []) [])) (eq-eqb line.process.0 i is)
+
+other_line : (i : ℕ) (line : Line) → (line.process.0 ≡ i → ⊥) → replies_to (lines_by i (line ∷ [])) ≡ []
+other_line i line apart = ap (λ (b : Bool). replies_to (cond b (line ∷ []) [])) (ne_eqb line.process.0 i apart)
+
+-- one reply more, up to so many
+take_push : {A : Type 0} (n : ℕ) (xs : List A) (x : A) → cond (ltb (length (take n xs)) n) (take n xs ++ x ∷ []) (take n xs) ≡ take n (xs ++ x ∷ [])
+take_push {A} n xs x = ⊎_elim more full (cases_lt (length xs) n)
+  where
+    more : length xs < n → cond (ltb (length (take n xs)) n) (take n xs ++ x ∷ []) (take n xs) ≡ take n (xs ++ x ∷ [])
+    more lt =
+        let whole = take_all n xs (omega (arith, lt)) in
+        ap (λ (b : Bool). cond b (take n xs ++ x ∷ []) (take n xs)) (lt-ltb (length (take n xs)) n (omega (arith, ap length whole, lt)))
+        ∙ ap (λ (l : List A). l ++ x ∷ []) whole ∙ sym (take_all n (xs ++ x ∷ []) (omega (arith, length_push xs x, lt)))
+
+    full : n ≤ length xs → cond (ltb (length (take n xs)) n) (take n xs ++ x ∷ []) (take n xs) ≡ take n (xs ++ x ∷ [])
+    full le =
+        let count = length-take n xs in
+        ap (λ (b : Bool). cond b (take n xs ++ x ∷ []) (take n xs)) (le-ltb (length (take n xs)) n (omega (arith, count, le))) ∙ sym (take-append-le n xs (x ∷ []) le)
+
+-- the reply of a line joins those of its process
+pub hear_next : (f : Frame) (w : World) (before : List Line) (line : Line) (n : ℕ) (old new : List (List Reply)) (heard : List Reply) → n ≡ length (replies_in (played_in f w line.process.0)) → slice_get old line.process.0 ≡ Some heard
+    → new ≡ slice_set old line.process.0 (cond (ltb (length heard) n) (heard ++ line.reply ∷ []) heard) → HasHeard f w before old → HasHeard f w (before ++ line ∷ []) new
+hear_next f w before line n old new heard many at is h =
+    subst (HasHeard f w (before ++ line ∷ [])) (sym is) (record {
+      count = set_length old line.process.0 after ∙ h.count;
+      each = λ i got there. ⊎_elim (own i got) (other i got) (got_set old line.process.0 i after got there);
+    })
+  where
+    after : List Reply
+    after = cond (ltb (length heard) n) (heard ++ line.reply ∷ []) heard
+
+    own : (i : ℕ) (got : List Reply) → (i ≡ line.process.0) × (after ≡ got) → got ≡ take (length (replies_in (played_in f w i))) (replies_to (lines_by i (before ++ line ∷ [])))
+    own i got same =
+        let j = line.process.0 in
+        let was : heard ≡ take n (replies_to (lines_by j before)) = h.each j heard at ∙ ap (λ (k : ℕ). take k (replies_to (lines_by j before))) (sym many) in
+        let now : after ≡ take n (replies_to (lines_by j (before ++ line ∷ []))) =
+        ap (λ (l : List Reply). cond (ltb (length l) n) (l ++ line.reply ∷ []) l) was ∙ take_push n (replies_to (lines_by j before)) line.reply
+        ∙ ap (take n) (sym (to_push j before line ∙ ap (λ (l : List Reply). replies_to (lines_by j before) ++ l) (own_line j line refl))) in
+        sym same.1 ∙ now ∙ ap (λ (k : ℕ). take k (replies_to (lines_by j (before ++ line ∷ [])))) many ∙ ap (λ (k : ℕ). take (length (replies_in (played_in f w k))) (replies_to (lines_by k (before ++ line ∷ [])))) (sym same.0)
+
+    other : (i : ℕ) (got : List Reply) → (i ≡ line.process.0 → ⊥) × (slice_get old i ≡ Some got) → got ≡ take (length (replies_in (played_in f w i))) (replies_to (lines_by i (before ++ line ∷ [])))
+    other i got apart =
+        h.each i got apart.1
+        ∙ ap (take (length (replies_in (played_in f w i)))) (sym (to_push i before line ∙ ap (λ (l : List Reply). replies_to (lines_by i before) ++ l) (other_line i line (λ e. apart.0 (sym e))) ∙ append-nil (replies_to (lines_by i before))))
+
+-- a line of no such process is nobody's
+pub hear_none : (f : Frame) (w : World) (before : List Line) (line : Line) (old : List (List Reply)) → length old ≤ line.process.0 → HasHeard f w before old → HasHeard f w (before ++ line ∷ []) old
+hear_none f w before line old past h = record {
+  count = h.count;
+  each = λ i got at.
+      let lt = slice_get_within old i got at in
+      h.each i got at
+      ∙ ap (take (length (replies_in (played_in f w i)))) (sym (to_push i before line ∙ ap (λ (l : List Reply). replies_to (lines_by i before) ++ l) (other_line i line (λ e. absurd (omega (arith, e, lt, past)))) ∙ append-nil (replies_to (lines_by i before))));
+}
+
+pub heard_there : {S : Type 0} (stood : Stood S) (left : Left S) (i : ℕ) (r : Resident S) (o : Option Played) → IsPlayedIf stood left i (Some r) o → r.calls ≡ length (replies_in o)
+heard_there stood left i r None h = absurd h
+heard_there stood left i r (Some p) h = h.calls
+
+pub heard_none : {S : Type 0} (stood : Stood S) (left : Left S) (i : ℕ) (o : Option Played) → IsPlayedIf {S = S} stood left i None o → 0 ≡ length (replies_in o)
+heard_none stood left i None h = refl
+heard_none stood left i (Some p) h = absurd h
+
+-- off the whole book they are those that it received
+pub heard_all : {P S : Type 0} (stood : Stood S) (left : Left S) (f : Frame) (s : Parts P S) (w : World) (replies : List (List Reply)) (i : ℕ) (heard : List Reply) → Stands stood left f s → IsWorld stood left f s w → HasHeard f w (Book f w) replies
+    → slice_get replies i ≡ Some heard → heard ≡ replies_in (played_in f w i)
+heard_all stood left f s w replies i heard h is hears at = hears.each i heard at ∙ go (played_in f w i) refl
+  where
+    go : (o : Option Played) → played_in f w i ≡ o → take (length (replies_in o)) (replies_to (lines_by i (Book f w))) ≡ replies_in o
+    go None known = refl
+    go (Some r) known = sym (h.laws.replies f refl refl h.settings s.ledger.steps w is.replays (home_of f w i) i r known)
