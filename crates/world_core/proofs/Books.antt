@@ -9,9 +9,11 @@ use Rattle.book_law.proofs.Lists.{at_push}
 use Rattle.book_law.specs.Events.{lines_by, replies_to}
 use Rattle.book_law.specs.Performed.{IsBook, Performed, placed}
 use Rattle.book_law.specs.declared.placing.Placed.{Placed}
-use Rattle.world_facts.specs.Ends.{node_end, replies_in}
+use Rattle.world_facts.specs.Ends as facts
+use Rattle.world_facts.specs.Ends.{listed, node_end, process_end, replies_in}
 use Rattle.world_rules.specs.Frame.{Frame}
 use Rattle.world_rules.specs.Played.{Played}
+use Rattle.world_rules.specs.Standings.{process_count}
 use Rattle.world_rules.specs.Worlds.{Book, World, home_of, played_in}
 use Rattle.node_core.specs.Shown.{IsPlayedIf, Left, Stood}
 use Rattle.node_core.specs.declared.node.Node.{Node}
@@ -21,8 +23,9 @@ use Rattle.world_parts.specs.Recorded.{of_piece, of_pieces}
 use Rattle.world_parts.specs.Standing.{IsWorld, Stands}
 use Rattle.world_parts.specs.declared.ledger.Piece.{Piece}
 use Rattle.world_parts.specs.declared.parts.Parts.{Parts}
-use Rattle.world_core.specs.Telling.{HasHeard, IsNodeEnd, TellsNode}
+use Rattle.world_core.specs.Telling.{AreProcessEnds, HasHeard, IsNodeEnd, TellsNode, on_process_end}
 use Rattle.world_core.specs.declared.ends.NodeEnd.{NodeEnd}
+use Rattle.world_core.specs.declared.ends.ProcessEnd.{ProcessEnd}
 use Rattle.world_core.proofs.Adding.{got_set, set_length}
 use Rattle.world_core.proofs.Letters.{take_next}
 
@@ -150,3 +153,42 @@ heard_all stood left f s w replies i heard h is hears at = hears.each i heard at
     go : (o : Option Played) → played_in f w i ≡ o → take (length (replies_in o)) (replies_to (lines_by i (Book f w))) ≡ replies_in o
     go None known = refl
     go (Some r) known = sym (h.laws.replies f refl refl h.settings s.ledger.steps w is.replays (home_of f w i) i r known)
+
+-- ---- processes
+
+-- what the loop over processes knows: these have ended so, and of the others the replies are left
+pub record EndedTo {P S : Type 0} (stood : Stood S) (left : Left S) (f : Frame) (s : Parts P S) (process all : ℕ) (ends : List ProcessEnd) (rest : List (List Reply)) : Type 0 where
+  pub count : process + length rest ≡ all
+  pub ended : (w : World) → IsWorld stood left f s w → map on_process_end ends ≡ listed process (process_end f w)
+  pub others : (w : World) → IsWorld stood left f s w → (i : ℕ) (heard : List Reply) → slice_get rest i ≡ Some heard → heard ≡ replies_in (played_in f w (process + i))
+
+pub processes_first : {P S : Type 0} (stood : Stood S) (left : Left S) (f : Frame) (s : Parts P S) (all rest : List (List Reply)) → Stands stood left f s → ((w : World) → IsWorld stood left f s w → HasHeard f w (Book f w) all) → rest ≡ all
+    → EndedTo stood left f s 0 (length all) [] rest
+processes_first {P} {S} stood left f s all rest h heard is =
+    subst (EndedTo stood left f s 0 (length all) []) (sym is) (record {
+      count = omega arith;
+      ended = λ w world. refl;
+      others = λ w world i one at. heard_all stood left f s w all i one h world (heard w world) at ∙ ap (λ (n : ℕ). replies_in (played_in f w n)) (let e : i ≡ 0 + i = omega arith in e);
+    })
+
+pub processes_next : {P S : Type 0} (stood : Stood S) (left : Left S) (f : Frame) (s : Parts P S) (process next all : ℕ) (ends more : List ProcessEnd) (rest left_over : List (List Reply)) (one : List Reply) (end : ProcessEnd) → suc process ≡ next
+    → rest ≡ one ∷ left_over → ((w : World) → IsWorld stood left f s w → on_process_end end ≡ process_end f w process) → more ≡ ends ++ end ∷ [] → EndedTo stood left f s process all ends rest → EndedTo stood left f s next all more left_over
+processes_next {P} {S} stood left f s process next all ends more rest left_over one end up first ended pushed h =
+    subst (λ (n : ℕ). EndedTo stood left f s n all more left_over) up
+    (subst (λ (l : List ProcessEnd). EndedTo stood left f s (suc process) all l left_over) (sym pushed) (record {
+      count = omega (arith, h.count, ap length first);
+      ended = λ w world. map-append on_process_end ends (end ∷ []) ∙ ap (λ (l : List facts.ProcessEnd). l ++ on_process_end end ∷ []) (h.ended w world) ∙ ap (λ (e : facts.ProcessEnd). listed process (process_end f w) ++ e ∷ []) (ended w world);
+      others = λ w world i heard at.
+          h.others w world (suc i) heard (ap (λ (l : List (List Reply)). slice_get l (suc i)) first ∙ at) ∙ ap (λ (n : ℕ). replies_in (played_in f w n)) (let e : process + suc i ≡ suc process + i = omega arith in e);
+    }))
+
+-- the replies of the next one
+pub replies_there : {P S : Type 0} (stood : Stood S) (left : Left S) (f : Frame) (s : Parts P S) (w : World) (process all : ℕ) (ends : List ProcessEnd) (rest left_over : List (List Reply)) (one : List Reply) → IsWorld stood left f s w → rest ≡ one ∷ left_over
+    → EndedTo stood left f s process all ends rest → one ≡ replies_in (played_in f w process)
+replies_there {P} {S} stood left f s w process all ends rest left_over one world first h =
+    h.others w world 0 one (ap (λ (l : List (List Reply)). slice_get l 0) first) ∙ ap (λ (n : ℕ). replies_in (played_in f w n)) (let e : process + 0 ≡ process = omega arith in e)
+
+pub processes_over : {P S : Type 0} (stood : Stood S) (left : Left S) (f : Frame) (s : Parts P S) (w : World) (process : ℕ) (all rest : List (List Reply)) (ends : List ProcessEnd) → IsWorld stood left f s w → HasHeard f w (Book f w) all → rest ≡ []
+    → EndedTo stood left f s process (length all) ends rest → AreProcessEnds f w ends
+processes_over stood left f s w process all rest ends world heard none h =
+    h.ended w world ∙ ap (λ (n : ℕ). listed n (process_end f w)) (let e : process ≡ process_count f w = omega (arith, h.count, ap length none, heard.count) in e)

@@ -277,6 +277,7 @@ fn ends_with<P: OneRun>(
     requires heard { Is P.stood P.left P.run.frame parts.now (λ w. HasHeard P.run.frame w (Book P.run.frame w) (map (λ v. v.items) replies.items)) }
     ensures { Is P.stood P.left P.run.frame parts.now (λ w. IfOk result (λ ends. AreProcessEnds P.run.frame w ends.items)) }
 {
+    let _count = parts.process_count();
     let mut ends = Vec::new(alloc);
     let mut process = 0u16;
     'processes: for one in replies {

@@ -95,7 +95,8 @@ pub(crate) fn check_out<P: OneRun>(
     let tasks = parts.tasks_out() as usize + 1;
     parts.ledger.make_room(tasks, 0, tasks)?;
     let budget = budget(parts, turns);
-    parts.nodes[home].check_out(alloc, machine, process, budget)
+    let task = parts.nodes[home].check_out(alloc, machine, process, budget)?;
+    Ok(task)
 }
 
 /// Does the Burst event of what was computed from a task, which becomes the last step. It takes no memory.
