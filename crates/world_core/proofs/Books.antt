@@ -27,7 +27,7 @@ use Rattle.world_core.specs.Telling.{AreProcessEnds, HasHeard, IsNodeEnd, TellsN
 use Rattle.world_core.specs.declared.ends.NodeEnd.{NodeEnd}
 use Rattle.world_core.specs.declared.ends.ProcessEnd.{ProcessEnd}
 use Rattle.world_core.proofs.Adding.{got_set, set_length}
-use Rattle.world_core.proofs.Letters.{take_next}
+use Rattle.world_core.proofs.Spelled.{take_next}
 
 -- ---- the book
 
@@ -52,6 +52,12 @@ book_is stood left f s w performed sorted lines is same book of = of ∙ book _ 
 abbrev pub Ended : {P S : Type 0} → Stood S → Left S → Frame → Parts P S → ℕ → List NodeEnd → Type 0
 Ended stood left f s k ends =
     (length ends ≡ k) × ((w : World) → IsWorld stood left f s w → (m : ℕ) (end : NodeEnd) → slice_get ends m ≡ Some end → IsNodeEnd end (node_end w m))
+
+pub ended_first : {P S : Type 0} (stood : Stood S) (left : Left S) (f : Frame) (s : Parts P S) (ends : List NodeEnd) → ends ≡ [] → Ended stood left f s 0 ends
+ended_first stood left f s ends none = (ap length none, λ w world m end at. absurd (none_there m end (ap (λ (l : List NodeEnd). slice_get l m) (sym none) ∙ at)))
+  where
+    none_there : (m : ℕ) (x : NodeEnd) → slice_get {A = NodeEnd} [] m ≡ Some x → ⊥
+    none_there m x h = cc h
 
 pub ended_next : {P S : Type 0} (stood : Stood S) (left : Left S) (f : Frame) (s : Parts P S) (k next : ℕ) (node : Node P S) (lives : Bool) (end : NodeEnd) (ends more : List NodeEnd) → suc k ≡ next → Some node ≡ slice_get s.nodes.items k
     → ((w : World) → IsWorld stood left f s w → lives ≡ w.lives k) → TellsNode stood left node lives end → more ≡ ends ++ end ∷ [] → Ended stood left f s k ends → Ended stood left f s next more

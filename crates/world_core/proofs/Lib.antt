@@ -25,5 +25,5 @@ pub mod Delivers
 pub mod Running
 pub mod CheckingOut
 pub mod CheckingIn
-pub mod Letters
+pub mod Spelled
 pub mod Books

@@ -237,8 +237,10 @@ fn hear<P: OneRun>(
     let at = line.process.0 as usize;
     if at < replies.len() {
         hear_one(alloc, &mut replies[at], received, &line.reply)?;
+        Ok(())
+    } else {
+        Ok(())
     }
-    Ok(())
 }
 
 // How many replies the process received.
@@ -263,8 +265,10 @@ fn hear_one(
 {
     if (heard.len() as u64) < received {
         heard.push(reply.copy(alloc)?)?;
+        Ok(())
+    } else {
+        Ok(())
     }
-    Ok(())
 }
 
 // The processes as they stand, with these replies.

@@ -5,7 +5,7 @@ use Rattle.value_core.specs.declared.action.Reply.{Reply}
 use Rattle.value_core.specs.declared.message.Message.{Message}
 use Rattle.group_member.specs.declared.sends.Letter.{Letter}
 use Rattle.world_core.specs.Drafting.{HasSpelled}
-use Rattle.world_core.proofs.Letters.{letter_sound, spelled_first, spelled_next}
+use Rattle.world_core.proofs.Spelled.{letter_sound, spelled_first, spelled_next}
 use Rattle.world_core.proofs.draft.spell_all.Goals as goal
 
 pub letters-init : goal.letters-init
