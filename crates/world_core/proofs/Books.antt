@@ -1,5 +1,5 @@
 -- The book of a run in code, and the ends that are told of it.
-use Rattle.std.proofs.Common.{◌≡◌, ◌≤◌, ◌<◌, ◌+◌, ◌∙◌, ◌⊎◌, ⊎_elim, ◌==◌, ltb, not, ℕ, zero, suc, Bool, true, false, cond, List, [], ◌∷◌, ◌++◌, Option, None, Some, slice_get, slice_set, take, map, ap, sym, subst, refl, arith, length, append-nil, append_assoc, length-append}
+use Rattle.std.proofs.Common.{◌≡◌, ◌≤◌, ◌<◌, ◌+◌, ◌∙◌, ◌⊎◌, ⊎_elim, ◌==◌, ltb, not, ℕ, zero, suc, Bool, true, false, cond, List, [], ◌∷◌, ◌++◌, Option, None, Some, slice_get, slice_set, take, replicate, map, ap, sym, subst, refl, arith, length, append-nil, append_assoc, length-append}
 use Rattle.std.proofs.lemmas.Bool.{cases_eq, cases_lt, eq-eqb, le-ltb, lt-ltb, ne_eqb}
 use Rattle.std.proofs.lemmas.List.{length-take, length_push, map-append, take-append-le, take_all}
 use Rattle.std.proofs.lemmas.Option.{slice_get_within}
@@ -14,7 +14,7 @@ use Rattle.world_facts.specs.Ends.{listed, node_end, process_end, replies_in}
 use Rattle.world_rules.specs.Frame.{Frame}
 use Rattle.world_rules.specs.Played.{Played}
 use Rattle.world_rules.specs.Standings.{process_count}
-use Rattle.world_rules.specs.Worlds.{Book, World, home_of, played_in}
+use Rattle.world_rules.specs.Worlds.{Book, World, agreed, home_of, played_in, singles_in}
 use Rattle.node_core.specs.Shown.{IsPlayedIf, Left, Stood}
 use Rattle.node_core.specs.declared.node.Node.{Node}
 use Rattle.node_core.specs.declared.resident.Resident.{Resident}
@@ -27,6 +27,7 @@ use Rattle.world_core.specs.Telling.{AreProcessEnds, HasHeard, IsNodeEnd, TellsN
 use Rattle.world_core.specs.declared.ends.NodeEnd.{NodeEnd}
 use Rattle.world_core.specs.declared.ends.ProcessEnd.{ProcessEnd}
 use Rattle.world_core.proofs.Adding.{got_set, set_length}
+use Rattle.world_core.proofs.Handing.{map_set}
 use Rattle.world_core.proofs.Spelled.{take_next}
 
 -- ---- the book
@@ -44,7 +45,7 @@ lines_next place all k next line old now new up at is h =
 -- the sorted lines are the book
 pub book_is : {P S : Type 0} (stood : Stood S) (left : Left S) (f : Frame) (s : Parts P S) (w : World) (performed sorted : List Placed) (lines : List Line) → IsWorld stood left f s w → performed ≡ s.ledger.performed → IsBook performed sorted
     → lines ≡ map (λ (r : Placed). r.line) sorted → lines ≡ Book f w
-book_is stood left f s w performed sorted lines is same book of = of ∙ book _ f.performs _ w.aside (subst (λ (l : List Placed). Performed _ f.performs _ w.aside l) (sym same) is.performed)
+book_is stood left f s w performed sorted lines is same book of = of ∙ book (singles_in f w) f.performs (agreed f w) w.aside (subst (λ (l : List Placed). Performed (singles_in f w) f.performs (agreed f w) w.aside l) (sym same) is.performed)
 
 -- ---- members
 
@@ -54,10 +55,11 @@ Ended stood left f s k ends =
     (length ends ≡ k) × ((w : World) → IsWorld stood left f s w → (m : ℕ) (end : NodeEnd) → slice_get ends m ≡ Some end → IsNodeEnd end (node_end w m))
 
 pub ended_first : {P S : Type 0} (stood : Stood S) (left : Left S) (f : Frame) (s : Parts P S) (ends : List NodeEnd) → ends ≡ [] → Ended stood left f s 0 ends
-ended_first stood left f s ends none = (ap length none, λ w world m end at. absurd (none_there m end (ap (λ (l : List NodeEnd). slice_get l m) (sym none) ∙ at)))
+ended_first stood left f s ends none = (ap length none, λ w world m end at. absurd (none_there ends m end none at))
   where
-    none_there : (m : ℕ) (x : NodeEnd) → slice_get {A = NodeEnd} [] m ≡ Some x → ⊥
-    none_there m x h = cc h
+    none_there : (xs : List NodeEnd) (m : ℕ) (x : NodeEnd) → xs ≡ [] → slice_get xs m ≡ Some x → ⊥
+    none_there [] m x is h = absurd (cc h)
+    none_there (y ∷ xs) m x is h = absurd (cc is)
 
 pub ended_next : {P S : Type 0} (stood : Stood S) (left : Left S) (f : Frame) (s : Parts P S) (k next : ℕ) (node : Node P S) (lives : Bool) (end : NodeEnd) (ends more : List NodeEnd) → suc k ≡ next → Some node ≡ slice_get s.nodes.items k
     → ((w : World) → IsWorld stood left f s w → lives ≡ w.lives k) → TellsNode stood left node lives end → more ≡ ends ++ end ∷ [] → Ended stood left f s k ends → Ended stood left f s next more
@@ -142,6 +144,50 @@ hear_none f w before line old past h = record {
       h.each i got at
       ∙ ap (take (length (replies_in (played_in f w i)))) (sym (to_push i before line ∙ ap (λ (l : List Reply). replies_to (lines_by i before) ++ l) (other_line i line (λ e. absurd (omega (arith, e, lt, past)))) ∙ append-nil (replies_to (lines_by i before))));
 }
+
+map_got : {A B : Type 0} (see : A → B) (xs : List A) (k : ℕ) (x : A) → slice_get xs k ≡ Some x → slice_get (map see xs) k ≡ Some (see x)
+map_got see [] k x at = absurd (cc at)
+map_got see (y ∷ xs) zero x at = let e : y ≡ x = cc in ap (λ a. Some (see a)) e
+map_got see (y ∷ xs) (suc k) x at = map_got see xs k x at
+
+map_many : {A B : Type 0} (see : A → B) (xs : List A) → length (map see xs) ≡ length xs
+map_many see [] = refl
+map_many see (x ∷ xs) = ap suc (map_many see xs)
+
+-- the same of lists as code has them
+pub hear_on : {A : Type 0} (see : A → List Reply) (f : Frame) (w : World) (before : List Line) (line : Line) (n : ℕ) (xs : List A) (was now : A) → n ≡ length (replies_in (played_in f w line.process.0)) → slice_get xs line.process.0 ≡ Some was
+    → see now ≡ cond (ltb (length (see was)) n) (see was ++ line.reply ∷ []) (see was) → HasHeard f w before (map see xs) → HasHeard f w (before ++ line ∷ []) (map see (slice_set xs line.process.0 now))
+hear_on see f w before line n xs was now many at is h =
+    hear_next f w before line n (map see xs) (map see (slice_set xs line.process.0 now)) (see was) many (map_got see xs line.process.0 was at)
+    (map_set see xs line.process.0 now ∙ ap (slice_set (map see xs) line.process.0) is) h
+
+pub hear_off : {A : Type 0} (see : A → List Reply) (f : Frame) (w : World) (before : List Line) (line : Line) (xs : List A) → length xs ≤ line.process.0 → HasHeard f w before (map see xs) → HasHeard f w (before ++ line ∷ []) (map see xs)
+hear_off see f w before line xs past h = hear_none f w before line (map see xs) (omega (arith, past, map_many see xs)) h
+
+-- nothing was heard yet
+pub replicate_next : {A : Type 0} (n next : ℕ) (x : A) → suc n ≡ next → replicate n x ++ x ∷ [] ≡ replicate next x
+replicate_next {A} n next x up = go n ∙ ap (λ (k : ℕ). replicate k x) up
+  where
+    go : (n : ℕ) → replicate n x ++ x ∷ [] ≡ replicate (suc n) x
+    go zero = refl
+    go (suc n) = ap (λ (l : List A). x ∷ l) (go n)
+
+pub hear_first : (f : Frame) (w : World) (n : ℕ) (replies : List (List Reply)) → replies ≡ replicate n [] → n ≡ process_count f w → HasHeard f w [] replies
+hear_first f w n replies is count =
+    subst (HasHeard f w []) (sym is) (record { count = many n ∙ count; each = λ i heard at. none n i heard at ∙ sym (take_none (length (replies_in (played_in f w i)))) })
+  where
+    many : (n : ℕ) → length (replicate {A = List Reply} n []) ≡ n
+    many zero = refl
+    many (suc n) = ap suc (many n)
+
+    none : (n i : ℕ) (heard : List Reply) → slice_get (replicate n []) i ≡ Some heard → heard ≡ []
+    none zero i heard at = absurd (cc at)
+    none (suc n) zero heard at = let e : ◌≡◌ {A = Option (List Reply)} (Some []) (Some heard) = at in cc e
+    none (suc n) (suc i) heard at = none n i heard at
+
+    take_none : (n : ℕ) → take {A = Reply} n [] ≡ []
+    take_none zero = refl
+    take_none (suc n) = refl
 
 pub heard_there : {S : Type 0} (stood : Stood S) (left : Left S) (i : ℕ) (r : Resident S) (o : Option Played) → IsPlayedIf stood left i (Some r) o → r.calls ≡ length (replies_in o)
 heard_there stood left i r None h = absurd h

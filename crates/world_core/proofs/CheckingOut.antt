@@ -14,8 +14,7 @@ use Rattle.world_calls.specs.Law.{BurstsFit, view_of}
 use Rattle.world_facts.specs.Ends.{turns_in}
 use Rattle.world_law.specs.Holds.{Holds}
 use Rattle.world_rules.specs.Frame.{Frame}
-use Rattle.world_rules.specs.Played.{Played, Stage, is_computing}
-use Rattle.world_rules.specs.Played.Stage as stage
+use Rattle.world_rules.specs.Played.{Played, Stage as stage, is_computing}
 use Rattle.world_rules.specs.Standings.{lives_at_home, stands}
 use Rattle.world_rules.specs.Steps.{Replays, objects_after}
 use Rattle.world_rules.specs.Worlds.{World, home_of, played_in}
@@ -35,7 +34,7 @@ use Rattle.world_parts.proofs.Outs.{seen_out}
 use Rattle.world_parts.proofs.Worlds.{is_world}
 use Rattle.world_parts.specs.Choosing.{is_ready, may_compute}
 use Rattle.world_parts.specs.Seen.{all_outs, is_out, out_at, tasks_out}
-use Rattle.world_parts.specs.Standing.{HasNumbers, IsTask, IsWorld, Stands, has_out, outs_of, seen_of}
+use Rattle.world_parts.specs.Standing.{HasNumbers, IsTask, IsWorld, Stands, out_of, outs_of, seen_of}
 use Rattle.world_parts.specs.declared.parts.Numbers.{Numbers}
 use Rattle.world_parts.specs.declared.parts.Parts.{Parts}
 use Rattle.world_core.specs.Stepping.{HandsOutOf, out_as}

@@ -173,7 +173,7 @@ record Fields {P S : Type 0} (stood : Stood S) (left : Left S) (event : Event) (
   pub sent : new.sent ≡ s.sent + length draft.outgoing.items
   pub swaps : new.swaps ≡ swaps_after event s.swaps
 
-fields_of : {P S : Type 0} (stood : Stood S) (left : Left S) (event : Event) (draft : Draft P S) (fates : List Fate) (s s1 s2 s3 s4 new : Parts P S) → Calls stood left event draft fates s s1 s2 s3 s4 new
+pub fields_of : {P S : Type 0} (stood : Stood S) (left : Left S) (event : Event) (draft : Draft P S) (fates : List Fate) (s s1 s2 s3 s4 new : Parts P S) → Calls stood left event draft fates s s1 s2 s3 s4 new
     → Fields stood left event draft fates s new
 fields_of {P} {S} stood left event draft fates s s1 s2 s3 s4 new h = record {
   numbers = h.numbers ∙ at_end (λ p. p.numbers) refl ∙ h.closed.numbers ∙ ap (λ (p : Parts P S). p.numbers) h.leaves.others ∙ h.room.numbers;

@@ -35,7 +35,7 @@ pub record Here {P S : Type 0} (stood : Stood S) (left : Left S) (f : Frame) (s 
   pub possible : Possible f w event given
 
 grows : {P S : Type 0} (stood : Stood S) (left : Left S) (f : Frame) (s : Parts P S) (w : World) (event : Event) (given : Known event) → Here stood left f s w event given
-    → EventGrows f w event (happens f w event given).world
+    → EventGrows f w event given (happens f w event given).world
 grows stood left f s w event given h = h.stands.laws.grow f refl refl h.stands.settings s.ledger.steps w h.is.replays h.going event given h.possible
 
 -- no member applied more than the list has

@@ -25,7 +25,7 @@ all_set [] k bs lt = absurd (omega (arith, lt))
 all_set (cs ∷ bss) zero bs lt = omega arith
 all_set (cs ∷ bss) (suc k) bs lt = let e = all_set bss k bs (omega (arith, lt)) in omega (arith, e)
 
-map_set : {A B : Type 0} (f : A → B) (xs : List A) (k : ℕ) (x : A) → map f (slice_set xs k x) ≡ slice_set (map f xs) k (f x)
+pub map_set : {A B : Type 0} (f : A → B) (xs : List A) (k : ℕ) (x : A) → map f (slice_set xs k x) ≡ slice_set (map f xs) k (f x)
 map_set f [] k x = refl
 map_set f (y ∷ xs) zero x = refl
 map_set {A} {B} f (y ∷ xs) (suc k) x = ap (λ (l : List B). f y ∷ l) (map_set f xs k x)

@@ -27,3 +27,4 @@ pub mod CheckingOut
 pub mod CheckingIn
 pub mod Spelled
 pub mod Books
+pub mod Shown

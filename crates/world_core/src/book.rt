@@ -5,7 +5,7 @@ ghost use Rattle.std.specs.Option.{option_copied};
 ghost use Rattle.book_law.specs.Performed.{IsBook, placed};
 ghost use Rattle.node_core.specs.Shown.{on_stage};
 ghost use Rattle.value_core.specs.declared.action.Line.{Line as LineOf};
-ghost use Rattle.world_facts.specs.Ends.{end_at, end_crashed, end_living, end_over, process_end, replies_in};
+ghost use Rattle.world_facts.specs.Ends.{end_at, end_crashed, end_living, end_of, end_over, process_end, replies_in};
 ghost use Rattle.world_rules.specs.Worlds.{Book, played_in};
 ghost use Rattle.world_parts.specs.Recorded.{of_piece, of_pieces};
 ghost use Rattle.world_parts.specs.Standing.{Is, Stands};
@@ -331,7 +331,7 @@ fn standing_of<S: Drop>(
 
 // Where a process stands that its member hasn't begun.
 fn hidden(lives: bool) -> ProcessStanding
-    ensures { on_standing result ≡ standing_as lives None }
+    ensures { on_standing result ≡ end_of lives None }
 {
     if lives {
         ProcessStanding::Busy

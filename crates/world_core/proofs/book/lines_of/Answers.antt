@@ -8,12 +8,12 @@ use Rattle.world_core.proofs.book.lines_of.Goals as goal
 pub lines-init : goal.lines-init
 lines-init c =
     let all : into_iter_items c.into_iter-placed-iterator.result ≡ c.args.performed.items = search rules in
-    ap (map (λ (r : Placed). r.line)) all
+    ap (λ (l : List Line). l ++ map (λ (r : Placed). r.line) (into_iter_items c.into_iter-placed-iterator.result)) c.new-lines.ensures.items ∙ ap (map (λ (r : Placed). r.line)) all
 
 pub lines-preserved : goal.lines-preserved
 lines-preserved c =
     let left = (some_left c.next.result c.in-Some.placed _ _ c.in-Some.is c.next.ensures.steps).0 in
-    ap (λ (l : List Line). l ++ _) (c.in_ok-push.ensures {u = tt}).items ∙ append_assoc c.lines.lines.items (c.in-Some.placed.line ∷ []) _
+    ap (λ (l : List Line). l ++ map (λ (r : Placed). r.line) (into_iter_items c.next.new.self)) (c.in_ok-push.ensures {u = tt}).items ∙ append_assoc c.lines.lines.items (c.in-Some.placed.line ∷ []) (map (λ (r : Placed). r.line) (into_iter_items c.next.new.self))
     ∙ ap (λ (l : List Placed). c.lines.lines.items ++ map (λ (r : Placed). r.line) l) (sym left) ∙ c.lines.invariant
 
 pub returns : goal.returns

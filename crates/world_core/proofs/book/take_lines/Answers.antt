@@ -14,7 +14,7 @@ lines-init c =
 pub lines-preserved : goal.lines-preserved
 lines-preserved c =
     let left = (some_left c.next.result c.in-Some.line _ _ c.in-Some.is c.next.ensures.steps).0 in
-    ap (λ (l : List Placed). l ++ _) (c.in_ok-take_one.ensures {u = tt}) ∙ append_assoc c.lines.performed.items (record { place = c.args.place; line = c.in-Some.line } ∷ []) _
+    ap (λ (l : List Placed). l ++ placed c.args.place (into_iter_items c.next.new.self)) (c.in_ok-take_one.ensures {u = tt}) ∙ append_assoc c.lines.performed.items (record { place = c.args.place; line = c.in-Some.line } ∷ []) (placed c.args.place (into_iter_items c.next.new.self))
     ∙ ap (λ (l : List Line). c.lines.performed.items ++ placed c.args.place l) (sym left) ∙ c.lines.invariant
 
 pub returns : goal.returns

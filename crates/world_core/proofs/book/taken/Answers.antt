@@ -9,12 +9,12 @@ use Rattle.world_core.proofs.book.taken.Goals as goal
 pub pieces-init : goal.pieces-init
 pieces-init c =
     let all : into_iter_items c.into_iter-piece-iterator.result ≡ c.args.pieces.items = search rules in
-    ap of_pieces all
+    ap (λ (l : List Placed). l ++ of_pieces (into_iter_items c.into_iter-piece-iterator.result)) c.new-performed.ensures.items ∙ ap of_pieces all
 
 pub pieces-preserved : goal.pieces-preserved
 pieces-preserved c =
     let left = (some_left c.next.result c.in-Some.piece _ _ c.in-Some.is c.next.ensures.steps).0 in
-    ap (λ (l : List Placed). l ++ _) (c.in_ok-take_piece.ensures {u = tt}) ∙ append_assoc c.pieces.performed.items (of_piece c.in-Some.piece) _
+    ap (λ (l : List Placed). l ++ of_pieces (into_iter_items c.next.new.self)) (c.in_ok-take_piece.ensures {u = tt}) ∙ append_assoc c.pieces.performed.items (of_piece c.in-Some.piece) (of_pieces (into_iter_items c.next.new.self))
     ∙ ap (λ (l : List Piece). c.pieces.performed.items ++ of_pieces l) (sym left) ∙ c.pieces.invariant
 
 pub returns : goal.returns

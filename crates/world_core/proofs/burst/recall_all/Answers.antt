@@ -10,8 +10,8 @@ pub members-preserved : goal.members-preserved
 members-preserved g c =
     let ns = c.members.nodes.items in
     let lt : c.members.at < length ns = omega (arith, c.members-test.true, c.len-at-end.ensures, c.members.invariant.count, c.args.nodes.now.ok.0) in
-    recalled_next g.P.OneRun.stood g.P.OneRun.left c.members.at _ c.args.nodes.now.items ns _ c.index.result.now c.recall.new.self (omega arith) c.members.invariant
-    (slice_get_read ns (length ns) c.members.at c.index.result.now refl lt c.index.ensures) refl c.recall.ensures.recalled c.recall.ensures.alike
+    recalled_next g.P.OneRun.stood g.P.OneRun.left c.members.at _ c.args.nodes.now.items ns _ c.index_mut.result.now c.recall.new.self (omega arith) c.members.invariant
+    (slice_get_read ns (length ns) c.members.at c.index_mut.result.now refl lt c.index_mut.ensures.value) refl c.recall.ensures.recalled c.recall.ensures.alike
 
 pub returns : goal.returns
 returns g c =

@@ -11,19 +11,19 @@ member_of-before-requires-clause-within g c =
     let low = home_within g.P.OneRun.stood g.P.OneRun.left g.P.OneRun.run.frame c.args.parts.now w c.requires.stands c.args.process.0 in
     omega (arith, c.home_of-home.ensures w c.requires.stands.is, low)
 
-pub view_at-view-requires-clause-within : goal.view_at-view-requires-clause-within
-view_at-view-requires-clause-within g c =
+pub view_at-requires-clause-within : goal.view_at-requires-clause-within
+view_at-requires-clause-within g c =
     let w = c.requires.stands.world in
     let low = home_within g.P.OneRun.stood g.P.OneRun.left g.P.OneRun.run.frame c.args.parts.now w c.requires.stands c.args.process.0 in
     omega (arith, c.home_of-home.ensures w c.requires.stands.is, low)
 
-pub view_at-view-requires-clause-low : goal.view_at-view-requires-clause-low
-view_at-view-requires-clause-low g c w is =
+pub view_at-requires-clause-low : goal.view_at-requires-clause-low
+view_at-requires-clause-low g c w is =
     let b = bursts_by g.P.OneRun.stood g.P.OneRun.left g.P.OneRun.run.frame c.args.parts.now w c.args.process c.args.place (c.requires.may w is) in
     subst (λ (m : ℕ). c.args.place ≤ (w.nodes m).member.applied) (sym (c.home_of-home.ensures w is)) b.before
 
-pub run_on-ran-requires : goal.run_on-ran-requires
-run_on-ran-requires g c =
+pub run_on-requires : goal.run_on-requires
+run_on-requires g c =
     let m = c.args.machine.now in
     let w = c.requires.stands.world in
     let is = c.requires.stands.is in
