@@ -1,0 +1,15 @@
+use Rattle.std.proofs.Common.{◌∙◌, ap}
+use Rattle.world_parts.specs.Recorded.{Recorded}
+use Rattle.world_core.proofs.Books.{book_is}
+use Rattle.world_core.proofs.book.into_end.Goals as goal
+
+pub returns-clause-book : goal.returns-clause-book
+returns-clause-book g c w is =
+    let made = c.in_ok-book.ensures {u = tt} in
+    book_is g.P.OneRun.stood g.P.OneRun.left g.P.OneRun.run.frame c.args.parts w c.in_ok-performed.performed.items made.0 c.in_ok-book.book.items is (c.in_ok-performed.ensures {u = tt} ∙ c.into_parts.ensures.performed) made.1 made.2
+
+pub returns-clause-nodes : goal.returns-clause-nodes
+returns-clause-nodes g c w is = (c.in_ok-nodes.ensures {u = tt}) w is
+
+pub returns-clause-processes : goal.returns-clause-processes
+returns-clause-processes g c w is = (c.in_ok-processes.ensures {u = tt}) w is

@@ -1,0 +1,171 @@
+use Rattle.std.proofs.Common.{◌≡◌, ◌≤◌, ◌<◌, ◌+◌, ◌-◌, ◌^◌, ◌∙◌, inl, inr, ap, sym, refl, arith, length}
+use Rattle.world_parts.specs.Recorded.{Recorded}
+use Rattle.world_parts.specs.declared.parts.Parts.{Parts}
+use Rattle.world_core.proofs.Asking.{MayClose, done_possible, either_error, idle_small, may_close, may_end, may_leave, refused_by, room_seen, room_stands}
+use Rattle.world_core.proofs.Closed.{Calls, fields_of, step_done, step_fewer, step_outs, step_stands}
+use Rattle.world_core.proofs.Doing.{Here}
+use Rattle.world_core.proofs.Handing.{out_same}
+use Rattle.world_core.proofs.step.does.Goals as goal
+
+pub idle_after-idle-requires : goal.idle_after-idle-requires
+idle_after-idle-requires g c =
+    let small = idle_small g.P.OneRun.stood g.P.OneRun.left g.P.OneRun.run.frame c.args.parts.now c.requires.stands.world c.requires.stands c.requires.stands.is (c.requires.going c.requires.stands.world c.requires.stands.is) in
+    omega (arith, small, c.make_room.ensures.same.idle)
+
+pub leave_net-requires : goal.leave_net-requires
+leave_net-requires g c =
+    let w = c.requires.stands.world in
+    let d = (c.in_ok-draft.ensures {u = tt}).drafts w c.requires.stands.is in
+    let here : Here g.P.OneRun.stood g.P.OneRun.left g.P.OneRun.run.frame c.args.parts.now w c.args.event d.0 = record { stands = c.requires.stands; is = c.requires.stands.is; going = c.requires.going w c.requires.stands.is; possible = d.1 } in
+    may_leave g.P.OneRun.stood g.P.OneRun.left g.P.OneRun.run.frame c.args.parts.now c.make_room.new.parts w c.args.event d.0 here c.make_room.ensures.same
+
+pub close-fates-requires-clause-members : goal.close-fates-requires-clause-members
+close-fates-requires-clause-members g c =
+    let w = c.requires.stands.world in
+    let d = (c.in_ok-draft.ensures {u = tt}).drafts w c.requires.stands.is in
+    let here : Here g.P.OneRun.stood g.P.OneRun.left g.P.OneRun.run.frame c.args.parts.now w c.args.event d.0 = record { stands = c.requires.stands; is = c.requires.stands.is; going = c.requires.going w c.requires.stands.is; possible = d.1 } in
+    let may : MayClose c.in_ok-draft.draft c.leave_net.new.parts = may_close g.P.OneRun.stood g.P.OneRun.left g.P.OneRun.run.frame c.args.parts.now c.make_room.new.parts c.leave_net.new.parts w c.args.event d.0 c.in_ok-draft.draft here d.2 c.make_room.ensures.same c.leave_net.ensures (c.in_ok-fates.ensures {u = tt}).few in
+    may.members
+
+pub close-fates-requires-clause-twins : goal.close-fates-requires-clause-twins
+close-fates-requires-clause-twins g c =
+    let w = c.requires.stands.world in
+    let d = (c.in_ok-draft.ensures {u = tt}).drafts w c.requires.stands.is in
+    let here : Here g.P.OneRun.stood g.P.OneRun.left g.P.OneRun.run.frame c.args.parts.now w c.args.event d.0 = record { stands = c.requires.stands; is = c.requires.stands.is; going = c.requires.going w c.requires.stands.is; possible = d.1 } in
+    let may : MayClose c.in_ok-draft.draft c.leave_net.new.parts = may_close g.P.OneRun.stood g.P.OneRun.left g.P.OneRun.run.frame c.args.parts.now c.make_room.new.parts c.leave_net.new.parts w c.args.event d.0 c.in_ok-draft.draft here d.2 c.make_room.ensures.same c.leave_net.ensures (c.in_ok-fates.ensures {u = tt}).few in
+    may.twins
+
+pub close-fates-requires-clause-below : goal.close-fates-requires-clause-below
+close-fates-requires-clause-below g c =
+    let w = c.requires.stands.world in
+    let d = (c.in_ok-draft.ensures {u = tt}).drafts w c.requires.stands.is in
+    let here : Here g.P.OneRun.stood g.P.OneRun.left g.P.OneRun.run.frame c.args.parts.now w c.args.event d.0 = record { stands = c.requires.stands; is = c.requires.stands.is; going = c.requires.going w c.requires.stands.is; possible = d.1 } in
+    let may : MayClose c.in_ok-draft.draft c.leave_net.new.parts = may_close g.P.OneRun.stood g.P.OneRun.left g.P.OneRun.run.frame c.args.parts.now c.make_room.new.parts c.leave_net.new.parts w c.args.event d.0 c.in_ok-draft.draft here d.2 c.make_room.ensures.same c.leave_net.ensures (c.in_ok-fates.ensures {u = tt}).few in
+    may.below
+
+pub close-fates-requires-clause-small : goal.close-fates-requires-clause-small
+close-fates-requires-clause-small g c =
+    let w = c.requires.stands.world in
+    let d = (c.in_ok-draft.ensures {u = tt}).drafts w c.requires.stands.is in
+    let here : Here g.P.OneRun.stood g.P.OneRun.left g.P.OneRun.run.frame c.args.parts.now w c.args.event d.0 = record { stands = c.requires.stands; is = c.requires.stands.is; going = c.requires.going w c.requires.stands.is; possible = d.1 } in
+    let may : MayClose c.in_ok-draft.draft c.leave_net.new.parts = may_close g.P.OneRun.stood g.P.OneRun.left g.P.OneRun.run.frame c.args.parts.now c.make_room.new.parts c.leave_net.new.parts w c.args.event d.0 c.in_ok-draft.draft here d.2 c.make_room.ensures.same c.leave_net.ensures (c.in_ok-fates.ensures {u = tt}).few in
+    may.small
+
+pub close-fates-requires-clause-entries : goal.close-fates-requires-clause-entries
+close-fates-requires-clause-entries g c =
+    omega (arith, (c.in_ok-fates.ensures {u = tt}).entries, ap (λ p. p.ledger.entry_room) c.leave_net.ensures.others)
+
+pub close-fates-requires-clause-pieces : goal.close-fates-requires-clause-pieces
+close-fates-requires-clause-pieces g c =
+    omega (arith, (c.in_ok-fates.ensures {u = tt}).pieces, ap (λ p. p.ledger.piece_room) c.leave_net.ensures.others)
+
+pub close-fates-requires-clause-net : goal.close-fates-requires-clause-net
+close-fates-requires-clause-net g c =
+    omega (arith, (c.in_ok-fates.ensures {u = tt}).net, c.leave_net.ensures.spare)
+
+pub close-fates-requires-clause-wires : goal.close-fates-requires-clause-wires
+close-fates-requires-clause-wires g c =
+    (c.in_ok-fates.ensures {u = tt}).wires
+
+pub close-fates-requires-clause-fates : goal.close-fates-requires-clause-fates
+close-fates-requires-clause-fates g c =
+    (c.in_ok-fates.ensures {u = tt}).fates
+
+pub end_tasks-requires : goal.end_tasks-requires
+end_tasks-requires g c =
+    let w = c.requires.stands.world in
+    let d = (c.in_ok-draft.ensures {u = tt}).drafts w c.requires.stands.is in
+    let here : Here g.P.OneRun.stood g.P.OneRun.left g.P.OneRun.run.frame c.args.parts.now w c.args.event d.0 = record { stands = c.requires.stands; is = c.requires.stands.is; going = c.requires.going w c.requires.stands.is; possible = d.1 } in
+    may_end g.P.OneRun.stood g.P.OneRun.left g.P.OneRun.run.frame c.args.parts.now c.close-fates.new.parts w c.args.event d.0 here ?
+
+pub push_step-requires : goal.push_step-requires
+push_step-requires g c =
+    omega (arith, (c.in_ok-fates.ensures {u = tt}).steps, ap (λ p. p.ledger.step_room) c.leave_net.ensures.others, c.close-fates.ensures.closed.step_room)
+
+pub returns-clause-stands : goal.returns-clause-stands
+returns-clause-stands g c =
+    let calls : Calls g.P.OneRun.stood g.P.OneRun.left c.args.event c.in_ok-draft.draft c.close-fates.result.items c.args.parts.now c.make_room.new.parts c.leave_net.new.parts c.close-fates.new.parts c.end_tasks.new.parts _ = record {
+      room = c.make_room.ensures.same;
+      steps = (c.in_ok-fates.ensures {u = tt}).steps;
+      pieces = (c.in_ok-fates.ensures {u = tt}).pieces;
+      few = (c.in_ok-fates.ensures {u = tt}).few;
+      leaves = c.leave_net.ensures;
+      closed = c.close-fates.ensures.closed;
+      ended = c.end_tasks.ensures;
+      numbers = refl;
+      nodes = refl;
+      lives = refl;
+      flights = refl;
+      ledger = c.push_step.ensures;
+      sent = refl;
+      swaps = refl;
+      idle = c.idle_after-idle.ensures;
+    } in
+    step_stands g.P.OneRun.stood g.P.OneRun.left g.P.OneRun.run.frame c.args.event c.in_ok-draft.draft c.close-fates.result.items c.args.parts.now c.make_room.new.parts c.leave_net.new.parts c.close-fates.new.parts c.end_tasks.new.parts _ c.requires.stands (c.requires.going c.requires.stands.world c.requires.stands.is) (c.in_ok-draft.ensures {u = tt}).drafts calls
+
+pub returns-clause-done : goal.returns-clause-done
+returns-clause-done g c =
+    let calls : Calls g.P.OneRun.stood g.P.OneRun.left c.args.event c.in_ok-draft.draft c.close-fates.result.items c.args.parts.now c.make_room.new.parts c.leave_net.new.parts c.close-fates.new.parts c.end_tasks.new.parts _ = record {
+      room = c.make_room.ensures.same;
+      steps = (c.in_ok-fates.ensures {u = tt}).steps;
+      pieces = (c.in_ok-fates.ensures {u = tt}).pieces;
+      few = (c.in_ok-fates.ensures {u = tt}).few;
+      leaves = c.leave_net.ensures;
+      closed = c.close-fates.ensures.closed;
+      ended = c.end_tasks.ensures;
+      numbers = refl;
+      nodes = refl;
+      lives = refl;
+      flights = refl;
+      ledger = c.push_step.ensures;
+      sent = refl;
+      swaps = refl;
+      idle = c.idle_after-idle.ensures;
+    } in
+    step_done g.P.OneRun.stood g.P.OneRun.left g.P.OneRun.run.frame c.args.event c.in_ok-draft.draft c.close-fates.result.items c.args.parts.now c.make_room.new.parts c.leave_net.new.parts c.close-fates.new.parts c.end_tasks.new.parts _ _ _ c.requires.stands c.requires.going (c.in_ok-draft.ensures {u = tt}).drafts calls (c.close-fates.ensures.told ∙ ?)
+
+pub returns-clause-enabled : goal.returns-clause-enabled
+returns-clause-enabled g c refused =
+    absurd (done_possible g.P.OneRun.stood g.P.OneRun.left g.P.OneRun.run.frame c.args.parts.now c.args.event c.in_ok-draft.draft c.requires.stands (c.requires.going c.requires.stands.world c.requires.stands.is) (c.in_ok-draft.ensures {u = tt}).drafts refused)
+
+pub returns-clause-tasks : goal.returns-clause-tasks
+returns-clause-tasks g c =
+    let calls : Calls g.P.OneRun.stood g.P.OneRun.left c.args.event c.in_ok-draft.draft c.close-fates.result.items c.args.parts.now c.make_room.new.parts c.leave_net.new.parts c.close-fates.new.parts c.end_tasks.new.parts _ = record {
+      room = c.make_room.ensures.same;
+      steps = (c.in_ok-fates.ensures {u = tt}).steps;
+      pieces = (c.in_ok-fates.ensures {u = tt}).pieces;
+      few = (c.in_ok-fates.ensures {u = tt}).few;
+      leaves = c.leave_net.ensures;
+      closed = c.close-fates.ensures.closed;
+      ended = c.end_tasks.ensures;
+      numbers = refl;
+      nodes = refl;
+      lives = refl;
+      flights = refl;
+      ledger = c.push_step.ensures;
+      sent = refl;
+      swaps = refl;
+      idle = c.idle_after-idle.ensures;
+    } in
+    step_outs g.P.OneRun.stood g.P.OneRun.left g.P.OneRun.run.frame c.args.event c.in_ok-draft.draft c.close-fates.result.items c.args.parts.now c.make_room.new.parts c.leave_net.new.parts c.close-fates.new.parts c.end_tasks.new.parts _ c.requires.stands (c.requires.going c.requires.stands.world c.requires.stands.is) (c.in_ok-draft.ensures {u = tt}).drafts calls
+
+pub returns-clause-fewer : goal.returns-clause-fewer
+returns-clause-fewer g c =
+    let calls : Calls g.P.OneRun.stood g.P.OneRun.left c.args.event c.in_ok-draft.draft c.close-fates.result.items c.args.parts.now c.make_room.new.parts c.leave_net.new.parts c.close-fates.new.parts c.end_tasks.new.parts _ = record {
+      room = c.make_room.ensures.same;
+      steps = (c.in_ok-fates.ensures {u = tt}).steps;
+      pieces = (c.in_ok-fates.ensures {u = tt}).pieces;
+      few = (c.in_ok-fates.ensures {u = tt}).few;
+      leaves = c.leave_net.ensures;
+      closed = c.close-fates.ensures.closed;
+      ended = c.end_tasks.ensures;
+      numbers = refl;
+      nodes = refl;
+      lives = refl;
+      flights = refl;
+      ledger = c.push_step.ensures;
+      sent = refl;
+      swaps = refl;
+      idle = c.idle_after-idle.ensures;
+    } in
+    step_fewer g.P.OneRun.stood g.P.OneRun.left g.P.OneRun.run.frame c.args.event c.in_ok-draft.draft c.close-fates.result.items c.args.parts.now c.make_room.new.parts c.leave_net.new.parts c.close-fates.new.parts c.end_tasks.new.parts _ c.requires.stands (c.requires.going c.requires.stands.world c.requires.stands.is) (c.in_ok-draft.ensures {u = tt}).drafts calls

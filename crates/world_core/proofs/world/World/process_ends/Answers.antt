@@ -1,0 +1,12 @@
+use Rattle.std.proofs.Common.{refl}
+use Rattle.world_parts.proofs.Worlds.{is_world}
+use Rattle.world_core.proofs.world.World.process_ends.Goals as goal
+
+pub returns-clause-ends : goal.returns-clause-ends
+returns-clause-ends g c w replays = c.process_ends.ensures w (is_world g.P.OneRun.stood g.P.OneRun.left g.P.OneRun.run.frame c.self.inside.parts c.args.self.now c.self.view_is c.self.invariant w replays)
+
+pub returns-clause-mean : goal.returns-clause-mean
+returns-clause-mean g c w replays = λ i r is. c.self.invariant.laws.mean g.P.OneRun.run.frame refl c.self.invariant.settings.turns c.args.self.now.steps w replays i r is
+
+pub returns-clause-kept : goal.returns-clause-kept
+returns-clause-kept g c w replays = c.self.invariant.laws.kept g.P.OneRun.run.frame refl refl c.self.invariant.settings c.args.self.now.steps w replays

@@ -1,0 +1,7 @@
+pub mod Stepping
+pub mod Telling
+pub mod Drafting
+pub mod Closing
+pub mod Growing
+pub mod Recalling
+pub mod Bursting

@@ -1,0 +1,259 @@
+//! The world of one run.
+
+ghost use Rattle.std.specs.Prelude.{◌≡◌, ◌⊎◌, ◌+◌, ◌≤◌, [], true, Err, IfErr, IfOk, OnErr, OnOk, option_map};
+ghost use Rattle.value_core.specs.History.{Legal};
+ghost use Rattle.net_rules.specs.Flights.{first_ready};
+ghost use Rattle.world_rules.specs.Frame.{AreSettings};
+ghost use Rattle.world_rules.specs.Standings as rules;
+ghost use Rattle.world_rules.specs.Steps.{Replays};
+ghost use Rattle.world_rules.specs.Worlds.{Book, World as RunWorld, home_of};
+ghost use Rattle.world_rules.specs.declared.standing.Standing.TheVariants.{Going};
+ghost use Rattle.world_book.specs.Promise.{AllStuck, IsKept};
+ghost use Rattle.world_parts.specs.Choosing.{due_act, is_ready, longest_log};
+ghost use Rattle.world_parts.specs.Seen.{Of, tasks_out};
+ghost use Rattle.world_core.specs.Stepping.{ChecksIn, HandsOutOf, IsAstray, IsRefused, OutBefore, Stepped};
+ghost use Rattle.world_core.specs.Telling.{AreNodeEnds, AreProcessEnds, EndsMean};
+
+use crate::ends::{NodeEnd, ProcessEnd, RunEnd};
+use crate::step::StepError;
+use crate::{book, burst, step};
+use node_core::{Done, OneRun, Stray, Task};
+use orca_base::{NoMemory, ProcessNo};
+use std::alloc::Global;
+use std::marker::Model;
+use value_core::Line;
+use wires::Wire;
+use world_parts::Parts;
+use world_rules::{Event, Settings, Standing, Step};
+
+/// The world of one run. It stores the steps of the run, and stands for the world to which they lead.
+#[derive(Drop)]
+pub struct World<P: OneRun> {
+    parts: Parts<P>,
+}
+
+impl<P: OneRun> Model for World<P> {
+    ghost use Rattle.std.specs.Coded.{codes};
+    ghost use Rattle.value_core.specs.Code.{data_code};
+    ghost use Rattle.world_parts.specs.Seen.{Seen};
+    ghost use Rattle.world_parts.specs.Standing.{Stands, seen_of};
+
+    ghost Value = { Seen P.State };
+
+    ghost coded = { Prim.hlevel (codes, data_code, P.State.code) };
+
+    ghost view = { λ w. seen_of w.parts };
+
+    ghost invariant = { λ w. Stands P.stood P.left P.run.frame w.parts };
+}
+
+impl<P: OneRun> World<P> {
+    /// The world before the first event, by these settings, which are the run's.
+    pub fn new(alloc: Global, machine: &P, settings: Settings) -> Result<World<P>, NoMemory>
+        requires settings { settings ≡ P.run.frame.settings }
+        requires ranges { AreSettings settings }
+        ensures steps { IfOk result (λ w. w.steps ≡ []) }
+        ensures tasks { IfOk result (λ w. tasks_out w ≡ 0) }
+    {
+        Ok(World {
+            parts: Parts::new(alloc, machine, settings)?,
+        })
+    }
+
+    /// The steps of the run so far, the first first. They lead to a world.
+    pub fn steps(&self) -> &[Step]
+        ensures steps { result.now ≡ self.now.steps }
+        ensures replayed { (w : RunWorld) × Replays P.run.frame self.now.steps w }
+    {
+        self.parts.ledger.steps()
+    }
+
+    /// The steps of the run, given away.
+    pub fn into_steps(self) -> Vec<Step>
+        ensures steps { result.items ≡ self.steps }
+        ensures replayed { (w : RunWorld) × Replays P.run.frame self.steps w }
+    {
+        self.parts.ledger.into_parts().0
+    }
+
+    /// Does an event, which becomes the last step, with the fates that the wire in use gives the packets that it sends, in their order. A
+    /// Burst ends a task of its process that is out.
+    ///
+    /// NotEnabled comes exactly where the event isn't possible here: no event is in a run that isn't going. All room is made, the wire's
+    /// too, before the wire is asked. So after either error the world is as it was, and the wire was asked nothing.
+    pub fn step<W: Wire>(
+        &mut self,
+        alloc: Global,
+        machine: &P,
+        event: Event,
+        wire: &mut W,
+    ) -> Result<(), StepError>
+        ensures done { OnOk result (Stepped P.run.frame event self.old self.new (W.told wire.old) (W.told wire.new)) }
+        ensures err { OnErr result (self.new ≡ self.old) }
+        ensures unasked { OnErr result (W.told wire.new ≡ W.told wire.old) }
+        ensures refused { result ≡ Err StepError.NotEnabled → IsRefused P.run.frame event self.old }
+        ensures enabled { IsRefused P.run.frame event self.old → (result ≡ Err StepError.NotEnabled) ⊎ (result ≡ Err StepError.NoMemory) }
+        ensures tasks { OutBefore self.old self.new }
+        ensures fewer { tasks_out self.new ≤ tasks_out self.old }
+        ensures script { W.told_script wire.new ≡ W.told_script wire.old }
+        ensures since { W.loaded wire.new ≡ W.loaded wire.old }
+    {
+        step::step(&mut self.parts, alloc, machine, event, wire)
+    }
+
+    /// Hands out a process that is ready, in a run that is going, with its member's view. It is no event. It makes the room that the
+    /// check-in takes.
+    ///
+    /// Where there is no memory, the world is as it was.
+    pub fn check_out(
+        &mut self,
+        alloc: Global,
+        machine: &P,
+        process: ProcessNo,
+    ) -> Result<Task<P>, NoMemory>
+        requires going { Of P.run.frame self.old (λ w. rules.standing P.run.frame w ≡ Going) }
+        requires ready { Of P.run.frame self.old (λ w. is_ready P.run.frame self.old w process.0 ≡ true) }
+        ensures steps { self.new.steps ≡ self.old.steps }
+        ensures out { IfOk result (λ task. HandsOutOf P.run.frame process task self.old self.new) }
+        ensures more { OnOk result (tasks_out self.new ≡ tasks_out self.old + 1) }
+        ensures err { OnErr result (self.new ≡ self.old) }
+    {
+        burst::check_out(&mut self.parts, alloc, machine, process)
+    }
+
+    /// Does the Burst event of what was computed from a task, which becomes the last step. It takes no memory.
+    ///
+    /// Stray comes exactly where the run isn't going, no task of that process is out, or its state or its view isn't what was handed out.
+    /// The world is then as it was.
+    pub fn check_in(&mut self, done: Done<P>) -> Result<(), Stray<P>>
+        ensures done { OnOk result (ChecksIn P.run.frame done self.old self.new) }
+        ensures fewer { OnOk result (tasks_out self.new + 1 ≡ tasks_out self.old) }
+        ensures astray { IfErr result (λ stray. IsAstray P.run.frame done stray.done self.old) }
+        ensures err { OnErr result (self.new ≡ self.old) }
+    {
+        burst::check_in(&mut self.parts, done)
+    }
+
+    /// Ends every task that is out. Those processes are ready again, and nothing else changes. It takes no memory.
+    pub fn recall(&mut self)
+        ensures steps { self.new.steps ≡ self.old.steps }
+        ensures out { tasks_out self.new ≡ 0 }
+    {
+        burst::recall(&mut self.parts);
+    }
+}
+
+// What may come next, and who is where. None of these takes memory, and none looks at packets, steps or lines of the past.
+impl<P: OneRun> World<P> {
+    /// How many processes there are: a fork's from the moment when the first member applied it.
+    pub fn process_count(&self) -> u16
+        ensures { Of P.run.frame self.now (λ w. result ≡ rules.process_count P.run.frame w) }
+    {
+        self.parts.process_count()
+    }
+
+    /// The member of a process, which exists.
+    pub fn home_of(&self, process: ProcessNo) -> u8
+        ensures { Of P.run.frame self.now (λ w. result ≡ home_of P.run.frame w process.0) }
+    {
+        self.parts.home_of(process)
+    }
+
+    /// The length of the longest log of a member.
+    pub fn longest_log(&self) -> u64
+        ensures { Of P.run.frame self.now (λ w. result ≡ longest_log P.run.frame w) }
+    {
+        self.parts.longest_log()
+    }
+
+    /// The lowest process on a living member whose action waits to be carried out.
+    pub fn due_act(&self) -> Option<ProcessNo>
+        ensures { Of P.run.frame self.now (λ w. option_map (λ i. i.0) result ≡ due_act P.run.frame w) }
+    {
+        self.parts.due_act()
+    }
+
+    /// Number and copy of the lowest copy of a packet that can be delivered.
+    pub fn due_packet(&self) -> Option<(u64, u8)>
+        ensures { Of P.run.frame self.now (λ w. option_map (λ p. (p.0, p.1)) result ≡ first_ready w.flights) }
+    {
+        self.parts.due_packet()
+    }
+
+    /// Whether the process computes on a living member, and no task of it is out.
+    pub fn is_ready(&self, process: ProcessNo) -> bool
+        ensures { Of P.run.frame self.now (λ w. result ≡ is_ready P.run.frame self.now w process.0) }
+    {
+        self.parts.is_ready(process)
+    }
+
+    /// Whether the moment is quiet: no packet can be delivered, and no process on a living member computes or is at an action that wasn't
+    /// carried out. So no task is out.
+    pub fn is_quiet(&self) -> bool
+        ensures { Of P.run.frame self.now (λ w. result ≡ rules.is_quiet P.run.frame w) }
+    {
+        self.parts.is_quiet()
+    }
+
+    /// How many tasks are out.
+    pub fn tasks_out(&self) -> u16
+        ensures { result ≡ tasks_out self.now }
+    {
+        self.parts.tasks_out()
+    }
+}
+
+// What is told of the run.
+impl<P: OneRun> World<P> {
+    /// How the run stands: the first row of the table that holds (docs/RUNTIME.md, The world of a run). Where the run is over, each process of
+    /// a living member that hasn't ended or faulted is stuck in the book (`stuck`).
+    pub fn standing(&self) -> Standing
+        ensures standing { Of P.run.frame self.now (λ w. result ≡ rules.standing P.run.frame w) }
+        ensures stuck { Of P.run.frame self.now (AllStuck P.run.frame) }
+    {
+        self.parts.standing()
+    }
+
+    /// The book: the performed operations by place. Within a place the lines of its entry come first, in the order in which they ran, then
+    /// all others in order of events and of their burst.
+    ///
+    /// It is a history of the program (`legal`); the replies that processes received, and members' copies, are the book's (`kept`).
+    pub fn book(&self, alloc: Global) -> Result<Vec<Line>, NoMemory>
+        ensures book { Of P.run.frame self.now (λ w. IfOk result (λ lines. lines.items ≡ Book P.run.frame w)) }
+        ensures legal { IfOk result (λ lines. Legal P.run.frame.performs P.run.frame.computes lines.items) }
+        ensures kept { Of P.run.frame self.now (IsKept P.run.frame) }
+    {
+        book::book(&self.parts, alloc)
+    }
+
+    /// The members as they stand, by their numbers.
+    pub fn node_ends(&self, alloc: Global) -> Result<Vec<NodeEnd>, NoMemory>
+        ensures ends { Of P.run.frame self.now (λ w. IfOk result (λ ends. AreNodeEnds P.run.frame w ends.items)) }
+        ensures kept { Of P.run.frame self.now (IsKept P.run.frame) }
+    {
+        book::node_ends(&self.parts, alloc)
+    }
+
+    /// The processes as they stand, by their numbers. Each that its member began stands at what it does next after its replies (`mean`).
+    pub fn process_ends(&self, alloc: Global) -> Result<Vec<ProcessEnd>, NoMemory>
+        ensures ends { Of P.run.frame self.now (λ w. IfOk result (λ ends. AreProcessEnds P.run.frame w ends.items)) }
+        ensures mean { Of P.run.frame self.now (EndsMean P.run.frame) }
+        ensures kept { Of P.run.frame self.now (IsKept P.run.frame) }
+    {
+        book::process_ends(&self.parts, alloc)
+    }
+
+    /// All that is kept of the run, as `book`, `node_ends` and `process_ends` tell it: nothing of its history is copied but replies. Where
+    /// there is no memory, it is gone.
+    pub fn into_end(self, alloc: Global) -> Result<RunEnd, NoMemory>
+        ensures steps { IfOk result (λ end. end.steps.items ≡ self.steps) }
+        ensures book { Of P.run.frame self (λ w. IfOk result (λ end. end.book.items ≡ Book P.run.frame w)) }
+        ensures legal { IfOk result (λ end. Legal P.run.frame.performs P.run.frame.computes end.book.items) }
+        ensures nodes { Of P.run.frame self (λ w. IfOk result (λ end. AreNodeEnds P.run.frame w end.nodes.items)) }
+        ensures processes { Of P.run.frame self (λ w. IfOk result (λ end. AreProcessEnds P.run.frame w end.processes.items)) }
+        ensures mean { Of P.run.frame self (EndsMean P.run.frame) }
+        ensures kept { Of P.run.frame self (IsKept P.run.frame) }
+    {
+        book::into_end(self.parts, alloc)
+    }
+}

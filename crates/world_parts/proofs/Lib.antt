@@ -1,0 +1,12 @@
+pub mod Worlds
+pub mod Leading
+pub mod Staging
+pub mod Keeping
+pub mod Lowest
+pub mod Below
+pub mod Waiting
+pub mod Lines
+pub mod Opening
+pub mod Outs
+pub mod Ruling
+pub mod Quiet

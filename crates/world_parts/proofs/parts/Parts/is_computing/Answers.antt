@@ -1,0 +1,14 @@
+use Rattle.std.proofs.Common.{◌≡◌, ◌<◌, ◌≤◌, ◌+◌, ◌∙◌, ◌&&◌, ◌||◌, not, ℕ, Bool, true, false, ap, sym, subst, refl, arith, length}
+use Rattle.world_rules.specs.Played.{is_computing}
+use Rattle.world_rules.specs.Worlds.{played_in}
+use Rattle.node_core.specs.Shown.{on_stage}
+use Rattle.world_parts.proofs.Staging.{says_none, says_there}
+use Rattle.world_parts.proofs.parts.Parts.is_computing.Goals as goal
+
+pub returns-in-Some : goal.returns-in-Some
+returns-in-Some g c w is =
+    c.is_computing.ensures ∙ ap (λ stage. is_computing (on_stage stage)) c.stage.ensures
+    ∙ says_there g.P.OneRun.stood g.P.OneRun.left is_computing c.args.process.0 c.in-Some.resident.now (played_in g.P.OneRun.run.frame w c.args.process.0) (c.in-Some.ensures {u = tt} w is)
+
+pub returns-in-None : goal.returns-in-None
+returns-in-None g c w is = says_none g.P.OneRun.stood g.P.OneRun.left is_computing c.args.process.0 (played_in g.P.OneRun.run.frame w c.args.process.0) (c.in-None.ensures {u = tt} w is)

@@ -1,0 +1,9 @@
+use Rattle.std.proofs.Common.{◌≡◌, ◌&&◌, ◌||◌, not, false, ℕ}
+use Rattle.world_parts.specs.Standing.{IsWorld}
+use Rattle.world_rules.specs.Standings.{any_below, has_no_turns}
+use Rattle.world_rules.specs.Worlds.{World, played_in}
+use Rattle.world_parts.proofs.parts.Parts.is_out_of_turns.Given as goal
+
+abbrev pub invariant-processes : goal.invariant-processes
+invariant-processes g l =
+    (w : World) → IsWorld g.P.OneRun.stood g.P.OneRun.left g.P.OneRun.run.frame l.self w → any_below l.process (λ (i : ℕ). has_no_turns g.P.OneRun.run.frame (played_in g.P.OneRun.run.frame w i)) ≡ false
