@@ -1,12 +1,11 @@
 -- Tables of names that are computed.
-use Rattle.std.proofs.Common.{◌≡◌, ℕ, zero, suc, ◌<◌, ◌≤◌, ◌^◌, Bool, true, false, List, [], ◌∷◌, ◌++◌, length, Option, Some, None, refl, sym, ap, subst, ◌∙◌, arith}
+use Rattle.std.proofs.Common.{◌≡◌, ℕ, zero, suc, ◌≤◌, ◌^◌, Bool, true, false, List, [], ◌∷◌, ◌++◌, length, Some, None, refl, sym, ap, subst, ◌∙◌, arith}
 use Rattle.std.specs.Prelude.{◌&&◌, not, slice_get}
 use Rattle.std.specs.List.{AllByRecursion, list_all}
 use Rattle.std.specs.Str.{bytes_eq}
 use Rattle.std.proofs.lemmas.Slice.Eq.{bytes_eq-Decides}
-use Rattle.history_text.specs.Sound.{AreTables, IsTable, is_name_byte}
-use Rattle.history_text.specs.Spelling.{operation_names, operations_in}
-use Rattle.history_text.specs.declared.names.Names.{Names}
+use Rattle.history_text.specs.Sound.{IsTable, is_name_byte}
+use Rattle.history_text.specs.Spelling.{operations_in}
 use Rattle.history_text.specs.declared.names.Operations.{Operations}
 
 some_is : {A : Type 0} (x y : A) → Some x ≡ Some y → x ≡ y
