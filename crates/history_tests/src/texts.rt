@@ -1,7 +1,7 @@
 //! What is said of a history's text.
 
 ghost use Rattle.std.specs.Prelude.{◌≡◌, ◌∷◌, [], IfOk};
-ghost use Rattle.history_text.specs.Sound.{AreTables};
+ghost use Rattle.history_text.specs.Sound.{AreTables, IsTable};
 
 use bag_processes::Scripts;
 use history_commands::{Answer, replay_text};
@@ -48,24 +48,58 @@ fn four(
     Ok(names)
 }
 
+// The names of object types.
+fn kinds(alloc: Global) -> Result<Vec<Text>, NoMemory>
+    ensures { IfOk result (λ names. IsTable names.items) }
+{
+    let names = four(alloc, "Output", "Pool", "Flag", "Broken")?;
+    Ok(names)
+}
+
+// The names of a flag's operations.
+fn of_flag(alloc: Global) -> Result<Vec<Text>, NoMemory>
+    ensures { IfOk result (λ names. IsTable names.items) }
+{
+    let names = four(alloc, "Await", "Set", "Spoil", "Step")?;
+    Ok(names)
+}
+
+// The names of process texts.
+fn process_texts(alloc: Global) -> Result<Vec<Text>, NoMemory>
+    ensures { IfOk result (λ names. IsTable names.items) }
+{
+    let names = four(alloc, "First", "Second", "Third", "Fourth")?;
+    Ok(names)
+}
+
+// The names of operations of types with two.
+fn of_others(alloc: Global, first: &str, second: &str) -> Result<Operations, NoMemory>
+    requires { IsTable (first.now ∷ second.now ∷ []) }
+    ensures { IfOk result (λ operations. IsTable operations.names.items) }
+{
+    let names = two(alloc, first, second)?;
+    Ok(Operations { names })
+}
+
 // The names of the scripts' program.
 fn names(alloc: Global) -> Result<Names, NoMemory>
     ensures { IfOk result (λ names. AreTables names) }
 {
+    let output = of_others(alloc, "WriteLine", "Flush")?;
+    let pool = of_others(alloc, "Put", "Take")?;
+    let flag = Operations {
+        names: of_flag(alloc)?,
+    };
+    let kinds = kinds(alloc)?;
+    let texts = process_texts(alloc)?;
     let mut operations = Vec::new(alloc);
-    operations.push(Operations {
-        names: two(alloc, "WriteLine", "Flush")?,
-    })?;
-    operations.push(Operations {
-        names: two(alloc, "Put", "Take")?,
-    })?;
-    operations.push(Operations {
-        names: four(alloc, "Await", "Set", "Spoil", "Step")?,
-    })?;
+    operations.push(output)?;
+    operations.push(pool)?;
+    operations.push(flag)?;
     Ok(Names {
-        kinds: four(alloc, "Output", "Pool", "Flag", "Broken")?,
+        kinds,
         operations,
-        texts: four(alloc, "First", "Second", "Third", "Fourth")?,
+        texts,
     })
 }
 
@@ -88,7 +122,10 @@ fn the_history_reads_and_is_legal(rt: HostRuntime) -> Result<(), Fail> {
     let alloc = rt.alloc();
     assert!(rt; said(alloc, HISTORY)? == Answer::Legal);
     assert!(rt; said(alloc, "")? == Answer::Legal);
-    assert_eq!(rt; said(alloc, HISTORY)?.line(alloc)?.as_slice(), b"legal\n".as_slice());
+    assert_eq!(rt;
+        said(alloc, HISTORY)?.line(alloc)?.as_slice(),
+        b"legal\n".as_slice()
+    );
     Ok(())
 }
 
@@ -110,7 +147,10 @@ fn the_first_part_that_differs_is_told(rt: HostRuntime) -> Result<(), Fail> {
         assert_eq!(rt; line.as_slice(), wanted.as_bytes(), "{part}");
     }
     let cut = line_said(alloc, "call Flag$Set o0.1 (1) guard 0 none", "call")?;
-    assert_eq!(rt; cut.as_slice(), b"orca: history breaks at line 2: form\n".as_slice());
+    assert_eq!(rt;
+        cut.as_slice(),
+        b"orca: history breaks at line 2: form\n".as_slice()
+    );
     Ok(())
 }
 
@@ -119,8 +159,14 @@ fn the_first_part_that_differs_is_told(rt: HostRuntime) -> Result<(), Fail> {
 fn the_first_line_is_told(rt: HostRuntime) -> Result<(), Fail> {
     let alloc = rt.alloc();
     let two = line_said(alloc, "guard 2 none\n1 1 call", "guard 1 none\n1 1 Call")?;
-    assert_eq!(rt; two.as_slice(), b"orca: history breaks at line 5: guard\n".as_slice());
+    assert_eq!(rt;
+        two.as_slice(),
+        b"orca: history breaks at line 5: guard\n".as_slice()
+    );
     let one = line_said(alloc, "0 3 call Flag$Step", "0 9 call Flag$Stop")?;
-    assert_eq!(rt; one.as_slice(), b"orca: history breaks at line 5: form\n".as_slice());
+    assert_eq!(rt;
+        one.as_slice(),
+        b"orca: history breaks at line 5: form\n".as_slice()
+    );
     Ok(())
 }
