@@ -1,5 +1,5 @@
 -- A copy of a packet comes to its receiver, or nothing happens but that it is gone.
-use Rattle.std.proofs.Common.{◌≡◌, ◌<◌, ◌^◌, ◌∙◌, ◌&&◌, ℕ, Bool, true, false, cond, List, Option, None, Some, is_some, not, slice_get, ap, sym, subst, refl, arith, length}
+use Rattle.std.proofs.Common.{◌≡◌, ◌<◌, ◌^◌, ◌∙◌, ◌&&◌, ℕ, Bool, true, false, cond, List, Option, None, Some, is_some, slice_get, ap, sym, subst, refl, arith, length}
 use Rattle.value_core.specs.declared.action.Reply.{Reply}
 use Rattle.value_core.specs.declared.message.Message.{Message}
 use Rattle.group_packets.specs.declared.packet.Packet.{Packet}
@@ -181,15 +181,6 @@ few_bytes stood left f s w number copy flight h is looked lengths =
     let found = found stood left f s w number copy flight h is looked in
     let few = few_spelled lengths f.settings.nodes found.one.packet found.read in
     omega (arith, few, ap (λ (g : Flight (List ℕ)). length g.packet) found.is)
-
--- a test that was turned round
-pub turned : (b : Bool) → not b ≡ true → b ≡ false
-turned true is = sym is
-turned false is = refl
-
-pub unturned : (b : Bool) → not b ≡ false → b ≡ true
-unturned true is = refl
-unturned false is = sym is
 
 -- what was read of the bytes that a copy has
 pub incoming_of : (bytes spelled : List ℕ) (read packet : Option (Packet Message Reply)) → bytes ≡ spelled → read ≡ packet → IsIncoming bytes read → IsIncoming spelled packet

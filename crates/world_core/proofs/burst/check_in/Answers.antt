@@ -14,7 +14,6 @@ use Rattle.world_core.specs.Stepping.{is_going}
 use Rattle.world_core.proofs.Asking.{going_of, room_stands}
 use Rattle.world_core.proofs.CheckingIn.{Ends, astray_by, checked_fewer, checked_on, checked_stands, checks_in, one_out, turns_there}
 use Rattle.world_core.proofs.CheckingOut.{handed_on, set_same}
-use Rattle.world_core.proofs.Delivers.{unturned}
 use Rattle.world_core.proofs.TakenIn.{Checks, burst_of}
 use Rattle.world_core.proofs.burst.check_in.Goals as goal
 
@@ -39,7 +38,7 @@ overflow_sub-event g c =
     let lt : c.home_of-home.result < length c.args.parts.now.nodes.items = omega (arith, c.home_of-home.ensures c.requires.world c.requires.is, home_within g.P.OneRun.stood g.P.OneRun.left g.P.OneRun.run.frame c.args.parts.now c.requires.world c.requires c.process-process.result.0, c.requires.is.members) in
     let at = slice_get_read c.args.parts.now.nodes.items (length c.args.parts.now.nodes.items) c.home_of-home.result c.index_mut.result.now refl lt c.index_mut.ensures.value in
     let has = (c.in_ok-burst.ensures {u = tt}).ok in
-    let checks : Checks g.P.OneRun.stood g.P.OneRun.left g.P.OneRun.run.frame c.args.parts.now w c.home_of-home.result c.args.done c.in_ok-burst.burst c.index_mut.result.now c.check_in.new.self = record { stands = c.requires; is = is; going = (going_of (standing g.P.OneRun.run.frame w) (ap is_going (sym (c.standing.ensures w is)) ∙ sym c.is_going.ensures ∙ unturned c.is_going.result c.if-not-is_going.false)); at_home = (c.home_of-home.ensures w is ∙ ap (λ (p : ProcessNo). home_of g.P.OneRun.run.frame w p.0) c.process-process.ensures); there = at; has = has } in
+    let checks : Checks g.P.OneRun.stood g.P.OneRun.left g.P.OneRun.run.frame c.args.parts.now w c.home_of-home.result c.args.done c.in_ok-burst.burst c.index_mut.result.now c.check_in.new.self = record { stands = c.requires; is = is; going = (going_of (standing g.P.OneRun.run.frame w) (ap is_going (sym (c.standing.ensures w is)) ∙ sym c.is_going.ensures ∙ c.if-not-is_going.false)); at_home = (c.home_of-home.ensures w is ∙ ap (λ (p : ProcessNo). home_of g.P.OneRun.run.frame w p.0) c.process-process.ensures); there = at; has = has } in
     let b = burst_of g.P.OneRun.stood g.P.OneRun.left g.P.OneRun.run.frame c.args.parts.now w c.home_of-home.result c.args.done c.in_ok-burst.burst c.index_mut.result.now c.check_in.new.self checks in
     omega (arith, c.turns-after.ensures, (turns_there g.P.OneRun.stood g.P.OneRun.left g.P.OneRun.run.frame c.args.parts.now w c.home_of-home.result c.turns_of-before.result c.args.done c.index_mut.result.now has.resident is (c.home_of-home.ensures w is ∙ ap (λ (p : ProcessNo). home_of g.P.OneRun.run.frame w p.0) c.process-process.ensures) at has.here (c.turns_of-before.ensures w is ∙ ap (λ (p : ProcessNo). turns_in (played_in g.P.OneRun.run.frame w p.0)) c.process-process.ensures)), b.least)
 
@@ -50,7 +49,7 @@ overflow_cast-event g c =
     let lt : c.home_of-home.result < length c.args.parts.now.nodes.items = omega (arith, c.home_of-home.ensures c.requires.world c.requires.is, home_within g.P.OneRun.stood g.P.OneRun.left g.P.OneRun.run.frame c.args.parts.now c.requires.world c.requires c.process-process.result.0, c.requires.is.members) in
     let at = slice_get_read c.args.parts.now.nodes.items (length c.args.parts.now.nodes.items) c.home_of-home.result c.index_mut.result.now refl lt c.index_mut.ensures.value in
     let has = (c.in_ok-burst.ensures {u = tt}).ok in
-    let checks : Checks g.P.OneRun.stood g.P.OneRun.left g.P.OneRun.run.frame c.args.parts.now w c.home_of-home.result c.args.done c.in_ok-burst.burst c.index_mut.result.now c.check_in.new.self = record { stands = c.requires; is = is; going = (going_of (standing g.P.OneRun.run.frame w) (ap is_going (sym (c.standing.ensures w is)) ∙ sym c.is_going.ensures ∙ unturned c.is_going.result c.if-not-is_going.false)); at_home = (c.home_of-home.ensures w is ∙ ap (λ (p : ProcessNo). home_of g.P.OneRun.run.frame w p.0) c.process-process.ensures); there = at; has = has } in
+    let checks : Checks g.P.OneRun.stood g.P.OneRun.left g.P.OneRun.run.frame c.args.parts.now w c.home_of-home.result c.args.done c.in_ok-burst.burst c.index_mut.result.now c.check_in.new.self = record { stands = c.requires; is = is; going = (going_of (standing g.P.OneRun.run.frame w) (ap is_going (sym (c.standing.ensures w is)) ∙ sym c.is_going.ensures ∙ c.if-not-is_going.false)); at_home = (c.home_of-home.ensures w is ∙ ap (λ (p : ProcessNo). home_of g.P.OneRun.run.frame w p.0) c.process-process.ensures); there = at; has = has } in
     let b = burst_of g.P.OneRun.stood g.P.OneRun.left g.P.OneRun.run.frame c.args.parts.now w c.home_of-home.result c.args.done c.in_ok-burst.burst c.index_mut.result.now c.check_in.new.self checks in
     record { fits = omega (arith, c.turns-after.ensures, (turns_there g.P.OneRun.stood g.P.OneRun.left g.P.OneRun.run.frame c.args.parts.now w c.home_of-home.result c.turns_of-before.result c.args.done c.index_mut.result.now has.resident is (c.home_of-home.ensures w is ∙ ap (λ (p : ProcessNo). home_of g.P.OneRun.run.frame w p.0) c.process-process.ensures) at has.here (c.turns_of-before.ensures w is ∙ ap (λ (p : ProcessNo). turns_in (played_in g.P.OneRun.run.frame w p.0)) c.process-process.ensures)), b.most) }
 
@@ -75,7 +74,7 @@ returns-clause-stands g c =
     let lt : c.home_of-home.result < length c.args.parts.now.nodes.items = omega (arith, c.home_of-home.ensures c.requires.world c.requires.is, home_within g.P.OneRun.stood g.P.OneRun.left g.P.OneRun.run.frame c.args.parts.now c.requires.world c.requires c.process-process.result.0, c.requires.is.members) in
     let at = slice_get_read c.args.parts.now.nodes.items (length c.args.parts.now.nodes.items) c.home_of-home.result c.index_mut.result.now refl lt c.index_mut.ensures.value in
     let has = (c.in_ok-burst.ensures {u = tt}).ok in
-    let checks : Checks g.P.OneRun.stood g.P.OneRun.left g.P.OneRun.run.frame c.args.parts.now w c.home_of-home.result c.args.done c.in_ok-burst.burst c.index_mut.result.now c.check_in.new.self = record { stands = c.requires; is = is; going = (going_of (standing g.P.OneRun.run.frame w) (ap is_going (sym (c.standing.ensures w is)) ∙ sym c.is_going.ensures ∙ unturned c.is_going.result c.if-not-is_going.false)); at_home = (c.home_of-home.ensures w is ∙ ap (λ (p : ProcessNo). home_of g.P.OneRun.run.frame w p.0) c.process-process.ensures); there = at; has = has } in
+    let checks : Checks g.P.OneRun.stood g.P.OneRun.left g.P.OneRun.run.frame c.args.parts.now w c.home_of-home.result c.args.done c.in_ok-burst.burst c.index_mut.result.now c.check_in.new.self = record { stands = c.requires; is = is; going = (going_of (standing g.P.OneRun.run.frame w) (ap is_going (sym (c.standing.ensures w is)) ∙ sym c.is_going.ensures ∙ c.if-not-is_going.false)); at_home = (c.home_of-home.ensures w is ∙ ap (λ (p : ProcessNo). home_of g.P.OneRun.run.frame w p.0) c.process-process.ensures); there = at; has = has } in
     let ends : Ends c.args.parts.now (checked_on c.args.parts.now c.home_of-home.result c.check_in.new.self c.push_step.new.self) c.home_of-home.result (c.turns-after.result - c.turns_of-before.result) c.args.done c.in_ok-burst.burst c.index_mut.result.now c.check_in.new.self = record {
       there = at;
       numbers = refl;
@@ -117,7 +116,7 @@ returns-clause-done g c =
       swaps = refl;
       idle = refl;
     } in
-    checks_in g.P.OneRun.stood g.P.OneRun.left g.P.OneRun.run.frame c.args.parts.now (checked_on c.args.parts.now c.home_of-home.result c.check_in.new.self c.push_step.new.self) c.home_of-home.result (c.turns-after.result - c.turns_of-before.result) c.args.done c.in_ok-burst.burst c.index_mut.result.now c.check_in.new.self c.requires (λ w is. (record { stands = c.requires; is = is; going = (going_of (standing g.P.OneRun.run.frame w) (ap is_going (sym (c.standing.ensures w is)) ∙ sym c.is_going.ensures ∙ unturned c.is_going.result c.if-not-is_going.false)); at_home = (c.home_of-home.ensures w is ∙ ap (λ (p : ProcessNo). home_of g.P.OneRun.run.frame w p.0) c.process-process.ensures); there = at; has = has }, (ap (λ (n : ℕ). n - c.turns_of-before.result) c.turns-after.ensures ∙ ap (λ (n : ℕ). c.args.done.turns - n) (turns_there g.P.OneRun.stood g.P.OneRun.left g.P.OneRun.run.frame c.args.parts.now w c.home_of-home.result c.turns_of-before.result c.args.done c.index_mut.result.now has.resident is (c.home_of-home.ensures w is ∙ ap (λ (p : ProcessNo). home_of g.P.OneRun.run.frame w p.0) c.process-process.ensures) at has.here (c.turns_of-before.ensures w is ∙ ap (λ (p : ProcessNo). turns_in (played_in g.P.OneRun.run.frame w p.0)) c.process-process.ensures))))) has ends
+    checks_in g.P.OneRun.stood g.P.OneRun.left g.P.OneRun.run.frame c.args.parts.now (checked_on c.args.parts.now c.home_of-home.result c.check_in.new.self c.push_step.new.self) c.home_of-home.result (c.turns-after.result - c.turns_of-before.result) c.args.done c.in_ok-burst.burst c.index_mut.result.now c.check_in.new.self c.requires (λ w is. (record { stands = c.requires; is = is; going = (going_of (standing g.P.OneRun.run.frame w) (ap is_going (sym (c.standing.ensures w is)) ∙ sym c.is_going.ensures ∙ c.if-not-is_going.false)); at_home = (c.home_of-home.ensures w is ∙ ap (λ (p : ProcessNo). home_of g.P.OneRun.run.frame w p.0) c.process-process.ensures); there = at; has = has }, (ap (λ (n : ℕ). n - c.turns_of-before.result) c.turns-after.ensures ∙ ap (λ (n : ℕ). c.args.done.turns - n) (turns_there g.P.OneRun.stood g.P.OneRun.left g.P.OneRun.run.frame c.args.parts.now w c.home_of-home.result c.turns_of-before.result c.args.done c.index_mut.result.now has.resident is (c.home_of-home.ensures w is ∙ ap (λ (p : ProcessNo). home_of g.P.OneRun.run.frame w p.0) c.process-process.ensures) at has.here (c.turns_of-before.ensures w is ∙ ap (λ (p : ProcessNo). turns_in (played_in g.P.OneRun.run.frame w p.0)) c.process-process.ensures))))) has ends
 
 pub returns-clause-fewer : goal.returns-clause-fewer
 returns-clause-fewer g c =

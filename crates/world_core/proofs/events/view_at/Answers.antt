@@ -26,7 +26,7 @@ pub returns-then-place-applied : goal.returns-then-place-applied
 returns-then-place-applied g c =
     let now = c.if-place-applied.true ∙ c.applied.ensures ∙ ap (λ (k : Copies). k.applied) c.copies.ensures in
     where_ok c.view.result (λ view seen w is. viewed_now g.P.OneRun.stood g.P.OneRun.left g.P.OneRun.run.frame c.args.parts.now w c.args.member c.args.place c.member_of-node.result.now view c.requires.stands is c.member_of-node.ensures now
-    (seen ∙ ap (λ (k : Copies). viewing k.objects k.applied) c.copies-2.ensures)) c.view.ensures
+    (seen ∙ ap (λ (k : Copies). viewing k.objects k.applied) c.copies-then-place-applied.ensures)) c.view.ensures
 
 pub returns-else-place-applied : goal.returns-else-place-applied
 returns-else-place-applied g c =

@@ -7,6 +7,7 @@ use Rattle.object_manager.specs.declared.copies.Copies.{Copies}
 use Rattle.book_law.specs.declared.placing.Placed.{Placed}
 use Rattle.world_parts.specs.Recorded.{of_pieces}
 use Rattle.world_core.specs.Drafting.{HasSpelled, behind, lines_behind}
+use Rattle.world_core.proofs.Adding.{none_in}
 use Rattle.world_core.proofs.draft.Draft.add_part.Goals as goal
 
 pub returns : goal.returns
@@ -28,5 +29,5 @@ returns g c =
           ∙ append_assoc (of_pieces c.args.self.now.pieces.items) (lines_behind (c.args.listed + length c.args.self.now.entries.items) c.args.before.now.copies.applied c.args.moved.entries.items) c.args.moved.aside.items;
       stirred = c.either-stirred.ensures ∙ ap (λ (b : Bool). c.args.self.now.has_stirred || b) (c.either-has_moved.ensures
           ∙ ap (λ (b : Bool). b || not c.is_empty.result) c.has_stirred.ensures
-          ∙ ap (λ (b : Bool). not ((c.args.before.now.member.applied == c.args.after.member.applied) && (c.args.before.now.member.installed == c.args.after.member.installed)) || not b) c.is_empty.ensures);
+          ∙ ap (λ (b : Bool). not ((c.args.before.now.member.applied == c.args.after.member.applied) && (c.args.before.now.member.installed == c.args.after.member.installed)) || not b) (c.is_empty.ensures ∙ none_in c.args.moved.aside.items c.args.moved.aside.len c.args.moved.aside.ok.0));
     }
