@@ -177,3 +177,6 @@ returns-clause-fewer g c =
       idle = c.idle_after-idle.ensures;
     } in
     step_fewer g.P.OneRun.stood g.P.OneRun.left g.P.OneRun.run.frame c.args.event c.in_ok-draft.draft c.close-fates.result.items c.args.parts.now c.make_room.new.parts c.leave_net.new.parts c.close-fates.new.parts c.end_tasks.new.parts (done_as c.end_tasks.new.parts c.idle_after-idle.result c.push_step.new.self) c.requires.stands (c.requires.going c.requires.stands.world c.requires.stands.is) (c.in_ok-draft.ensures {u = tt}).drafts calls
+
+pub returns-in_err-fates-clause-stands : goal.returns-in_err-fates-clause-stands
+returns-in_err-fates-clause-stands g c = room_stands g.P.OneRun.stood g.P.OneRun.left g.P.OneRun.run.frame c.args.parts.now c.make_room.new.parts c.make_room.ensures.same c.requires.stands

@@ -1,4 +1,4 @@
-use Rattle.std.proofs.Common.{◌≡◌, ◌≤◌, ◌<◌, ◌+◌, ◌^◌, ◌∙◌, ℕ, List, ap, sym, subst, refl, arith, rules, length}
+use Rattle.std.proofs.Common.{◌≡◌, ◌≤◌, ◌<◌, ◌+◌, ◌^◌, ◌∙◌, ℕ, suc, false, List, ap, sym, subst, refl, arith, rules, length}
 use Rattle.std.specs.List.{AllByRecursion as Each}
 use Rattle.std.specs.Vec.Iter.{into_iter_items}
 use Rattle.net_rules.specs.Flights.{travels}
@@ -38,7 +38,8 @@ put-requires-clause-twin g c =
 
 pub put-requires-clause-other : goal.put-requires-clause-other
 put-requires-clause-other g c =
-    next_new c.packets.number c.packets.net.flights c.packets.invariant.0.low
+    let up : suc c.packets.number ≡ c.packets.number + 1 = omega arith in
+    subst (λ (k : ℕ). travels k c.packets.net.flights ≡ false) up (next_new c.packets.number c.packets.net.flights c.packets.invariant.0.low)
 
 pub push_reserved-requires : goal.push_reserved-requires
 push_reserved-requires g c =
@@ -49,8 +50,8 @@ pub packets-preserved : goal.packets-preserved
 packets-preserved g c =
     let left = (some_left c.next.result c.in-Some.one _ _ c.in-Some.is c.next.ensures.steps).0 in
     let many = ap length left in (
-      sent_next c.args.sent c.packets.number _ c.args.outgoing.items _ _ c.in-Some.one c.fate-fate.result c.packets.fates.items _ c.args.net.now.flights c.packets.net.flights _ (g.W.Wire.told c.args.wire.now) (g.W.Wire.told c.packets.wire) _
-            refl left c.push_reserved.ensures.items c.put.ensures.put c.fate-fate.ensures.told c.packets.invariant.0,
+      sent_next c.args.sent c.packets.number (c.packets.number + 1) c.args.outgoing.items _ _ c.in-Some.one c.fate-fate.result c.packets.fates.items _ c.args.net.now.flights c.packets.net.flights _ (g.W.Wire.told c.args.wire.now) (g.W.Wire.told c.packets.wire) _
+            (omega arith) left c.push_reserved.ensures.items c.put.ensures.put c.fate-fate.ensures.told c.packets.invariant.0,
         omega (arith, c.packets.invariant.1, many, c.put.ensures.spare),
         omega (arith, c.packets.invariant.2, many, c.fate-fate.ensures.spare),
         omega (arith, c.packets.invariant.3, many, ap length c.push_reserved.ensures.items, c.push_reserved.ensures.capacity),
