@@ -48,9 +48,9 @@ returns-in_ok-comes_to-in-Some g c w is =
     c.spelling_law.ensures.prefix c.spelling_law.ensures.told c.member_of-before.ensures c.walking_law.ensures.walks
     (λ may. c.parts_fit_apart.ensures g.P.OneRun.run.frame (sym (g.met.P.OneRun.performs_run m)) (sym (g.met.P.OneRun.computes_run m)) c.requires.stands.settings c.args.parts.now.ledger.steps w is.replays (c.requires.going w is) (event.Deliver c.args.packet c.args.copy) tt may) in (
       tt,
-        receives.here.possible,
-        come_draft g.P.OneRun.stood g.P.OneRun.left g.P.OneRun.run.frame (fitness_of (g.P.Performer.fits_state m) (g.P.Performer.fits_args m) (g.P.Performer.fits_text m) (g.P.Performer.fits_reply m)) c.args.parts.now w c.args.packet c.args.copy c.look-flight.result.now c.in-Some.one c.member_of-before.result.now c.nothing-draft.result c.comes_to.new.draft receives
-            (record { parts = c.nothing-draft.ensures.parts; outgoing = c.nothing-draft.ensures.outgoing; entries = c.nothing-draft.ensures.entries; pieces = ap of_pieces c.nothing-draft.ensures.pieces; stirred = c.nothing-draft.ensures.stirred }) (c.in_ok-comes_to-in-Some.ensures {u = tt}),
+      receives.here.possible,
+      come_draft g.P.OneRun.stood g.P.OneRun.left g.P.OneRun.run.frame (fitness_of (g.P.Performer.fits_state m) (g.P.Performer.fits_args m) (g.P.Performer.fits_text m) (g.P.Performer.fits_reply m)) c.args.parts.now w c.args.packet c.args.copy c.look-flight.result.now c.in-Some.one c.member_of-before.result.now c.nothing-draft.result c.comes_to.new.draft receives
+          (record { parts = c.nothing-draft.ensures.parts; outgoing = c.nothing-draft.ensures.outgoing; entries = c.nothing-draft.ensures.entries; pieces = ap of_pieces c.nothing-draft.ensures.pieces; stirred = c.nothing-draft.ensures.stirred }) (c.in_ok-comes_to-in-Some.ensures {u = tt}),
     )
 
 pub returns-in-None : goal.returns-in-None

@@ -43,9 +43,9 @@ returns-in_ok-suspects_at-clause-drafts g c w is =
     let own = c.requires.stands.laws.own g.P.OneRun.run.frame refl refl c.requires.stands.settings s.ledger.steps w is.replays (event.Suspect c.args.member) tt may in
     let fits = c.parts_fit_apart.ensures g.P.OneRun.run.frame (sym (g.met.P.OneRun.performs_run m)) (sym (g.met.P.OneRun.computes_run m)) c.requires.stands.settings c.args.parts.now.ledger.steps w is.replays (c.requires.going w is) (event.Suspect c.args.member) tt may in (
       tt,
-        may,
-        one_draft g.P.OneRun.stood g.P.OneRun.left g.P.OneRun.run.frame (fitness_of (g.P.Performer.fits_state m) (g.P.Performer.fits_args m) (g.P.Performer.fits_text m) (g.P.Performer.fits_reply m)) s w w (event.Suspect c.args.member) tt c.args.member (Suspects) c.member_of-before.result.now c.nothing-draft.result c.suspects_at.new.draft here refl refl refl
-            (one_comes g.P.OneRun.stood g.P.OneRun.left g.P.OneRun.run.frame s w (event.Suspect c.args.member) tt c.args.member (Suspects) c.member_of-before.result.now here lt at own tells) fits (record { parts = c.nothing-draft.ensures.parts; outgoing = c.nothing-draft.ensures.outgoing; entries = c.nothing-draft.ensures.entries; pieces = ap of_pieces c.nothing-draft.ensures.pieces; stirred = c.nothing-draft.ensures.stirred }) (c.in_ok-suspects_at.ensures {u = tt}),
+      may,
+      one_draft g.P.OneRun.stood g.P.OneRun.left g.P.OneRun.run.frame (fitness_of (g.P.Performer.fits_state m) (g.P.Performer.fits_args m) (g.P.Performer.fits_text m) (g.P.Performer.fits_reply m)) s w w (event.Suspect c.args.member) tt c.args.member (Suspects) c.member_of-before.result.now c.nothing-draft.result c.suspects_at.new.draft here refl refl refl
+          (one_comes g.P.OneRun.stood g.P.OneRun.left g.P.OneRun.run.frame s w (event.Suspect c.args.member) tt c.args.member (Suspects) c.member_of-before.result.now here lt at own tells) fits (record { parts = c.nothing-draft.ensures.parts; outgoing = c.nothing-draft.ensures.outgoing; entries = c.nothing-draft.ensures.entries; pieces = ap of_pieces c.nothing-draft.ensures.pieces; stirred = c.nothing-draft.ensures.stirred }) (c.in_ok-suspects_at.ensures {u = tt}),
     )
 
 pub returns-else-lives-clause-refused : goal.returns-else-lives-clause-refused

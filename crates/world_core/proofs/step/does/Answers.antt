@@ -87,8 +87,13 @@ end_tasks-requires g c =
 
 pub push_step-requires : goal.push_step-requires
 push_step-requires g c =
-    omega (arith, (c.in_ok-fates.ensures {u = tt}).steps, ap (λ (p : Parts g.row.P.Denot g.row.P-State.Denot). p.ledger.step_room) c.leave_net.ensures.others, c.close-fates.ensures.closed.step_room,
-    ap (λ (p : Parts g.row.P.Denot g.row.P-State.Denot). p.ledger.step_room) (ended_others g.P.OneRun.stood g.P.OneRun.left c.args.event c.close-fates.new.parts c.end_tasks.new.parts c.end_tasks.ensures))
+    omega (
+      arith,
+      (c.in_ok-fates.ensures {u = tt}).steps,
+      ap (λ (p : Parts g.row.P.Denot g.row.P-State.Denot). p.ledger.step_room) c.leave_net.ensures.others,
+      c.close-fates.ensures.closed.step_room,
+      ap (λ (p : Parts g.row.P.Denot g.row.P-State.Denot). p.ledger.step_room) (ended_others g.P.OneRun.stood g.P.OneRun.left c.args.event c.close-fates.new.parts c.end_tasks.new.parts c.end_tasks.ensures),
+    )
 
 pub returns-clause-stands : goal.returns-clause-stands
 returns-clause-stands g c =

@@ -12,13 +12,13 @@ pub packets-init : goal.packets-init
 packets-init g c =
     let all : into_iter_items c.into_iter-one-iterator.result ≡ c.args.outgoing.items = search rules in (
       sent_first c.args.sent c.args.outgoing.items _ c.args.fates.items c.args.net.now.flights (g.W.Wire.told c.args.wire.now) all c.requires.fates.0 c.requires.below,
-        omega (arith, ap length all, c.requires.net),
-        omega (arith, ap length all, c.requires.wires),
-        omega (arith, ap length all, ap length c.requires.fates.0, c.requires.fates.1),
-        subst (Each (λ (one : Outgoing). one.twin ≡ one.bytes)) (sym all) c.requires.twins,
-        omega (arith, ap length all, c.requires.small),
-        refl,
-        refl,
+      omega (arith, ap length all, c.requires.net),
+      omega (arith, ap length all, c.requires.wires),
+      omega (arith, ap length all, ap length c.requires.fates.0, c.requires.fates.1),
+      subst (Each (λ (one : Outgoing). one.twin ≡ one.bytes)) (sym all) c.requires.twins,
+      omega (arith, ap length all, c.requires.small),
+      refl,
+      refl,
     )
 
 pub fate-fate-requires : goal.fate-fate-requires
@@ -51,14 +51,14 @@ packets-preserved g c =
     let left = (some_left c.next.result c.in-Some.one _ _ c.in-Some.is c.next.ensures.steps).0 in
     let many = ap length left in (
       sent_next c.args.sent c.packets.number (c.packets.number + 1) c.args.outgoing.items _ _ c.in-Some.one c.fate-fate.result c.packets.fates.items _ c.args.net.now.flights c.packets.net.flights _ (g.W.Wire.told c.args.wire.now) (g.W.Wire.told c.packets.wire) _
-            (omega arith) left c.push_reserved.ensures.items c.put.ensures.put c.fate-fate.ensures.told c.packets.invariant.0,
-        omega (arith, c.packets.invariant.1, many, c.put.ensures.spare),
-        omega (arith, c.packets.invariant.2, many, c.fate-fate.ensures.spare),
-        omega (arith, c.packets.invariant.3, many, ap length c.push_reserved.ensures.items, c.push_reserved.ensures.capacity),
-        (subst (Each (λ (one : Outgoing). one.twin ≡ one.bytes)) left c.packets.invariant.4).1,
-        omega (arith, c.packets.invariant.5, many),
-        c.fate-fate.ensures.script ∙ c.packets.invariant.6,
-        c.fate-fate.ensures.since ∙ c.packets.invariant.7,
+          (omega arith) left c.push_reserved.ensures.items c.put.ensures.put c.fate-fate.ensures.told c.packets.invariant.0,
+      omega (arith, c.packets.invariant.1, many, c.put.ensures.spare),
+      omega (arith, c.packets.invariant.2, many, c.fate-fate.ensures.spare),
+      omega (arith, c.packets.invariant.3, many, ap length c.push_reserved.ensures.items, c.push_reserved.ensures.capacity),
+      (subst (Each (λ (one : Outgoing). one.twin ≡ one.bytes)) left c.packets.invariant.4).1,
+      omega (arith, c.packets.invariant.5, many),
+      c.fate-fate.ensures.script ∙ c.packets.invariant.6,
+      c.fate-fate.ensures.since ∙ c.packets.invariant.7,
     )
 
 pub returns-clause-flights : goal.returns-clause-flights

@@ -24,8 +24,8 @@ returns g c =
           ∙ ap (λ (n : ℕ). c.args.self.now.entries.items ++ behind (c.args.listed + length c.args.self.now.entries.items) n c.args.moved.messages.items) applied;
       pieces = c.in_ok-keep_aside.ensures {u = tt}
           ∙ ap (λ (l : List Placed). l ++ c.args.moved.aside.items) (c.in_ok-keep_lines.ensures {u = tt}
-            ∙ ap (λ (n : ℕ). of_pieces c.args.self.now.pieces.items ++ lines_behind (c.args.listed + n) c.applied-applied.result c.args.moved.entries.items) many
-            ∙ ap (λ (n : ℕ). of_pieces c.args.self.now.pieces.items ++ lines_behind (c.args.listed + length c.args.self.now.entries.items) n c.args.moved.entries.items) applied)
+          ∙ ap (λ (n : ℕ). of_pieces c.args.self.now.pieces.items ++ lines_behind (c.args.listed + n) c.applied-applied.result c.args.moved.entries.items) many
+          ∙ ap (λ (n : ℕ). of_pieces c.args.self.now.pieces.items ++ lines_behind (c.args.listed + length c.args.self.now.entries.items) n c.args.moved.entries.items) applied)
           ∙ append_assoc (of_pieces c.args.self.now.pieces.items) (lines_behind (c.args.listed + length c.args.self.now.entries.items) c.args.before.now.copies.applied c.args.moved.entries.items) c.args.moved.aside.items;
       stirred = c.either-stirred.ensures ∙ ap (λ (b : Bool). c.args.self.now.has_stirred || b) (c.either-has_moved.ensures
           ∙ ap (λ (b : Bool). b || not c.is_empty.result) c.has_stirred.ensures
