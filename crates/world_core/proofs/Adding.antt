@@ -36,6 +36,16 @@ set_length [] k x = refl
 set_length (y ∷ xs) zero x = refl
 set_length (y ∷ xs) (suc k) x = ap suc (set_length xs k x)
 
+-- a list of no length is empty
+pub none_in : {A : Type 0} (xs : List A) (n : ℕ) → n ≡ length xs → (n == 0) ≡ is_empty xs
+none_in [] n is = ap (λ (k : ℕ). k == 0) is
+none_in {A} (x ∷ xs) n is = ne_eqb n 0 (λ e. absurd (omega (arith, e, is)))
+
+-- members take places, and are as many as they were
+pub taken_length : {P S : Type 0} (parts : List (Part P S)) (nodes : List (Node P S)) → length (taken parts nodes) ≡ length nodes
+taken_length [] nodes = refl
+taken_length {P} {S} (part ∷ parts) nodes = taken_length parts (slice_set nodes part.member part.node) ∙ set_length nodes part.member part.node
+
 -- what stands where in it
 pub got_set : {A : Type 0} (xs : List A) (k j : ℕ) (x y : A) → slice_get (slice_set xs k x) j ≡ Some y → ((j ≡ k) × (x ≡ y)) ⊎ ((j ≡ k → ⊥) × (slice_get xs j ≡ Some y))
 got_set [] k j x y is = absurd (cc is)

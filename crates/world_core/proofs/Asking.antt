@@ -17,7 +17,7 @@ use Rattle.world_rules.specs.Frame.{Frame}
 use Rattle.world_rules.specs.Mail.{Carried, Mail}
 use Rattle.world_rules.specs.Standings.{standing}
 use Rattle.world_rules.specs.Steps.{Known, Replays, happens}
-use Rattle.world_rules.specs.Worlds.{World}
+use Rattle.world_rules.specs.Worlds.{World, agreed, singles_in}
 use Rattle.node_core.specs.Shown.{Left, Stood}
 use Rattle.node_core.specs.declared.node.Node.{Node}
 use Rattle.world_parts.proofs.Worlds.{is_world}
@@ -54,7 +54,7 @@ room_stands {P} {S} stood left f s new h stands = record {
     flights = h.flights ∙ stands.is.flights;
     read = stands.is.read;
     entries = h.entries ∙ stands.is.entries;
-    performed = subst (λ l. Performed _ f.performs _ stands.world.aside l) (sym h.performed) stands.is.performed;
+    performed = subst (λ l. Performed (singles_in f stands.world) f.performs (agreed f stands.world) stands.world.aside l) (sym h.performed) stands.is.performed;
     sent = h.sent ∙ stands.is.sent;
     swaps = h.swaps ∙ stands.is.swaps;
     idle = h.idle ∙ stands.is.idle;
@@ -75,7 +75,7 @@ room_seen {P} {S} s new h =
 
 -- ---- what calls ask
 
-ready_there : {X Y : Type 0} (view : X → Y) (o : Option (Flight X)) → is_some o ≡ true → is_some (option_map (seen view) o) ≡ true
+pub ready_there : {X Y : Type 0} (view : X → Y) (o : Option (Flight X)) → is_some o ≡ true → is_some (option_map (seen view) o) ≡ true
 ready_there view None h = h
 ready_there view (Some one) h = refl
 

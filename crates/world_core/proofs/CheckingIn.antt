@@ -2,6 +2,7 @@
 use Rattle.std.proofs.Common.{◌≡◌, ◌≤◌, ◌<◌, ◌+◌, ◌-◌, ◌^◌, ◌∙◌, ◌⊎◌, ⊎_elim, ◌==◌, ◌&&◌, not, ℕ, suc, Bool, true, false, cond, List, [], ◌∷◌, ◌++◌, Option, None, Some, is_some, option_map, slice_get, slice_set, map, ap, sym, subst, refl, arith, length, append-nil}
 use Rattle.std.proofs.lemmas.Bool.{cases_eq}
 use Rattle.std.proofs.lemmas.Option.{slice_get_within}
+use Rattle.std.specs.Vec.{with_item}
 use Rattle.orca_base.specs.declared.ids.ProcessNo.{ProcessNo}
 use Rattle.value_core.specs.declared.action.Line.{Line}
 use Rattle.object_manager.specs.Viewed.{Viewed}
@@ -31,6 +32,7 @@ use Rattle.node_core.specs.declared.resident.Resident.{Resident}
 use Rattle.node_core.specs.declared.task.CheckedIn.{CheckedIn}
 use Rattle.node_core.proofs.TakingIn.{within_of}
 use Rattle.world_parts.proofs.Worlds.{home_within, is_world}
+use Rattle.world_parts.specs.Recorded.{Recorded}
 use Rattle.world_parts.specs.Seen.{Out, all_outs, out_at, tasks_out}
 use Rattle.world_parts.specs.Standing.{HasNumbers, IsWorld, Stands, has_out, out_of, outs_of, seen_of}
 use Rattle.world_parts.specs.declared.parts.Numbers.{Numbers}
@@ -43,6 +45,9 @@ use Rattle.world_core.proofs.Handing.{all_changed, outs_changed, puts_out, seen_
 use Rattle.world_core.proofs.Running.{applied_low}
 use Rattle.world_core.proofs.Stepped.{Changed, Leaves, outgoing_count, step_world}
 use Rattle.world_core.proofs.TakenIn.{Bursts, Checks, burst_of, played_as}
+
+abbrev pub checked_on : {P S : Type 0} → Parts P S → ℕ → Node P S → Recorded → Parts P S
+checked_on s home after ledger = record s { nodes = with_item s.nodes home after; ledger = ledger; idle = 0 }
 
 -- what changed of the parts
 pub record Ends {P S : Type 0} (s new : Parts P S) (home turns : ℕ) (done : Computed S) (checked : CheckedIn) (before after : Node P S) : Type 0 where
@@ -102,7 +107,7 @@ told_none : (f : Frame) (w : World) (mails : List Mail) → (posts_all f w mails
 told_none f w [] = refl
 told_none f w (mail ∷ mails) = refl
 
-none_of : (b : Bool) → cond b 0 0 ≡ 0
+none_of : (b : Bool) → ◌≡◌ {A = ℕ} (cond b 0 0) 0
 none_of true = refl
 none_of false = refl
 

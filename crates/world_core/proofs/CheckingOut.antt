@@ -1,7 +1,8 @@
 -- A task is handed out: the run stands for the same world, with one task more.
-use Rattle.std.proofs.Common.{◌≡◌, ◌≤◌, ◌<◌, ◌+◌, ◌-◌, ◌∙◌, ◌⊎◌, ⊎_elim, ◌==◌, ◌&&◌, not, min, ℕ, zero, suc, Bool, true, false, cond, List, [], ◌∷◌, Option, None, Some, slice_get, slice_set, slice_index_or, get_or, is_some, map, ap, sym, subst, refl, arith, length}
+use Rattle.std.proofs.Common.{◌≡◌, ◌≤◌, ◌<◌, ◌+◌, ◌-◌, ◌∙◌, ◌⊎◌, ⊎_elim, ◌==◌, ◌&&◌, not, min, ℕ, zero, suc, Bool, true, false, cond, List, [], ◌∷◌, Option, None, Some, Result, Ok, Err, OnErr, slice_get, slice_set, slice_index_or, get_or, is_some, map, ap, sym, subst, refl, arith, length}
 use Rattle.std.proofs.lemmas.Bool.{cases_eq}
 use Rattle.std.proofs.lemmas.Option.{slice_get_within}
+use Rattle.std.specs.Vec.{with_item}
 use Rattle.orca_base.specs.declared.ids.ProcessNo.{ProcessNo}
 use Rattle.orca_base.specs.declared.limits.TheConstants.{BURST_TURNS}
 use Rattle.value_core.specs.History.{Objects}
@@ -17,7 +18,7 @@ use Rattle.world_rules.specs.Frame.{Frame}
 use Rattle.world_rules.specs.Played.{Played, Stage as stage, is_computing}
 use Rattle.world_rules.specs.Standings.{lives_at_home, stands}
 use Rattle.world_rules.specs.Steps.{Replays, objects_after}
-use Rattle.world_rules.specs.Worlds.{World, home_of, played_in}
+use Rattle.world_rules.specs.Worlds.{World, agreed, home_of, played_in, singles_in}
 use Rattle.world_rules.specs.declared.event.Step.{Step}
 use Rattle.book_law.specs.Performed.{Performed}
 use Rattle.node_core.specs.CheckingIn.{HandsOut, HasChanged, MayHandOut}
@@ -33,6 +34,7 @@ use Rattle.node_core.proofs.TakingIn.{within_of}
 use Rattle.world_parts.proofs.Outs.{seen_out}
 use Rattle.world_parts.proofs.Worlds.{is_world}
 use Rattle.world_parts.specs.Choosing.{is_ready, may_compute}
+use Rattle.world_parts.specs.Recorded.{Recorded}
 use Rattle.world_parts.specs.Seen.{all_outs, is_out, out_at, tasks_out}
 use Rattle.world_parts.specs.Standing.{HasNumbers, IsTask, IsWorld, Stands, out_of, outs_of, seen_of}
 use Rattle.world_parts.specs.declared.parts.Numbers.{Numbers}
@@ -91,6 +93,9 @@ may_out stood left f fitness s w i home start budget turns node is ready fits at
 -- ---- one task more
 
 -- what changed of the parts
+abbrev pub handed_on : {P S : Type 0} → Parts P S → ℕ → Node P S → Recorded → Parts P S
+handed_on s home after ledger = record s { nodes = with_item s.nodes home after; ledger = ledger }
+
 pub record Handed {P S : Type 0} (s new : Parts P S) (home : ℕ) (before after : Node P S) : Type 0 where
   pub there : slice_get s.nodes.items home ≡ Some before
   pub numbers : new.numbers ≡ s.numbers
@@ -120,7 +125,7 @@ pub out_more : {P S : Type 0} (f : Frame) (s new : Parts P S) (w : World) (i : P
 out_more {P} {S} f s new w i home budget view task before after ready at_home h out =
     let nobody = sym (seen_out (resident_at before i.0)) ∙ ap is_some (sym (seen_there s.nodes.items home i.0 before h.there)) ∙ ap (λ (m : ℕ). is_out (seen_of s) m i.0) at_home ∙ ready.nobody in
     let a = outs_changed i.0 (record out.resident { out = Some view }) before after out.out (within_of before.residents.items i.0 out.resident out.here) in
-    let n = ap (λ (b : Bool). cond b 1 0) nobody in
+    let n = ap {B = ℕ} (λ (b : Bool). cond b 1 0) nobody in
     let b = all_changed s.nodes.items home before after h.there (slice_get_within s.nodes.items home before h.there) in
     let c = ap (λ (l : List (Node P S)). all_outs (map outs_of l)) h.nodes in
     omega (arith, a, n, b, c)
@@ -206,7 +211,7 @@ out_stands {P} {S} stood left f s new i home budget task before after stands rea
       flights = h.flights ∙ stands.is.flights;
       read = stands.is.read;
       entries = h.entries ∙ stands.is.entries;
-      performed = subst (λ l. Performed _ f.performs _ w.aside l) (sym h.performed) stands.is.performed;
+      performed = subst (λ l. Performed (singles_in f w) f.performs (agreed f w) w.aside l) (sym h.performed) stands.is.performed;
       sent = h.sent ∙ stands.is.sent;
       swaps = h.swaps ∙ stands.is.swaps;
       idle = h.idle ∙ stands.is.idle;
@@ -252,3 +257,7 @@ pub set_same : {A : Type 0} (xs : List A) (k : ℕ) (x : A) → slice_get xs k �
 set_same [] k x at = absurd (cc at)
 set_same {A} (y ∷ xs) zero x at = let e : y ≡ x = cc in ap (λ (a : A). a ∷ xs) (sym e)
 set_same {A} (y ∷ xs) (suc k) x at = ap (λ (l : List A). y ∷ l) (set_same xs k x at)
+
+pub on_err : {T E A : Type 0} (r : Result T E) → A → OnErr r A
+on_err (Ok x) is = tt
+on_err (Err e) is = is

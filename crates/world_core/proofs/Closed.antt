@@ -49,7 +49,7 @@ clash (Some b) a e d = cc
 nodes_only : {P S : Type 0} (old new : Parts P S) → new ≡ old → new ≡ record old { nodes = new.nodes }
 nodes_only {P} {S} old new is = is ∙ ap (λ (p : Parts P S). record old { nodes = p.nodes }) (sym is)
 
-ended_others : {P S : Type 0} (stood : Stood S) (left : Left S) (event : Event) (old new : Parts P S) → HasEnded stood left event old new → new ≡ record old { nodes = new.nodes }
+pub ended_others : {P S : Type 0} (stood : Stood S) (left : Left S) (event : Event) (old new : Parts P S) → HasEnded stood left event old new → new ≡ record old { nodes = new.nodes }
 ended_others stood left (event.Crash node) old new h = h.others
 ended_others stood left (event.Deliver packet copy) old new h = nodes_only old new h
 ended_others stood left event.Tick old new h = nodes_only old new h
@@ -69,7 +69,7 @@ Spares (event.Suspect node) m = Unit {0}
 Spares event.Swap m = Unit {0}
 
 -- what is left of the members
-record Ended {P S : Type 0} (stood : Stood S) (left : Left S) (event : Event) (old new : List (Node P S)) : Type 0 where
+pub record Ended {P S : Type 0} (stood : Stood S) (left : Left S) (event : Event) (old new : List (Node P S)) : Type 0 where
   pub count : length new ≡ length old
   pub each : (f : Frame) (w : World) → AreNodes stood left f old w → AreNodes stood left f new w
   pub keeps : (base : List (Node P S)) → KeepTasks base old → KeepTasks base new
@@ -138,6 +138,9 @@ alive f w event.Swap given m lives spares = lives
 -- ---- the calls of a step
 
 -- what each of them left of the parts, the last by storing the step
+abbrev pub done_as : {P S : Type 0} → Parts P S → ℕ → Recorded → Parts P S
+done_as s idle ledger = record s { idle = idle; ledger = ledger }
+
 pub record Calls {P S : Type 0} (stood : Stood S) (left : Left S) (event : Event) (draft : Draft P S) (fates : List Fate) (s s1 s2 s3 s4 new : Parts P S) : Type 0 where
   pub room : HasRoomMade s s1
   pub steps : tasks_out (seen_of s) + 1 ≤ s1.ledger.step_room
@@ -157,7 +160,7 @@ pub record Calls {P S : Type 0} (stood : Stood S) (left : Left S) (event : Event
   pub idle : new.idle ≡ cond draft.has_stirred 0 (idle_after event s1.idle)
 
 -- field by field
-record Fields {P S : Type 0} (stood : Stood S) (left : Left S) (event : Event) (draft : Draft P S) (fates : List Fate) (s new : Parts P S) : Type 0 where
+pub record Fields {P S : Type 0} (stood : Stood S) (left : Left S) (event : Event) (draft : Draft P S) (fates : List Fate) (s new : Parts P S) : Type 0 where
   pub numbers : new.numbers ≡ s.numbers
   pub after : List (Node P S)
   pub taken_is : after ≡ taken draft.parts.items s.nodes.items

@@ -132,7 +132,7 @@ come_may stood left f fitness s w number copy flight packet before draft h empty
       mail,
       post_is stood left f fitness s w number copy flight packet before h,
       one_may stood left f fitness s w (gone w number copy) (event.Deliver number copy) tt (receiver_of mail) (Comes mail) before draft h.here h.walks (come_part f w number copy flight h.found h.whole lives)
-            (comes_next stood left f fitness s w number copy flight packet before h) (fits_there stood left f fitness s w number copy flight packet before h) empty,
+          (comes_next stood left f fitness s w number copy flight packet before h) (fits_there stood left f fitness s w number copy flight packet before h) empty,
     )
 
 pub come_draft : {P S : Type 0} (stood : Stood S) (left : Left S) (f : Frame) (fitness : Fitness) (s : Parts P S) (w : World) (number copy : ℕ) (flight : Flight (List ℕ)) (packet : Packet Message Reply) (before : Node P S) (old new : Draft P S)
@@ -181,3 +181,8 @@ few_bytes stood left f s w number copy flight h is looked lengths =
     let found = found stood left f s w number copy flight h is looked in
     let few = few_spelled lengths f.settings.nodes found.one.packet found.read in
     omega (arith, few, ap (λ (g : Flight (List ℕ)). length g.packet) found.is)
+
+-- what was read of the bytes that a copy has
+pub incoming_of : (bytes spelled : List ℕ) (read packet : Option (Packet Message Reply)) → bytes ≡ spelled → read ≡ packet → IsIncoming bytes read → IsIncoming spelled packet
+incoming_of bytes spelled read packet same is incoming =
+    subst (λ (o : Option (Packet Message Reply)). IsIncoming spelled o) is (subst (λ (l : List ℕ). IsIncoming l read) same incoming)

@@ -12,7 +12,7 @@ use Rattle.world_core.specs.Drafting.{KeepTasks}
 -- of one that is at each place where the other is, there are no more
 no_more : (b c : Bool) → (b ≡ true → c ≡ true) → cond b 1 0 ≤ cond c 1 0
 no_more false c h = omega arith
-no_more true c h = let e = ap (λ (x : Bool). cond x 1 0) (h refl) in omega (arith, e)
+no_more true c h = let e = ap {B = ℕ} (λ (x : Bool). cond x 1 0) (h refl) in omega (arith, e)
 
 outs_fewer : {A : Type 0} (bs cs : List (Option A)) → ((i : ℕ) → is_some (get_or bs i None) ≡ true → is_some (get_or cs i None) ≡ true) → outs bs ≤ outs cs
 outs_fewer [] cs h = omega arith

@@ -27,4 +27,3 @@ pub mod CheckingOut
 pub mod CheckingIn
 pub mod Spelled
 pub mod Books
-pub mod Shown

@@ -1,5 +1,5 @@
 -- A burst that is done as an event: it is computed on a copy of its member.
-use Rattle.std.proofs.Common.{◌≡◌, ◌≤◌, ◌<◌, ◌+◌, ◌-◌, ◌∙◌, ◌⊎◌, ⊎_elim, ◌&&◌, ◌==◌, not, leb, min, ℕ, Bool, true, false, List, [], ◌∷◌, ◌++◌, Option, None, Some, slice_get, slice_set, slice_index_or, take, ap, sym, subst, refl, arith, length}
+use Rattle.std.proofs.Common.{◌≡◌, ◌≤◌, ◌<◌, ◌+◌, ◌-◌, ◌∙◌, ◌⊎◌, ⊎_elim, ◌&&◌, ◌==◌, not, leb, min, ℕ, Bool, true, false, List, [], ◌∷◌, ◌++◌, Option, None, Some, Result, Ok, Err, IfOk, slice_get, slice_set, slice_index_or, take, ap, sym, subst, refl, arith, length}
 use Rattle.std.proofs.lemmas.Bool.{cases_eq, le-leb, leb-true}
 use Rattle.std.proofs.lemmas.List.{length-take-le, take-take, take_all}
 use Rattle.std.specs.List.{AllByRecursion as Each}
@@ -58,6 +58,11 @@ use Rattle.world_core.proofs.Computed.{burst_leaves}
 use Rattle.world_core.proofs.Doing.{low_all, not_both}
 use Rattle.world_core.proofs.Eventing.{entries_had}
 use Rattle.world_core.proofs.Stepped.{Leaves}
+
+-- what follows of a success
+pub where_ok : {T E : Type 0} {A B : T → Type 0} (r : Result T E) → ((x : T) → A x → B x) → IfOk r A → IfOk r B
+where_ok (Ok x) so is = so x is
+where_ok (Err e) so is = tt
 
 -- ---- on a copy
 
@@ -194,7 +199,7 @@ may_hand stood left f fitness s w i place home start budget view node h is b fit
 
 -- ---- what its member's objects were
 
-abbrev viewing : Objects → ℕ → Viewed
+abbrev pub viewing : Objects → ℕ → Viewed
 viewing objects place = record { objects = objects; place = place }
 
 pub applied_low : {P S : Type 0} (stood : Stood S) (left : Left S) (f : Frame) (s : Parts P S) (w : World) → Stands stood left f s → IsWorld stood left f s w → (m : ℕ) → m < f.settings.nodes → (place : ℕ) → place ≤ (w.nodes m).member.applied
@@ -262,6 +267,13 @@ ran_there : {P S : Type 0} (stood : Stood S) (left : Left S) (f : Frame) (s : Pa
     → (b : Bursts stood left f s w i place) → home ≡ home_of f w i.0 → Some node ≡ slice_get s.nodes.items home → HasRunOn stood left f i view node ran → RunsTo stood left f i view home (w.nodes home) b.start ran
 ran_there stood left f s w i place home view node ran is b at_home at has =
     has.runs home (w.nodes home) b.start (is.nodes home node (sym at)) (ap (λ (m : ℕ). (w.nodes m).played i.0) at_home ∙ b.here)
+
+-- it took no turns back
+pub ran_least : {P S : Type 0} (stood : Stood S) (left : Left S) (f : Frame) (s : Parts P S) (w : World) (i : ProcessNo) (place home start : ℕ) (view : Viewed) (node : Node P S) (ran : Ran P S) → IsWorld stood left f s w
+    → (b : Bursts stood left f s w i place) → home ≡ home_of f w i.0 → Some node ≡ slice_get s.nodes.items home → HasRunOn stood left f i view node ran → start ≡ turns_in (played_in f w i.0) → start ≤ ran.turns
+ran_least stood left f s w i place home start view node ran is b at_home at has from =
+    let r = ran_there stood left f s w i place home view node ran is b at_home at has in
+    omega (arith, from, ap turns_in b.here, r.least, r.turns)
 
 -- it ran so on the objects at that place
 ran_so : {P S : Type 0} (stood : Stood S) (left : Left S) (f : Frame) (s : Parts P S) (w : World) (i : ProcessNo) (place home : ℕ) (view : Viewed) (ran : Ran P S) → (b : Bursts stood left f s w i place) → home ≡ home_of f w i.0

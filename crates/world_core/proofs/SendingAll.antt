@@ -52,7 +52,7 @@ sent_next sent number next all rest left one given fates more old now new before
     go next up joins asks
   where
     many : length (h.done ++ one ∷ []) ≡ suc (length h.done)
-    many = length_push h.done one
+    many = omega (arith, length_push h.done one)
 
     go : (n : ℕ) → suc number ≡ n → new ≡ joined n (copies take n one.from one.to one.bytes given) now → after ≡ told ++ packet_asked n one.kind one.from one.to one.length given ∷ []
         → SentTo sent n all left more old new before after
@@ -61,7 +61,7 @@ sent_next sent number next all rest left one given fates more old now new before
         (subst (λ (l : List Fate). SentTo sent (suc number) all left l old new before after) (sym pushed) (record {
           done = h.done ++ one ∷ [];
           split = h.split ∙ ap (λ (l : List Outgoing). h.done ++ l) first ∙ sym (append_assoc h.done (one ∷ []) left);
-          count = length_push fates given ∙ ap suc h.count ∙ sym many;
+          count = omega (arith, length_push fates given, h.count, many);
           last = omega (arith, h.last, many);
           flights = joins ∙ sym (ap (λ (k : ℕ). joined k (copies take k one.from one.to one.bytes given) now) is)
               ∙ ap (λ (l : List (Flight (List ℕ))). joined (suc number) (copies take (suc number) one.from one.to one.bytes given) l) h.flights

@@ -58,7 +58,11 @@ pub(crate) fn run_on<P: OneRun>(
 }
 
 /// What such a burst leaves.
-pub(crate) fn with_burst<P: OneRun>(alloc: Global, member: u8, ran: Ran<P>) -> Result<Draft<P>, NoMemory>
+pub(crate) fn with_burst<P: OneRun>(
+    alloc: Global,
+    member: u8,
+    ran: Ran<P>,
+) -> Result<Draft<P>, NoMemory>
     ensures parts { IfOk result (λ draft. draft.parts.items ≡ record { member = member; node = ran.node } ∷ []) }
     ensures outgoing { IfOk result (λ draft. draft.outgoing.items ≡ []) }
     ensures entries { IfOk result (λ draft. draft.entries.items ≡ []) }

@@ -69,8 +69,9 @@ impl<P: OneRun> Draft<P> {
         ensures { OnOk result (HasAdded listed before.now after moved self.old self.new) }
     {
         let member = before.member().me();
-        let has_moved = has_stirred(before, &after) || !moved.aside.is_empty();
-        self.has_stirred = self.has_stirred || has_moved;
+        let has_moved = either(has_stirred(before, &after), !moved.aside.is_empty());
+        let stirred = either(self.has_stirred, has_moved);
+        self.has_stirred = stirred;
         let Moved {
             sends,
             entries,
@@ -217,6 +218,13 @@ fn keep_aside(aside: Vec<Placed>, pieces: &mut Vec<Piece>) -> Result<(), NoMemor
         pieces.push(Piece::One { placed })?;
     }
     Ok(())
+}
+
+// Whether one of the two is so.
+fn either(one: bool, other: bool) -> bool
+    ensures { result ≡ (one || other) }
+{
+    one || other
 }
 
 // Whether the member applied an entry or installed an incarnation.

@@ -16,9 +16,9 @@ aside-init c =
 pub aside-preserved : goal.aside-preserved
 aside-preserved c =
     let left = (some_left c.next.result c.in-Some.placed _ _ c.in-Some.is c.next.ensures.steps).0 in
-    ap (λ (l : List Piece). of_pieces l ++ _) c.in_ok-push.ensures.items
-    ∙ ap (λ (l : List Placed). l ++ _) (one_more c.aside.pieces.items (One c.in-Some.placed))
-    ∙ append_assoc (of_pieces c.aside.pieces.items) (c.in-Some.placed ∷ []) _
+    ap (λ (l : List Piece). of_pieces l ++ into_iter_items c.next.new.self) c.in_ok-push.ensures.items
+    ∙ ap (λ (l : List Placed). l ++ into_iter_items c.next.new.self) (one_more c.aside.pieces.items (One c.in-Some.placed))
+    ∙ append_assoc (of_pieces c.aside.pieces.items) (c.in-Some.placed ∷ []) (into_iter_items c.next.new.self)
     ∙ ap (λ (l : List Placed). of_pieces c.aside.pieces.items ++ l) (sym left) ∙ c.aside.invariant
 
 pub returns : goal.returns

@@ -9,8 +9,8 @@ use Rattle.world_parts.specs.Recorded.{of_pieces}
 use Rattle.world_core.proofs.Doing.{Here, not_both, one_comes, one_draft, one_may, within_of}
 use Rattle.world_core.proofs.events.suspects.Goals as goal
 
-pub member_of-requires-clause-within : goal.member_of-requires-clause-within
-member_of-requires-clause-within g c =
+pub member_of-before-requires-clause-within : goal.member_of-before-requires-clause-within
+member_of-before-requires-clause-within g c =
     let w = c.requires.stands.world in
     let is = c.requires.stands.is in
     within_of g.P.OneRun.run.frame w c.args.member (sym (c.lives.ensures w is) ∙ c.if-lives.true)
@@ -28,11 +28,11 @@ suspects_at-requires g c =
     let tells = (c.requires.stands.laws.grow g.P.OneRun.run.frame refl refl c.requires.stands.settings s.ledger.steps w is.replays (c.requires.going w is) (event.Suspect c.args.member) tt may).parts in
     let own = c.requires.stands.laws.own g.P.OneRun.run.frame refl refl c.requires.stands.settings s.ledger.steps w is.replays (event.Suspect c.args.member) tt may in
     let fits = c.parts_fit_apart.ensures g.P.OneRun.run.frame (sym (g.met.P.OneRun.performs_run m)) (sym (g.met.P.OneRun.computes_run m)) c.requires.stands.settings c.args.parts.now.ledger.steps w is.replays (c.requires.going w is) (event.Suspect c.args.member) tt may in
-    one_may g.P.OneRun.stood g.P.OneRun.left g.P.OneRun.run.frame (fitness_of (g.P.Performer.fits_state m) (g.P.Performer.fits_args m) (g.P.Performer.fits_text m) (g.P.Performer.fits_reply m)) s w w (event.Suspect c.args.member) tt c.args.member (Suspects) c.member_of-before.result.now c.nothing.result here c.walking_law.ensures.walks refl
-    (one_comes g.P.OneRun.stood g.P.OneRun.left g.P.OneRun.run.frame s w (event.Suspect c.args.member) tt c.args.member (Suspects) c.member_of-before.result.now here lt at own tells) fits (record { parts = c.nothing.ensures.parts; outgoing = c.nothing.ensures.outgoing; entries = c.nothing.ensures.entries; pieces = ap of_pieces c.nothing.ensures.pieces; stirred = c.nothing.ensures.stirred })
+    one_may g.P.OneRun.stood g.P.OneRun.left g.P.OneRun.run.frame (fitness_of (g.P.Performer.fits_state m) (g.P.Performer.fits_args m) (g.P.Performer.fits_text m) (g.P.Performer.fits_reply m)) s w w (event.Suspect c.args.member) tt c.args.member (Suspects) c.member_of-before.result.now c.nothing-draft.result here c.walking_law.ensures.walks refl
+    (one_comes g.P.OneRun.stood g.P.OneRun.left g.P.OneRun.run.frame s w (event.Suspect c.args.member) tt c.args.member (Suspects) c.member_of-before.result.now here lt at own tells) fits (record { parts = c.nothing-draft.ensures.parts; outgoing = c.nothing-draft.ensures.outgoing; entries = c.nothing-draft.ensures.entries; pieces = ap of_pieces c.nothing-draft.ensures.pieces; stirred = c.nothing-draft.ensures.stirred })
 
-pub returns-then-lives-clause-drafts : goal.returns-then-lives-clause-drafts
-returns-then-lives-clause-drafts g c w is =
+pub returns-in_ok-suspects_at-clause-drafts : goal.returns-in_ok-suspects_at-clause-drafts
+returns-in_ok-suspects_at-clause-drafts g c w is =
     let m = c.args.machine.now in
     let s = c.args.parts.now in
     let may = sym (c.lives.ensures w is) ∙ c.if-lives.true in
@@ -43,9 +43,9 @@ returns-then-lives-clause-drafts g c w is =
     let own = c.requires.stands.laws.own g.P.OneRun.run.frame refl refl c.requires.stands.settings s.ledger.steps w is.replays (event.Suspect c.args.member) tt may in
     let fits = c.parts_fit_apart.ensures g.P.OneRun.run.frame (sym (g.met.P.OneRun.performs_run m)) (sym (g.met.P.OneRun.computes_run m)) c.requires.stands.settings c.args.parts.now.ledger.steps w is.replays (c.requires.going w is) (event.Suspect c.args.member) tt may in (
       tt,
-        may,
-        one_draft g.P.OneRun.stood g.P.OneRun.left g.P.OneRun.run.frame (fitness_of (g.P.Performer.fits_state m) (g.P.Performer.fits_args m) (g.P.Performer.fits_text m) (g.P.Performer.fits_reply m)) s w w (event.Suspect c.args.member) tt c.args.member (Suspects) c.member_of-before.result.now c.nothing.result c.suspects_at.new.draft here refl refl refl
-            (one_comes g.P.OneRun.stood g.P.OneRun.left g.P.OneRun.run.frame s w (event.Suspect c.args.member) tt c.args.member (Suspects) c.member_of-before.result.now here lt at own tells) fits (record { parts = c.nothing.ensures.parts; outgoing = c.nothing.ensures.outgoing; entries = c.nothing.ensures.entries; pieces = ap of_pieces c.nothing.ensures.pieces; stirred = c.nothing.ensures.stirred }) (c.in_ok-suspects_at.ensures {u = tt}),
+      may,
+      one_draft g.P.OneRun.stood g.P.OneRun.left g.P.OneRun.run.frame (fitness_of (g.P.Performer.fits_state m) (g.P.Performer.fits_args m) (g.P.Performer.fits_text m) (g.P.Performer.fits_reply m)) s w w (event.Suspect c.args.member) tt c.args.member (Suspects) c.member_of-before.result.now c.nothing-draft.result c.suspects_at.new.draft here refl refl refl
+          (one_comes g.P.OneRun.stood g.P.OneRun.left g.P.OneRun.run.frame s w (event.Suspect c.args.member) tt c.args.member (Suspects) c.member_of-before.result.now here lt at own tells) fits (record { parts = c.nothing-draft.ensures.parts; outgoing = c.nothing-draft.ensures.outgoing; entries = c.nothing-draft.ensures.entries; pieces = ap of_pieces c.nothing-draft.ensures.pieces; stirred = c.nothing-draft.ensures.stirred }) (c.in_ok-suspects_at.ensures {u = tt}),
     )
 
 pub returns-else-lives-clause-refused : goal.returns-else-lives-clause-refused

@@ -1,4 +1,5 @@
 use Rattle.std.proofs.Common.{◌≡◌, ◌∙◌, inl, refl, sym, ap}
+use Rattle.world_parts.specs.Standing.{seen_of}
 use Rattle.world_core.specs.Stepping.{is_going}
 use Rattle.world_core.proofs.Asking.{going_of, not_going, refused_still}
 use Rattle.world_core.proofs.Handing.{out_same}
@@ -16,4 +17,4 @@ pub returns-else-is_going-clause-enabled : goal.returns-else-is_going-clause-ena
 returns-else-is_going-clause-enabled g c refused = inl refl
 
 pub returns-else-is_going-clause-tasks : goal.returns-else-is_going-clause-tasks
-returns-else-is_going-clause-tasks g c = out_same _ _ refl
+returns-else-is_going-clause-tasks g c = out_same (seen_of c.args.parts.now) (seen_of c.args.parts.now) refl
