@@ -1,4 +1,4 @@
-use Rattle.std.proofs.Common.{◌≡◌, ◌+◌, List, Option, drop, map, sym, ap, ◌∙◌, subst, arith}
+use Rattle.std.proofs.Common.{◌≡◌, ◌+◌, List, Option, drop, map, sym, ap, ◌∙◌, subst, arith, rules}
 use Rattle.std.specs.Prelude.{option_map}
 use Rattle.std.proofs.Math.ListN.{drop_of_length-le}
 use Rattle.std.proofs.lemmas.List.{map_push}
@@ -92,7 +92,7 @@ evaluate-request-requires g t c κs within =
     let same = ap exprs_height c.deref-in-Invoke.ensures.value in
     let whole = ap height c.in-Invoke.is in
     let mine = c.decreases in
-    omega (arith, lower, same, whole, mine)
+    (omega (arith, lower, same, whole, mine), search rules)
 
 -- ---- arms with one operand
 
