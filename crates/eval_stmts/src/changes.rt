@@ -60,9 +60,8 @@ pub fn insert<C: Levels>(
         (rules.change_elements (calls w.program C.levels) variables.put w (expr element.now) into.now.name (path_shown into.now.path.items)
         (state_of run.old)) }
 {
-    let root = site.root(&into.name);
     let element = evaluate::<C>(alloc, site, element, run)?;
-    let path = walk::<C>(alloc, site, root, &into.path, run)?;
+    let path = walk::<C>(alloc, site, site.root(&into.name), &into.path, run)?;
     let to = Target {
         slot: site.slot(&into.name),
         path,
@@ -88,9 +87,8 @@ pub fn delete<C: Levels>(
         (rules.change_elements (calls w.program C.levels) variables.drop_element w (expr element.now) from.now.name
         (path_shown from.now.path.items) (state_of run.old)) }
 {
-    let root = site.root(&from.name);
     let element = evaluate::<C>(alloc, site, element, run)?;
-    let path = walk::<C>(alloc, site, root, &from.path, run)?;
+    let path = walk::<C>(alloc, site, site.root(&from.name), &from.path, run)?;
     let to = Target {
         slot: site.slot(&from.name),
         path,

@@ -158,8 +158,9 @@ fn write(alloc: Global, line: Text, run: &mut Run<'_>) -> Result<Option<Value>, 
     ensures left { run.new.left ≤ run.old.left }
     ensures gives { Gives (option_map datum_of) result (state_of run.new) (acts.write line (state_of run.old)) }
 {
+    let text = TextValue::new(alloc, line)?;
     let mut args = Parts::new(alloc);
-    args.push(Value::Text(TextValue::new(alloc, line)?))?;
+    args.push(Value::Text(text))?;
     let action = Action::Call {
         kind: KindNo::OUTPUT,
         op: OpNo(0),
