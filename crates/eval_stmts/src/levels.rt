@@ -71,36 +71,36 @@ fn enter<C: Levels>(
     ensures gives { (us : List Source) → IsCode us code.now → Gives (option_map datum_of) result (state_of run.new)
         (rules.enter (calls us C.levels) us (slice_get (top_names us) function) (map passed_of passed.items) (state_of run.old)) }
 {
+    let mut passed = passed;
     match code.function(function) {
         None => Err(Stop::Faults {
             fault: FaultKind::NoReturn,
         }),
-        Some(routine) => enter_body::<C>(alloc, code, routine, passed, run),
+        Some(routine) => enter_body::<C>(alloc, code, routine, &mut passed, run),
     }
 }
 
-// A call of a function: a turn, and its body with variables of its own.
+// A call of a function: a turn, and its body with variables of its own. The values that are passed are moved out.
 #[inline(never)]
 fn enter_body<'p, C: Levels>(
     alloc: Global,
     code: &Code<'p>,
     routine: &BlockCode<'p>,
-    passed: Vec<Passed>,
+    passed: &mut [Passed],
     run: &mut Run<'_>,
 ) -> Result<Option<Value>, Stop>
     ensures left { run.new.left ≤ run.old.left }
     ensures gives { (r : Routine) → IsCode r.scope.program code.now → IsBlockCode routine.now r → r.scope.in_guard ≡ false →
         Gives (option_map datum_of) result (state_of run.new)
-        (routine_run (calls r.scope.program C.levels) r (map passed_of passed.items) (state_of run.old)) }
+        (routine_run (calls r.scope.program C.levels) r (map passed_of passed.old) (state_of run.old)) }
 {
-    let mut passed = passed;
     turn(run)?;
-    let own = variables(alloc, code, &routine.body.names.types, &mut passed)?;
+    let own = variables(alloc, code, &routine.body.names.types, passed)?;
     let outer = exchange_frame(Frame::new(alloc, own)?, run);
     let site = Site::new(code, &routine.body, false);
     let flow = execute_all::<C>(alloc, site, routine.statements, run)?;
     let inner = exchange_frame(outer, run);
-    returned(alloc, routine.has_result, &passed, flow, inner, run)
+    returned(alloc, routine.has_result, passed, flow, inner, run)
 }
 
 type Four<C> = Deeper<Deeper<Deeper<Deeper<C>>>>;

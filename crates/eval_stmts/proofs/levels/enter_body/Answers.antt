@@ -19,15 +19,14 @@ returns-in_err-flow-clause-gives g c = λ r is code guard.
     let p = err_from_is_err_and c.from_residual-in_err-flow.result c.from_residual-in_err-flow.ensures.1 in
     let us = r.scope.program in
     let call = calls us g.C.Levels.levels in
-    let ps = map passed_of c.args.passed.items in
+    let ps = map passed_of c.args.passed.now in
     let own = list_of c.in_ok-own.own in
     let s0 = state_of c.args.run.now in
     let s1 = state_of c.turn.new.run in
     let s2 = state_of c.exchange_frame-outer.new.run in
     let own_is : own ≡ own_frame us r.scope ps =
         (c.in_ok-own.ensures {u = tt}).made us is
-        ∙ ap (λ (ts : List (Option DataType)). variables_of us ts (map passed_of c.deref_mut.result.now)) (c.deref.ensures.value ∙ code.body.names.types)
-        ∙ ap (λ (l : List Passed). variables_of us (map (λ x. x.type) r.scope.locals) (map passed_of l)) c.deref_mut.ensures.value
+        ∙ ap (λ (ts : List (Option DataType)). variables_of us ts ps) (c.deref.ensures.value ∙ code.body.names.types)
         ∙ sym (own_variables us r.scope.locals ps) in
     let s2_is = c.exchange_frame-outer.ensures.new ∙ ap (λ (xs : List Datum). record s1 { frame = xs }) (c.in_ok-new.ensures {u = tt}) in
     rw (p.1, p.2) (body_fails call r ps (stmts c.args.routine.now.statements.now) own s0 s1 s2 c.in_err-flow.field-0.0
@@ -38,7 +37,7 @@ pub returns-clause-gives : goal.returns-clause-gives
 returns-clause-gives g c = λ r is code guard.
     let us = r.scope.program in
     let call = calls us g.C.Levels.levels in
-    let ps = map passed_of c.args.passed.items in
+    let ps = map passed_of c.args.passed.now in
     let own = list_of c.in_ok-own.own in
     let s0 = state_of c.args.run.now in
     let s1 = state_of c.turn.new.run in
@@ -47,16 +46,12 @@ returns-clause-gives g c = λ r is code guard.
     let s4 = state_of c.exchange_frame-inner.new.run in
     let own_is : own ≡ own_frame us r.scope ps =
         (c.in_ok-own.ensures {u = tt}).made us is
-        ∙ ap (λ (ts : List (Option DataType)). variables_of us ts (map passed_of c.deref_mut.result.now)) (c.deref.ensures.value ∙ code.body.names.types)
-        ∙ ap (λ (l : List Passed). variables_of us (map (λ x. x.type) r.scope.locals) (map passed_of l)) c.deref_mut.ensures.value
+        ∙ ap (λ (ts : List (Option DataType)). variables_of us ts ps) (c.deref.ensures.value ∙ code.body.names.types)
         ∙ sym (own_variables us r.scope.locals ps) in
     let s2_is = c.exchange_frame-outer.ensures.new ∙ ap (λ (xs : List Datum). record s1 { frame = xs }) (c.in_ok-new.ensures {u = tt}) in
-    let lent : AreLentAlike ps (map passed_of c.deref-2.result.now) =
-        subst (λ (l : List Passed). AreLentAlike (map passed_of l) (map passed_of c.deref-2.result.now)) c.deref_mut.ensures.value
-        (subst (λ (l : List Passed). AreLentAlike (map passed_of c.deref_mut.result.now) (map passed_of l)) (sym c.deref-2.ensures.value) c.variables.ensures.alike) in
     body_ends call r ps (stmts c.args.routine.now.statements.now) own c.exchange_frame-outer.result c.exchange_frame-inner.result s0 s1 s2 s3 s4
     (state_of c.returned.new.run) (flow_of c.in_ok-flow.flow) c.args.routine.now.has_result c.returned.result
     (c.in_ok-turn.ensures {u = tt}).gives own_is s2_is code.statements
     ((c.in_ok-flow.ensures {u = tt}).gives r.scope (c.new-site.ensures r.scope is code.body guard))
     c.exchange_frame-outer.ensures.given c.exchange_frame-inner.ensures.given c.exchange_frame-inner.ensures.new code.has_result
-    (c.returned.ensures.gives ps lent)
+    (c.returned.ensures.gives ps c.variables.ensures.alike)

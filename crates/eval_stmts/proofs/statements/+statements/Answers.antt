@@ -1,5 +1,8 @@
-use Rattle.std.proofs.Common.{◌≡◌, ◌+◌, ◌-◌, Bool, true, false, Option, Some, suc, cond, List, drop, sym, ap, ◌∙◌, subst, arith}
+use Rattle.std.proofs.Common.{rules, ℕ, ℤ, to_z, of_z, ◌∷◌, ◌≡◌, ◌+◌, ◌-◌, Bool, true, false, Option, Some, suc, cond, List, drop, sym, ap, ◌∙◌, subst, arith}
 use Rattle.std.specs.Prelude.{option_map}
+use Rattle.std.specs.Int.{w64}
+use Rattle.std.specs.Int.RustNames.{FitsSigned}
+use Rattle.std.proofs.Math.Facts.{to_z-of_z}
 use Rattle.std.proofs.Math.ListN.{drop_of_length-le}
 use Rattle.std.proofs.lemmas.Result.{err_from_is_err_and}
 use Rattle.orca_tree.specs.declared.tree.Arm.{Arm as ArmTree}
@@ -15,8 +18,10 @@ use Rattle.value_core.specs.Datum.{Datum}
 use Rattle.value_core.specs.Datum as datum
 use Rattle.value_core.specs.View.{datum_of}
 use Rattle.meaning_rules.specs.Expressions.{eval}
-use Rattle.meaning_rules.specs.Loops.{Again, Flow, Leave, On, Over, Round, always, counted_round, ended, go_on, otherwise, round_if, taken_if, until, when, while_round, until_round, with_name, without_name}
-use Rattle.meaning_rules.specs.Operators.{truth_in}
+use Rattle.meaning_rules.specs.Loops.{Again, Flow, Leave, On, Over, Round, always, between, count, rounds, counted_round, ended, go_on, otherwise, round_if, taken_if, until, when, while_round, until_round, with_name, without_name}
+use Rattle.meaning_rules.specs.Operators.{integer_in, truth_in}
+use Rattle.type_rules.specs.Statements.{with_loop}
+use Rattle.eval_bodies.specs.Sites.{lent_texts}
 use Rattle.meaning_rules.specs.States.{Goes, Out, State, after, turn}
 use Rattle.meaning_rules.specs.Statements.{call_operation, change_elements, fork_process, give_back, write_line, run as run_rule, run_all, run_arm, run_arms}
 use Rattle.meaning_rules.specs.Variables.{drop_element, put}
@@ -467,7 +472,7 @@ counted_round-returns-in_err-flow-clause-gives g t c = λ w s.
     let next = λ (f : Flow) (s3 : State). Goes f (without_name s3) in
     let begun : counted_round i body s0 ≡ after (body s2) next =
         ap (λ (o : Out (Unit {0})). after o (λ _ s3. after (body (number s3)) next)) (c.in_ok-turn.ensures {u = tt}).gives
-        ∙ ap (λ (s3 : State). after (body s3) next) (sym (c.in_ok-add_name.ensures {u = tt}).added) in
+        ∙ ap (λ (s3 : State). after (body s3) next) (sym ((c.in_ok-add_name.ensures {u = tt}).added ∙ ap (λ (z : ℤ). with_name (datum.int z) s1) (to_z-of_z c.ranges.number))) in
     let why = c.in_err-flow.field-0.0 in
     rw (p.1, p.2) (subst (λ (o : Out Flow). Fails why o) (sym begun) (fails_then why (body s2) next ((c.in_err-flow.ensures {u = tt}).gives w s)))
 
@@ -483,30 +488,93 @@ counted_round-returns-clause-gives g t c = λ w s.
     let next = λ (f : Flow) (s3 : State). Goes f (without_name s3) in
     let begun : counted_round i body s0 ≡ after (body s2) next =
         ap (λ (o : Out (Unit {0})). after o (λ _ s3. after (body (number s3)) next)) (c.in_ok-turn.ensures {u = tt}).gives
-        ∙ ap (λ (s3 : State). after (body s3) next) (sym (c.in_ok-add_name.ensures {u = tt}).added) in
+        ∙ ap (λ (s3 : State). after (body s3) next) (sym ((c.in_ok-add_name.ensures {u = tt}).added ∙ ap (λ (z : ℤ). with_name (datum.int z) s1) (to_z-of_z c.ranges.number))) in
     begun ∙ ap (λ (o : Out Flow). after o next) ((c.in_ok-flow.ensures {u = tt}).gives w s)
     ∙ ap (λ (s3 : State). Goes (flow_of c.in_ok-flow.flow) s3) (sym c.drop_name.ensures.gone)
 
-pub count-returns-in_err-counted_round-clause-gives : goal.count-returns-in_err-counted_round-clause-gives
-count-returns-in_err-counted_round-clause-gives g t c = ?
+-- behind the high bound, and behind the low one
+abbrev counted : (State → Out Flow) → Datum → Datum → State → Out Flow
+counted body a b s2 = count (rounds (integer_in a) (integer_in b)) (integer_in a) body s2
 
-pub count-returns-in-Back-clause-gives : goal.count-returns-in-Back-clause-gives
-count-returns-in-Back-clause-gives g t c = ?
-
-pub count-numbers-preserved : goal.count-numbers-preserved
-count-numbers-preserved g t c = ?
-
-pub count-returns-clause-gives : goal.count-returns-clause-gives
-count-returns-clause-gives g t c = ?
+abbrev bounded : (State → Out Datum) → (State → Out Flow) → Datum → State → Out Flow
+bounded high body a s1 = after (high s1) (counted body a)
 
 pub between-returns-in_err-low-clause-gives : goal.between-returns-in_err-low-clause-gives
-between-returns-in_err-low-clause-gives g t c = ?
+between-returns-in_err-low-clause-gives g t c = λ w s.
+    let p = err_from_is_err_and c.from_residual.result c.from_residual.ensures.1 in
+    let call = calls w.program g.C.Levels.levels in
+    let n = c.args.name.now in
+    let body = run_all call (with_loop w n) (stmts c.args.body.now) in
+    let low = eval call w (expr c.args.range.now.low) in
+    let high = eval call w (expr c.args.range.now.high) in
+    let s0 = state_of c.args.run.now in
+    rw (p.1, p.2) (fails_then c.in_err-low.field-0.0 (low s0) (bounded high body) ((c.in_err-low.ensures {u = tt}).gives w s))
 
 pub between-returns-in_err-high-clause-gives : goal.between-returns-in_err-high-clause-gives
-between-returns-in_err-high-clause-gives g t c = ?
+between-returns-in_err-high-clause-gives g t c = λ w s.
+    let p = err_from_is_err_and c.from_residual-in_err-high.result c.from_residual-in_err-high.ensures.1 in
+    let call = calls w.program g.C.Levels.levels in
+    let n = c.args.name.now in
+    let body = run_all call (with_loop w n) (stmts c.args.body.now) in
+    let low = eval call w (expr c.args.range.now.low) in
+    let high = eval call w (expr c.args.range.now.high) in
+    let s0 = state_of c.args.run.now in
+    let a = datum_of c.in_ok-low.low in
+    let s1 = state_of c.evaluate.new.run in
+    let lows = ap (λ (o : Out Datum). after o (bounded high body)) ((c.in_ok-low.ensures {u = tt}).gives w s) in
+    let why = c.in_err-high.field-0.0 in
+    rw (p.1, p.2) (subst (λ (o : Out Flow). Fails why o) (sym lows) (fails_then why (high s1) (counted body a) ((c.in_err-high.ensures {u = tt}).gives w s)))
 
 pub between-returns-in_err-flow-clause-gives : goal.between-returns-in_err-flow-clause-gives
-between-returns-in_err-flow-clause-gives g t c = ?
+between-returns-in_err-flow-clause-gives g t c = λ w s.
+    let p = err_from_is_err_and c.from_residual-in_err-flow.result c.from_residual-in_err-flow.ensures.1 in
+    let call = calls w.program g.C.Levels.levels in
+    let n = c.args.name.now in
+    let body = run_all call (with_loop w n) (stmts c.args.body.now) in
+    let low = eval call w (expr c.args.range.now.low) in
+    let high = eval call w (expr c.args.range.now.high) in
+    let s0 = state_of c.args.run.now in
+    let a = datum_of c.in_ok-low.low in
+    let s1 = state_of c.evaluate.new.run in
+    let lows = ap (λ (o : Out Datum). after o (bounded high body)) ((c.in_ok-low.ensures {u = tt}).gives w s) in
+    let b = datum_of c.in_ok-high.high in
+    let s2 = state_of c.evaluate-2.new.run in
+    let highs = ap (λ (o : Out Datum). after o (counted body a)) ((c.in_ok-high.ensures {u = tt}).gives w s) in
+    let from_fits : FitsSigned w64 c.integer_in-from.result = search rules in
+    let to_fits : FitsSigned w64 c.integer_in-to.result = search rules in
+    let from = to_z w64 (of_z w64 c.integer_in-from.result) in
+    let to = to_z w64 (of_z w64 c.integer_in-to.result) in
+    let reached : between low high body s0 ≡ count (rounds from to) from body s2 =
+        lows ∙ highs
+        ∙ ap (λ (z : ℤ). count (rounds z (integer_in b)) z body s2) (sym (to_z-of_z from_fits ∙ c.integer_in-from.ensures))
+        ∙ ap (λ (z : ℤ). count (rounds from z) from body s2) (sym (to_z-of_z to_fits ∙ c.integer_in-to.ensures)) in
+    let inner = c.in_loops.ensures w s n (ap lent_texts c.deref.ensures.value ∙ c.in_ok-names.ensures {u = tt}
+        ∙ ap (λ (k : List ℕ). k ∷ lent_texts c.args.site.loops.now) c.as_str.ensures) in
+    let why = c.in_err-flow.field-0.0 in
+    rw (p.1, p.2) (subst (λ (o : Out Flow). Fails why o) (sym reached) ((c.in_err-flow.ensures {u = tt}).gives (with_loop w n) inner))
 
 pub between-returns-clause-gives : goal.between-returns-clause-gives
-between-returns-clause-gives g t c = ?
+between-returns-clause-gives g t c = λ w s.
+    let call = calls w.program g.C.Levels.levels in
+    let n = c.args.name.now in
+    let body = run_all call (with_loop w n) (stmts c.args.body.now) in
+    let low = eval call w (expr c.args.range.now.low) in
+    let high = eval call w (expr c.args.range.now.high) in
+    let s0 = state_of c.args.run.now in
+    let a = datum_of c.in_ok-low.low in
+    let s1 = state_of c.evaluate.new.run in
+    let lows = ap (λ (o : Out Datum). after o (bounded high body)) ((c.in_ok-low.ensures {u = tt}).gives w s) in
+    let b = datum_of c.in_ok-high.high in
+    let s2 = state_of c.evaluate-2.new.run in
+    let highs = ap (λ (o : Out Datum). after o (counted body a)) ((c.in_ok-high.ensures {u = tt}).gives w s) in
+    let from_fits : FitsSigned w64 c.integer_in-from.result = search rules in
+    let to_fits : FitsSigned w64 c.integer_in-to.result = search rules in
+    let from = to_z w64 (of_z w64 c.integer_in-from.result) in
+    let to = to_z w64 (of_z w64 c.integer_in-to.result) in
+    let reached : between low high body s0 ≡ count (rounds from to) from body s2 =
+        lows ∙ highs
+        ∙ ap (λ (z : ℤ). count (rounds z (integer_in b)) z body s2) (sym (to_z-of_z from_fits ∙ c.integer_in-from.ensures))
+        ∙ ap (λ (z : ℤ). count (rounds from z) from body s2) (sym (to_z-of_z to_fits ∙ c.integer_in-to.ensures)) in
+    let inner = c.in_loops.ensures w s n (ap lent_texts c.deref.ensures.value ∙ c.in_ok-names.ensures {u = tt}
+        ∙ ap (λ (k : List ℕ). k ∷ lent_texts c.args.site.loops.now) c.as_str.ensures) in
+    reached ∙ (c.in_ok-flow.ensures {u = tt}).gives (with_loop w n) inner
