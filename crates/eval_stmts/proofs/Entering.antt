@@ -43,9 +43,9 @@ body_ends call r ps ss own outer inner s0 s1 s2 s3 s4 back flow has result turne
     let frames : s1.frame ≡ s4.frame = sym outer_is ∙ ap (λ (s : State). s.frame) (sym s4_is) in
     let states : s3 ≡ record s4 { frame = inner } = ap (λ (xs : List Datum). record s3 { frame = xs }) (sym inner_is) ∙ ap (λ (s : State). record s { frame = inner }) (sym s4_is) in
     let whole : routine_run call r ps s0 ≡ returned has ps s4.frame flow (record s4 { frame = inner }) =
-        begun call r ps ss own s0 s1 s2 turned own_is s2_is ss_is
-        ∙ ap (λ (o : Out Flow). after o (λ f s. returned r.has_result ps s1.frame f s)) ran
-        ∙ ap (λ (h : Bool). returned h ps s1.frame flow s3) (sym has_is)
-        ∙ ap (λ (xs : List Datum). returned has ps xs flow s3) frames
-        ∙ ap (λ (s : State). returned has ps s4.frame flow s) states in
+    begun call r ps ss own s0 s1 s2 turned own_is s2_is ss_is
+    ∙ ap (λ (o : Out Flow). after o (λ f s. returned r.has_result ps s1.frame f s)) ran
+    ∙ ap (λ (h : Bool). returned h ps s1.frame flow s3) (sym has_is)
+    ∙ ap (λ (xs : List Datum). returned has ps xs flow s3) frames
+    ∙ ap (λ (s : State). returned has ps s4.frame flow s) states in
     subst (λ (o : Out (Option Datum)). Gives (option_map datum_of) result back o) (sym whole) said

@@ -59,10 +59,10 @@ pub variable_more : (us : List Source) (own new : List Datum) (types : List (Opt
 variable_more us own new types ps i t x all less is begins more same =
     let rest = variables_of us (drop (i + 1) types) (drop (i + 1) ps) in
     let left : variables_of us (drop i types) (drop i ps) ≡ x ∷ rest =
-        ap (λ (l : List (Option DataType)). variables_of us l (drop i ps)) (rest_is types i t less is)
-        ∙ ap (λ (o : Option Passed). begins_with us t o ∷ variables_of us (drop (i + 1) types) (drop 1 (drop i ps))) (sym (first_left ps i))
-        ∙ ap (λ (l : List Passed). begins_with us t (slice_get ps i) ∷ variables_of us (drop (i + 1) types) l) (drop_once i ps)
-        ∙ ap (λ (d : Datum). d ∷ rest) (sym begins) in
+    ap (λ (l : List (Option DataType)). variables_of us l (drop i ps)) (rest_is types i t less is)
+    ∙ ap (λ (o : Option Passed). begins_with us t o ∷ variables_of us (drop (i + 1) types) (drop 1 (drop i ps))) (sym (first_left ps i))
+    ∙ ap (λ (l : List Passed). begins_with us t (slice_get ps i) ∷ variables_of us (drop (i + 1) types) l) (drop_once i ps)
+    ∙ ap (λ (d : Datum). d ∷ rest) (sym begins) in
     ap (λ (l : List Datum). l ++ rest) more ∙ append_assoc own (x ∷ []) rest ∙ sym (ap (λ (l : List Datum). own ++ l) left) ∙ same
 
 -- ---- what is passed, with one value moved out

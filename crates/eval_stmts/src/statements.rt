@@ -65,7 +65,10 @@ fn execute<'p, C: Levels>(
         Statement::If { arms, .. } => choose::<C>(alloc, site, arms, run),
         Statement::While { test, body, .. } => repeat::<C>(alloc, site, body, test, false, run),
         Statement::For {
-            name, range, body, ..
+            name,
+            range,
+            body,
+            ..
         } => between::<C>(alloc, site, body, name, range, run),
         Statement::Repeat { body, test, .. } => repeat::<C>(alloc, site, body, test, true, run),
         Statement::Fork {

@@ -50,8 +50,8 @@ returns-in_err-path-clause-gives g c = λ w s.
     let first = ap (λ (o : Out Datum). after o (walks call w n p)) ((c.in_ok-element.ensures {u = tt}).gives w s) in
     let seen = option_map type_seen c.root.result in
     let same : eval_path call w seen (path c.deref.result.now) s1 ≡ eval_path call w (root_type w n) p s1 =
-        ap (λ (l : List Selector). eval_path call w seen (path l) s1) c.deref.ensures.value
-        ∙ ap (λ (t : Option DataType). eval_path call w t p s1) (c.root.ensures w s) in
+    ap (λ (l : List Selector). eval_path call w seen (path l) s1) c.deref.ensures.value
+    ∙ ap (λ (t : Option DataType). eval_path call w t p s1) (c.root.ensures w s) in
     let why = c.in_err-path.field-0.0 in
     rw (q.1, q.2) (subst (λ (o : Out Flow). Fails why o) (sym first) (fails_then why (eval_path call w (root_type w n) p s1) (changes w n x)
     (subst (λ (o : Out (List ValueStep)). Fails why o) same ((c.in_err-path.ensures {u = tt}).gives w s))))
@@ -68,8 +68,8 @@ returns-in_err-drop_element-clause-gives g c = λ w s.
     let first = ap (λ (o : Out Datum). after o (walks call w n p)) ((c.in_ok-element.ensures {u = tt}).gives w s) in
     let seen = option_map type_seen c.root.result in
     let same : eval_path call w seen (path c.deref.result.now) s1 ≡ eval_path call w (root_type w n) p s1 =
-        ap (λ (l : List Selector). eval_path call w seen (path l) s1) c.deref.ensures.value
-        ∙ ap (λ (t : Option DataType). eval_path call w t p s1) (c.root.ensures w s) in
+    ap (λ (l : List Selector). eval_path call w seen (path l) s1) c.deref.ensures.value
+    ∙ ap (λ (t : Option DataType). eval_path call w t p s1) (c.root.ensures w s) in
     let steps = path_of c.in_ok-path.path.items in
     let s2 = state_of c.walk.new.run in
     let second = ap (λ (o : Out (List ValueStep)). after o (changes w n x)) (sym same ∙ (c.in_ok-path.ensures {u = tt}).gives w s) in
@@ -90,8 +90,8 @@ returns-clause-gives g c = λ w s.
     let first = ap (λ (o : Out Datum). after o (walks call w n p)) ((c.in_ok-element.ensures {u = tt}).gives w s) in
     let seen = option_map type_seen c.root.result in
     let same : eval_path call w seen (path c.deref.result.now) s1 ≡ eval_path call w (root_type w n) p s1 =
-        ap (λ (l : List Selector). eval_path call w seen (path l) s1) c.deref.ensures.value
-        ∙ ap (λ (t : Option DataType). eval_path call w t p s1) (c.root.ensures w s) in
+    ap (λ (l : List Selector). eval_path call w seen (path l) s1) c.deref.ensures.value
+    ∙ ap (λ (t : Option DataType). eval_path call w t p s1) (c.root.ensures w s) in
     let steps = path_of c.in_ok-path.path.items in
     let s2 = state_of c.walk.new.run in
     let second = ap (λ (o : Out (List ValueStep)). after o (changes w n x)) (sym same ∙ (c.in_ok-path.ensures {u = tt}).gives w s) in

@@ -14,8 +14,8 @@ returns-clause-gives c =
     let args = c.push.new.self in
     let s0 = state_of c.args.run.now in
     let listed : list_of args ≡ datum.text c.args.line ∷ [] =
-        c.in_ok-push.ensures.ok
-        ∙ ap (λ (l : List Datum). l ++ datum.text c.in_ok-text.text ∷ []) c.new-args.ensures
-        ∙ ap (λ (t : List ℕ). datum.text t ∷ []) (c.in_ok-text.ensures {u = tt}) in
+    c.in_ok-push.ensures.ok
+    ∙ ap (λ (l : List Datum). l ++ datum.text c.in_ok-text.text ∷ []) c.new-args.ensures
+    ∙ ap (λ (t : List ℕ). datum.text t ∷ []) (c.in_ok-text.ensures {u = tt}) in
     let whole : args ≡ datum.more (datum.text c.args.line) datum.none = sym (data_of-list_of args) ∙ ap data_of listed in
     subst (λ (d : Data). Gives (option_map datum_of) c.act.result (state_of c.act.new.run) (act (action.Call output_kind (record { 0 = 0 }) output_object d) s0)) whole c.act.ensures.gives

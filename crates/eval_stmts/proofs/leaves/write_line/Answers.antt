@@ -53,7 +53,7 @@ returns-in_err-write-clause-gives g c = λ w s.
     let text = c.in_ok-text.text in
     let why = c.in_err-write.field-0.0 in
     let line : gives (line_of [] (texts_of w es xs)) s1 ≡ Goes text s1 =
-        subst (λ (l : List Value). gives (line_of [] (texts_of w es (map datum_of l))) s1 ≡ Goes text s1) c.deref.ensures.value ((c.in_ok-text.ensures {u = tt}) w s s1) in
+    subst (λ (l : List Value). gives (line_of [] (texts_of w es (map datum_of l))) s1 ≡ Goes text s1) c.deref.ensures.value ((c.in_ok-text.ensures {u = tt}) w s s1) in
     rw (p.1, p.2) (subst (λ (o : Out Flow). Fails why o)
     (sym (ap (λ (o : Out (List Datum)). after o (joins w es)) ((c.in_ok-values.ensures {u = tt}).gives w s) ∙ ap (λ (o : Out (List ℕ)). after o writes) line))
     (fails_then why (write text s1) (λ _ s3. Goes On s3) (c.in_err-write.ensures {u = tt}).gives))
@@ -66,7 +66,7 @@ returns-clause-gives g c = λ w s.
     let xs = map datum_of c.in_ok-values.values.items in
     let text = c.in_ok-text.text in
     let line : gives (line_of [] (texts_of w es xs)) s1 ≡ Goes text s1 =
-        subst (λ (l : List Value). gives (line_of [] (texts_of w es (map datum_of l))) s1 ≡ Goes text s1) c.deref.ensures.value ((c.in_ok-text.ensures {u = tt}) w s s1) in
+    subst (λ (l : List Value). gives (line_of [] (texts_of w es (map datum_of l))) s1 ≡ Goes text s1) c.deref.ensures.value ((c.in_ok-text.ensures {u = tt}) w s s1) in
     ap (λ (o : Out (List Datum)). after o (joins w es)) ((c.in_ok-values.ensures {u = tt}).gives w s)
     ∙ ap (λ (o : Out (List ℕ)). after o writes) line
     ∙ ap (λ (o : Out (Option Datum)). after o (λ _ s3. Goes On s3)) (c.in_ok-write.ensures {u = tt}).gives

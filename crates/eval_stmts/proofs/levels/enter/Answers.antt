@@ -22,7 +22,7 @@ returns-in-None-clause-gives g c = λ us is.
 pub returns-clause-gives : goal.returns-clause-gives
 returns-clause-gives g c = λ us is.
     let found = routine_there us c.args.function c.in-Some.routine
-        (subst (λ (o : Option (Bor BlockCode)). Both IsLent o (function_at us c.args.function)) c.in-Some.is (c.function.ensures us is)) in
+    (subst (λ (o : Option (Bor BlockCode)). Both IsLent o (function_at us c.args.function)) c.in-Some.is (c.function.ensures us is)) in
     subst (Gives (option_map datum_of) c.enter_body.result (state_of c.enter_body.new.run))
     (ap (λ (l : List Passed). routine_run (calls found.routine.scope.program g.C.Levels.levels) found.routine (map passed_of l) (state_of c.args.run.now)) c.deref_mut.ensures.value
     ∙ enters_routine (λ (p : List Source). calls p g.C.Levels.levels) us c.args.function found.routine (map passed_of c.args.passed.items) (state_of c.args.run.now) found.is found.program)

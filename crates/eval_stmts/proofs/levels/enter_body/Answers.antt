@@ -25,9 +25,9 @@ returns-in_err-flow-clause-gives g c = λ r is code guard.
     let s1 = state_of c.turn.new.run in
     let s2 = state_of c.exchange_frame-outer.new.run in
     let own_is : own ≡ own_frame us r.scope ps =
-        (c.in_ok-own.ensures {u = tt}).made us is
-        ∙ ap (λ (ts : List (Option DataType)). variables_of us ts ps) (c.deref.ensures.value ∙ code.body.names.types)
-        ∙ sym (own_variables us r.scope.locals ps) in
+    (c.in_ok-own.ensures {u = tt}).made us is
+    ∙ ap (λ (ts : List (Option DataType)). variables_of us ts ps) (c.deref.ensures.value ∙ code.body.names.types)
+    ∙ sym (own_variables us r.scope.locals ps) in
     let s2_is = c.exchange_frame-outer.ensures.new ∙ ap (λ (xs : List Datum). record s1 { frame = xs }) (c.in_ok-new.ensures {u = tt}) in
     rw (p.1, p.2) (body_fails call r ps (stmts c.args.routine.now.statements.now) own s0 s1 s2 c.in_err-flow.field-0.0
     (c.in_ok-turn.ensures {u = tt}).gives own_is s2_is code.statements
@@ -45,9 +45,9 @@ returns-clause-gives g c = λ r is code guard.
     let s3 = state_of c.execute_all.new.run in
     let s4 = state_of c.exchange_frame-inner.new.run in
     let own_is : own ≡ own_frame us r.scope ps =
-        (c.in_ok-own.ensures {u = tt}).made us is
-        ∙ ap (λ (ts : List (Option DataType)). variables_of us ts ps) (c.deref.ensures.value ∙ code.body.names.types)
-        ∙ sym (own_variables us r.scope.locals ps) in
+    (c.in_ok-own.ensures {u = tt}).made us is
+    ∙ ap (λ (ts : List (Option DataType)). variables_of us ts ps) (c.deref.ensures.value ∙ code.body.names.types)
+    ∙ sym (own_variables us r.scope.locals ps) in
     let s2_is = c.exchange_frame-outer.ensures.new ∙ ap (λ (xs : List Datum). record s1 { frame = xs }) (c.in_ok-new.ensures {u = tt}) in
     body_ends call r ps (stmts c.args.routine.now.statements.now) own c.exchange_frame-outer.result c.exchange_frame-inner.result s0 s1 s2 s3 s4
     (state_of c.returned.new.run) (flow_of c.in_ok-flow.flow) c.args.routine.now.has_result c.returned.result

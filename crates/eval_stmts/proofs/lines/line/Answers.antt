@@ -22,8 +22,8 @@ given-preserved c = λ w s.
     let less : i < length c.args.values.now = grind (arith, l) in
     let rest = texts_of w (exprs (drop (i + 1) c.args.given.now)) (map datum_of (drop (i + 1) c.args.values.now)) in
     let texts : texts_of w (exprs (drop i c.args.given.now)) (map datum_of (drop i c.args.values.now)) ≡ t ∷ rest =
-        texts_more w c.args.given.now c.args.values.now i e x c.given-test.true c.index-given-place.is less l.1
-        ∙ ap (λ (k : List ℕ). k ∷ rest) (sym (c.as_str.ensures ∙ (c.in_ok-text-in-Some.ensures {u = tt}) w s)) in
+    texts_more w c.args.given.now c.args.values.now i e x c.given-test.true c.index-given-place.is less l.1
+    ∙ ap (λ (k : List ℕ). k ∷ rest) (sym (c.as_str.ensures ∙ (c.in_ok-text-in-Some.ensures {u = tt}) w s)) in
     line_goes somewhere front (string_bytes c.append.new.line) t _ rest _ texts ((c.in_ok-append-in-Some.ensures {u = tt}) somewhere) (c.given.invariant w s)
 
 pub returns-in_err-append-in-Some : goal.returns-in_err-append-in-Some
@@ -38,6 +38,6 @@ returns-in_err-append-in-Some c = λ w s state.
     let less : i < length c.args.values.now = grind (arith, l) in
     let rest = texts_of w (exprs (drop (i + 1) c.args.given.now)) (map datum_of (drop (i + 1) c.args.values.now)) in
     let texts : texts_of w (exprs (drop i c.args.given.now)) (map datum_of (drop i c.args.values.now)) ≡ t ∷ rest =
-        texts_more w c.args.given.now c.args.values.now i e x c.given-test.true c.index-given-place.is less l.1
-        ∙ ap (λ (k : List ℕ). k ∷ rest) (sym (c.as_str.ensures ∙ (c.in_ok-text-in-Some.ensures {u = tt}) w s)) in
+    texts_more w c.args.given.now c.args.values.now i e x c.given-test.true c.index-given-place.is less l.1
+    ∙ ap (λ (k : List ℕ). k ∷ rest) (sym (c.as_str.ensures ∙ (c.in_ok-text-in-Some.ensures {u = tt}) w s)) in
     rw (p.1, p.2) (line_fails state c.in_err-append-in-Some.field-0.0 front t _ rest _ texts ((c.in_err-append-in-Some.ensures {u = tt}) state) (c.given.invariant w s))

@@ -236,8 +236,8 @@ when-returns-then-not-truth_in-clause-gives g t c = λ w s.
     let test = eval call w (expr c.args.test.now) in
     let s1 = state_of c.evaluate.new.run in
     let tested : when test body s0 ≡ taken_if false body s1 =
-        ap (λ (o : Out Datum). after o (λ x s2. taken_if (truth_in x) body s2)) ((c.in_ok-value.ensures {u = tt}).gives w s)
-        ∙ ap (λ (b : Bool). taken_if b body s1) (sym c.truth_in.ensures ∙ c.if-not-truth_in.true) in
+    ap (λ (o : Out Datum). after o (λ x s2. taken_if (truth_in x) body s2)) ((c.in_ok-value.ensures {u = tt}).gives w s)
+    ∙ ap (λ (b : Bool). taken_if b body s1) (sym c.truth_in.ensures ∙ c.if-not-truth_in.true) in
     tested
 
 pub when-returns-clause-gives : goal.when-returns-clause-gives
@@ -248,8 +248,8 @@ when-returns-clause-gives g t c = λ w s.
     let test = eval call w (expr c.args.test.now) in
     let s1 = state_of c.evaluate.new.run in
     let tested : when test body s0 ≡ taken_if true body s1 =
-        ap (λ (o : Out Datum). after o (λ x s2. taken_if (truth_in x) body s2)) ((c.in_ok-value.ensures {u = tt}).gives w s)
-        ∙ ap (λ (b : Bool). taken_if b body s1) (sym c.truth_in.ensures ∙ c.if-not-truth_in.false) in
+    ap (λ (o : Out Datum). after o (λ x s2. taken_if (truth_in x) body s2)) ((c.in_ok-value.ensures {u = tt}).gives w s)
+    ∙ ap (λ (b : Bool). taken_if b body s1) (sym c.truth_in.ensures ∙ c.if-not-truth_in.false) in
     subst (λ (o : Out (Option Flow)). Gives (option_map flow_of) c.always.result (state_of c.always.new.run) o) (sym tested) (c.always.ensures.gives w s)
 
 -- ---- rounds
@@ -287,8 +287,8 @@ while_round-returns-then-not-truth_in-clause-gives g t c = λ w s.
     let test = eval call w (expr c.args.test.now) in
     let s1 = state_of c.evaluate.new.run in
     let tested : while_round test body s0 ≡ round_if false body s1 =
-        ap (λ (o : Out Datum). after o (λ x s2. round_if (truth_in x) body s2)) ((c.in_ok-value.ensures {u = tt}).gives w s)
-        ∙ ap (λ (b : Bool). round_if b body s1) (sym c.truth_in.ensures ∙ c.if-not-truth_in.true) in
+    ap (λ (o : Out Datum). after o (λ x s2. round_if (truth_in x) body s2)) ((c.in_ok-value.ensures {u = tt}).gives w s)
+    ∙ ap (λ (b : Bool). round_if b body s1) (sym c.truth_in.ensures ∙ c.if-not-truth_in.true) in
     tested
 
 pub while_round-returns-in_err-turn-clause-gives : goal.while_round-returns-in_err-turn-clause-gives
@@ -300,8 +300,8 @@ while_round-returns-in_err-turn-clause-gives g t c = λ w s.
     let test = eval call w (expr c.args.test.now) in
     let s1 = state_of c.evaluate.new.run in
     let tested : while_round test body s0 ≡ round_if true body s1 =
-        ap (λ (o : Out Datum). after o (λ x s2. round_if (truth_in x) body s2)) ((c.in_ok-value.ensures {u = tt}).gives w s)
-        ∙ ap (λ (b : Bool). round_if b body s1) (sym c.truth_in.ensures ∙ c.if-not-truth_in.false) in
+    ap (λ (o : Out Datum). after o (λ x s2. round_if (truth_in x) body s2)) ((c.in_ok-value.ensures {u = tt}).gives w s)
+    ∙ ap (λ (b : Bool). round_if b body s1) (sym c.truth_in.ensures ∙ c.if-not-truth_in.false) in
     let why = c.in_err-turn.field-0.0 in
     rw (p.1, p.2) (subst (λ (o : Out Round). Fails why o) (sym tested) (fails_then why (turn s1) (λ _ s3. after (body s3) ended) (c.in_err-turn.ensures {u = tt}).gives))
 
@@ -314,11 +314,11 @@ while_round-returns-in_err-execute_all-clause-gives g t c = λ w s.
     let test = eval call w (expr c.args.test.now) in
     let s1 = state_of c.evaluate.new.run in
     let tested : while_round test body s0 ≡ round_if true body s1 =
-        ap (λ (o : Out Datum). after o (λ x s2. round_if (truth_in x) body s2)) ((c.in_ok-value.ensures {u = tt}).gives w s)
-        ∙ ap (λ (b : Bool). round_if b body s1) (sym c.truth_in.ensures ∙ c.if-not-truth_in.false) in
+    ap (λ (o : Out Datum). after o (λ x s2. round_if (truth_in x) body s2)) ((c.in_ok-value.ensures {u = tt}).gives w s)
+    ∙ ap (λ (b : Bool). round_if b body s1) (sym c.truth_in.ensures ∙ c.if-not-truth_in.false) in
     let s2 = state_of c.turn.new.run in
     let begun : while_round test body s0 ≡ after (body s2) ended =
-        tested ∙ ap (λ (o : Out (Unit {0})). after o (λ _ s3. after (body s3) ended)) (c.in_ok-turn.ensures {u = tt}).gives in
+    tested ∙ ap (λ (o : Out (Unit {0})). after o (λ _ s3. after (body s3) ended)) (c.in_ok-turn.ensures {u = tt}).gives in
     let why = c.in_err-execute_all.field-0.0 in
     rw (p.1, p.2) (subst (λ (o : Out Round). Fails why o) (sym begun) (fails_then why (body s2) ended ((c.in_err-execute_all.ensures {u = tt}).gives w s)))
 
@@ -330,11 +330,11 @@ while_round-returns-in-On-clause-gives g t c = λ w s.
     let test = eval call w (expr c.args.test.now) in
     let s1 = state_of c.evaluate.new.run in
     let tested : while_round test body s0 ≡ round_if true body s1 =
-        ap (λ (o : Out Datum). after o (λ x s2. round_if (truth_in x) body s2)) ((c.in_ok-value.ensures {u = tt}).gives w s)
-        ∙ ap (λ (b : Bool). round_if b body s1) (sym c.truth_in.ensures ∙ c.if-not-truth_in.false) in
+    ap (λ (o : Out Datum). after o (λ x s2. round_if (truth_in x) body s2)) ((c.in_ok-value.ensures {u = tt}).gives w s)
+    ∙ ap (λ (b : Bool). round_if b body s1) (sym c.truth_in.ensures ∙ c.if-not-truth_in.false) in
     let s2 = state_of c.turn.new.run in
     let begun : while_round test body s0 ≡ after (body s2) ended =
-        tested ∙ ap (λ (o : Out (Unit {0})). after o (λ _ s3. after (body s3) ended)) (c.in_ok-turn.ensures {u = tt}).gives in
+    tested ∙ ap (λ (o : Out (Unit {0})). after o (λ _ s3. after (body s3) ended)) (c.in_ok-turn.ensures {u = tt}).gives in
     let s3 = state_of c.execute_all.new.run in
     begun ∙ ap (λ (o : Out Flow). after o ended) ((c.in_ok-execute_all.ensures {u = tt}).gives w s) ∙ ap (λ (f : FlowTree). ended (flow_of f) s3) c.in-On.is
 
@@ -346,11 +346,11 @@ while_round-returns-clause-gives g t c = λ w s.
     let test = eval call w (expr c.args.test.now) in
     let s1 = state_of c.evaluate.new.run in
     let tested : while_round test body s0 ≡ round_if true body s1 =
-        ap (λ (o : Out Datum). after o (λ x s2. round_if (truth_in x) body s2)) ((c.in_ok-value.ensures {u = tt}).gives w s)
-        ∙ ap (λ (b : Bool). round_if b body s1) (sym c.truth_in.ensures ∙ c.if-not-truth_in.false) in
+    ap (λ (o : Out Datum). after o (λ x s2. round_if (truth_in x) body s2)) ((c.in_ok-value.ensures {u = tt}).gives w s)
+    ∙ ap (λ (b : Bool). round_if b body s1) (sym c.truth_in.ensures ∙ c.if-not-truth_in.false) in
     let s2 = state_of c.turn.new.run in
     let begun : while_round test body s0 ≡ after (body s2) ended =
-        tested ∙ ap (λ (o : Out (Unit {0})). after o (λ _ s3. after (body s3) ended)) (c.in_ok-turn.ensures {u = tt}).gives in
+    tested ∙ ap (λ (o : Out (Unit {0})). after o (λ _ s3. after (body s3) ended)) (c.in_ok-turn.ensures {u = tt}).gives in
     let s3 = state_of c.execute_all.new.run in
     begun ∙ ap (λ (o : Out Flow). after o ended) ((c.in_ok-execute_all.ensures {u = tt}).gives w s) ∙ ap (λ (f : FlowTree). ended (flow_of f) s3) c.in-Back.is
 
@@ -363,7 +363,7 @@ until_round-returns-in_err-execute_all-clause-gives g t c = λ w s.
     let test = eval call w (expr c.args.test.now) in
     let s1 = state_of c.turn.new.run in
     let begun : until_round test body s0 ≡ after (body s1) (until test) =
-        ap (λ (o : Out (Unit {0})). after o (λ _ s2. after (body s2) (until test))) (c.in_ok-turn.ensures {u = tt}).gives in
+    ap (λ (o : Out (Unit {0})). after o (λ _ s2. after (body s2) (until test))) (c.in_ok-turn.ensures {u = tt}).gives in
     let why = c.in_err-execute_all.field-0.0 in
     rw (p.1, p.2) (subst (λ (o : Out Round). Fails why o) (sym begun) (fails_then why (body s1) (until test) ((c.in_err-execute_all.ensures {u = tt}).gives w s)))
 
@@ -375,10 +375,10 @@ until_round-returns-in-Back-clause-gives g t c = λ w s.
     let test = eval call w (expr c.args.test.now) in
     let s1 = state_of c.turn.new.run in
     let begun : until_round test body s0 ≡ after (body s1) (until test) =
-        ap (λ (o : Out (Unit {0})). after o (λ _ s2. after (body s2) (until test))) (c.in_ok-turn.ensures {u = tt}).gives in
+    ap (λ (o : Out (Unit {0})). after o (λ _ s2. after (body s2) (until test))) (c.in_ok-turn.ensures {u = tt}).gives in
     let s2 = state_of c.execute_all.new.run in
     let ran : until_round test body s0 ≡ until test (flow_of (flow.Back c.in-Back.value)) s2 =
-        begun ∙ ap (λ (o : Out Flow). after o (until test)) ((c.in_ok-execute_all.ensures {u = tt}).gives w s) ∙ ap (λ (f : FlowTree). until test (flow_of f) s2) c.in-Back.is in
+    begun ∙ ap (λ (o : Out Flow). after o (until test)) ((c.in_ok-execute_all.ensures {u = tt}).gives w s) ∙ ap (λ (f : FlowTree). until test (flow_of f) s2) c.in-Back.is in
     ran
 
 pub until_round-returns-in_err-value-clause-gives : goal.until_round-returns-in_err-value-clause-gives
@@ -390,10 +390,10 @@ until_round-returns-in_err-value-clause-gives g t c = λ w s.
     let test = eval call w (expr c.args.test.now) in
     let s1 = state_of c.turn.new.run in
     let begun : until_round test body s0 ≡ after (body s1) (until test) =
-        ap (λ (o : Out (Unit {0})). after o (λ _ s2. after (body s2) (until test))) (c.in_ok-turn.ensures {u = tt}).gives in
+    ap (λ (o : Out (Unit {0})). after o (λ _ s2. after (body s2) (until test))) (c.in_ok-turn.ensures {u = tt}).gives in
     let s2 = state_of c.execute_all.new.run in
     let ran : until_round test body s0 ≡ until test On s2 =
-        begun ∙ ap (λ (o : Out Flow). after o (until test)) ((c.in_ok-execute_all.ensures {u = tt}).gives w s) ∙ ap (λ (f : FlowTree). until test (flow_of f) s2) c.in-On.is in
+    begun ∙ ap (λ (o : Out Flow). after o (until test)) ((c.in_ok-execute_all.ensures {u = tt}).gives w s) ∙ ap (λ (f : FlowTree). until test (flow_of f) s2) c.in-On.is in
     let why = c.in_err-value.field-0.0 in
     rw (p.1, p.2) (subst (λ (o : Out Round). Fails why o) (sym ran) (fails_then why (test s2) (λ x s4. Goes (cond (truth_in x) Over Again) s4) ((c.in_err-value.ensures {u = tt}).gives w s)))
 
@@ -405,10 +405,10 @@ until_round-returns-then-truth_in-clause-gives g t c = λ w s.
     let test = eval call w (expr c.args.test.now) in
     let s1 = state_of c.turn.new.run in
     let begun : until_round test body s0 ≡ after (body s1) (until test) =
-        ap (λ (o : Out (Unit {0})). after o (λ _ s2. after (body s2) (until test))) (c.in_ok-turn.ensures {u = tt}).gives in
+    ap (λ (o : Out (Unit {0})). after o (λ _ s2. after (body s2) (until test))) (c.in_ok-turn.ensures {u = tt}).gives in
     let s2 = state_of c.execute_all.new.run in
     let ran : until_round test body s0 ≡ until test On s2 =
-        begun ∙ ap (λ (o : Out Flow). after o (until test)) ((c.in_ok-execute_all.ensures {u = tt}).gives w s) ∙ ap (λ (f : FlowTree). until test (flow_of f) s2) c.in-On.is in
+    begun ∙ ap (λ (o : Out Flow). after o (until test)) ((c.in_ok-execute_all.ensures {u = tt}).gives w s) ∙ ap (λ (f : FlowTree). until test (flow_of f) s2) c.in-On.is in
     let s3 = state_of c.evaluate.new.run in
     ran ∙ ap (λ (o : Out Datum). after o (λ x s4. Goes (cond (truth_in x) Over Again) s4)) ((c.in_ok-value.ensures {u = tt}).gives w s)
     ∙ ap (λ (b : Bool). Goes (cond b Over Again) s3) (sym c.truth_in.ensures ∙ c.if-truth_in.true)
@@ -421,10 +421,10 @@ until_round-returns-clause-gives g t c = λ w s.
     let test = eval call w (expr c.args.test.now) in
     let s1 = state_of c.turn.new.run in
     let begun : until_round test body s0 ≡ after (body s1) (until test) =
-        ap (λ (o : Out (Unit {0})). after o (λ _ s2. after (body s2) (until test))) (c.in_ok-turn.ensures {u = tt}).gives in
+    ap (λ (o : Out (Unit {0})). after o (λ _ s2. after (body s2) (until test))) (c.in_ok-turn.ensures {u = tt}).gives in
     let s2 = state_of c.execute_all.new.run in
     let ran : until_round test body s0 ≡ until test On s2 =
-        begun ∙ ap (λ (o : Out Flow). after o (until test)) ((c.in_ok-execute_all.ensures {u = tt}).gives w s) ∙ ap (λ (f : FlowTree). until test (flow_of f) s2) c.in-On.is in
+    begun ∙ ap (λ (o : Out Flow). after o (until test)) ((c.in_ok-execute_all.ensures {u = tt}).gives w s) ∙ ap (λ (f : FlowTree). until test (flow_of f) s2) c.in-On.is in
     let s3 = state_of c.evaluate.new.run in
     ran ∙ ap (λ (o : Out Datum). after o (λ x s4. Goes (cond (truth_in x) Over Again) s4)) ((c.in_ok-value.ensures {u = tt}).gives w s)
     ∙ ap (λ (b : Bool). Goes (cond b Over Again) s3) (sym c.truth_in.ensures ∙ c.if-truth_in.false)
@@ -471,8 +471,8 @@ counted_round-returns-in_err-flow-clause-gives g t c = λ w s.
     let s2 = state_of c.add_name.new.run in
     let next = λ (f : Flow) (s3 : State). Goes f (without_name s3) in
     let begun : counted_round i body s0 ≡ after (body s2) next =
-        ap (λ (o : Out (Unit {0})). after o (λ _ s3. after (body (number s3)) next)) (c.in_ok-turn.ensures {u = tt}).gives
-        ∙ ap (λ (s3 : State). after (body s3) next) (sym ((c.in_ok-add_name.ensures {u = tt}).added ∙ ap (λ (z : ℤ). with_name (datum.int z) s1) (to_z-of_z c.ranges.number))) in
+    ap (λ (o : Out (Unit {0})). after o (λ _ s3. after (body (number s3)) next)) (c.in_ok-turn.ensures {u = tt}).gives
+    ∙ ap (λ (s3 : State). after (body s3) next) (sym ((c.in_ok-add_name.ensures {u = tt}).added ∙ ap (λ (z : ℤ). with_name (datum.int z) s1) (to_z-of_z c.ranges.number))) in
     let why = c.in_err-flow.field-0.0 in
     rw (p.1, p.2) (subst (λ (o : Out Flow). Fails why o) (sym begun) (fails_then why (body s2) next ((c.in_err-flow.ensures {u = tt}).gives w s)))
 
@@ -487,8 +487,8 @@ counted_round-returns-clause-gives g t c = λ w s.
     let s2 = state_of c.add_name.new.run in
     let next = λ (f : Flow) (s3 : State). Goes f (without_name s3) in
     let begun : counted_round i body s0 ≡ after (body s2) next =
-        ap (λ (o : Out (Unit {0})). after o (λ _ s3. after (body (number s3)) next)) (c.in_ok-turn.ensures {u = tt}).gives
-        ∙ ap (λ (s3 : State). after (body s3) next) (sym ((c.in_ok-add_name.ensures {u = tt}).added ∙ ap (λ (z : ℤ). with_name (datum.int z) s1) (to_z-of_z c.ranges.number))) in
+    ap (λ (o : Out (Unit {0})). after o (λ _ s3. after (body (number s3)) next)) (c.in_ok-turn.ensures {u = tt}).gives
+    ∙ ap (λ (s3 : State). after (body s3) next) (sym ((c.in_ok-add_name.ensures {u = tt}).added ∙ ap (λ (z : ℤ). with_name (datum.int z) s1) (to_z-of_z c.ranges.number))) in
     begun ∙ ap (λ (o : Out Flow). after o next) ((c.in_ok-flow.ensures {u = tt}).gives w s)
     ∙ ap (λ (s3 : State). Goes (flow_of c.in_ok-flow.flow) s3) (sym c.drop_name.ensures.gone)
 
@@ -545,11 +545,11 @@ between-returns-in_err-flow-clause-gives g t c = λ w s.
     let from = to_z w64 (of_z w64 c.integer_in-from.result) in
     let to = to_z w64 (of_z w64 c.integer_in-to.result) in
     let reached : between low high body s0 ≡ count (rounds from to) from body s2 =
-        lows ∙ highs
-        ∙ ap (λ (z : ℤ). count (rounds z (integer_in b)) z body s2) (sym (to_z-of_z from_fits ∙ c.integer_in-from.ensures))
-        ∙ ap (λ (z : ℤ). count (rounds from z) from body s2) (sym (to_z-of_z to_fits ∙ c.integer_in-to.ensures)) in
+    lows ∙ highs
+    ∙ ap (λ (z : ℤ). count (rounds z (integer_in b)) z body s2) (sym (to_z-of_z from_fits ∙ c.integer_in-from.ensures))
+    ∙ ap (λ (z : ℤ). count (rounds from z) from body s2) (sym (to_z-of_z to_fits ∙ c.integer_in-to.ensures)) in
     let inner = c.in_loops.ensures w s n (ap lent_texts c.deref.ensures.value ∙ c.in_ok-names.ensures {u = tt}
-        ∙ ap (λ (k : List ℕ). k ∷ lent_texts c.args.site.loops.now) c.as_str.ensures) in
+    ∙ ap (λ (k : List ℕ). k ∷ lent_texts c.args.site.loops.now) c.as_str.ensures) in
     let why = c.in_err-flow.field-0.0 in
     rw (p.1, p.2) (subst (λ (o : Out Flow). Fails why o) (sym reached) ((c.in_err-flow.ensures {u = tt}).gives (with_loop w n) inner))
 
@@ -572,9 +572,9 @@ between-returns-clause-gives g t c = λ w s.
     let from = to_z w64 (of_z w64 c.integer_in-from.result) in
     let to = to_z w64 (of_z w64 c.integer_in-to.result) in
     let reached : between low high body s0 ≡ count (rounds from to) from body s2 =
-        lows ∙ highs
-        ∙ ap (λ (z : ℤ). count (rounds z (integer_in b)) z body s2) (sym (to_z-of_z from_fits ∙ c.integer_in-from.ensures))
-        ∙ ap (λ (z : ℤ). count (rounds from z) from body s2) (sym (to_z-of_z to_fits ∙ c.integer_in-to.ensures)) in
+    lows ∙ highs
+    ∙ ap (λ (z : ℤ). count (rounds z (integer_in b)) z body s2) (sym (to_z-of_z from_fits ∙ c.integer_in-from.ensures))
+    ∙ ap (λ (z : ℤ). count (rounds from z) from body s2) (sym (to_z-of_z to_fits ∙ c.integer_in-to.ensures)) in
     let inner = c.in_loops.ensures w s n (ap lent_texts c.deref.ensures.value ∙ c.in_ok-names.ensures {u = tt}
-        ∙ ap (λ (k : List ℕ). k ∷ lent_texts c.args.site.loops.now) c.as_str.ensures) in
+    ∙ ap (λ (k : List ℕ). k ∷ lent_texts c.args.site.loops.now) c.as_str.ensures) in
     reached ∙ (c.in_ok-flow.ensures {u = tt}).gives (with_loop w n) inner
