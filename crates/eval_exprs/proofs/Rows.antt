@@ -1,10 +1,18 @@
 -- What is evaluated in a row, one further; and stops of what comes first.
-use Rattle.std.proofs.Common.{◌≡◌, ℕ, zero, suc, ◌+◌, List, [], ◌∷◌, ◌++◌, drop, refl, sym, ap, ◌∙◌, subst, arith, append_assoc}
+use Rattle.std.proofs.Common.{◌⊎◌, inl, inr, Result, false, ◌≡◌, ℕ, zero, suc, ◌+◌, List, [], ◌∷◌, ◌++◌, drop, refl, sym, ap, ◌∙◌, subst, arith, append_assoc}
 use Rattle.std.proofs.lemmas.List.{append-nil}
-use Rattle.meaning_rules.specs.States.{State, Out, Goes, Stops, after}
+use Rattle.orca_tree.specs.declared.tree.Mode.{Mode}
+use Rattle.orca_tree.specs.declared.tree.Mode.TheVariants as mode
+use Rattle.orca_tree.specs.declared.tree.Operator.{Operator}
+use Rattle.value_core.specs.Datum.{Datum}
+use Rattle.meaning_rules.specs.States.{State, Out, Goes, Stops, after, gives}
+use Rattle.meaning_rules.specs.Operators.{applied, decides}
+use Rattle.meaning_rules.specs.Variables.{Target}
+use Rattle.meaning_rules.specs.Calls.{Given, Passed, as_passed}
+use Rattle.meaning_rules.specs.Expressions.{joined_with, linked}
 use Rattle.eval_variables.specs.declared.stop.Stop.{Stop}
 use Rattle.eval_variables.specs.declared.stop.Stop.TheVariants as stop
-use Rattle.eval_variables.specs.Gives.{Fails}
+use Rattle.eval_variables.specs.Gives.{Fails, Gives}
 
 -- ---- one evaluation behind the other
 
@@ -13,6 +21,21 @@ fails_then stop.NoMemory o next h = tt
 fails_then (stop.Needs action) o next h = ap (λ q. after q next) h
 fails_then (stop.Faults fault) o next h = ap (λ q. after q next) h
 fails_then stop.Busy o next h = ap (λ q. after q next) h
+
+pub goes_then : {A B X : Type 0} (view : X → B) (result : Result X Stop) (back : State) (o : Out A) (next : A → State → Out B) (x : A) (s : State) →
+    o ≡ Goes x s → Gives view result back (next x s) → Gives view result back (after o next)
+goes_then view result back o next x s goes said = subst (λ q. Gives view result back q) (sym (ap (λ q. after q next) goes)) said
+
+-- the right operand is asked where the left one doesn't decide
+pub right_asked : (operator : Operator) (left : Datum) (right : State → Out Datum) (s : State) → decides operator left ≡ false →
+    linked operator left right s ≡ after (right s) (λ x s1. gives (applied operator left x) s1)
+right_asked operator left right s is = ap (λ b. joined_with b operator left right s) is
+
+-- a value is given where no place is lent
+pub value_given : (m : Mode) (value : State → Out Datum) (place : State → Out Target) (s : State) → (m ≡ mode.Value) ⊎ (m ≡ mode.Shared) →
+    as_passed m value place s ≡ after (value s) (λ x s1. Goes (Given x) s1)
+value_given m value place s (inl is) = ap (λ k. as_passed k value place s) is
+value_given m value place s (inr is) = ap (λ k. as_passed k value place s) is
 
 -- what is left comes to the same, and its first evaluation goes on, or stops
 pub goes_first : {A B : Type 0} (o : Out A) (next : A → State → Out B) (x : A) (s : State) (left all : Out B) → left ≡ after o next → o ≡ Goes x s → left ≡ all → next x s ≡ all
