@@ -15,6 +15,7 @@ mod law;
 mod lists;
 mod member;
 mod notes;
+mod parts;
 mod received;
 mod receiver;
 mod reset;

@@ -10,7 +10,8 @@ ghost use Rattle.history_buffer.specs.Slots.{slot_at, slot_copied};
 ghost use Rattle.history_buffer.specs.Window.{last_number};
 
 use crate::last_calls::LastCalls;
-use crate::lists::{Copied, all_answered, copy_bodies, copy_list, no_acks, opening_heard};
+use crate::lists::Copied;
+use crate::parts::Places;
 use group_packets::Join;
 use history_buffer::{History, Slot};
 use orca_base::{Body, Items, NoMemory};
@@ -80,13 +81,15 @@ impl<B: Body> Member<B> {
         ensures { IfOk result
             (λ member. StandsFor (group_of B.id_of B.length_of config.nodes config.resilience) me member opening_member) }
     {
+        let places = Places::opening(alloc, config.nodes)?;
+        let window = History::new(alloc)?;
         Ok(Member {
             config,
             me,
             installed: 0,
             promised: 0,
-            answered: all_answered(alloc, config.nodes)?,
-            window: History::new(alloc)?,
+            answered: places.answered,
+            window,
             accepted: 0,
             applied: 0,
             pending: Vec::new(alloc),
@@ -95,8 +98,8 @@ impl<B: Body> Member<B> {
             nacked: 0,
             reported: 0,
             outside: false,
-            acked: no_acks(alloc, config.nodes)?,
-            heard: opening_heard(alloc, config.nodes)?,
+            acked: places.acked,
+            heard: places.heard,
             waiting: Vec::new(alloc),
             answers: Vec::new(alloc),
             last: LastCalls::new(alloc),
@@ -110,27 +113,30 @@ impl<B: Body> Member<B> {
         ensures member { IfOk result (λ copied. IsMember self.now → IsMember copied) }
         ensures numbers { IfOk result (HasNumbersOf self.now) }
     {
+        let places = self.copied_places(alloc)?;
+        let messages = self.copied_messages(alloc)?;
+        let entries = self.copied_entries(alloc)?;
         Ok(Member {
             config: self.config,
             me: self.me,
             installed: self.installed,
             promised: self.promised,
-            answered: Vec::from_slice(alloc, self.answered.as_slice())?,
-            window: self.window.copy(alloc)?,
+            answered: places.answered,
+            window: entries.window,
             accepted: self.accepted,
             applied: self.applied,
-            pending: copy_bodies(alloc, self.pending.as_slice())?,
-            bodies: copy_list(alloc, self.bodies.as_slice())?,
+            pending: messages.pending,
+            bodies: messages.bodies,
             silent: self.silent,
             nacked: self.nacked,
             reported: self.reported,
             outside: self.outside,
-            acked: Vec::from_slice(alloc, self.acked.as_slice())?,
-            heard: Vec::from_slice(alloc, self.heard.as_slice())?,
-            waiting: copy_list(alloc, self.waiting.as_slice())?,
-            answers: copy_list(alloc, self.answers.as_slice())?,
-            last: self.last.copy(alloc)?,
-            done: self.done.copy(alloc)?,
+            acked: places.acked,
+            heard: places.heard,
+            waiting: messages.waiting,
+            answers: messages.answers,
+            last: entries.last,
+            done: entries.done,
         })
     }
 

@@ -8,7 +8,7 @@ ghost use Rattle.group_rules.specs.Member.{purged};
 ghost use Rattle.group_rules.specs.Sequencer.{finish, order, order_all_waiting, order_waiting, ordered};
 
 use crate::member::{Member, Waiting};
-use crate::sends::{Sends, tell_others};
+use crate::sends::Sends;
 use group_packets::Packet;
 use orca_base::{Body, ENTRIES_BEFORE_PURGE, NoMemory, WINDOW};
 use std::alloc::Global;
@@ -132,7 +132,7 @@ impl<B: Body> Member<B> {
         let copied = message.copy(alloc)?;
         self.number(message)?;
         let packet = self.numbering(by_name, copied);
-        tell_others(alloc, sends, self.config.nodes, self.me, &packet)
+        self.tell(alloc, sends, packet)
     }
 
     // A message that waited is ordered, unless the log has it by now.
