@@ -20,7 +20,6 @@ use Rattle.world_rules.specs.Mail.{Carried, is_whole, receiver_of}
 use Rattle.world_rules.specs.Nodes.{Node, NodeWork, idle, opening_node}
 use Rattle.world_rules.specs.Parts.{acts, computes, performs_all, receives, suspects}
 use Rattle.world_rules.specs.Played.{Played, halted, newborn}
-use Rattle.world_rules.specs.Played.Stage.{Computing}
 use Rattle.world_rules.specs.Processes.{first_process}
 use Rattle.world_rules.specs.Steps.{AtWork, Known as Given, Leads, Next, Possible, Replays, comes_whole, happens, lives_in}
 use Rattle.world_rules.specs.Worlds.{World, agreed, home_of, opening_world}
