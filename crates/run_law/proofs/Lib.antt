@@ -8,5 +8,7 @@ pub mod Growing
 pub mod Adding
 pub mod Events
 pub mod Earlier
+pub mod Turning
+pub mod Spent
 pub mod Bursts
 pub mod Replies

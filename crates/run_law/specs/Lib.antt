@@ -4,3 +4,4 @@ pub mod Limits
 pub mod Growing
 pub mod Earlier
 pub mod Replies
+pub mod Spent

@@ -11,6 +11,7 @@ ghost use Rattle.run_law.specs.Limits.{AllStopBefore};
 ghost use Rattle.run_law.specs.Parts.{AllFitApart, AllTicksApart, InAllParts};
 ghost use Rattle.run_law.specs.Replies.{RepliesByLines, RepliesOffBooks};
 ghost use Rattle.run_law.specs.Sending.{SendsOwn};
+ghost use Rattle.run_law.specs.Spent.{AllSpentBusy};
 
 use group_law::agreement_law;
 use group_rules::wire_law;
@@ -67,6 +68,7 @@ pub fn limits_stop<P: Processor>(machine: &P)
 ///   limit.
 /// - `earlier`: of each process that computes, `BurstFits` of `node_rules` holds on what its member's objects were at each place from the
 ///   process's own on, up to what its member applied.
+/// - `spent`: a process that computes with all the turns that there may be is busy with these, whether the run is going or not.
 pub fn run_law<P: Processor>(machine: &P)
     ensures grow { EventsGrow (P.performs machine.now) (P.computes machine.now) }
     ensures again { AllApplyAgain (P.performs machine.now) (P.computes machine.now)
@@ -83,6 +85,7 @@ pub fn run_law<P: Processor>(machine: &P)
           text = P.fits_text machine.now;
           reply = P.fits_reply machine.now;
         }) }
+    ensures spent { AllSpentBusy (P.performs machine.now) (P.computes machine.now) }
 {
     agreement_law::<Message>();
     wire_law::<Message, Reply>();

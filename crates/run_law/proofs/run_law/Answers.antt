@@ -8,6 +8,7 @@ use Rattle.node_rules.specs.Conditions.{Fitness}
 use Rattle.run_law.proofs.Bursts.{bursts_earlier}
 use Rattle.run_law.proofs.Earlier.{apply_again, begins_list, list_small, steps_few}
 use Rattle.run_law.proofs.Events.{Laws, event_grows, fits}
+use Rattle.run_law.proofs.Spent.{spent_busy}
 use Rattle.run_law.proofs.run_law.Goals as goal
 
 pub returns : goal.returns
@@ -75,4 +76,6 @@ returns g c =
       earlier = λ f same_p same_q settings steps w replays going.
           let row = (c.standings_mean.ensures f w).says Going going in
           bursts_earlier f fitness (laws f same_p same_q settings) steps w replays row.0.turns;
+      spent = λ f same_p same_q settings steps w replays.
+          spent_busy f fitness (laws f same_p same_q settings) steps w settings.a_turn replays;
     }
