@@ -19,6 +19,3 @@ pub use ends::{NodeEnd, ProcessEnd, ProcessStanding, RunEnd};
 pub use step::StepError;
 pub use world::World;
 pub use world_rules::{Event, PlaceNote, Settings, Standing, Step};
-
-#[cfg(test)]
-mod tests;

@@ -1,5 +1,5 @@
 -- Tests of all numbers below one, as a loop comes to know them.
-use Rattle.std.proofs.Common.{◌≡◌, ◌<◌, ◌≤◌, ◌+◌, ◌-◌, ◌∙◌, ◌&&◌, ◌||◌, not, ℕ, zero, suc, Bool, true, false, ap, sym, subst, refl, arith}
+use Rattle.std.proofs.Common.{◌≡◌, ◌<◌, ◌≤◌, ◌+◌, ◌-◌, ◌∙◌, ◌&&◌, ◌||◌, ℕ, zero, suc, Bool, true, false, ap, sym, subst, refl, arith}
 use Rattle.world_rules.specs.Standings.{all_below, any_below}
 
 or_right : (a b : Bool) → b ≡ true → (a || b) ≡ true

@@ -1,5 +1,5 @@
 -- What is kept of a run, with more behind it.
-use Rattle.std.proofs.Common.{◌≡◌, ◌++◌, ◌∷◌, [], ◌∙◌, List, ap, sym, refl}
+use Rattle.std.proofs.Common.{◌≡◌, ◌++◌, ◌∷◌, [], ◌∙◌, List, ap, sym}
 use Rattle.std.proofs.lemmas.List.{append-nil, append_assoc}
 use Rattle.book_law.specs.declared.placing.Placed.{Placed}
 use Rattle.world_parts.specs.Recorded.{of_piece, of_pieces}

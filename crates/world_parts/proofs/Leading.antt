@@ -1,5 +1,5 @@
 -- The member that applied most entries has the list of the run.
-use Rattle.std.proofs.Common.{◌≡◌, ◌≤◌, ◌<◌, ◌+◌, ◌∙◌, ℕ, suc, zero, max, Bool, true, false, List, [], ◌∷◌, Option, Some, get_or, slice_get, ap, sym, subst, refl, arith, map, length, take, drop, ltb, if◌then◌else◌}
+use Rattle.std.proofs.Common.{◌≡◌, ◌≤◌, ◌<◌, ◌+◌, ◌∙◌, ℕ, suc, zero, max, Bool, List, [], ◌∷◌, Some, get_or, slice_get, ap, sym, subst, refl, arith, map, length, take, if◌then◌else◌}
 use Rattle.std.proofs.lemmas.Bool.{le-ltb, lt-ltb}
 use Rattle.std.proofs.lemmas.Option.{slice_get_read}
 use Rattle.std.proofs.lemmas.List.{length-drop, length-take, length-take-le, take_all}

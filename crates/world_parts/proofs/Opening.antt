@@ -1,5 +1,5 @@
 -- Before the first event the parts of a run are the opening world.
-use Rattle.std.proofs.Common.{◌≡◌, ◌≤◌, ◌<◌, ◌+◌, ◌∙◌, ◌⊎◌, inl, inr, ⊎_elim, ℕ, zero, suc, Bool, true, false, List, [], ◌∷◌, ◌++◌, Option, Some, None, slice_get, slice_index_or, is_some, cond, replicate, ap, sym, subst, refl, arith, map, length}
+use Rattle.std.proofs.Common.{◌≡◌, ◌∙◌, ⊎_elim, ℕ, zero, suc, Bool, true, List, [], ◌∷◌, ◌++◌, Option, Some, None, slice_get, slice_index_or, is_some, cond, replicate, ap, sym, subst, refl, arith, map, length}
 use Rattle.std.proofs.lemmas.List.{length_push}
 use Rattle.book_law.proofs.Lists.{at_push}
 use Rattle.book_law.proofs.Sorting.{performed_none}
@@ -10,7 +10,7 @@ use Rattle.value_core.specs.declared.message.Message.{Message}
 use Rattle.world_rules.specs.Frame.{AreSettings, Frame}
 use Rattle.world_rules.specs.Nodes.{opening_node}
 use Rattle.world_rules.specs.Steps.{Replays}
-use Rattle.world_rules.specs.Worlds.{World, agreed, longer_of, longest, opening_world, singles_in}
+use Rattle.world_rules.specs.Worlds.{agreed, longer_of, longest, opening_world, singles_in}
 use Rattle.node_core.specs.Pieces.{resident_at}
 use Rattle.node_core.specs.Shown.{Left, Stood}
 use Rattle.node_core.specs.Stands.{StandsAs}
@@ -18,9 +18,8 @@ use Rattle.node_core.specs.declared.node.Node.{Node}
 use Rattle.node_core.specs.declared.resident.Resident.{Resident}
 use Rattle.world_parts.proofs.Outs.{seen_out}
 use Rattle.world_parts.specs.Opening.{AreOpening}
-use Rattle.world_parts.specs.Recorded.{Recorded}
 use Rattle.world_parts.specs.Seen.{all_outs, outs, tasks_out}
-use Rattle.world_parts.specs.Standing.{HasNumbers, IsWorld, Laws, Stands, out_of, outs_of, seen_of}
+use Rattle.world_parts.specs.Standing.{HasNumbers, Laws, Stands, out_of, outs_of, seen_of}
 use Rattle.world_parts.specs.declared.parts.Parts.{Parts}
 
 -- ---- laws

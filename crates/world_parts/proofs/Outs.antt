@@ -2,20 +2,17 @@
 use Rattle.std.proofs.Common.{◌≡◌, ◌≤◌, ◌<◌, ◌+◌, ◌*◌, ◌^◌, ◌∙◌, ℕ, zero, suc, Bool, true, false, List, [], ◌∷◌, Option, Some, None, is_some, option_map, slice_get, slice_index_or, get_or, take, cond, ap, sym, subst, refl, arith, map, length}
 use Rattle.std.proofs.Math.ListN.{get_or-map}
 use Rattle.std.proofs.lemmas.List.{take_all}
-use Rattle.std.proofs.lemmas.Option.{slice_get_read}
 use Rattle.orca_base.specs.declared.limits.TheConstants.{NODES}
 use Rattle.object_manager.specs.After.{Copied}
 use Rattle.object_manager.specs.Limits.{most_processes}
-use Rattle.world_facts.specs.Processes.{ProcessesStand}
 use Rattle.world_rules.specs.Frame.{Frame}
 use Rattle.world_rules.specs.Played.{Played}
-use Rattle.world_rules.specs.Worlds.{World}
 use Rattle.node_core.specs.Pieces.{resident_at}
 use Rattle.node_core.specs.Shown.{IsPlayedIf, Left, Stood}
 use Rattle.node_core.specs.declared.node.Node.{Node}
 use Rattle.node_core.specs.declared.resident.Resident.{Resident}
 use Rattle.world_parts.specs.Seen.{Out, all_outs, is_out, outs}
-use Rattle.world_parts.specs.Standing.{IsWorld, Stands, has_out, out_of, outs_of, seen_of}
+use Rattle.world_parts.specs.Standing.{Stands, has_out, out_of, outs_of, seen_of}
 use Rattle.world_parts.specs.declared.parts.Parts.{Parts}
 
 -- ---- at a member

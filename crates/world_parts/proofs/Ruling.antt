@@ -1,38 +1,35 @@
 -- What single calls tell of a member or a process is what the table of standings reads.
-use Rattle.std.proofs.Common.{◌≡◌, ◌≤◌, ◌<◌, ◌+◌, ◌∙◌, ◌&&◌, ◌||◌, ◌==◌, ◌-◌, ◌^◌, not, min, ℕ, zero, suc, Bool, true, false, cond, List, Option, Some, None, slice_get, ap, sym, subst, refl, arith, length, leb, ltb}
+use Rattle.std.proofs.Common.{◌≡◌, ◌≤◌, ◌<◌, ◌+◌, ◌∙◌, ◌&&◌, ◌-◌, ◌^◌, not, min, ℕ, zero, suc, Bool, true, false, cond, Option, Some, None, slice_get, ap, sym, subst, refl, arith, length, leb}
 use Rattle.std.proofs.lemmas.Bool.{le-leb, lt-leb, lt-ltb}
-use Rattle.orca_base.specs.declared.ids.ObjectId.{ObjectId}
 use Rattle.orca_base.specs.declared.limits.TheConstants.{HISTORY_LINES, NODES}
 use Rattle.orca_base.specs.declared.what.What.{What}
 use Rattle.orca_base.specs.declared.what.What.TheVariants.{HistoryLines}
-use Rattle.group_rules.specs.Member.{leads}
 use Rattle.group_member.specs.Laws.{EntryLaw}
 use Rattle.group_rules.specs.Sets.{count, entry_at}
 use Rattle.history_buffer.specs.Slots.{slot_at, slot_of}
 use Rattle.history_buffer.specs.declared.history.Slot.{Slot}
-use Rattle.history_buffer.specs.declared.history.Slot.TheVariants.{Found, NotYet, Purged}
+use Rattle.history_buffer.specs.declared.history.Slot.TheVariants.{Found, Purged}
 use Rattle.node_rules.specs.Moments.{IsDue}
 use Rattle.run_law.specs.Limits.{StopsBefore, limit_of}
 use Rattle.value_core.specs.declared.action.Reply.{Reply}
 use Rattle.value_core.specs.declared.message.Message.{Message}
-use Rattle.group_rules.specs.Steps.{is_empty}
 use Rattle.object_manager.specs.After.{Copied}
 use Rattle.world_rules.specs.Frame.{Frame, group}
 use Rattle.world_rules.specs.Nodes as nodes
 use Rattle.world_rules.specs.Played.{Played, is_computing}
-use Rattle.world_rules.specs.Standings.{after_limit, first_of, has_no_turns, is_blocked_run, is_done, is_faulted, is_no_group, is_out_of_events, is_out_of_turns, is_over_run, has_fault, all_ended, limit, limit_at, limit_below, lines_limit, rests, rests_at, waits_for_group, waits_for_group_at, waits_in}
+use Rattle.world_rules.specs.Standings.{after_limit, first_of, has_no_turns, is_done, is_no_group, is_out_of_events, is_out_of_turns, is_over_run, has_fault, all_ended, limit_at, limit_below, lines_limit, rests, rests_at, waits_for_group, waits_for_group_at, waits_in}
 use Rattle.world_rules.specs.Steps.{lives_in}
 use Rattle.world_rules.specs.Worlds.{Book, World, agreed, home_of, singles_in}
 use Rattle.world_rules.specs.declared.standing.Standing.{Standing}
-use Rattle.world_rules.specs.declared.standing.Standing.TheVariants.{Limit, OutOfTurns, OutOfEvents, NoGroup, Faulted, Blocked, Finished, Going}
-use Rattle.node_core.specs.Shown.{IsPlayed, IsPlayedIf, Left, Stood, on_stage}
+use Rattle.world_rules.specs.declared.standing.Standing.TheVariants.{OutOfTurns, OutOfEvents, NoGroup, Faulted, Blocked, Finished, Going}
+use Rattle.node_core.specs.Shown.{IsPlayedIf, Left, Stood, on_stage}
 use Rattle.node_core.specs.Stands.{StandsAs}
 use Rattle.node_core.specs.declared.node.Node.{Node}
 use Rattle.node_core.specs.declared.resident.Resident.{Resident}
 use Rattle.world_parts.proofs.Lines.{lines_counted}
 use Rattle.world_parts.proofs.Worlds.{slice_get_some}
-use Rattle.world_parts.specs.Rows.{Stops, has_applied_all, how_ended, is_lost, waits_at, waits_on}
-use Rattle.world_parts.specs.Standing.{IsWorld, Stands}
+use Rattle.world_parts.specs.Rows.{Stops, has_applied_all, how_ended, waits_at}
+use Rattle.world_parts.specs.Standing.{IsWorld}
 use Rattle.world_parts.specs.declared.parts.Parts.{Parts}
 
 -- ---- members

@@ -1,6 +1,6 @@
 -- What a process's stage says, in code as in the world.
-use Rattle.std.proofs.Common.{◌≡◌, ◌∙◌, ℕ, Bool, true, false, Option, Some, None, ap, sym, refl}
-use Rattle.node_core.specs.Shown.{IsPlayed, IsPlayedIf, Left, Stood, on_stage}
+use Rattle.std.proofs.Common.{◌≡◌, ℕ, Bool, false, Option, Some, None, ap, refl}
+use Rattle.node_core.specs.Shown.{IsPlayedIf, Left, Stood, on_stage}
 use Rattle.node_core.specs.declared.resident.Resident.{Resident}
 use Rattle.world_rules.specs.Played.{Played, Stage}
 use Rattle.world_rules.specs.Standings.{stands}

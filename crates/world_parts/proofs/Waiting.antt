@@ -1,8 +1,7 @@
 -- Who waits in a queue, as the table of standings counts it.
-use Rattle.std.proofs.Common.{◌≡◌, ◌<◌, ◌≤◌, ◌∙◌, ◌↔◌, ◌==◌, ◌&&◌, not, IsTrue, ℕ, zero, suc, Bool, true, false, List, [], ◌∷◌, Some, length, get_or, slice_get, ap, sym, subst, refl, arith, ltb}
+use Rattle.std.proofs.Common.{◌≡◌, ◌≤◌, ◌∙◌, ◌↔◌, ◌==◌, IsTrue, ℕ, zero, suc, Bool, true, false, List, [], ◌∷◌, Some, slice_get, ap, subst, refl, arith, ltb}
 use Rattle.std.specs.Bool.{one_answer}
-use Rattle.std.specs.List.{Any}
-use Rattle.std.proofs.lemmas.Bool.{eqb-true, eqb-false, le-ltb, lt-ltb}
+use Rattle.std.proofs.lemmas.Bool.{eqb-true, eqb-false, lt-ltb}
 use Rattle.std.proofs.lemmas.Option.{slice_get-get_or}
 use Rattle.orca_base.specs.declared.ids.ProcessNo.{ProcessNo}
 use Rattle.guard_queue.specs.declared.queue.Suspended.{Suspended}

@@ -1,10 +1,9 @@
 -- The world for which a run in code stands.
-use Rattle.std.proofs.Common.{◌≡◌, ◌≤◌, ◌<◌, ◌*◌, ◌∙◌, ℕ, zero, suc, Bool, true, false, List, [], ◌∷◌, Option, Some, None, ap, sym, subst, refl, arith, map, length, get_or, slice_get, ltb, ◌&&◌}
+use Rattle.std.proofs.Common.{◌≡◌, ◌≤◌, ◌<◌, ◌∙◌, ℕ, zero, suc, Bool, false, List, [], ◌∷◌, Option, Some, None, ap, sym, subst, refl, arith, length, get_or, slice_get, ◌&&◌}
 use Rattle.std.proofs.lemmas.Bool.{le-ltb, lt-ltb}
 use Rattle.std.proofs.lemmas.Option.{slice_get_read}
 use Rattle.net_rules.proofs.Travelling.{seen_first_ready, seen_some_held}
-use Rattle.net_rules.specs.Flights.{first_ready, seen, some_held}
-use Rattle.world_law.specs.Grouped.{Grouped}
+use Rattle.net_rules.specs.Flights.{first_ready, some_held}
 use Rattle.world_law.specs.Lists.{OneList}
 use Rattle.world_rules.specs.Frame.{Frame}
 use Rattle.world_rules.specs.Steps.{Replays, lives_in}

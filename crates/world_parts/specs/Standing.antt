@@ -3,7 +3,6 @@ use Rattle.std.specs.Prelude.{◌≡◌, ◌≤◌, ◌<◌, ◌^◌, ◌-◌, �
 use Rattle.std.specs.List.{AllByRecursion as Each}
 use Rattle.value_core.specs.Meaning.{Computes, Performs}
 use Rattle.book_law.specs.Performed.{Performed}
-use Rattle.group_packets.specs.Packet.{packet_bytes}
 use Rattle.net_rules.specs.Flights.{seen}
 use Rattle.net_rules.specs.declared.flight.Flight.{Flight}
 use Rattle.packet_bytes.specs.Sound.{IsPacket}

@@ -1,4 +1,4 @@
-use Rattle.std.proofs.Common.{◌≡◌, ◌<◌, ◌≤◌, ◌+◌, ◌∙◌, ap, sym, refl, arith}
+use Rattle.std.proofs.Common.{◌+◌, ◌∙◌, ap, refl, arith}
 use Rattle.object_manager.specs.After.{Copied}
 use Rattle.node_core.specs.declared.resident.Resident.{Resident}
 use Rattle.std.proofs.Common.{Option, cond}

@@ -1,4 +1,4 @@
-use Rattle.std.proofs.Common.{◌≡◌, ◌<◌, ◌≤◌, ◌+◌, ◌∙◌, ap, sym, subst, refl, arith, rules, [], IfOk}
+use Rattle.std.proofs.Common.{◌≡◌, ◌+◌, ◌∙◌, sym, subst, arith, rules, []}
 use Rattle.world_parts.proofs.Opening.{opening_begins, opening_more}
 use Rattle.world_parts.specs.Opening.{AreOpening}
 use Rattle.world_parts.proofs.parts.opening_nodes.Goals as goal

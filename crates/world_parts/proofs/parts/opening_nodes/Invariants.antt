@@ -1,4 +1,3 @@
-use Rattle.std.proofs.Common.{◌≡◌, ◌≤◌}
 use Rattle.world_parts.specs.Opening.{AreOpening}
 use Rattle.world_parts.proofs.parts.opening_nodes.Given as goal
 

@@ -1,4 +1,4 @@
-use Rattle.std.proofs.Common.{◌≡◌, ◌∙◌, ap}
+use Rattle.std.proofs.Common.{◌∙◌, ap}
 use Rattle.object_manager.specs.After.{Copied}
 use Rattle.world_rules.specs.Standings.{waits_in}
 use Rattle.world_parts.proofs.Waiting.{waits_so}

@@ -1,4 +1,4 @@
-use Rattle.std.proofs.Common.{◌≡◌, ◌<◌, ◌≤◌, ◌+◌, ◌∙◌, ap, sym, arith}
+use Rattle.std.proofs.Common.{◌+◌, ◌∙◌, ap, arith}
 use Rattle.group_member.specs.declared.member.Member.{Member}
 use Rattle.history_buffer.specs.Slots.{slot_at}
 use Rattle.history_buffer.specs.declared.history.Slot.TheVariants.{NotYet, Purged}

@@ -1,4 +1,4 @@
-use Rattle.std.proofs.Common.{◌≡◌, ◌+◌, ◌-◌, ◌≤◌, ◌∙◌, ap, arith, length, length-append}
+use Rattle.std.proofs.Common.{◌∙◌, ap, arith, length, length-append}
 use Rattle.world_parts.specs.Recorded.{Recorded, of_piece, of_pieces}
 use Rattle.world_parts.proofs.Keeping.{one_more}
 use Rattle.world_parts.proofs.ledger.Ledger.push_piece.Goals as goal

@@ -1,4 +1,4 @@
-use Rattle.std.proofs.Common.{◌≡◌, ◌<◌, ◌≤◌, ◌+◌, ◌∙◌, ◌&&◌, ◌||◌, not, ℕ, sym, refl, arith}
+use Rattle.std.proofs.Common.{◌+◌, ◌∙◌, ◌||◌, not, ℕ, sym, refl, arith}
 use Rattle.world_rules.specs.Standings.{lives_at_home, process_count, rests}
 use Rattle.world_rules.specs.Worlds.{played_in}
 use Rattle.world_parts.proofs.Below.{all_done, all_failed, all_on}

@@ -1,4 +1,4 @@
-use Rattle.std.proofs.Common.{◌≡◌, ◌&&◌, ◌||◌, not, true, ℕ}
+use Rattle.std.proofs.Common.{◌≡◌, ◌||◌, not, true, ℕ}
 use Rattle.world_parts.specs.Standing.{IsWorld}
 use Rattle.world_rules.specs.Standings.{all_below, lives_at_home, rests}
 use Rattle.world_rules.specs.Worlds.{World, played_in}

@@ -1,4 +1,4 @@
-use Rattle.std.proofs.Common.{◌≡◌, ◌<◌, ◌≤◌, ◌+◌, ◌∙◌, ℕ, sym, refl, arith}
+use Rattle.std.proofs.Common.{◌+◌, ◌∙◌, ℕ, sym, refl, arith}
 use Rattle.world_rules.specs.Standings.{process_count}
 use Rattle.world_rules.specs.Steps.{may_act}
 use Rattle.world_parts.specs.Choosing.{process}

@@ -1,4 +1,4 @@
-use Rattle.std.proofs.Common.{◌≡◌, None, ℕ}
+use Rattle.std.proofs.Common.{◌≡◌, None}
 use Rattle.world_rules.specs.Steps.{may_act}
 use Rattle.world_rules.specs.Worlds.{World}
 use Rattle.world_parts.specs.Choosing.{lowest, process}

@@ -1,4 +1,4 @@
-use Rattle.std.proofs.Common.{◌≡◌, ◌∙◌}
+use Rattle.std.proofs.Common.{◌∙◌}
 use Rattle.world_parts.proofs.Worlds.{first_due}
 use Rattle.world_parts.proofs.parts.Parts.due_packet.Goals as goal
 

@@ -1,4 +1,4 @@
-use Rattle.std.proofs.Common.{◌≡◌, ◌<◌, ◌≤◌, ◌+◌, ◌∙◌, ◌&&◌, ◌||◌, not, ℕ, sym, refl, arith}
+use Rattle.std.proofs.Common.{◌+◌, ◌∙◌, ℕ, sym, refl, arith}
 use Rattle.world_rules.specs.Played.{has_faulted}
 use Rattle.world_rules.specs.Standings.{process_count, stands}
 use Rattle.world_rules.specs.Worlds.{played_in}

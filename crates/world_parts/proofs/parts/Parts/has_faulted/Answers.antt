@@ -1,4 +1,4 @@
-use Rattle.std.proofs.Common.{◌≡◌, ◌<◌, ◌≤◌, ◌+◌, ◌∙◌, ◌&&◌, ◌||◌, not, ℕ, Bool, true, false, ap, sym, subst, refl, arith, length}
+use Rattle.std.proofs.Common.{◌∙◌, ap}
 use Rattle.world_rules.specs.Played.{has_faulted}
 use Rattle.world_rules.specs.Worlds.{played_in}
 use Rattle.node_core.specs.Shown.{on_stage}

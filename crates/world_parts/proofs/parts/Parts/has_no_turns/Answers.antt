@@ -1,4 +1,3 @@
-use Rattle.std.proofs.Common.{◌≡◌, ◌<◌, ◌≤◌, ◌+◌, ◌∙◌, ◌&&◌, ◌||◌, not, ℕ, Bool, true, false, ap, sym, subst, refl, arith, length}
 use Rattle.world_rules.specs.Worlds.{played_in}
 use Rattle.world_parts.proofs.Ruling.{turns_none, turns_there}
 use Rattle.world_parts.proofs.parts.Parts.has_no_turns.Goals as goal

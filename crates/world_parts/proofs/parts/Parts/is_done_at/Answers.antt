@@ -1,5 +1,4 @@
-use Rattle.std.proofs.Common.{◌≡◌, ◌<◌, ◌≤◌, ◌+◌, ◌∙◌, ◌&&◌, ◌||◌, not, ℕ, Bool, true, false, ap, sym, subst, refl, arith, length}
-use Rattle.group_member.specs.StandsFor.{IsMember}
+use Rattle.std.proofs.Common.{ap, sym, length}
 use Rattle.world_parts.proofs.Ruling.{done_there, member_there}
 use Rattle.world_parts.proofs.parts.Parts.is_done_at.Goals as goal
 

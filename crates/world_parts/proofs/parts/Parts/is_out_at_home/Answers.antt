@@ -1,4 +1,4 @@
-use Rattle.std.proofs.Common.{◌≡◌, ◌∙◌, ap, sym, subst, ℕ}
+use Rattle.std.proofs.Common.{◌∙◌, ap, ℕ}
 use Rattle.world_parts.proofs.Outs.{out_there}
 use Rattle.world_parts.proofs.Worlds.{home_there}
 use Rattle.world_parts.specs.Seen.{is_out}

@@ -1,4 +1,4 @@
-use Rattle.std.proofs.Common.{◌≡◌, ◌<◌, ◌≤◌, ◌+◌, ◌∙◌, ◌&&◌, ◌||◌, not, ℕ, sym, refl, arith}
+use Rattle.std.proofs.Common.{◌+◌, ◌∙◌, ℕ, sym, refl, arith}
 use Rattle.world_rules.specs.Standings.{has_no_turns, process_count}
 use Rattle.world_rules.specs.Worlds.{played_in}
 use Rattle.world_parts.proofs.Below.{any_found, any_none, any_on}

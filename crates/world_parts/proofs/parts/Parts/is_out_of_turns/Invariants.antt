@@ -1,4 +1,4 @@
-use Rattle.std.proofs.Common.{◌≡◌, ◌&&◌, ◌||◌, not, false, ℕ}
+use Rattle.std.proofs.Common.{◌≡◌, false, ℕ}
 use Rattle.world_parts.specs.Standing.{IsWorld}
 use Rattle.world_rules.specs.Standings.{any_below, has_no_turns}
 use Rattle.world_rules.specs.Worlds.{World, played_in}

@@ -1,6 +1,4 @@
-use Rattle.std.proofs.Common.{◌≡◌, ◌∙◌, ◌&&◌, not, Bool, is_some, Option, ℕ, ap, sym}
-use Rattle.world_rules.specs.Played.{is_ready}
-use Rattle.world_rules.specs.Standings.{some_process, stands}
+use Rattle.std.proofs.Common.{not, ap}
 use Rattle.world_parts.proofs.Quiet.{quiet_busy, quiet_due}
 use Rattle.world_parts.proofs.parts.Parts.is_quiet.Goals as goal
 

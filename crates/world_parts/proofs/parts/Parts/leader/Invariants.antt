@@ -1,4 +1,4 @@
-use Rattle.std.proofs.Common.{◌≡◌, ◌<◌, ◌≤◌}
+use Rattle.std.proofs.Common.{◌<◌, ◌≤◌}
 use Rattle.world_rules.specs.Worlds.{World}
 use Rattle.world_parts.proofs.Leading.{IsLeader}
 use Rattle.world_parts.specs.Standing.{IsWorld}

@@ -1,4 +1,4 @@
-use Rattle.std.proofs.Common.{◌≡◌, ◌<◌, ◌≤◌, ◌+◌, ◌∙◌, ◌&&◌, ◌||◌, not, ℕ, Bool, true, false, ap, sym, subst, refl, arith, length}
+use Rattle.std.proofs.Common.{◌∙◌, ap}
 use Rattle.world_rules.specs.Standings.{first_of, lines_limit}
 use Rattle.world_parts.proofs.parts.Parts.limit.Goals as goal
 

@@ -1,4 +1,4 @@
-use Rattle.std.proofs.Common.{◌≡◌, ◌<◌, ◌≤◌, ◌+◌, ◌∙◌, ◌&&◌, ◌||◌, not, ℕ, Bool, true, false, ap, sym, subst, refl, arith, length}
+use Rattle.std.proofs.Common.{sym, refl}
 use Rattle.world_parts.proofs.Ruling.{member_there}
 use Rattle.world_parts.proofs.parts.Parts.limit_living.Goals as goal
 

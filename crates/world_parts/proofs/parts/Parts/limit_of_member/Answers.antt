@@ -1,4 +1,4 @@
-use Rattle.std.proofs.Common.{◌≡◌, ◌<◌, ◌≤◌, ◌+◌, ◌∙◌, ◌&&◌, ◌||◌, not, ℕ, Bool, true, false, ap, sym, subst, refl, arith, length}
+use Rattle.std.proofs.Common.{◌∙◌, sym}
 use Rattle.world_parts.proofs.Ruling.{lives_within, stops_crashed, stops_living}
 use Rattle.world_parts.proofs.parts.Parts.limit_of_member.Goals as goal
 

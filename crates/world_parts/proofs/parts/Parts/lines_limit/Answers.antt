@@ -1,4 +1,4 @@
-use Rattle.std.proofs.Common.{◌≡◌, ◌<◌, ◌≤◌, arith}
+use Rattle.std.proofs.Common.{arith}
 use Rattle.world_parts.proofs.Ruling.{few_lines, many_lines}
 use Rattle.world_parts.proofs.parts.Parts.lines_limit.Goals as goal
 

@@ -1,5 +1,3 @@
-use Rattle.std.proofs.Common.{◌≡◌, ◌∙◌, ap, subst, refl, length, slice_get}
-use Rattle.std.proofs.lemmas.Option.{slice_get_read}
 use Rattle.world_parts.proofs.Worlds.{lives_past, lives_there}
 use Rattle.world_parts.proofs.parts.Parts.lives.Goals as goal
 

@@ -1,4 +1,4 @@
-use Rattle.std.proofs.Common.{◌≡◌, ◌<◌, ◌≤◌, ◌+◌, ◌∙◌, ◌&&◌, ◌||◌, not, ℕ, Bool, true, false, ap, sym, subst, refl, arith, length}
+use Rattle.std.proofs.Common.{◌∙◌}
 use Rattle.world_parts.proofs.Worlds.{home_lives}
 use Rattle.world_parts.proofs.parts.Parts.lives_at_home.Goals as goal
 

@@ -1,11 +1,11 @@
-use Rattle.std.proofs.Common.{◌≡◌, ◌<◌, ◌≤◌, ◌+◌, ◌∙◌, ℕ, max, ap, sym, subst, refl, arith, length}
+use Rattle.std.proofs.Common.{◌<◌, ◌+◌, ◌∙◌, ℕ, ap, sym, subst, refl, arith, length}
 use Rattle.std.proofs.lemmas.Option.{slice_get_read}
 use Rattle.value_core.specs.declared.action.Reply.{Reply}
 use Rattle.value_core.specs.declared.message.Message.{Message}
 use Rattle.group_member.specs.StandsFor.{IsMember}
 use Rattle.group_member.specs.declared.member.Member.{Member}
 use Rattle.history_buffer.specs.Window.{last_number}
-use Rattle.world_parts.proofs.Leading.{log_there, longer_next}
+use Rattle.world_parts.proofs.Leading.{longer_next}
 use Rattle.world_parts.specs.Choosing.{longest_below}
 use Rattle.world_parts.proofs.parts.Parts.longest_log.Goals as goal
 

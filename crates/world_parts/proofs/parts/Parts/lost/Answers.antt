@@ -1,6 +1,5 @@
-use Rattle.std.proofs.Common.{◌≡◌, ◌<◌, ◌≤◌, ◌+◌, ◌∙◌, ◌&&◌, ◌||◌, not, ℕ, Bool, true, false, ap, sym, subst, refl, arith, length}
+use Rattle.std.proofs.Common.{◌+◌, ◌∙◌, ℕ, ap, refl, arith}
 use Rattle.group_rules.specs.Sets.{count}
-use Rattle.orca_base.specs.declared.limits.TheConstants.{NODES}
 use Rattle.world_parts.proofs.Ruling.{count_next, few_lost}
 use Rattle.world_parts.specs.Rows.{is_lost}
 use Rattle.world_parts.proofs.parts.Parts.lost.Goals as goal

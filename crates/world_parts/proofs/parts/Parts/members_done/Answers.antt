@@ -1,4 +1,4 @@
-use Rattle.std.proofs.Common.{◌≡◌, ◌<◌, ◌≤◌, ◌+◌, ◌∙◌, ◌&&◌, ◌||◌, not, ℕ, sym, refl, arith}
+use Rattle.std.proofs.Common.{◌+◌, ◌∙◌, ◌||◌, not, ℕ, sym, refl, arith}
 use Rattle.world_rules.specs.Standings.{is_done}
 use Rattle.world_parts.proofs.Below.{all_done, all_failed, all_on}
 use Rattle.world_parts.proofs.parts.Parts.members_done.Goals as goal

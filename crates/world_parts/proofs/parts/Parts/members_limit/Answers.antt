@@ -1,4 +1,4 @@
-use Rattle.std.proofs.Common.{◌≡◌, ◌<◌, ◌≤◌, ◌+◌, ◌∙◌, ◌&&◌, ◌||◌, not, ℕ, Bool, true, false, ap, sym, subst, refl, arith, length}
+use Rattle.std.proofs.Common.{◌+◌, refl, arith}
 use Rattle.world_parts.proofs.Ruling.{limits_found, limits_next, limits_none}
 use Rattle.world_parts.proofs.parts.Parts.members_limit.Goals as goal
 

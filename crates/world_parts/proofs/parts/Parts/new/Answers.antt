@@ -1,4 +1,4 @@
-use Rattle.std.proofs.Common.{◌≡◌, ◌∙◌, ap, sym, subst, refl, replicate, true}
+use Rattle.std.proofs.Common.{◌∙◌, ap, subst, refl, replicate, true}
 use Rattle.world_parts.specs.Recorded.{Recorded}
 use Rattle.world_rules.specs.Frame.{AreSettings}
 use Rattle.world_rules.specs.declared.settings.Settings.{Settings}

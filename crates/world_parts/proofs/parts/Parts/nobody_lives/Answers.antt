@@ -1,4 +1,4 @@
-use Rattle.std.proofs.Common.{◌≡◌, ◌<◌, ◌≤◌, ◌+◌, ◌∙◌, ◌&&◌, ◌||◌, not, ℕ, Bool, true, false, ap, sym, subst, refl, arith, length}
+use Rattle.std.proofs.Common.{◌<◌, ◌+◌, ◌∙◌, not, ℕ, ap, sym, refl, arith}
 use Rattle.world_parts.proofs.Below.{all_done, all_failed, all_on}
 use Rattle.world_parts.proofs.Ruling.{lives_within}
 use Rattle.world_parts.proofs.parts.Parts.nobody_lives.Goals as goal

@@ -1,4 +1,4 @@
-use Rattle.std.proofs.Common.{◌≡◌, ◌<◌, ◌∙◌, ap, length, refl, arith}
+use Rattle.std.proofs.Common.{◌<◌, ◌∙◌, ap, length, refl, arith}
 use Rattle.std.proofs.lemmas.Option.{slice_get_read}
 use Rattle.object_manager.specs.After.{Copied}
 use Rattle.world_parts.proofs.Leading.{leader_counts}

@@ -1,4 +1,4 @@
-use Rattle.std.proofs.Common.{◌≡◌, ◌<◌, ◌≤◌, ◌+◌, ◌∙◌, ◌&&◌, ◌||◌, not, ℕ, sym, refl, arith}
+use Rattle.std.proofs.Common.{◌+◌, ◌∙◌, ◌&&◌, ℕ, sym, refl, arith}
 use Rattle.world_rules.specs.Played.{is_ready}
 use Rattle.world_rules.specs.Standings.{lives_at_home, process_count, stands}
 use Rattle.world_rules.specs.Worlds.{played_in}

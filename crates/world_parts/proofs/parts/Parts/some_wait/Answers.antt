@@ -1,4 +1,4 @@
-use Rattle.std.proofs.Common.{◌≡◌, ◌<◌, ◌≤◌, ◌+◌, ◌∙◌, ◌&&◌, ◌||◌, not, ℕ, sym, refl, arith}
+use Rattle.std.proofs.Common.{◌+◌, ◌∙◌, ◌&&◌, ℕ, sym, refl, arith}
 use Rattle.world_rules.specs.Standings.{lives_at_home, process_count, waits_for_group}
 use Rattle.world_rules.specs.Worlds.{played_in}
 use Rattle.world_parts.proofs.Below.{any_found, any_none, any_on}

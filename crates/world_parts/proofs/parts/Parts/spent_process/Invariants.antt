@@ -1,4 +1,4 @@
-use Rattle.std.proofs.Common.{◌≡◌, None, ℕ}
+use Rattle.std.proofs.Common.{◌≡◌, None}
 use Rattle.world_rules.specs.Standings.{has_no_turns}
 use Rattle.world_rules.specs.Worlds.{World, played_in}
 use Rattle.world_parts.specs.Choosing.{lowest}

@@ -1,4 +1,4 @@
-use Rattle.std.proofs.Common.{◌≡◌, ◌<◌, ◌≤◌, ◌+◌, ◌∙◌, ap, sym, refl, arith, length}
+use Rattle.std.proofs.Common.{◌<◌, ◌+◌, refl, arith, length}
 use Rattle.std.proofs.lemmas.Option.{slice_get_read}
 use Rattle.world_parts.proofs.Outs.{all_first, all_more, all_over, fits, none_past}
 use Rattle.world_parts.proofs.parts.Parts.tasks_out.Goals as goal

@@ -1,4 +1,3 @@
-use Rattle.std.proofs.Common.{◌≡◌, ◌<◌, ◌≤◌, ◌+◌, ◌∙◌, ◌&&◌, ◌||◌, not, ℕ, Bool, true, false, ap, sym, subst, refl, arith, length}
 use Rattle.world_parts.proofs.Ruling.{waits_home}
 use Rattle.world_parts.proofs.Worlds.{home_there}
 use Rattle.world_parts.proofs.parts.Parts.waits_at_home.Goals as goal

@@ -1,4 +1,4 @@
-use Rattle.std.proofs.Common.{◌≡◌, ◌<◌, ◌≤◌, ◌+◌, ◌∙◌, ◌&&◌, ◌||◌, not, ℕ, Bool, true, false, ap, sym, subst, refl, arith, length}
+use Rattle.std.proofs.Common.{◌∙◌, sym}
 use Rattle.world_parts.proofs.Ruling.{rules_events, rules_going, rules_group, rules_over, rules_turns}
 use Rattle.world_parts.proofs.parts.Parts.within_limits.Goals as goal
 
