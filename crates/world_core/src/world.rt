@@ -143,7 +143,7 @@ impl<P: OneRun> World<P> {
     }
 }
 
-// What may come next, and who is where. None of these takes memory, and none looks at packets, steps or lines of the past.
+// What may come next, and who is where. None of these takes memory, and none goes over what was sent, done or performed before.
 impl<P: OneRun> World<P> {
     /// How many processes there are: a fork's from the moment when the first member applied it.
     pub fn process_count(&self) -> u16

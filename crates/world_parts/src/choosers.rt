@@ -1,4 +1,4 @@
-//! What may come next, and who is where. None of these takes memory, and none looks at packets, steps or lines of the past.
+//! What may come next, and who is where. None of these takes memory, and none goes over what was sent, done or performed before.
 
 ghost use Rattle.std.specs.Prelude.{◌≡◌, ◌≤◌, ◌<◌, ◌&&◌, ℕ, false, if◌then◌else◌, not, option_map, slice_get};
 ghost use Rattle.std.specs.Option.{option_copied};
