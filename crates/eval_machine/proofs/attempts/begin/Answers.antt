@@ -1,0 +1,8 @@
+use Rattle.std.proofs.Common.{sym, ap, ◌∙◌, subst}
+use Rattle.value_core.specs.Datum.{data_of, data_of-list_of}
+use Rattle.value_core.specs.Sound.{AreSound}
+use Rattle.eval_machine.proofs.Attempting.{begins_so}
+use Rattle.eval_machine.proofs.attempts.begin.Goals as goal
+
+pub over-requires : goal.over-requires
+over-requires c = subst AreSound (sym (ap data_of c.as_slice.ensures ∙ data_of-list_of c.args.at.state.now)) c.requires
