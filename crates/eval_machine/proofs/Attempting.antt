@@ -1,5 +1,6 @@
 -- What an attempt begins with, and how its guards and bodies end.
-use Rattle.std.proofs.Common.{◌≡◌, ℕ, suc, ◌+◌, ◌<◌, Bool, true, false, List, [], ◌∷◌, ◌++◌, append_assoc, drop, get_or, length, map, Option, Some, None, Result, Ok, Err, refl, sym, ap, ◌∙◌, subst, arith}
+use Rattle.std.proofs.Common.{◌≡◌, ℕ, zero, suc, ◌+◌, ◌<◌, Bool, true, false, List, [], ◌∷◌, ◌++◌, append_assoc, drop, get_or, length, map, Option, Some, None, Result, Ok, Err, refl, sym, ap, ◌∙◌, subst, arith}
+use Rattle.std.specs.Prelude.{◌==◌, if◌then◌else◌}
 use Rattle.std.proofs.lemmas.List.{drop_more, length-map}
 use Rattle.orca_base.specs.declared.fault.FaultKind.{FaultKind}
 use Rattle.orca_tree.specs.declared.tree.Guard.{Guard as GuardTree}
@@ -104,3 +105,13 @@ guards_more tests bodies gs i g low read =
     let next : i + 2 + 1 ≡ i + 1 + 2 = omega arith in
     ap (λ (l : List GuardTree). guards_tried tests bodies (i + 2) (map guard_shown l)) (drop_more gs i g low ∙ ap (λ (h : GuardTree). h ∷ drop (i + 1) gs) (sym read))
     ∙ ap (λ (n : ℕ). guard_tried (i + 2) (bodies (i + 2) (guard_shown g).body) (guards_tried tests bodies n (map guard_shown (drop (i + 1) gs))) (tests (guard_shown g).test)) next
+
+-- ---- the output object's type, and the others
+
+pub if_zero : {Z : Type 0} (n : ℕ) (a b : Z) → n ≡ 0 → (if n == 0 then a else b) ≡ a
+if_zero zero a b is = refl
+if_zero (suc n) a b is = absurd (omega (arith, is))
+
+pub if_other : {Z : Type 0} (n : ℕ) (a b : Z) → (n ≡ 0 → ⊥) → (if n == 0 then a else b) ≡ b
+if_other zero a b apart = absurd (apart refl)
+if_other (suc n) a b apart = refl

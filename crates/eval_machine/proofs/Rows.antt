@@ -33,7 +33,7 @@ front_goes n xs low = take_at (drop n xs) (take n xs) (length xs - n) (length-dr
 -- ---- lists of results, of which a front is there
 
 -- one, and those behind it
-abbrev then_rest : {X : Type 0} → Out X → (State → Out (List X)) → Out (List X)
+abbrev pub then_rest : {X : Type 0} → Out X → (State → Out (List X)) → Out (List X)
 then_rest one rest = after one (λ y s1. after (rest s1) (λ ys s2. Goes (y ∷ ys) s2))
 
 front_more : (front : List Datum) (y : Datum) (o : Out (List Datum)) → with_front front (after o (λ ys s. Goes (y ∷ ys) s)) ≡ with_front (front ++ y ∷ []) o
@@ -57,3 +57,8 @@ row_fails front why one rest left all is h same =
 
 pub row_ends : (front : List Datum) (s : State) (left all : Out (List Datum)) → left ≡ Goes [] s → with_front front left ≡ all → all ≡ Goes front s
 row_ends front s left all is same = sym same ∙ ap (λ o. with_front front o) is ∙ ap (λ l. Goes l s) (append-nil front)
+
+-- what is done with a front and what is behind it
+pub front_after : {B : Type 0} (front : List Datum) (o : Out (List Datum)) (next : List Datum → State → Out B) → after (with_front front o) next ≡ after o (λ xs s. next (front ++ xs) s)
+front_after front (Goes xs s) next = refl
+front_after front (Stops why) next = refl

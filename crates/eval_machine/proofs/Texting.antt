@@ -78,7 +78,7 @@ in_what : (us : List Source) (number : ProcessNo) (args : Data) (t : TopName) (w
 in_what us number args t (top.Process ps b) s =
     let v = process_scope us t.defined.by ps b in
     let n = length (list_of args) in
-    ap (λ o. after o (λ xs s1. run_all (all_calls us) v b.statements (record s1 { frame = list_of args ++ xs })))
+    ap (λ (o : Out (List Datum)). after o (λ xs s1. run_all (all_calls us) v b.statements (record s1 { frame = list_of args ++ xs })))
     (made_by_types us number (drop n v.locals) 1 s ∙ ap (λ (ts : List (Option DataType)). values_made us number ts 1 s) (sym (drop-map (λ l. l.type) n v.locals)))
 in_what us number args t (top.Constant value) s = refl
 in_what us number args t (top.TypeName of) s = refl

@@ -56,9 +56,8 @@ module _ (us : List Source) (w : Told) (last used : ℕ) (reached : IsReached (d
   behind most act next is (inl end) = ap (doing_by us w) (ap (λ n. n + 1) end ∙ next) ∙ is
   behind most act next is (inr apart) =
       let high = reached.high in
-      let rest = most - (used + 1) in
-      let whole : used + 1 + rest ≡ most = omega (arith, high, next) in
-      sym (is_settled us w.text w.number w.args w.replies (used + 1) rest apart) ∙ ap (doing_by us w) whole ∙ is
+      let whole : used + 1 + (most - (used + 1)) ≡ most = omega (arith, high, next) in
+      sym (is_settled us w.text w.number w.args w.replies (used + 1) (most - (used + 1)) apart) ∙ ap (doing_by us w) whole ∙ is
 
   pub goes_to : (s : TreeProcess) (act : Action) (budget most : ℕ) → last + 1 ≡ most → most ≡ w.turns + budget → IsOnTheWay us w → doing_by us w most ≡ doing.At act →
       told s ≡ record w { turns = used } → Goes (doing_by us w) (λ n. StandsFor us s (record w { turns = n })) w.turns budget (halt.At act)

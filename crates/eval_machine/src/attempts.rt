@@ -17,12 +17,12 @@ ghost use Rattle.eval_stmts.specs.Flows.{flow_of};
 ghost use Rattle.eval_machine.specs.Attempts.{IsAttempt, begins, body_of, guard_of, test_of};
 ghost use Rattle.eval_machine.specs.Stops.{GivesSome};
 
-use crate::bodies::{add_openings, behind, fault_of};
+use crate::bodies::{add_openings, behind, fault_of, started};
 use eval_bodies::{Code, OperationCode, Site};
 use eval_exprs::evaluate;
 use eval_stmts::{Flow, Whole, execute_all};
 use eval_variables::{Frame, Run, Stop, truth_in};
-use orca_base::{FaultKind, NoMemory, OPERATION_TURNS};
+use orca_base::{FaultKind, NoMemory};
 use orca_tree::{Expression, Guard, OperationBody, Statement};
 use std::alloc::Global;
 use value_core::{ObjectState, Parts, Reply, Tried, Value};
@@ -37,28 +37,25 @@ pub struct Attempt<'a, 'p> {
 }
 
 // Where each guard and the body begins: the arguments, the variables with their opening values, and the object's fields, which are lent.
-fn begin<'a>(alloc: Global, at: Attempt<'a, '_>) -> Result<Run<'a>, NoMemory>
-    requires { AreSound at.entry.state.now }
-    ensures { (us : List Source) (t : ObjectType) (o : Operation) → IsAttempt at.entry us t o →
-        IfOk result (λ r. state_of r ≡ begins at.entry us t o) }
+fn begin<'a>(alloc: Global, attempt: Attempt<'a, '_>) -> Result<Run<'a>, NoMemory>
+    requires { AreSound attempt.entry.state.now }
+    ensures { (us : List Source) (t : ObjectType) (o : Operation) → IsAttempt attempt.entry us t o →
+        IfOk result (λ r. state_of r ≡ begins attempt.entry us t o) }
 {
-    let mut own = at.args.copy(alloc)?;
-    add_openings(alloc, at.code, &at.operation.variables, &mut own)?;
-    Ok(Run {
-        frame: Frame::over(alloc, own, at.state.as_slice())?,
-        replies: &[],
-        left: u64::from(OPERATION_TURNS) + 1,
-    })
+    let mut own = attempt.args.copy(alloc)?;
+    add_openings(alloc, attempt.code, &attempt.operation.variables, &mut own)?;
+    let frame = Frame::over(alloc, own, attempt.state.as_slice())?;
+    Ok(started(frame))
 }
 
 // The value of a guard's test.
-fn tested(alloc: Global, at: Attempt<'_, '_>, test: &Expression) -> Result<Value, Stop>
-    requires { AreSound at.entry.state.now }
-    ensures { (us : List Source) (t : ObjectType) (o : Operation) → IsAttempt at.entry us t o →
-        GivesSome datum_of result (test_of at.entry us t o (expr test.now)) }
+fn tested(alloc: Global, attempt: Attempt<'_, '_>, test: &Expression) -> Result<Value, Stop>
+    requires { AreSound attempt.entry.state.now }
+    ensures { (us : List Source) (t : ObjectType) (o : Operation) → IsAttempt attempt.entry us t o →
+        GivesSome datum_of result (test_of attempt.entry us t o (expr test.now)) }
 {
-    let mut run = begin(alloc, at)?;
-    let site = Site::new(at.code, &at.operation.body, true);
+    let mut run = begin(alloc, attempt)?;
+    let site = Site::new(attempt.code, &attempt.operation.body, true);
     evaluate::<Whole>(alloc, site, test, &mut run)
 }
 
@@ -115,23 +112,32 @@ fn ended(
     }
 }
 
+// How many values stand in front of the object's fields: the arguments and the variables.
+fn own_count(attempt: Attempt<'_, '_>) -> usize
+    ensures { (us : List Source) (t : ObjectType) (o : Operation) → IsAttempt attempt.entry us t o →
+        result ≡ rules.own_count us t o attempt.entry.args.now }
+{
+    let variables = attempt.operation.variables.as_slice();
+    attempt.args.len() + variables.len()
+}
+
 // What a body does that this guard chose.
 fn try_body<'p>(
     alloc: Global,
-    at: Attempt<'_, 'p>,
+    attempt: Attempt<'_, 'p>,
     guard: u16,
     statements: &'p [Statement],
 ) -> Result<Tried, NoMemory>
-    requires { AreSound at.entry.state.now }
-    ensures { (us : List Source) (t : ObjectType) (o : Operation) → IsAttempt at.entry us t o →
-        IfOk result (λ tried. tried ≡ body_of at.entry us t o guard (stmts statements.now)) }
+    requires { AreSound attempt.entry.state.now }
+    ensures { (us : List Source) (t : ObjectType) (o : Operation) → IsAttempt attempt.entry us t o →
+        IfOk result (λ tried. tried ≡ body_of attempt.entry us t o guard (stmts statements.now)) }
 {
-    let mut run = begin(alloc, at)?;
-    let site = Site::new(at.code, &at.operation.body, false);
+    let mut run = begin(alloc, attempt)?;
+    let site = Site::new(attempt.code, &attempt.operation.body, false);
     match execute_all::<Whole>(alloc, site, statements, &mut run) {
         Ok(flow) => {
-            let own = at.args.len() + at.operation.variables.len();
-            ended(alloc, guard, own, at.operation.has_result, flow, run)
+            let own = own_count(attempt);
+            ended(alloc, guard, own, attempt.operation.has_result, flow, run)
         }
         Err(stop) => {
             let fault = fault_of(stop)?;
@@ -150,21 +156,21 @@ fn guard_number(number: usize) -> u16
 // What this guard does, or nothing where it is false.
 fn try_guard<'p>(
     alloc: Global,
-    at: Attempt<'_, 'p>,
+    attempt: Attempt<'_, 'p>,
     number: usize,
     guard: &'p Guard,
 ) -> Result<Option<Tried>, NoMemory>
-    requires { AreSound at.entry.state.now }
-    ensures { (us : List Source) (t : ObjectType) (o : Operation) → IsAttempt at.entry us t o → number < 2 ^ 16 → (others : TriedTree) →
-        IfOk result (λ tried. guard_of at.entry us t o number (guard_shown guard.now) others ≡ unwrap_or tried others) }
+    requires { AreSound attempt.entry.state.now }
+    ensures { (us : List Source) (t : ObjectType) (o : Operation) → IsAttempt attempt.entry us t o → number < 2 ^ 16 → (others : TriedTree) →
+        IfOk result (λ tried. guard_of attempt.entry us t o number (guard_shown guard.now) others ≡ unwrap_or tried others) }
 {
     let own = guard_number(number);
-    match tested(alloc, at, &guard.test) {
+    match tested(alloc, attempt, &guard.test) {
         Ok(value) => {
             if !truth_in(&value) {
                 return Ok(None);
             }
-            let tried = try_body(alloc, at, own, &guard.body)?;
+            let tried = try_body(alloc, attempt, own, &guard.body)?;
             Ok(Some(tried))
         }
         Err(stop) => {
@@ -177,16 +183,16 @@ fn try_guard<'p>(
 // What guards do that stand behind the first one: the first of them that is true or faults decides.
 fn try_others<'p>(
     alloc: Global,
-    at: Attempt<'_, 'p>,
+    attempt: Attempt<'_, 'p>,
     guards: &'p [Guard],
 ) -> Result<Tried, NoMemory>
-    requires { AreSound at.entry.state.now }
-    ensures { (us : List Source) (t : ObjectType) (o : Operation) → IsAttempt at.entry us t o → length guards.now + 1 < 2 ^ 16 →
-        IfOk result (λ tried. tried ≡ rules.guards_tried (test_of at.entry us t o) (body_of at.entry us t o) 2
+    requires { AreSound attempt.entry.state.now }
+    ensures { (us : List Source) (t : ObjectType) (o : Operation) → IsAttempt attempt.entry us t o → length guards.now + 1 < 2 ^ 16 →
+        IfOk result (λ tried. tried ≡ rules.guards_tried (test_of attempt.entry us t o) (body_of attempt.entry us t o) 2
         (map guard_shown guards.now)) }
 {
     'guards: for (place, guard) in guards.iter().enumerate() {
-        if let Some(tried) = try_guard(alloc, at, place + 2, guard)? {
+        if let Some(tried) = try_guard(alloc, attempt, place + 2, guard)? {
             return Ok(tried);
         }
     }
@@ -196,30 +202,30 @@ fn try_others<'p>(
 // What guards do, numbered from 1 in text order.
 fn try_guards<'p>(
     alloc: Global,
-    at: Attempt<'_, 'p>,
+    attempt: Attempt<'_, 'p>,
     first: &'p Guard,
     others: &'p [Guard],
 ) -> Result<Tried, NoMemory>
-    requires { AreSound at.entry.state.now }
-    ensures { (us : List Source) (t : ObjectType) (o : Operation) → IsAttempt at.entry us t o → length others.now + 1 < 2 ^ 16 →
-        IfOk result (λ tried. tried ≡ rules.guards_tried (test_of at.entry us t o) (body_of at.entry us t o) 1
+    requires { AreSound attempt.entry.state.now }
+    ensures { (us : List Source) (t : ObjectType) (o : Operation) → IsAttempt attempt.entry us t o → length others.now + 1 < 2 ^ 16 →
+        IfOk result (λ tried. tried ≡ rules.guards_tried (test_of attempt.entry us t o) (body_of attempt.entry us t o) 1
         (guard_shown first.now ∷ map guard_shown others.now)) }
 {
-    match try_guard(alloc, at, 1, first)? {
+    match try_guard(alloc, attempt, 1, first)? {
         Some(tried) => Ok(tried),
-        None => try_others(alloc, at, others),
+        None => try_others(alloc, attempt, others),
     }
 }
 
 /// What an attempt gives: by the first of its guards that is true or faults, or by its body, where it has no guards. The only error is want
 /// of memory.
-pub fn attempt(alloc: Global, at: Attempt<'_, '_>) -> Result<Tried, NoMemory>
-    requires { AreSound at.entry.state.now }
-    ensures { (us : List Source) (t : ObjectType) (o : Operation) → IsAttempt at.entry us t o → guards_in o.body < 2 ^ 16 →
-        IfOk result (λ tried. tried ≡ rules.alternatives_tried (test_of at.entry us t o) (body_of at.entry us t o) o.body) }
+pub fn try_attempt(alloc: Global, attempt: Attempt<'_, '_>) -> Result<Tried, NoMemory>
+    requires { AreSound attempt.entry.state.now }
+    ensures { (us : List Source) (t : ObjectType) (o : Operation) → IsAttempt attempt.entry us t o → guards_in o.body < 2 ^ 16 →
+        IfOk result (λ tried. tried ≡ rules.alternatives_tried (test_of attempt.entry us t o) (body_of attempt.entry us t o) o.body) }
 {
-    match at.operation.form {
-        OperationBody::Guarded { first, others } => try_guards(alloc, at, first, others),
-        OperationBody::Plain { statements } => try_body(alloc, at, 0, statements),
+    match attempt.operation.form {
+        OperationBody::Guarded { first, others } => try_guards(alloc, attempt, first, others),
+        OperationBody::Plain { statements } => try_body(alloc, attempt, 0, statements),
     }
 }

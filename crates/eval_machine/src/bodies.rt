@@ -5,13 +5,15 @@ ghost use Rattle.link_rules.specs.Units.{Source};
 ghost use Rattle.value_core.specs.Datum.{list_of};
 ghost use Rattle.value_core.specs.View.{datum_of};
 ghost use Rattle.meaning_rules.specs.Openings as openings;
+ghost use Rattle.meaning_rules.specs.Operations as rules;
+ghost use Rattle.eval_variables.specs.Gives.{state_of};
 ghost use Rattle.eval_bodies.specs.Codes.{IsCode};
 ghost use Rattle.eval_machine.specs.Stops.{told_fault};
 
 use eval_bodies::Code;
 use eval_tables::Seen;
-use eval_variables::Stop;
-use orca_base::{FaultKind, NoMemory};
+use eval_variables::{Frame, Run, Stop};
+use orca_base::{FaultKind, NoMemory, OPERATION_TURNS};
 use std::alloc::Global;
 use type_rules::DataType;
 use value_core::{Parts, Value};
@@ -21,6 +23,17 @@ pub fn opening(alloc: Global, code: &Code<'_>, kind: &Option<DataType>) -> Resul
     ensures { (us : List Source) → IsCode us code.now → IfOk result (λ v. datum_of v ≡ openings.opening us kind.now) }
 {
     code.tables().opening(alloc, Seen::of_known(kind))
+}
+
+/// Where a guard, a body or a making begins: with these variables, no replies, and all of its turns.
+pub fn started(frame: Frame<'_>) -> Run<'_>
+    ensures { state_of result ≡ rules.start frame.entry }
+{
+    Run {
+        frame,
+        replies: &[],
+        left: u64::from(OPERATION_TURNS) + 1,
+    }
 }
 
 /// Puts the values that variables of these types open with behind others. The only error is want of memory.

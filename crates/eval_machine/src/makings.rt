@@ -11,11 +11,11 @@ ghost use Rattle.meaning_rules.specs.Statements.{run_all};
 ghost use Rattle.eval_bodies.specs.Codes.{IsCode};
 ghost use Rattle.eval_bodies.specs.Objects.{IsObjectCode};
 
-use crate::bodies::{add_openings, fault_of};
+use crate::bodies::{add_openings, fault_of, started};
 use eval_bodies::{Code, ObjectCode, Site};
 use eval_stmts::{Whole, execute_all};
-use eval_variables::{Frame, Run};
-use orca_base::{KindNo, NoMemory, OPERATION_TURNS};
+use eval_variables::Frame;
+use orca_base::{KindNo, NoMemory};
 use orca_tree::Statement;
 use std::alloc::Global;
 use value_core::{Making, Parts};
@@ -31,11 +31,8 @@ fn begun<'p>(
     ensures { (us : List Source) (t : ObjectType) → IsCode us code.now → IsObjectCode us of.now t → IfOk result (λ making.
         making ≡ rules.begun_with (run_all (all_calls us) (begin_scope us t) (stmts statements.now) (rules.start (list_of fields)))) }
 {
-    let mut run = Run {
-        frame: Frame::new(alloc, fields)?,
-        replies: &[],
-        left: u64::from(OPERATION_TURNS) + 1,
-    };
+    let frame = Frame::new(alloc, fields)?;
+    let mut run = started(frame);
     let site = Site::new(code, &of.fields, false);
     match execute_all::<Whole>(alloc, site, statements, &mut run) {
         Ok(_) => {

@@ -222,8 +222,9 @@ pub fn next_doing(
         IfOk result (λ next. next.doing ≡ rules.next_doing us text number args.now replies.now turns) }
     ensures left { IfOk result (λ next. next.left ≤ turns) }
 {
+    let frame = Frame::new(alloc, Parts::new(alloc))?;
     let mut run = Run {
-        frame: Frame::new(alloc, Parts::new(alloc))?,
+        frame,
         replies,
         left: turns,
     };

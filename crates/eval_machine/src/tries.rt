@@ -1,6 +1,6 @@
 //! Tries of operations, by their numbers.
 
-ghost use Rattle.std.specs.Prelude.{◌≡◌, List, IfOk, Some};
+ghost use Rattle.std.specs.Prelude.{◌≡◌, List, IfOk, Some, option_map, slice_get};
 ghost use Rattle.orca_base.specs.declared.ids.KindNo.{KindNo as KindTree};
 ghost use Rattle.link_rules.specs.Units.{Source};
 ghost use Rattle.value_core.specs.Sound.{AreSound};
@@ -10,11 +10,21 @@ ghost use Rattle.meaning_rules.specs.Programs.{ObjectType, object_type};
 ghost use Rattle.eval_bodies.specs.Codes.{IsCode};
 ghost use Rattle.eval_bodies.specs.Objects.{IsObjectCode};
 
-use crate::attempts::{Attempt, attempt};
-use eval_bodies::{Code, ObjectCode};
+use crate::attempts::{Attempt, try_attempt};
+use eval_bodies::{Code, ObjectCode, OperationCode};
 use orca_base::{KindNo, NoMemory, OpNo};
 use std::alloc::Global;
 use value_core::{ObjectState, Parts, Reply, Tried};
+
+// The operation with this number, if there is one.
+fn operation_at<'a, 'p>(
+    operations: &'a [OperationCode<'p>],
+    op: OpNo,
+) -> Option<&'a OperationCode<'p>>
+    ensures { option_map (λ x. x.now) result ≡ slice_get operations.now op.0 }
+{
+    operations.get(usize::from(op.0))
+}
 
 // What a try of an operation of this object type gives.
 fn try_type<'p>(
@@ -29,16 +39,16 @@ fn try_type<'p>(
     ensures { (us : List Source) (kind : KindTree) (t : ObjectType) → IsCode us code.now → AreNumbers us → object_type us kind ≡ Some t →
         IsObjectCode us of.now t → IfOk result (λ tried. tried ≡ rules.type_tried us op state.now args.now (Some t)) }
 {
-    match of.operations.get(usize::from(op.0)) {
+    match operation_at(&of.operations, op) {
         None => Ok(Tried::Blocked),
         Some(operation) => {
-            let at = Attempt {
+            let attempt = Attempt {
                 code,
                 operation,
                 state,
                 args,
             };
-            attempt(alloc, at)
+            try_attempt(alloc, attempt)
         }
     }
 }

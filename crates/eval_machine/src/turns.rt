@@ -102,6 +102,20 @@ fn up(
     Ok(used)
 }
 
+// A guess, where it is no less than the low number and no more than the high one, and else the nearer of these.
+fn within(low: u64, high: u64, guess: u64) -> u64
+    ensures low { low ≤ result }
+    ensures high { low ≤ high → result ≤ high }
+{
+    if guess < low {
+        return low;
+    }
+    if guess <= high {
+        return guess;
+    }
+    if low <= high { high } else { low }
+}
+
 // How many turns a process took, looked for from a guess on: where that is right, two evaluations show it.
 fn turns_taken(
     alloc: Global,
@@ -113,8 +127,8 @@ fn turns_taken(
     ensures { process.now.turns ≤ last →
         IfOk result (IsReached (doing_by (sources machine.now.checked.now) (kept process.now)) process.now.turns last) }
 {
-    let first = guess.min(last).max(process.turns);
-    let first = down(alloc, machine, process, first)?;
+    let guess = within(process.turns, last, guess);
+    let first = down(alloc, machine, process, guess)?;
     up(alloc, machine, process, last, first)
 }
 

@@ -8,12 +8,12 @@ use Rattle.orca_syntax.specs.Syntax.{Body}
 use Rattle.accepted_law.specs.Numbers.{guards_in}
 use Rattle.meaning_rules.specs.Operations.{alternatives_tried, guards_tried}
 use Rattle.eval_machine.specs.Attempts.{body_of, test_of}
-use Rattle.eval_machine.proofs.attempts.attempt.Goals as goal
+use Rattle.eval_machine.proofs.attempts.try_attempt.Goals as goal
 
 pub returns-in-Guarded : goal.returns-in-Guarded
 returns-in-Guarded c = λ us t o is few.
-    let tests = test_of c.args.at us t o in
-    let bodies = body_of c.args.at us t o in
+    let tests = test_of c.args.attempt us t o in
+    let bodies = body_of c.args.attempt us t o in
     let g = c.in-Guarded in
     let r = c.try_guards.result in
     let said = subst (λ (l : List Guard). length l + 1 < 2 ^ 16 → IfOk r (λ tried. tried ≡ guards_tried tests bodies 1 (guard g.first ∷ map guard l))) c.deref.ensures.value
@@ -23,8 +23,8 @@ returns-in-Guarded c = λ us t o is few.
 
 pub returns-in-Plain : goal.returns-in-Plain
 returns-in-Plain c = λ us t o is few.
-    let tests = test_of c.args.at us t o in
-    let bodies = body_of c.args.at us t o in
+    let tests = test_of c.args.attempt us t o in
+    let bodies = body_of c.args.attempt us t o in
     let p = c.in-Plain in
     let r = c.try_body.result in
     subst (λ (b : Body). IfOk r (λ tried. tried ≡ alternatives_tried tests bodies b)) (ap body (sym p.is) ∙ is.operation.form)
