@@ -38,7 +38,7 @@ pub struct Attempt<'a, 'p> {
 
 // Where each guard and the body begins: the arguments, the variables with their opening values, and the object's fields, which are lent.
 fn begin<'a>(alloc: Global, attempt: Attempt<'a, '_>) -> Result<Run<'a>, NoMemory>
-    requires { AreSound attempt.entry.state.now }
+    requires { AreSound attempt.state.now }
     ensures { (us : List Source) (t : ObjectType) (o : Operation) → IsAttempt attempt.entry us t o →
         IfOk result (λ r. state_of r ≡ begins attempt.entry us t o) }
 {
@@ -50,7 +50,7 @@ fn begin<'a>(alloc: Global, attempt: Attempt<'a, '_>) -> Result<Run<'a>, NoMemor
 
 // The value of a guard's test.
 fn tested(alloc: Global, attempt: Attempt<'_, '_>, test: &Expression) -> Result<Value, Stop>
-    requires { AreSound attempt.entry.state.now }
+    requires { AreSound attempt.state.now }
     ensures { (us : List Source) (t : ObjectType) (o : Operation) → IsAttempt attempt.entry us t o →
         GivesSome datum_of result (test_of attempt.entry us t o (expr test.now)) }
 {
@@ -128,7 +128,7 @@ fn try_body<'p>(
     guard: u16,
     statements: &'p [Statement],
 ) -> Result<Tried, NoMemory>
-    requires { AreSound attempt.entry.state.now }
+    requires { AreSound attempt.state.now }
     ensures { (us : List Source) (t : ObjectType) (o : Operation) → IsAttempt attempt.entry us t o →
         IfOk result (λ tried. tried ≡ body_of attempt.entry us t o guard (stmts statements.now)) }
 {
@@ -160,7 +160,7 @@ fn try_guard<'p>(
     number: usize,
     guard: &'p Guard,
 ) -> Result<Option<Tried>, NoMemory>
-    requires { AreSound attempt.entry.state.now }
+    requires { AreSound attempt.state.now }
     ensures { (us : List Source) (t : ObjectType) (o : Operation) → IsAttempt attempt.entry us t o → number < 2 ^ 16 → (others : TriedTree) →
         IfOk result (λ tried. guard_of attempt.entry us t o number (guard_shown guard.now) others ≡ unwrap_or tried others) }
 {
@@ -186,7 +186,7 @@ fn try_others<'p>(
     attempt: Attempt<'_, 'p>,
     guards: &'p [Guard],
 ) -> Result<Tried, NoMemory>
-    requires { AreSound attempt.entry.state.now }
+    requires { AreSound attempt.state.now }
     ensures { (us : List Source) (t : ObjectType) (o : Operation) → IsAttempt attempt.entry us t o → length guards.now + 1 < 2 ^ 16 →
         IfOk result (λ tried. tried ≡ rules.guards_tried (test_of attempt.entry us t o) (body_of attempt.entry us t o) 2
         (map guard_shown guards.now)) }
@@ -206,7 +206,7 @@ fn try_guards<'p>(
     first: &'p Guard,
     others: &'p [Guard],
 ) -> Result<Tried, NoMemory>
-    requires { AreSound attempt.entry.state.now }
+    requires { AreSound attempt.state.now }
     ensures { (us : List Source) (t : ObjectType) (o : Operation) → IsAttempt attempt.entry us t o → length others.now + 1 < 2 ^ 16 →
         IfOk result (λ tried. tried ≡ rules.guards_tried (test_of attempt.entry us t o) (body_of attempt.entry us t o) 1
         (guard_shown first.now ∷ map guard_shown others.now)) }
@@ -220,7 +220,7 @@ fn try_guards<'p>(
 /// What an attempt gives: by the first of its guards that is true or faults, or by its body, where it has no guards. The only error is want
 /// of memory.
 pub fn try_attempt(alloc: Global, attempt: Attempt<'_, '_>) -> Result<Tried, NoMemory>
-    requires { AreSound attempt.entry.state.now }
+    requires { AreSound attempt.state.now }
     ensures { (us : List Source) (t : ObjectType) (o : Operation) → IsAttempt attempt.entry us t o → guards_in o.body < 2 ^ 16 →
         IfOk result (λ tried. tried ≡ rules.alternatives_tried (test_of attempt.entry us t o) (body_of attempt.entry us t o) o.body) }
 {
