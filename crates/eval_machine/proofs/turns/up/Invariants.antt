@@ -1,0 +1,15 @@
+use Rattle.std.proofs.Common.{◌≡◌, ◌⊎◌, ◌≤◌, ◌-◌}
+use Rattle.value_core.specs.declared.meaning.Doing.TheVariants as doing
+use Rattle.eval_bodies.specs.Codes.{sources}
+use Rattle.eval_machine.specs.Processes.{doing_by, kept}
+use Rattle.eval_machine.proofs.turns.up.Given as goal
+
+abbrev pub invariant-turns : goal.invariant-turns
+invariant-turns l = record {
+  low : l.process.turns ≤ l.used;
+  high : l.first ≤ l.last → l.used ≤ l.last;
+  busy : (l.used ≡ l.process.turns) ⊎ (doing_by (sources l.machine.checked.now) (kept l.process) l.used ≡ doing.Busy);
+}
+
+abbrev pub decreases-turns : goal.decreases-turns
+decreases-turns l = l.last - l.used

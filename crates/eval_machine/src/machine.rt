@@ -1,0 +1,53 @@
+//! A checked program, made ready to run on its trees.
+
+ghost use Rattle.std.specs.Prelude.{◌≡◌, IfOk};
+ghost use Rattle.orca_base.specs.Refusal.{IfBecause};
+ghost use Rattle.accepted_law.specs.Limits.{IsWithinLimits};
+ghost use Rattle.program_limits.specs.Passed.{Passes};
+ghost use Rattle.eval_bodies.specs.Codes.{IsCode, sources};
+ghost use Rattle.eval_machine.specs.ValueLaws.{ValueLaws};
+ghost use Rattle.eval_machine.specs.LawsOnce.{ValueLaws-prop};
+
+use eval_bodies::Code;
+use graph_values::graphs_law;
+use orca_base::Refusal;
+use program_limits::{PassedLimit, within_limits};
+use std::alloc::Global;
+use type_decls::Checked;
+use value_ops::{elements_law, texts_law};
+use value_paths::paths_law;
+
+/// What performs and computes a checked program, by its trees. Nothing of it changes.
+///
+/// It meets `Performer` and `Processor` with the meanings of the program's sources, `performs_of` and `computes_of` of meaning_rules
+/// (specs/Meanings.antt there), and what fits is that of meaning_rules (specs/Fitting.antt there).
+#[derive(Drop)]
+pub struct TreeMachine<'p> {
+    pub checked: &'p Checked<'p>,
+    pub(crate) code: Code<'p>,
+    pub ghost within: { IsWithinLimits (sources checked.now) },
+    pub ghost coded: { ∥ IsCode (sources checked.now) code ∥₁ },
+    pub ghost laws: { ValueLaws } by { ValueLaws-prop },
+}
+
+impl<'p> TreeMachine<'p> {
+    /// The machine of a checked program. Its cost is that of the program's text times a logarithm.
+    ///
+    /// # Errors
+    /// The limit that the program passes: of parameters (255), or of tokens and declared names together (100,000); and want of memory.
+    pub fn new(
+        alloc: Global,
+        checked: &'p Checked<'p>,
+    ) -> Result<TreeMachine<'p>, Refusal<PassedLimit>>
+        ensures program { IfOk result (λ m. m.checked.now ≡ checked.now) }
+        ensures passed { IfBecause result (Passes (sources checked.now)) }
+    {
+        within_limits(alloc, checked.program)?;
+        let code = Code::new(alloc, checked)?;
+        elements_law();
+        graphs_law();
+        paths_law();
+        texts_law();
+        Ok(TreeMachine { checked, code })
+    }
+}

@@ -1,0 +1,146 @@
+//! What the machine keeps of a process.
+
+ghost use Rattle.std.specs.Prelude.{◌≡◌, ◌↔◌, [], None, Some, IfOk, IsTrue};
+ghost use Rattle.eval_machine.specs.Processes.{kept, told};
+
+use orca_base::{NoMemory, ProcessNo, TextNo};
+use std::alloc::Global;
+use value_core::{Parts, Reply};
+
+/// A process: its text, its number and its arguments, the replies that it received, and the turns that it took. The reply that came last
+/// stands apart until it goes on, so that receiving one takes no memory.
+#[derive(Drop)]
+pub struct TreeProcess {
+    pub(crate) text: TextNo,
+    pub(crate) number: ProcessNo,
+    pub(crate) args: Parts,
+    pub(crate) replies: Vec<Reply>,
+    pub(crate) last: Option<Reply>,
+    pub(crate) turns: u64,
+}
+
+// Equal replies.
+fn copy_replies(alloc: Global, replies: &[Reply]) -> Result<Vec<Reply>, NoMemory>
+    ensures { IfOk result (λ all. all.items ≡ replies.now) }
+{
+    let mut all = Vec::new(alloc);
+    'replies: for reply in replies {
+        all.push(reply.copy(alloc)?)?;
+    }
+    Ok(all)
+}
+
+// An equal reply, where there is one.
+fn copy_last(alloc: Global, last: &Option<Reply>) -> Result<Option<Reply>, NoMemory>
+    ensures { IfOk result (λ reply. reply ≡ last.now) }
+{
+    match last {
+        None => Ok(None),
+        Some(reply) => Ok(Some(reply.copy(alloc)?)),
+    }
+}
+
+// Whether the replies are the same.
+fn same_replies(one: &[Reply], other: &[Reply]) -> bool
+    ensures { IsTrue result ↔ (one.now ≡ other.now) }
+{
+    if one.len() != other.len() {
+        return false;
+    }
+    'replies: for (place, reply) in one.iter().enumerate() {
+        if !reply.is(&other[place]) {
+            return false;
+        }
+    }
+    true
+}
+
+// Whether both are the same.
+fn same_last(one: &Option<Reply>, other: &Option<Reply>) -> bool
+    ensures { IsTrue result ↔ (one.now ≡ other.now) }
+{
+    match (one, other) {
+        (None, None) => true,
+        (Some(one), Some(other)) => one.is(other),
+        _ => false,
+    }
+}
+
+impl TreeProcess {
+    // A process before its first reply.
+    pub(crate) fn new(
+        alloc: Global,
+        text: TextNo,
+        number: ProcessNo,
+        args: &Parts,
+    ) -> Result<TreeProcess, NoMemory>
+        ensures { IfOk result (λ s. told s ≡ record { text = text; number = number; args = args.now; replies = []; turns = 0 }) }
+    {
+        Ok(TreeProcess {
+            text,
+            number,
+            args: args.copy(alloc)?,
+            replies: Vec::new(alloc),
+            last: None,
+            turns: 0,
+        })
+    }
+
+    // The same process, with its last reply among the others.
+    pub(crate) fn gathered(self) -> Result<TreeProcess, NoMemory>
+        ensures same { IfOk result (λ s. kept s ≡ told self) }
+        ensures none { IfOk result (λ s. s.last ≡ None) }
+    {
+        let mut process = self;
+        match process.last.take() {
+            None => Ok(process),
+            Some(reply) => {
+                process.replies.push(reply)?;
+                Ok(process)
+            }
+        }
+    }
+
+    // The process, where it took so many turns.
+    pub(crate) fn with_turns(self, turns: u64) -> TreeProcess
+        ensures { result ≡ record self { turns = turns } }
+    {
+        TreeProcess { turns, ..self }
+    }
+
+    // The process, where it receives one more reply. It takes no memory.
+    pub(crate) fn replied(self, reply: Reply) -> TreeProcess
+        ensures { result ≡ record self { last = Some reply } }
+    {
+        TreeProcess {
+            last: Some(reply),
+            ..self
+        }
+    }
+
+    // An equal process.
+    pub(crate) fn copy(&self, alloc: Global) -> Result<TreeProcess, NoMemory>
+        ensures { IfOk result (λ s. s ≡ self.now) }
+    {
+        Ok(TreeProcess {
+            text: self.text,
+            number: self.number,
+            args: self.args.copy(alloc)?,
+            replies: copy_replies(alloc, &self.replies)?,
+            last: copy_last(alloc, &self.last)?,
+            turns: self.turns,
+        })
+    }
+
+    // Whether both processes are the same.
+    pub(crate) fn is(&self, other: &TreeProcess) -> bool
+        ensures { IsTrue result ↔ (self.now ≡ other.now) }
+    {
+        self.text == other.text
+            && self.number == other.number
+            && self.args.is(&other.args)
+            && same_replies(&self.replies, &other.replies)
+            && same_last(&self.last, &other.last)
+            && self.turns == other.turns
+    }
+}
