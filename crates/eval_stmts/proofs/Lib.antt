@@ -1,0 +1,6 @@
+mod Rows
+mod Loops
+mod OwnVariables
+mod Entering
+mod OutputLines
+mod Routines
