@@ -1,4 +1,4 @@
-use Rattle.std.proofs.Common.{rules, ℕ, ℤ, pos, ◌+ℤ◌, ◌<ℤ◌, to_z, of_z, ◌∷◌, ◌≡◌, ◌+◌, ◌-◌, Bool, true, false, Option, Some, suc, cond, List, drop, sym, ap, ◌∙◌, subst, arith}
+use Rattle.std.proofs.Common.{rules, ℕ, ℤ, pos, ◌+ℤ◌, ◌<ℤ◌, to_z, of_z, ◌∷◌, ◌≡◌, ◌+◌, ◌-◌, Bool, true, false, Option, Some, cond, List, drop, sym, ap, ◌∙◌, subst, arith}
 use Rattle.std.specs.Prelude.{option_map}
 use Rattle.std.specs.Int.{w64}
 use Rattle.std.specs.Int.RustNames.{FitsSigned}
@@ -9,7 +9,7 @@ use Rattle.std.proofs.lemmas.Result.{err_from_is_err_and}
 use Rattle.orca_tree.specs.declared.tree.Arm.{Arm as ArmTree}
 use Rattle.orca_tree.specs.declared.tree.Statement.{Statement}
 use Rattle.orca_tree.specs.declared.tree.Expression.{Expression}
-use Rattle.orca_syntax.specs.Shown.{arm, arms, expr, exprs, path as path_shown, stmt, stmts}
+use Rattle.orca_syntax.specs.Shown.{arm, arms, expr, exprs, stmt, stmts}
 use Rattle.orca_syntax.specs.Syntax as syn
 use Rattle.orca_syntax.specs.Syntax.{Arm, Stmt}
 use Rattle.orca_tree.proofs.tree.Statement.TheLaws.{the_size as height}
@@ -21,13 +21,12 @@ use Rattle.value_core.specs.Datum.{Datum}
 use Rattle.value_core.specs.Datum as datum
 use Rattle.value_core.specs.View.{datum_of}
 use Rattle.meaning_rules.specs.Expressions.{eval}
-use Rattle.meaning_rules.specs.Loops.{Again, Flow, Leave, On, Over, Round, always, between, count, rounds, counted_round, ended, go_on, otherwise, round_if, taken_if, until, when, while_round, until_round, with_name, without_name}
+use Rattle.meaning_rules.specs.Loops.{Again, Flow, On, Over, Round, between, count, rounds, counted_round, ended, go_on, otherwise, round_if, taken_if, until, when, while_round, until_round, with_name, without_name}
 use Rattle.meaning_rules.specs.Operators.{integer_in, truth_in}
 use Rattle.type_rules.specs.Statements.{with_loop}
 use Rattle.eval_bodies.specs.Sites.{lent_texts}
 use Rattle.meaning_rules.specs.States.{Goes, Out, State, after, turn}
-use Rattle.meaning_rules.specs.Statements.{call_operation, change_elements, fork_process, give_back, write_line, run as run_rule, run_all, run_arm, run_arms}
-use Rattle.meaning_rules.specs.Variables.{drop_element, put}
+use Rattle.meaning_rules.specs.Statements.{call_operation, fork_process, write_line, run as run_rule, run_all, run_arm, run_arms}
 use Rattle.eval_variables.specs.Gives.{Fails, Gives, state_of}
 use Rattle.eval_stmts.specs.declared.flow.Flow.{Flow as FlowTree}
 use Rattle.eval_stmts.specs.declared.flow.Flow.TheVariants as flow
