@@ -1,5 +1,5 @@
 -- What code has of a function is what the meaning enters.
-use Rattle.std.proofs.Common.{◌≡◌, Bool, false, ℕ, List, Option, Some, None, refl, sym, ap, ◌∙◌, subst}
+use Rattle.std.proofs.Common.{◌≡◌, Bool, false, ℕ, List, Option, Some, None, refl, sym, ap, ◌∙◌}
 use Rattle.std.specs.Prelude.{option_and_then, slice_get}
 use Rattle.std.specs.Option.{option_map_or}
 use Rattle.std.specs.Borrow.{Bor}
@@ -7,10 +7,9 @@ use Rattle.orca_base.specs.declared.fault.FaultKind.TheVariants.{NoReturn}
 use Rattle.link_rules.specs.Units.{Source}
 use Rattle.type_rules.specs.TopLevel as top
 use Rattle.type_rules.specs.TopLevel.{TopName, What, top_names}
-use Rattle.value_core.specs.Datum.{Datum}
 use Rattle.meaning_rules.specs.Calls.{Calls, Passed}
 use Rattle.meaning_rules.specs.Functions.{enter}
-use Rattle.meaning_rules.specs.States.{Faults, Out, State, Stops}
+use Rattle.meaning_rules.specs.States.{Faults, State, Stops}
 use Rattle.eval_bodies.specs.declared.blocks.BlockCode.{BlockCode}
 use Rattle.eval_bodies.specs.Blocks.{IsBlockCode, Routine, function_at, function_in, function_of}
 use Rattle.eval_bodies.specs.Matching.{Both}

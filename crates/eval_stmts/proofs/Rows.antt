@@ -1,7 +1,6 @@
 -- Statements and arms in a row, one further; stops of what comes first; and values that go.
-use Rattle.std.proofs.Common.{◌≡◌, Option, Some, None, refl, sym, ap, ◌∙◌, subst}
+use Rattle.std.proofs.Common.{◌≡◌, refl, sym, ap, ◌∙◌, subst}
 use Rattle.meaning_rules.specs.States.{State, Out, Goes, Stops, after}
-use Rattle.meaning_rules.specs.Loops.{Flow, On, Back, go_on, otherwise}
 use Rattle.eval_variables.specs.declared.stop.Stop.{Stop}
 use Rattle.eval_variables.specs.declared.stop.Stop.TheVariants as stop
 use Rattle.eval_variables.specs.Gives.{Fails}

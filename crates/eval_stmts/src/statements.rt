@@ -319,13 +319,16 @@ fn count<'p, C: Levels>(
     ensures gives { (w : Scope) → IsSite site.entry w → Gives flow_of result (state_of run.new)
         (loops.count (loops.rounds low high) low (run_all (calls w.program C.levels) w (stmts body.now)) (state_of run.old)) }
 {
-    'numbers: for number in low..=high {
+    if low > high {
+        return Ok(Flow::On);
+    }
+    'numbers: for number in low..high {
         match counted_round::<C>(alloc, site, body, number, run)? {
             Flow::On => {}
             Flow::Back { value } => return Ok(Flow::Back { value }),
         }
     }
-    Ok(Flow::On)
+    counted_round::<C>(alloc, site, body, high, run)
 }
 
 // A round of `for`: a turn, and the body, which sees the number as the loop's variable.

@@ -1,13 +1,10 @@
-use Rattle.std.proofs.Common.{◌≡◌, List, Option, map, sym, ap, ◌∙◌, subst}
-use Rattle.std.specs.Prelude.{option_map}
+use Rattle.std.proofs.Common.{◌≡◌, List, Option, map, sym, ap, ◌∙◌}
 use Rattle.std.proofs.lemmas.Result.{err_from_is_err_and}
 use Rattle.orca_syntax.specs.Shown.{stmts}
 use Rattle.type_rules.specs.declared.types.DataType.{DataType}
 use Rattle.value_core.specs.Datum.{Datum, list_of}
 use Rattle.meaning_rules.specs.Functions.{calls, own_frame}
-use Rattle.eval_variables.specs.declared.steps.Passed.{Passed}
-use Rattle.eval_variables.specs.Gives.{Gives, passed_of, state_of}
-use Rattle.eval_variables.specs.Lent.{AreLentAlike}
+use Rattle.eval_variables.specs.Gives.{passed_of, state_of}
 use Rattle.eval_stmts.specs.Flows.{flow_of}
 use Rattle.eval_stmts.specs.Frames.{variables_of}
 use Rattle.eval_stmts.proofs.Entering.{body_ends, body_fails}

@@ -1,7 +1,7 @@
 use Rattle.std.proofs.Common.{◌≡◌, ◌<◌, ◌+◌, ℕ, List, [], ◌∷◌, length, drop, map, sym, ap, ◌∙◌, arith}
 use Rattle.std.specs.Prelude.{string_bytes}
 use Rattle.std.proofs.lemmas.Result.{err_from_is_err_and}
-use Rattle.orca_syntax.specs.Shown.{expr, exprs}
+use Rattle.orca_syntax.specs.Shown.{exprs}
 use Rattle.value_core.specs.View.{datum_of}
 use Rattle.meaning_rules.specs.States.{State}
 use Rattle.meaning_rules.specs.Statements.{texts_of}

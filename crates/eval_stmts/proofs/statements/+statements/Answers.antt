@@ -1,16 +1,19 @@
-use Rattle.std.proofs.Common.{rules, ℕ, ℤ, to_z, of_z, ◌∷◌, ◌≡◌, ◌+◌, ◌-◌, Bool, true, false, Option, Some, suc, cond, List, drop, sym, ap, ◌∙◌, subst, arith}
+use Rattle.std.proofs.Common.{rules, ℕ, ℤ, pos, ◌+ℤ◌, ◌<ℤ◌, to_z, of_z, ◌∷◌, ◌≡◌, ◌+◌, ◌-◌, Bool, true, false, Option, Some, cond, List, drop, sym, ap, ◌∙◌, subst, arith}
 use Rattle.std.specs.Prelude.{option_map}
 use Rattle.std.specs.Int.{w64}
 use Rattle.std.specs.Int.RustNames.{FitsSigned}
 use Rattle.std.proofs.Math.Facts.{to_z-of_z}
 use Rattle.std.proofs.Math.ListN.{drop_of_length-le}
+use Rattle.std.proofs.lemmas.Int.{ints}
 use Rattle.std.proofs.lemmas.Result.{err_from_is_err_and}
 use Rattle.orca_tree.specs.declared.tree.Arm.{Arm as ArmTree}
 use Rattle.orca_tree.specs.declared.tree.Statement.{Statement}
 use Rattle.orca_tree.specs.declared.tree.Expression.{Expression}
-use Rattle.orca_syntax.specs.Shown.{arm, arms, expr, exprs, path as path_shown, stmt, stmts}
+use Rattle.orca_syntax.specs.Shown.{arm, arms, expr, exprs, stmt, stmts}
 use Rattle.orca_syntax.specs.Syntax as syn
 use Rattle.orca_syntax.specs.Syntax.{Arm, Stmt}
+use Rattle.orca_tree.proofs.tree.Statement.TheLaws.{the_size as height}
+use Rattle.orca_syntax.proofs.Heights.{for_falls, stmts_height}
 use Rattle.orca_syntax.proofs.ShownLaws.{for_is, if_is, otherwise_is, repeat_is, when_is, while_is}
 use Rattle.type_forms.proofs.Loops.{rest_is}
 use Rattle.meaning_rules.specs.Functions.{calls}
@@ -18,18 +21,17 @@ use Rattle.value_core.specs.Datum.{Datum}
 use Rattle.value_core.specs.Datum as datum
 use Rattle.value_core.specs.View.{datum_of}
 use Rattle.meaning_rules.specs.Expressions.{eval}
-use Rattle.meaning_rules.specs.Loops.{Again, Flow, Leave, On, Over, Round, always, between, count, rounds, counted_round, ended, go_on, otherwise, round_if, taken_if, until, when, while_round, until_round, with_name, without_name}
+use Rattle.meaning_rules.specs.Loops.{Again, Flow, On, Over, Round, between, count, rounds, counted_round, ended, go_on, otherwise, round_if, taken_if, until, when, while_round, until_round, with_name, without_name}
 use Rattle.meaning_rules.specs.Operators.{integer_in, truth_in}
 use Rattle.type_rules.specs.Statements.{with_loop}
 use Rattle.eval_bodies.specs.Sites.{lent_texts}
 use Rattle.meaning_rules.specs.States.{Goes, Out, State, after, turn}
-use Rattle.meaning_rules.specs.Statements.{call_operation, change_elements, fork_process, give_back, write_line, run as run_rule, run_all, run_arm, run_arms}
-use Rattle.meaning_rules.specs.Variables.{drop_element, put}
+use Rattle.meaning_rules.specs.Statements.{call_operation, fork_process, write_line, run as run_rule, run_all, run_arm, run_arms}
 use Rattle.eval_variables.specs.Gives.{Fails, Gives, state_of}
 use Rattle.eval_stmts.specs.declared.flow.Flow.{Flow as FlowTree}
 use Rattle.eval_stmts.specs.declared.flow.Flow.TheVariants as flow
 use Rattle.eval_stmts.specs.Flows.{flow_of, round_by, round_of}
-use Rattle.eval_stmts.proofs.Loops.{loop_fails, loop_goes}
+use Rattle.eval_stmts.proofs.Loops.{count_back, count_last, count_none, count_on, count_stops, loop_fails, loop_goes}
 use Rattle.eval_stmts.proofs.Rows.{fails_then, first_fails, first_gives}
 use Rattle.eval_stmts.proofs.statements.+statements.Goals as goal
 
@@ -77,6 +79,15 @@ arm-returns-in-Otherwise-clause-gives g t c = λ w s.
     subst (λ (x : Arm). Gives (option_map flow_of) c.always.result (state_of c.always.new.run) (run_arm call w x (state_of c.args.run.now)))
     (ap (λ (l : List Statement). syn.Otherwise (stmts l)) c.deref-in-Otherwise.ensures.value ∙ sym (ap arm c.in-Otherwise.is ∙ otherwise_is _))
     (c.always.ensures.gives w s)
+
+-- the measure of the arm with the most parts, beyond the limits of the automatic one
+pub execute-between-requires : goal.execute-between-requires
+execute-between-requires g t c κs within =
+    let lower = for_falls c.in-For.at c.in-For.name c.in-For.range c.in-For.body in
+    let same = ap stmts_height c.deref-in-For.ensures.value in
+    let whole = ap height c.in-For.is in
+    let mine = c.decreases in
+    (omega (arith, lower, same, whole, mine), search rules)
 
 -- ---- statements and arms in a row
 
@@ -491,6 +502,65 @@ counted_round-returns-clause-gives g t c = λ w s.
     ∙ ap (λ (s3 : State). after (body s3) next) (sym ((c.in_ok-add_name.ensures {u = tt}).added ∙ ap (λ (z : ℤ). with_name (datum.int z) s1) (to_z-of_z c.ranges.number))) in
     begun ∙ ap (λ (o : Out Flow). after o next) ((c.in_ok-flow.ensures {u = tt}).gives w s)
     ∙ ap (λ (s3 : State). Goes (flow_of c.in_ok-flow.flow) s3) (sym c.drop_name.ensures.gone)
+
+-- rounds behind one another, and the last one behind them
+pub count-returns-then-low-high-clause-gives : goal.count-returns-then-low-high-clause-gives
+count-returns-then-low-high-clause-gives g t c = λ w s.
+    let body = run_all (calls w.program g.C.Levels.levels) w (stmts c.args.body.now) in
+    count_none c.args.low c.args.high body (state_of c.args.run.now) (omega (arith, ints))
+
+pub count-numbers-preserved : goal.count-numbers-preserved
+count-numbers-preserved g t c =
+    let i = to_z w64 c.numbers.number-bits in
+    let high = to_z w64 (of_z w64 c.args.high) in
+    let s1 = state_of c.counted_round.new.run in
+    let below : i <ℤ high = omega (arith, ints) in
+    let next : to_z w64 (of_z w64 (i +ℤ pos 1)) ≡ i +ℤ pos 1 = omega (arith, ints) in
+    record {
+      left = omega arith;
+      end = omega (arith, ints);
+      gives = λ w s.
+          let body = run_all (calls w.program g.C.Levels.levels) w (stmts c.args.body.now) in
+          let goes = (c.in_ok-counted_round.ensures {u = tt}).gives w s ∙ ap (λ (f : FlowTree). Goes (flow_of f) s1) c.in-On.is in
+          count_on i _ high body (state_of c.numbers.run) s1 _ below next goes (c.numbers.invariant.gives w s);
+    }
+
+pub count-returns-in_err-counted_round-clause-gives : goal.count-returns-in_err-counted_round-clause-gives
+count-returns-in_err-counted_round-clause-gives g t c = λ w s.
+    let p = err_from_is_err_and c.from_residual.result c.from_residual.ensures.1 in
+    let body = run_all (calls w.program g.C.Levels.levels) w (stmts c.args.body.now) in
+    let i = to_z w64 c.numbers.number-bits in
+    let high = to_z w64 (of_z w64 c.args.high) in
+    let s0 = state_of c.args.run.now in
+    let below : i <ℤ high = omega (arith, ints) in
+    let whole = c.numbers.invariant.gives w s ∙ ap (λ (z : ℤ). count (rounds z high) z body s0) (to_z-of_z c.ranges.low)
+    ∙ ap (λ (z : ℤ). count (rounds c.args.low z) c.args.low body s0) (to_z-of_z c.ranges.high) in
+    rw (p.1, p.2) (count_stops i high c.in_err-counted_round.field-0.0 body (state_of c.numbers.run) _ below ((c.in_err-counted_round.ensures {u = tt}).gives w s) whole)
+
+pub count-returns-in-Back-clause-gives : goal.count-returns-in-Back-clause-gives
+count-returns-in-Back-clause-gives g t c = λ w s.
+    let body = run_all (calls w.program g.C.Levels.levels) w (stmts c.args.body.now) in
+    let i = to_z w64 c.numbers.number-bits in
+    let high = to_z w64 (of_z w64 c.args.high) in
+    let s0 = state_of c.args.run.now in
+    let s1 = state_of c.counted_round.new.run in
+    let below : i <ℤ high = omega (arith, ints) in
+    let whole = c.numbers.invariant.gives w s ∙ ap (λ (z : ℤ). count (rounds z high) z body s0) (to_z-of_z c.ranges.low)
+    ∙ ap (λ (z : ℤ). count (rounds c.args.low z) c.args.low body s0) (to_z-of_z c.ranges.high) in
+    let goes = (c.in_ok-counted_round.ensures {u = tt}).gives w s ∙ ap (λ (f : FlowTree). Goes (flow_of f) s1) c.in-Back.is in
+    count_back i high (option_map datum_of c.in-Back.value) body (state_of c.numbers.run) s1 _ below goes whole
+
+pub count-returns-clause-gives : goal.count-returns-clause-gives
+count-returns-clause-gives g t c = λ w s.
+    let body = run_all (calls w.program g.C.Levels.levels) w (stmts c.args.body.now) in
+    let i = to_z w64 c.numbers.number-bits in
+    let high = to_z w64 (of_z w64 c.args.high) in
+    let s0 = state_of c.args.run.now in
+    let last : i ≡ high = omega (arith, ints) in
+    let whole = c.numbers.invariant.gives w s ∙ ap (λ (z : ℤ). count (rounds z high) z body s0) (to_z-of_z c.ranges.low)
+    ∙ ap (λ (z : ℤ). count (rounds c.args.low z) c.args.low body s0) (to_z-of_z c.ranges.high) in
+    subst (λ (o : Out Flow). Gives flow_of c.counted_round-2.result (state_of c.counted_round-2.new.run) o)
+    (sym (count_last i high body (state_of c.numbers.run) last) ∙ whole) (c.counted_round-2.ensures.gives w s)
 
 -- behind the high bound, and behind the low one
 abbrev counted : (State → Out Flow) → Datum → Datum → State → Out Flow

@@ -1,4 +1,4 @@
-use Rattle.std.proofs.Common.{◌≡◌, ◌≤◌, ◌<◌, ℕ, suc, drop}
+use Rattle.std.proofs.Common.{◌≡◌, ◌≤◌, ◌<◌, ◌≤ℤ◌, ℕ, suc, drop}
 use Rattle.orca_syntax.specs.Shown.{arms, expr, stmts}
 use Rattle.type_rules.specs.Scopes.{Scope}
 use Rattle.meaning_rules.specs.Expressions.{eval}
@@ -42,6 +42,7 @@ decreases-repeat-rounds g l = l.run.left
 abbrev pub invariant-count-numbers : goal.invariant-count-numbers
 invariant-count-numbers g l = record {
   left : l.run.left ≤ l.initial.run.left;
+  end : l.number ≤ℤ l.high;
   gives : (w : Scope) → IsSite l.site w →
       let body = run_all (calls w.program g.C.Levels.levels) w (stmts l.body) in
       count (rounds l.number l.high) l.number body (state_of l.run) ≡ count (rounds l.low l.high) l.low body (state_of l.initial.run);
