@@ -26,7 +26,7 @@ pub use blocks::BlockCode;
 pub use bodies::{Body, BodyNames};
 pub use callees::{Callee, function_named};
 pub use code::Code;
-pub use implementations::Implemented;
+pub use implementations::{Implementations, Implemented, implementations_of};
 pub use names::Named;
 pub use objects::{ObjectCode, OperationCode};
 pub use site::{Site, inner_loops};

@@ -10,22 +10,19 @@ use value_core::{Action, Line};
 // The numbers of an object have the bits of their types.
 fn object_fits(object: ObjectId)
     ensures { ObjectFits object }
-{
-}
+{}
 
 // So has the member that a fork names.
 fn place_fits(place_on: Option<i64>)
     ensures { PlaceFits place_on }
-{
-}
+{}
 
 // So have the numbers of a line.
 fn numbers_fit(process: ProcessNo, call: CallNo, guard: u16)
     ensures process { process.0 < 2 ^ 16 }
     ensures call { call.0 < 2 ^ 64 }
     ensures guard { guard < 2 ^ 16 }
-{
-}
+{}
 
 // An action whose names are known is named.
 fn action_fits(names: &Names, action: &Action)
