@@ -40,6 +40,11 @@ adds_one view f x v false old new is more same = absurd (cc is)
 adds_one {V} {X} {Y} view f x v true old new is more same =
     ap (map view) more ∙ map-append view old (v ∷ []) ∙ ap (λ (y : Y). map view old ++ y ∷ []) same
 
+-- the one list in front is empty
+pub one_empty : {V Y : Type 0} (view : V → List Y) (v : V) (none all : List V) → none ≡ [] → all ≡ none ++ v ∷ [] → view v ≡ [] → map view all ≡ [] ∷ []
+one_empty {V} {Y} view v none all empty is seen =
+    ap (map view) (is ∙ ap (λ (l : List V). l ++ v ∷ []) empty) ∙ ap (λ (t : List Y). t ∷ []) seen
+
 passed_more : {A X : Type 0} (view : A → X) (p : X → Bool) (xs : List A) (k : ℕ) (x : A) → k < length xs → x ≡ get_or xs k x →
     filter p (take (k + 1) (map view xs)) ≡ filter p (take k (map view xs)) ++ cond (p (view x)) (view x ∷ []) []
 passed_more {A} {X} view p xs k x less is =

@@ -22,11 +22,7 @@ use type_forms::{Index, Top};
 use value_core::Class;
 
 // The classes of the operations of an implementation.
-fn classes_in(
-    alloc: Global,
-    index: &Index<'_>,
-    of: Implemented<'_>,
-) -> Result<Vec<Class>, NoMemory>
+fn classes_in(alloc: Global, index: &Index<'_>, of: Implemented<'_>) -> Result<Vec<Class>, NoMemory>
     ensures { (us : List Source) → Indexes index.now us → IfOk result (λ v. v.items ≡ type_classes us (object_type_seen of.entry)) }
 {
     let mut all = Vec::new(alloc);
@@ -67,13 +63,12 @@ fn add_classes(
         OnOk result (map (λ l. l.items) all.new.items ≡ map (λ l. l.items) all.old.items
         ++ map (specified_classes us) (if rule_is_specification (top item.now) then top item.now ∷ [] else [])) }
 {
-    if is_specification(item) {
-        let own = classes_named(alloc, index, implementations, item.name)?;
-        all.push(own)?;
-        Ok(())
-    } else {
-        Ok(())
+    if !is_specification(item) {
+        return Ok(());
     }
+    let own = classes_named(alloc, index, implementations, item.name)?;
+    all.push(own)?;
+    Ok(())
 }
 
 // The classes of the operations of each object type.
@@ -87,7 +82,13 @@ fn table_of(alloc: Global, checked: &Checked<'_>) -> Result<Vec<Vec<Class>>, NoM
     all.push(output)?;
     let tops = checked.symbols.index.tops();
     'tops: for item in tops {
-        add_classes(alloc, &mut all, &checked.symbols.index, &implementations, item)?;
+        add_classes(
+            alloc,
+            &mut all,
+            &checked.symbols.index,
+            &implementations,
+            item,
+        )?;
     }
     Ok(all)
 }

@@ -6,12 +6,12 @@ use Rattle.access_analysis.specs.Tables.{specified_classes, type_classes}
 use Rattle.access_analysis.proofs.Listed.{adds_none, adds_one}
 use Rattle.access_analysis.proofs.tables.add_classes.Goals as goal
 
-pub returns-then-is_specification : goal.returns-then-is_specification
-returns-then-is_specification c = λ us names are.
+pub returns : goal.returns
+returns c = λ us names are.
     adds_one _ (specified_classes us) (top c.args.item.now) c.in_ok-own.own (is_specification (top c.args.item.now)) c.args.all.now.items _
-    (sym c.is_specification.ensures ∙ c.if-is_specification.true) c.in_ok-push.ensures.items
+    (sym c.is_specification.ensures ∙ c.if-not-is_specification.false) c.in_ok-push.ensures.items
     ((c.in_ok-own.ensures {u = tt}) us names ∙ ap (λ (o : Option ObjectType). option_map_or (type_classes us) o []) (are c.args.item.now.name.now))
 
-pub returns-else-is_specification : goal.returns-else-is_specification
-returns-else-is_specification c = λ us names are.
-    adds_none (specified_classes us) (top c.args.item.now) (is_specification (top c.args.item.now)) _ (sym c.is_specification.ensures ∙ c.if-is_specification.false)
+pub returns-then-not-is_specification : goal.returns-then-not-is_specification
+returns-then-not-is_specification c = λ us names are.
+    adds_none (specified_classes us) (top c.args.item.now) (is_specification (top c.args.item.now)) _ (sym c.is_specification.ensures ∙ c.if-not-is_specification.true)
