@@ -57,8 +57,9 @@ fn at_number<T>(table: &[Option<T>], number: usize) -> Option<&T>
 
 impl<'p> Code<'p> {
     /// The code of a checked program, whose numbers have the bits that an accepted program's have (meaning_rules and accepted_law). It keeps
-    /// that program. The only error is want of memory. No clause says so, but each operation has its object's fields once more, so that
-    /// memory and time are those of the program's text and, of each object type, its operations times its fields, times a logarithm.
+    /// that program. The only error is want of memory. No clause says so, but each operation has a table with its object's fields in it: so
+    /// memory is that of the program's text and, for each object type, of its operations times its fields, and time is that times a
+    /// logarithm. With thousands of both, which the limits allow, that is some gigabytes.
     pub fn new(alloc: Global, checked: Checked<'p>) -> Result<Code<'p>, NoMemory>
         ensures code { AreSymbols (sources checked) checked.symbols → AreCoded (sources checked) → AreFew (sources checked) →
             IfOk result (λ c. IsCode (sources checked) c) }
