@@ -73,6 +73,20 @@ all_grown {A} {X} {Y} view p f front xs k all ys past seen is =
 
 -- ---- what stands at a place
 
+row_mapped : {V : Type 0} (view : V → List Class) (o : Option V) → option_map_or view o [] ≡ unwrap_or (option_map view o) []
+row_mapped view None = refl
+row_mapped view (Some v) = refl
+
+-- as it is read, a row first
+pub class_read : {V : Type 0} (view : V → List Class) (table : List V) (kind : KindNo) (op : OpNo) (k i : ℕ) (row : List Class) (x : Class) → k ≡ kind.0 → i ≡ op.0 →
+    row ≡ option_map_or view (slice_get table k) [] → x ≡ unwrap_or (slice_get row i) Writes → x ≡ class_at_place (map view table) kind op
+class_read {V} view table kind op k i row x at place e f =
+    f
+    ∙ ap (λ (l : List Class). unwrap_or (slice_get l i) Writes)
+    (e ∙ ap (λ (j : ℕ). option_map_or view (slice_get table j) []) at ∙ row_mapped view (slice_get table kind.0)
+    ∙ ap (λ (o : Option (List Class)). unwrap_or o []) (sym (slice_get-map view table kind.0)))
+    ∙ ap (λ (j : ℕ). unwrap_or (slice_get (unwrap_or (slice_get (map view table) kind.0) []) j) Writes) place
+
 in_classes : (us : List Source) (op : OpNo) (o : Option ObjectType) →
     unwrap_or (slice_get (option_map_or (type_classes us) o []) op.0) Writes ≡ option_map_or (type_class us op) o Writes
 in_classes us op None = refl

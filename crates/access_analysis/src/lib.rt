@@ -5,7 +5,8 @@
 //!
 //! It stands on type_decls, whose tables of a checked program it asks, and on the callees and implementations of eval_bodies. `class_of`
 //! takes no memory: it looks for the implementation among the declarations, goes through the operation's body each time, and at each name
-//! through the names of the operation and of the object's fields. Who asks often makes the table of `classes` once.
+//! through the names of the operation and of the object's fields. Who asks often makes the table of `classes` once, and looks into it
+//! (`class_listed`).
 #![tactic(auto)]
 
 mod bodies;
@@ -19,4 +20,4 @@ mod statements;
 mod tables;
 
 pub use classes::class_of;
-pub use tables::classes;
+pub use tables::{class_listed, classes};

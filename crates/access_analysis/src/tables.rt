@@ -1,6 +1,6 @@
-//! The classes of all operations.
+//! The classes of all operations in a table.
 
-ghost use Rattle.std.specs.Prelude.{◌≡◌, ◌∷◌, ◌++◌, [], ℕ, List, IfOk, OnOk, if◌then◌else◌, map, option_map};
+ghost use Rattle.std.specs.Prelude.{◌≡◌, ◌∷◌, ◌++◌, [], ℕ, List, IfOk, OnOk, if◌then◌else◌, map, option_map, slice_get, unwrap_or};
 ghost use Rattle.std.specs.Option.{option_map_or};
 ghost use Rattle.link_rules.specs.Units.{Source};
 ghost use Rattle.type_forms.specs.Indexed.{Indexes};
@@ -102,4 +102,33 @@ pub fn classes(alloc: Global, checked: &Checked<'_>) -> Result<Vec<Vec<Class>>, 
 {
     let all = table_of(alloc, checked)?;
     Ok(all)
+}
+
+// The classes at a place of a table, from 0; none where nothing stands.
+fn row_at(table: &[Vec<Class>], place: usize) -> &[Class]
+    ensures { result.now ≡ option_map_or (λ l. l.items) (slice_get table.now place) [] }
+{
+    match table.get(place) {
+        None => &[],
+        Some(row) => row.as_slice(),
+    }
+}
+
+// The class at a place, from 0; a write where nothing stands.
+fn entry_at(row: &[Class], place: usize) -> Class
+    ensures { result ≡ unwrap_or (slice_get row.now place) Class.Writes }
+{
+    match row.get(place) {
+        None => Class::Writes,
+        Some(class) => *class,
+    }
+}
+
+/// What a table of classes (`classes`) says of an operation, by its number and by that of the object type. Its cost is that of two look-ups
+/// by place.
+pub fn class_listed(table: &[Vec<Class>], kind: KindNo, op: OpNo) -> Class
+    ensures { result ≡ class_at_place (map (λ l. l.items) table.now) kind op }
+{
+    let row = row_at(table, usize::from(kind.0));
+    entry_at(row, usize::from(op.0))
 }

@@ -1,7 +1,8 @@
 //! Which operations of a program are reads.
 
 use crate::reading::units_of;
-use access_analysis::classes;
+use access_analysis::{class_listed, classes};
+use orca_base::{KindNo, OpNo};
 use orca_modules::link;
 use std::test::Fail;
 use type_decls::check;
@@ -31,5 +32,7 @@ fn operations_have_classes_by_number(rt: HostRuntime) -> Result<(), Fail> {
     };
     assert!(rt; output.is_empty());
     assert!(rt; matches!(cell.as_slice(), [Class::Reads, Class::Writes, Class::Reads]));
+    assert_eq!(rt; class_listed(&table, KindNo(1), OpNo(2)), Class::Reads);
+    assert_eq!(rt; class_listed(&table, KindNo(0), OpNo(0)), Class::Writes);
     Ok(())
 }
