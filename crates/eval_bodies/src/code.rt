@@ -65,11 +65,12 @@ impl<'p> Code<'p> {
             IfOk result (λ c. IsCode (sources checked) c) }
         ensures of { IfOk result (λ c. c.checked ≡ checked) }
     {
+        let program = checked.program;
         let forms = checked.symbols.tables().forms;
         let tables = CodeTables::new(alloc, forms)?;
         let functions = functions_of(alloc, forms)?;
         let processes = processes_of(alloc, forms, tables.processes())?;
-        let implementations = implementations_of(alloc, &checked.program.units)?;
+        let implementations = implementations_of(alloc, &program.units)?;
         let objects = objects_of(alloc, forms, &implementations, tables.specifications())?;
         let counter = loop_variable(alloc);
         Ok(Code {
