@@ -57,7 +57,8 @@ fn an_expression_has_its_value(rt: HostRuntime) -> Result<(), Fail> {
     };
     let code = Code::new(rt.alloc(), checked)?;
     assert_eq!(rt; code.checked().symbols.index.count(), 2);
-    let Some(main) = code.process(code.tables().main_text()) else {
+    let text = code.tables().main_text();
+    let Some(main) = code.process(text) else {
         return Err("no process".into());
     };
     let Some(expression) = assigned(main.statements) else {
