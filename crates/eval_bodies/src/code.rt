@@ -61,9 +61,9 @@ impl<'p> Code<'p> {
     /// memory is that of the program's text and, for each object type, of its operations times its fields, and time is that times a
     /// logarithm. With thousands of both, which the limits allow, that is some gigabytes.
     pub fn new(alloc: Global, checked: Checked<'p>) -> Result<Code<'p>, NoMemory>
-        ensures code { AreSymbols (sources checked) checked.symbols → AreCoded (sources checked) → AreFew (sources checked) →
-            IfOk result (λ c. IsCode (sources checked) c) }
-        ensures of { IfOk result (λ c. c.checked ≡ checked) }
+        ensures code { AreSymbols (sources checked.entry) checked.entry.symbols → AreCoded (sources checked.entry) →
+            AreFew (sources checked.entry) → IfOk result (λ c. IsCode (sources checked.entry) c) }
+        ensures of { IfOk result (λ c. c.checked ≡ checked.entry) }
     {
         let program = checked.program;
         let forms = checked.symbols.tables().forms;
