@@ -1,5 +1,5 @@
 -- What a process makes has a specification: statements come to no make, and a variable's object type goes by one.
-use Rattle.std.proofs.Common.{◌≤◌, refl, ap, subst}
+use Rattle.std.proofs.Common.{◌≤◌, refl, ap, subst, arith}
 use Rattle.std.specs.Prelude.{◌≡◌, ℕ, zero, suc, ◌+◌, true, List, [], ◌∷◌, ◌++◌, drop, take, filter, length, slice_get, Option, Some, None, Result, Ok, Err}
 use Rattle.std.specs.List.{AllByRecursion}
 use Rattle.std.proofs.lemmas.Option.{slice_get_within}
@@ -179,7 +179,7 @@ module _ (P : KindNo → Type 0) where
 -- ---- each of its names has a type that goes by a specification
 
 abbrev IsKnown : List Source → KindNo → Type 0
-IsKnown us kind = kind.0 ≤ length (specifications us)
+IsKnown us kind = (1 ≤ kind.0) × (kind.0 ≤ length (specifications us))
 
 pub makes_known : (us : List Source) → IsWellTyped us → AreTexts us → MakesKnown us
 makes_known us typed sound text number args replies turns kind object is =
@@ -196,7 +196,10 @@ makes_known us typed sound text number args replies turns kind object is =
     known fine (l ∷ ls) all = (
       λ i e.
           let h = all.0 i e in
-          slice_get_within (specifications us) (length (filter is_specification (take i (top_names us)))) h.0
-          (filtered_place is_specification (top_names us) i h.0 h.1 h.2),
+          let before = length (filter is_specification (take i (top_names us))) in
+          let first : 1 ≤ suc before = omega arith in (
+            first,
+            slice_get_within (specifications us) before h.0 (filtered_place is_specification (top_names us) i h.0 h.1 h.2),
+          ),
       known fine ls all.1,
     )

@@ -19,12 +19,12 @@ use Rattle.meaning_rules.specs.Fitting.{FitsArgs}
 use Rattle.meaning_rules.specs.Processes.{next_doing}
 use Rattle.meaning_rules.specs.Programs.{specifications}
 
--- an object type that is made has the number of a specification, where these are numbered from 1: whatever the arguments of its process,
--- and the replies that it got
+-- an object type that is made has the number of a specification, where these are numbered from 1, and isn't the output object's: whatever
+-- the arguments of its process, and the replies that it got
 abbrev pub MakesKnown : List Source → Type 0
 MakesKnown us =
     (text : TextNo) (number : ProcessNo) (args : Data) (replies : List Reply) (turns : ℕ) (kind : KindNo) (object : ObjectId) →
-    next_doing us text number args replies turns ≡ doing.At (action.Make kind object) → kind.0 ≤ length (specifications us)
+    next_doing us text number args replies turns ≡ doing.At (action.Make kind object) → (1 ≤ kind.0) × (kind.0 ≤ length (specifications us))
 
 -- the specification of this place, from 0, has a head with this number
 pub record HeadOf (us : List Source) (place op : ℕ) : Type 0 where

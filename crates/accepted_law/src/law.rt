@@ -20,8 +20,8 @@ ghost use Rattle.accepted_law.specs.NextNamed.{CallsKnown, MakesKnown};
 /// has no parameters. In an accepted program bodies begin in variables that fit; and within the limits the numbers of object types,
 /// operations, texts, fields and guards have 16 bits, and those of a process's variables 32. What typing finds by a name in a program that
 /// links, and what the meaning finds by it, are the same: variables, functions, functions of graphs, operations, processes and fields. And
-/// what a process makes is of an object type that has a specification, whatever its arguments and the replies that it got; and arguments
-/// fit only operations that have a head in the specification of their type.
+/// what a process makes is of an object type that has a specification, and so isn't the output object's, whatever its arguments and the
+/// replies that it got; and arguments fit only operations that have a head in the specification of their type, or the output object's one.
 pub fn accepted_law()
     ensures types { (us : List Source) → Links us → IsWellTyped us → AreTexts us → AreTypesKnown us }
     ensures phrases { (us : List Source) → Links us → IsWellTyped us → AreTexts us → ArePhrasesKnown us }

@@ -3,8 +3,8 @@
 //!
 //! The floor above uses `accepted_law`: from what a machine of the language can keep of its program follows `IsAccepted` (meaning_rules,
 //! specs/Accepted.antt), and with it `typed_law`. `IsWithinLimits` (specs/Limits.antt) is the limit of tokens and declared names together,
-//! and that of parameters. `StartsFit` says what bodies begin in, `AreNumbers` of how many bits numbers are, and `MakesKnown` that each
-//! object that a process makes is of a type that has a specification.
+//! and that of parameters. `StartsFit` says what bodies begin in, `AreNumbers` of how many bits numbers are, `MakesKnown` that each object
+//! that a process makes is of a type that has a specification, and `CallsKnown` that arguments fit no operation but one that has a head.
 //!
 //! It stands on the rules of linking and of typing and on the meaning of programs. No code stands here.
 #![tactic(auto)]

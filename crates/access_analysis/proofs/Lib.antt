@@ -2,3 +2,4 @@ pub mod Fields
 pub mod Changing
 pub mod Specified
 pub mod FirstHere
+pub mod Listed

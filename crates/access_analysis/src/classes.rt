@@ -23,8 +23,8 @@ use type_decls::Checked;
 use type_forms::{Index, Top};
 use value_core::Class;
 
-// Whether a name of the top level is a specification.
-fn is_specification(item: &Top<'_>) -> bool
+/// Whether a name of the top level is a specification.
+pub(crate) fn is_specification(item: &Top<'_>) -> bool
     ensures { result ≡ rule_is_specification (top item.now) }
 {
     matches!(item.role, Role::Specification)

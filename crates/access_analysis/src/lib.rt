@@ -1,11 +1,12 @@
 //! Which operations of a program are reads: those that change no field of their object.
 //!
-//! The floors above use `class_of`. It is the meaning's own definition (`class_of` of meaning_rules), and so an operation that it calls a
-//! read leaves each object as it was.
+//! The floors above use `class_of`, and `classes` for all operations at once. Each is the meaning's own definition (`class_of` of
+//! meaning_rules); so an operation that is called a read leaves its object as it was, of as many arguments and fields as there are.
 //!
-//! It stands on type_decls, whose tables of a checked program it asks, and on the callees of eval_bodies. It takes no memory: it goes
-//! through the operation's body each time, and at each name through the names of the operation and of the object's fields. Who asks often
-//! keeps the answers.
+//! It stands on type_decls, whose tables of a checked program it asks, and on the callees and implementations of eval_bodies. `class_of`
+//! takes no memory: it looks for the implementation among the declarations, goes through the operation's body each time, and at each name
+//! through the names of the operation and of the object's fields. Who asks often makes the table of `classes` once, and looks into it
+//! (`class_listed`).
 #![tactic(auto)]
 
 mod bodies;
@@ -16,5 +17,7 @@ mod implementations;
 mod loops;
 mod site;
 mod statements;
+mod tables;
 
 pub use classes::class_of;
+pub use tables::{class_listed, classes};

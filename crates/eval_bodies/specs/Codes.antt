@@ -32,7 +32,7 @@ loop_local n = record { name = n; role = LoopVariable; type = Some (plain Intege
 
 -- this is the code of these sources
 pub record IsCode (us : List Source) (c : Code) : Type 0 where
-  pub symbols : AreSymbols us c.checked.now.symbols
+  pub symbols : AreSymbols us c.checked.symbols
   pub tables : IsTables us c.tables
   pub few : AreFew us
   pub counter : (n : List ℕ) → local_as n c.counter ≡ loop_local n

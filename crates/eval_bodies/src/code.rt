@@ -23,11 +23,11 @@ use type_exprs::{Local, plain};
 use type_rules::{Base, LocalRole};
 use type_tables::Tables;
 
-/// A checked program as code: its tables, what its functions and processes run, by number at the top and by text, and its object types, by
-/// number less one. It is what the meaning says of the program's sources (`IsCode`), and no information of its own.
+/// A checked program and its code: its tables, what its functions and processes run, by number at the top and by text, and its object
+/// types, by number less one. The code is what the meaning says of the program's sources (`IsCode`), and no information of its own.
 #[derive(Drop)]
 pub struct Code<'p> {
-    checked: &'p Checked<'p>,
+    checked: Checked<'p>,
     tables: CodeTables<'p>,
     functions: Vec<Option<BlockCode<'p>>>,
     processes: Vec<Option<BlockCode<'p>>>,
@@ -56,18 +56,21 @@ fn at_number<T>(table: &[Option<T>], number: usize) -> Option<&T>
 }
 
 impl<'p> Code<'p> {
-    /// The code of a checked program, whose numbers have the bits that an accepted program's have (meaning_rules and accepted_law). The
-    /// only error is want of memory. No clause says so, but the cost is that of the program's text times the logarithm of the number of
-    /// names, and each operation has its object's fields once more.
-    pub fn new(alloc: Global, checked: &'p Checked<'p>) -> Result<Code<'p>, NoMemory>
-        ensures { AreSymbols (sources checked.now) checked.now.symbols → AreCoded (sources checked.now) → AreFew (sources checked.now) →
-            IfOk result (λ c. IsCode (sources checked.now) c) }
+    /// The code of a checked program, whose numbers have the bits that an accepted program's have (meaning_rules and accepted_law). It keeps
+    /// that program. The only error is want of memory. No clause says so, but each operation has a table with its object's fields in it: so
+    /// memory is that of the program's text and, for each object type, of its operations times its fields, and time is that times a
+    /// logarithm. With thousands of both, which the limits allow, that is some gigabytes.
+    pub fn new(alloc: Global, checked: Checked<'p>) -> Result<Code<'p>, NoMemory>
+        ensures code { AreSymbols (sources checked.entry) checked.entry.symbols → AreCoded (sources checked.entry) →
+            AreFew (sources checked.entry) → IfOk result (λ c. IsCode (sources checked.entry) c) }
+        ensures of { IfOk result (λ c. c.checked ≡ checked.entry) }
     {
+        let program = checked.program;
         let forms = checked.symbols.tables().forms;
         let tables = CodeTables::new(alloc, forms)?;
         let functions = functions_of(alloc, forms)?;
         let processes = processes_of(alloc, forms, tables.processes())?;
-        let implementations = implementations_of(alloc, &checked.program.units)?;
+        let implementations = implementations_of(alloc, &program.units)?;
         let objects = objects_of(alloc, forms, &implementations, tables.specifications())?;
         let counter = loop_variable(alloc);
         Ok(Code {
@@ -82,6 +85,13 @@ impl<'p> Code<'p> {
 }
 
 impl<'p> Code<'p> {
+    /// The checked program that it is the code of.
+    pub fn checked(&self) -> &Checked<'p>
+        ensures { result.now ≡ self.now.checked }
+    {
+        &self.checked
+    }
+
     /// The program's tables by number.
     pub fn tables(&self) -> &CodeTables<'p>
         ensures { result.now ≡ self.now.tables }

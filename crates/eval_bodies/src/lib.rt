@@ -7,7 +7,8 @@
 //! specs/), of any name and any type: the definitions have an answer for all, and so has code.
 //!
 //! It stands on eval_tables, on the steps of eval_variables, and on type_decls, whose tables of a checked program it asks. Each look-up
-//! costs a logarithm, beside the loops that are open. An operation has a table of its own, with its object's fields in it.
+//! costs a logarithm, beside the loops that are open. An operation has a table of its own, with its object's fields in it, so the tables of
+//! an object type are as large as its operations times its fields (docs/OPEN.md).
 #![tactic(auto)]
 
 mod blocks;
@@ -26,7 +27,7 @@ pub use blocks::BlockCode;
 pub use bodies::{Body, BodyNames};
 pub use callees::{Callee, function_named};
 pub use code::Code;
-pub use implementations::Implemented;
+pub use implementations::{Implementations, Implemented, implementations_of};
 pub use names::Named;
 pub use objects::{ObjectCode, OperationCode};
 pub use site::{Site, inner_loops};

@@ -84,15 +84,13 @@ act_again names tables (action.Make kind object) guard rest is ends =
     make_word names ((name ++ 32 ∷ object_text object) ++ rest) (Some ((action.Make kind object, guard), rest))
     (ap (make_at names) grouped ∙ make_again names tables kind object rest is.named.0 is.named.1 ends ∙ ap (λ (g : ℕ). Some ((action.Make kind object, g), rest)) (sym is.is_guard))
 act_again names tables (action.Call kind op object args) guard rest is ends =
-    let name = name_of names.kinds.items kind.0 in
-    let own = name_of (operation_names names kind.0) op.0 in
+    let name = called_text names (kind, op) in
     let given = guarded_text (args, guard) in
-    let grouped : (name ++ 36 ∷ (own ++ 32 ∷ (object_text object ++ 32 ∷ given))) ++ rest ≡ (name ++ 36 ∷ own) ++ 32 ∷ (object_text object ++ 32 ∷ (given ++ rest)) =
-    append_assoc name (36 ∷ (own ++ 32 ∷ (object_text object ++ 32 ∷ given))) rest
-    ∙ ap (λ (t : List ℕ). name ++ 36 ∷ t) (append_assoc own (32 ∷ (object_text object ++ 32 ∷ given)) rest)
-    ∙ ap (λ (t : List ℕ). name ++ 36 ∷ (own ++ 32 ∷ t)) (append_assoc (object_text object) (32 ∷ given) rest)
-    ∙ sym (append_assoc name (36 ∷ own) (32 ∷ (object_text object ++ 32 ∷ (given ++ rest)))) in
-    call_word names ((name ++ 36 ∷ (own ++ 32 ∷ (object_text object ++ 32 ∷ given))) ++ rest) (Some ((action.Call kind op object args, guard), rest))
+    let tail = name ++ 32 ∷ (object_text object ++ 32 ∷ given) in
+    let grouped : tail ++ rest ≡ name ++ 32 ∷ (object_text object ++ 32 ∷ (given ++ rest)) =
+    append_assoc name (32 ∷ (object_text object ++ 32 ∷ given)) rest
+    ∙ ap (λ (t : List ℕ). name ++ 32 ∷ t) (append_assoc (object_text object) (32 ∷ given) rest) in
+    call_word names (tail ++ rest) (Some ((action.Call kind op object args, guard), rest))
     (ap (call_at names) grouped ∙ call_again names tables (kind, op) object (args, guard) rest (is.named.0, is.named.1) is.named.2 (is.sound, is.guard) ends)
 act_again names tables (action.Fork process args place) guard rest is ends =
     let name = name_of names.texts.items process.0 in

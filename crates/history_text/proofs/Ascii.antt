@@ -25,7 +25,7 @@ use Rattle.value_texts.specs.Spelling.{parts_text}
 use Rattle.value_texts.proofs.Ascii.{parts_ascii, signed_ascii, value_ascii, word_ascii}
 use Rattle.value_texts.proofs.Steps.{both}
 use Rattle.history_text.specs.Sound.{AreLines, AreTables, IsLine, IsNamed, IsTable, ObjectFits, PlaceFits, is_name_byte}
-use Rattle.history_text.specs.Spelling.{action_text, arguments_text, fault_name, history_text, line_text, name_of, object_text, operation_names, place_text, reply_text}
+use Rattle.history_text.specs.Spelling.{action_text, arguments_text, called_name, fault_name, history_text, line_text, name_of, object_text, operation_names, place_text, reply_text}
 use Rattle.history_text.specs.declared.names.Names.{Names}
 use Rattle.history_text.proofs.Pieces.{fault_letters}
 
@@ -73,15 +73,15 @@ action_ascii names tables (action.Make kind object) guard named sound small =
     (joint (name_of names.kinds.items kind.0) 32 (object_text object) (omega arith) (name_ascii names.kinds.items tables.kinds kind.0 named.0) (object_ascii object named.1))
 action_ascii names tables (action.Call kind op object args) guard named sound small =
     let guarded = codes " guard " ++ decimal guard in
+    let kinds = names.kinds.items in
     let ops = operation_names names kind.0 in
     let e : IsAscii guarded = IsAscii-append (codes " guard ") (decimal guard) (word_ascii (codes " guard ") refl) (IsAscii-decimal guard (omega (arith, small))) in
     let d : IsAscii (arguments_text args ++ guarded) = IsAscii-append (arguments_text args) guarded (arguments_ascii args sound) e in
-    let c : IsAscii (object_text object ++ 32 ∷ (arguments_text args ++ guarded)) = joint (object_text object) 32 (arguments_text args ++ guarded) (omega arith) (object_ascii object named.2) d in
-    let b : IsAscii (name_of ops op.0 ++ 32 ∷ (object_text object ++ 32 ∷ (arguments_text args ++ guarded))) =
-    joint (name_of ops op.0) 32 (object_text object ++ 32 ∷ (arguments_text args ++ guarded)) (omega arith) (name_ascii ops (tables.operations kind.0) op.0 named.1) c in
-    let tail = name_of ops op.0 ++ 32 ∷ (object_text object ++ 32 ∷ (arguments_text args ++ guarded)) in
-    IsAscii-append (codes "call ") (name_of names.kinds.items kind.0 ++ 36 ∷ tail) (word_ascii (codes "call ") refl)
-    (joint (name_of names.kinds.items kind.0) 36 tail (omega arith) (name_ascii names.kinds.items tables.kinds kind.0 named.0) b)
+    let tail = object_text object ++ 32 ∷ (arguments_text args ++ guarded) in
+    let c : IsAscii tail = joint (object_text object) 32 (arguments_text args ++ guarded) (omega arith) (object_ascii object named.2) d in
+    let b : IsAscii (called_name names kind op) =
+    joint (name_of kinds kind.0) 36 (name_of ops op.0) (omega arith) (name_ascii kinds tables.kinds kind.0 named.0) (name_ascii ops (tables.operations kind.0) op.0 named.1) in
+    IsAscii-append (codes "call ") (called_name names kind op ++ 32 ∷ tail) (word_ascii (codes "call ") refl) (joint (called_name names kind op) 32 tail (omega arith) b c)
 action_ascii names tables (action.Fork process args place) guard named sound small =
     let placed = codes " on " ++ place_text place in
     let c : IsAscii placed = IsAscii-append (codes " on ") (place_text place) (word_ascii (codes " on ") refl) (place_ascii place named.1) in

@@ -1,5 +1,5 @@
 -- What is put piece by piece.
-use Rattle.std.proofs.Common.{◌≡◌, ℕ, List, [], ◌∷◌, ◌++◌, sym, ap, subst, ◌∙◌, append_assoc}
+use Rattle.std.proofs.Common.{◌≡◌, ℕ, List, [], ◌++◌, sym, ap, subst, ◌∙◌, append_assoc}
 use Rattle.std.specs.Str.{IsAscii}
 
 -- one piece, and then the others
@@ -24,11 +24,9 @@ eight o a b c d e f g h p q r s t u v w one two three four five more later last 
     (grow a b h q (r ++ (s ++ (t ++ (u ++ (v ++ w))))) two
     (six b c d e f g h r s t u v w three four five more later last))
 
--- the names of a type and of its operation, and what stands behind them, behind a word
-pub behind_names : (o a b c word kind op rest : List ℕ) → a ≡ o ++ word → b ≡ a ++ (kind ++ 36 ∷ op) → c ≡ b ++ rest → c ≡ o ++ (word ++ (kind ++ 36 ∷ (op ++ rest)))
-behind_names o a b c word kind op rest one two last =
-    grow o a c word ((kind ++ 36 ∷ op) ++ rest) one (grow a b c (kind ++ 36 ∷ op) rest two last)
-    ∙ ap (λ (t : List ℕ). o ++ (word ++ t)) (append_assoc kind (36 ∷ op) rest)
+-- three pieces
+pub three_pieces : (o a b c p q r : List ℕ) → a ≡ o ++ p → b ≡ a ++ q → c ≡ b ++ r → c ≡ o ++ (p ++ (q ++ r))
+three_pieces o a b c p q r one two last = grow o a c p (q ++ r) one (grow a b c q r two last)
 
 -- what was put first is all, and it is ASCII
 pub all_ascii : (new old text : List ℕ) → new ≡ old ++ text → old ≡ [] → IsAscii text → IsAscii new

@@ -35,7 +35,7 @@ use Rattle.value_texts.proofs.Values.{integer_again, integer_takes, number_first
 use Rattle.value_texts.proofs.Facts.{read_again, read_sound}
 use Rattle.history_text.specs.Reading.{action_at, arguments_at, call_at, called_at, fault_at, fault_of, fork_at, given_at, guarded_at, make_at, name_len, named_at, object_at, place_at, place_from, reply_at}
 use Rattle.history_text.specs.Sound.{IsNamed, ObjectFits, PlaceFits, is_name_byte}
-use Rattle.history_text.specs.Spelling.{action_text, arguments_text, fault_name, name_of, object_text, operation_names, place_text, reply_text}
+use Rattle.history_text.specs.Spelling.{action_text, arguments_text, called_name, fault_name, name_of, object_text, operation_names, place_text, reply_text}
 use Rattle.history_text.specs.declared.names.Names.{Names}
 use Rattle.history_text.proofs.Chains.{Behind, Spells, done, field, mark, spoken, three, worded}
 use Rattle.history_text.proofs.Tables.{InTable, named_takes}
@@ -330,7 +330,7 @@ make_spells names =
     (record { sound = tt; performable = refl; is_guard = refl; guard = omega arith; named = (known, fits) }))))
 
 abbrev pub called_text : Names → KindNo × OpNo → List ℕ
-called_text names called = name_of names.kinds.items called.0.0 ++ 36 ∷ name_of (operation_names names called.0.0) called.1.0
+called_text names called = called_name names called.0 called.1
 
 abbrev pub IsCalled : Names → KindNo × OpNo → Type 0
 IsCalled names called = InTable names.kinds.items called.0.0 × InTable (operation_names names called.0.0) called.1.0
@@ -372,7 +372,7 @@ call_spells names =
     let b = (a ++ 32 ∷ []) ++ object_text object in
     mark b 32 _ (act_text names) (IsAct names) (
     field (b ++ 32 ∷ []) guarded_at guarded_text IsGuarded _ (act_text names) (IsAct names) guarded_spells (λ given is.
-    done ((b ++ 32 ∷ []) ++ guarded_text given) (action.Call called.0 called.1 object given.0, given.1) (act_text names) (IsAct names) (sym (three a (object_text object) (guarded_text given) 32 32 ∙ ap (λ (t : List ℕ). codes "call " ++ t) (append_assoc (name_of names.kinds.items called.0.0) (36 ∷ name_of (operation_names names called.0.0) called.1.0) (32 ∷ (object_text object ++ 32 ∷ guarded_text given)))))
+    done ((b ++ 32 ∷ []) ++ guarded_text given) (action.Call called.0 called.1 object given.0, given.1) (act_text names) (IsAct names) (sym (three a (object_text object) (guarded_text given) 32 32))
     (record { sound = is.0; performable = refl; is_guard = tt; guard = is.1; named = (known.0, known.1, fits) }))))))
 
 fork_spells : (names : Names) → Behind (codes "fork ") (fork_at names) (act_text names) (IsAct names)

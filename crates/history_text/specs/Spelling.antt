@@ -5,7 +5,9 @@ use Rattle.std.specs.Fmt.{decimal, signed_decimal}
 use Rattle.std.specs.List.{flat_map}
 use Rattle.orca_base.specs.declared.fault.FaultKind.{FaultKind}
 use Rattle.orca_base.specs.declared.fault.FaultKind.TheVariants as fault
+use Rattle.orca_base.specs.declared.ids.KindNo.{KindNo}
 use Rattle.orca_base.specs.declared.ids.ObjectId.{ObjectId}
+use Rattle.orca_base.specs.declared.ids.OpNo.{OpNo}
 use Rattle.value_core.specs.Datum.{Data}
 use Rattle.value_core.specs.Datum as datum
 use Rattle.value_core.specs.View.{datum_of}
@@ -29,6 +31,10 @@ operation_names names kind = operations_in (slice_get names.operations.items kin
 -- the name with this number
 abbrev pub name_of : List (List ℕ) → ℕ → List ℕ
 name_of names number = get_or names number []
+
+-- `KIND$OP`: an operation, by the names of its type and its own
+abbrev pub called_name : Names → KindNo → OpNo → List ℕ
+called_name names kind op = name_of names.kinds.items kind.0 ++ 36 ∷ name_of (operation_names names kind.0) op.0
 
 -- the name of a fault
 abbrev pub fault_name : FaultKind → List ℕ
@@ -59,8 +65,7 @@ unfoldable pub action_text : Names → Action → ℕ → List ℕ
 action_text names (action.Make kind object) guard =
     codes "make " ++ (name_of names.kinds.items kind.0 ++ 32 ∷ object_text object)
 action_text names (action.Call kind op object args) guard =
-    codes "call " ++ (name_of names.kinds.items kind.0 ++ 36 ∷ (name_of (operation_names names kind.0) op.0
-    ++ 32 ∷ (object_text object ++ 32 ∷ (arguments_text args ++ (codes " guard " ++ decimal guard)))))
+    codes "call " ++ (called_name names kind op ++ 32 ∷ (object_text object ++ 32 ∷ (arguments_text args ++ (codes " guard " ++ decimal guard))))
 action_text names (action.Fork process args place_on) guard =
     codes "fork " ++ (name_of names.texts.items process.0 ++ 32 ∷ (arguments_text args ++ (codes " on " ++ place_text place_on)))
 action_text names action.Ended guard = []

@@ -5,7 +5,7 @@ ghost use Rattle.std.specs.Fmt.{decimal};
 ghost use Rattle.std.specs.Str.{IsAscii};
 ghost use Rattle.value_core.specs.Sound.{AreSoundArguments, IsSoundAction, IsSoundReply};
 ghost use Rattle.history_text.specs.Sound.{AreLines, AreTables, HasNames, IsLine, IsNamed, IsPrintable, ObjectFits, PlaceFits};
-ghost use Rattle.history_text.specs.Spelling.{action_text, arguments_text, fault_name, history_text, line_text, name_of, object_text, operation_names, place_text, reply_text};
+ghost use Rattle.history_text.specs.Spelling.{action_text, arguments_text, called_name, fault_name, history_text, line_text, name_of, object_text, operation_names, place_text, reply_text};
 
 use crate::names::{Names, operation_table};
 use orca_base::{FaultKind, KindNo, NoMemory, ObjectId, OpNo, Text};
@@ -45,8 +45,8 @@ fn put_name(out: &mut Vec<u8>, names: &[Text], number: u16) -> Result<(), NoMemo
     Ok(())
 }
 
-// The name of a fault.
-fn fault_name(fault: FaultKind) -> &'static [u8]
+/// The name of a fault, as a reply has it (docs/FORMATS.md, Histories).
+pub fn fault_name(fault: FaultKind) -> &'static [u8]
     ensures { result.now ≡ fault_name fault }
 {
     match fault {
@@ -77,12 +77,16 @@ fn put_make(
     put_object(out, object)
 }
 
-// Adds the names of a type and of its operation.
-fn put_operation(out: &mut Vec<u8>, names: &Names, kind: KindNo, op: OpNo) -> Result<(), NoMemory>
+/// Adds an operation, `KIND$OP`, by the names of its type and its own (docs/FORMATS.md, Histories).
+pub fn put_operation(
+    out: &mut Vec<u8>,
+    names: &Names,
+    kind: KindNo,
+    op: OpNo,
+) -> Result<(), NoMemory>
     requires kind { kind.0 < length names.now.kinds.items }
     requires op { op.0 < length (operation_names names.now kind.0) }
-    ensures { OnOk result (out.new.items ≡ out.old.items
-        ++ (name_of names.now.kinds.items kind.0 ++ 36 ∷ name_of (operation_names names.now kind.0) op.0)) }
+    ensures { OnOk result (out.new.items ≡ out.old.items ++ called_name names.now kind op) }
 {
     put_name(out, &names.kinds, kind.0)?;
     out.push(b'$')?;

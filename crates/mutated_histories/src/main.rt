@@ -1,8 +1,9 @@
-//! Reads 10,000 texts, and compares each answer of `read_history` with that of a slow plain reader.
+//! Reads 10,000 texts, and compares each answer of `read_lines` and of `read_history` with that of a slow plain reader.
 //!
-//! The texts are histories of up to three lines with all forms of values and numbers at their edges, made by a generator that is the
-//! same on every run; most have one or two changes. An answer is the lines, or the number of the first that is none. The plain
-//! reader (`plain.rt`) is written from docs/FORMATS.md alone, and shares nothing with the crates that it judges.
+//! The texts are of up to three lines with all forms of values and numbers at their edges, made by a generator that is the same on every
+//! run: half of them have one or two changes, a quarter are empty. An answer is the lines in front and the number of the first that is
+//! none, or all lines or that number. The plain reader (`plain.rt`) is written from docs/FORMATS.md alone, and shares nothing with the
+//! crates that it judges.
 #![tactic(auto)]
 
 mod flat;
@@ -12,17 +13,18 @@ mod tables;
 
 ghost use Rattle.history_text.specs.Sound.{AreTables};
 
-use history_text::{BadLine, Names, read_history};
+use history_text::{BadLine, Names, read_history, read_lines};
 use maker::Maker;
-use orca_base::Refusal;
+use orca_base::{NoMemory, Refusal};
 use std::alloc::{AllocError, Global};
 use std::io;
-use tables::Numbers;
+use tables::{First, Numbers};
+use value_core::Line;
 
 // How many texts there are.
 const TEXTS: u32 = 10_000;
 
-// Of each sort there are at least so many, where most texts have a change and most changes make a text none.
+// Of each sort there are at least so many: texts of lines alone that have one, and texts that have a line which is none.
 const LEAST: u32 = 1_000;
 
 // With what the generator begins.
@@ -48,49 +50,82 @@ impl Counts {
         }
     }
 
-    // One more, by what the plain reader answers.
-    fn count(&mut self, plain: &Result<Numbers, u32>) {
-        let count = match plain {
-            Ok(_) => &mut self.found,
-            Err(_) => &mut self.refused,
+    // One more, by what the plain reader answers; an empty text is of neither sort.
+    fn count(&mut self, text: &[u8], plain: &First) {
+        if text.is_empty() {
+            return;
+        }
+        let count = match plain.bad {
+            None => &mut self.found,
+            Some(_) => &mut self.refused,
         };
         *count = count.saturating_add(1);
     }
 }
 
-// The answer, where there was memory.
-fn answer(read: Result<Numbers, Refusal<u32>>) -> Result<Result<Numbers, u32>, AllocError> {
-    match read {
-        Ok(numbers) => Ok(Ok(numbers)),
-        Err(Refusal::Because { cause }) => Ok(Err(cause)),
-        Err(Refusal::NoMemory) => Err(AllocError),
+// An answer, where there was memory.
+fn there<T: Drop>(answer: Result<T, NoMemory>) -> Result<T, AllocError> {
+    match answer {
+        Ok(there) => Ok(there),
+        Err(_) => Err(AllocError),
     }
 }
 
-// What `read_history` finds.
-fn found_history(alloc: Global, names: &Names, text: &[u8]) -> Result<Numbers, Refusal<u32>>
-    requires { AreTables names.now }
-{
-    if text.len() > MOST {
-        return Err(Refusal::NoMemory);
-    }
-    let lines = match read_history(alloc, names, text) {
-        Ok(lines) => lines,
-        Err(
-            Refusal::Because {
-                cause: BadLine { line },
-            },
-        ) => return Err(Refusal::Because { cause: line }),
-        Err(Refusal::NoMemory) => return Err(Refusal::NoMemory),
-    };
+// Lines, told as the plain reader tells them.
+fn numbers_of(alloc: Global, lines: &[Line]) -> Result<Numbers, NoMemory> {
     let mut numbers = Vec::new(alloc);
-    for line in &lines {
+    for line in lines {
         flat::put_line(&mut numbers, line)?;
     }
     Ok(numbers)
 }
 
-// Reads one more text both ways. Prints the first difference.
+// What `read_lines` finds.
+fn first_lines(alloc: Global, names: &Names, text: &[u8]) -> Result<First, NoMemory>
+    requires { AreTables names.now }
+{
+    if text.len() > MOST {
+        return Err(NoMemory);
+    }
+    let first = read_lines(alloc, names, text)?;
+    Ok(First {
+        lines: numbers_of(alloc, &first.lines)?,
+        bad: first.bad,
+    })
+}
+
+// What `read_history` finds: all lines, or the number of the first that is none.
+fn whole_history(
+    alloc: Global,
+    names: &Names,
+    text: &[u8],
+) -> Result<Result<Numbers, u32>, NoMemory>
+    requires { AreTables names.now }
+{
+    if text.len() > MOST {
+        return Err(NoMemory);
+    }
+    match read_history(alloc, names, text) {
+        Ok(lines) => Ok(Ok(numbers_of(alloc, &lines)?)),
+        Err(
+            Refusal::Because {
+                cause: BadLine { line },
+            },
+        ) => Ok(Err(line)),
+        Err(Refusal::NoMemory) => Err(NoMemory),
+    }
+}
+
+// Whether both answers are the plain reader's.
+fn agree(plain: &First, first: &First, whole: &Result<Numbers, u32>) -> bool {
+    let is_whole = match whole {
+        Ok(numbers) => plain.bad.is_none() && *numbers == plain.lines,
+        Err(line) => plain.bad == Some(*line),
+    };
+    is_whole && first.bad == plain.bad && first.lines == plain.lines
+}
+
+// Reads one more text each way. Prints the first difference.
 fn try_history(
     rt: &HostRuntime,
     maker: &mut Maker,
@@ -100,12 +135,13 @@ fn try_history(
     requires { AreTables names.now }
 {
     let text = maker.history(rt.alloc())?;
-    let plain = answer(plain::history(rt.alloc(), &text))?;
-    let found = answer(found_history(rt.alloc(), names, &text))?;
-    counts.count(&plain);
-    if plain != found {
+    let plain = there(plain::first_lines(rt.alloc(), &text))?;
+    let first = there(first_lines(rt.alloc(), names, &text))?;
+    let whole = there(whole_history(rt.alloc(), names, &text))?;
+    counts.count(&text, &plain);
+    if !agree(&plain, &first, &whole) {
         if counts.different == 0 {
-            println!(rt; "of {text:?}\nplain {plain:?}\nfound {found:?}")?;
+            println!(rt; "of {text:?}\nplain {plain:?}\nfirst {first:?}\nwhole {whole:?}")?;
         }
         counts.different = counts.different.saturating_add(1);
     }
@@ -114,10 +150,7 @@ fn try_history(
 
 fn main(rt: HostRuntime) -> io::Result<()> {
     let mut maker = Maker::new(rt.alloc(), SEED);
-    let names = match tables::names(rt.alloc()) {
-        Ok(names) => names,
-        Err(_) => return Err(AllocError.into()),
-    };
+    let names = there(tables::names(rt.alloc()))?;
     let mut counts = Counts::new();
     for _ in 0..TEXTS {
         try_history(&rt, &mut maker, &names, &mut counts)?;

@@ -1,7 +1,7 @@
 //! The slow plain reader, by docs/FORMATS.md, Histories, alone.
 
-use crate::tables::{END, KINDS, LEVELS, Numbers, OPERATIONS, TEXTS};
-use orca_base::{Refusal, refuse};
+use crate::tables::{END, First, KINDS, LEVELS, Numbers, OPERATIONS, TEXTS};
+use orca_base::{NoMemory, Refusal, refuse};
 use std::alloc::Global;
 
 // Something, or the number of the line that isn't one.
@@ -376,29 +376,35 @@ impl Plain<'_> {
     }
 }
 
-/// The lines of a history, or the number of the first that is none.
-pub fn history(alloc: Global, text: &[u8]) -> Read<Numbers> {
+/// The lines in front of a text, and the number of the first that is none, where one isn't.
+pub fn first_lines(alloc: Global, text: &[u8]) -> Result<First, NoMemory> {
     let mut found = Vec::new(alloc);
     let mut bytes = Vec::new(alloc);
     let mut line = 1u32;
     for byte in text {
-        if *byte == b'\n' {
-            let mut plain = Plain {
-                alloc,
-                line,
-                bytes: &bytes,
-                at: 0,
-            };
-            found.extend_from_slice(&plain.whole()?)?;
-            bytes.clear();
-            line = line.saturating_add(1);
-        } else {
+        if *byte != b'\n' {
             bytes.push(*byte)?;
+            continue;
         }
+        let mut plain = Plain {
+            alloc,
+            line,
+            bytes: &bytes,
+            at: 0,
+        };
+        match plain.whole() {
+            Ok(numbers) => found.extend_from_slice(&numbers)?,
+            Err(Refusal::Because { cause }) => {
+                return Ok(First {
+                    lines: found,
+                    bad: Some(cause),
+                });
+            }
+            Err(Refusal::NoMemory) => return Err(NoMemory),
+        }
+        bytes.clear();
+        line = line.saturating_add(1);
     }
-    if bytes.is_empty() {
-        Ok(found)
-    } else {
-        refuse(line)
-    }
+    let bad = if bytes.is_empty() { None } else { Some(line) };
+    Ok(First { lines: found, bad })
 }

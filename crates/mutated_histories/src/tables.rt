@@ -14,6 +14,13 @@ pub const LEVELS: u8 = 16;
 /// values is that of their lists from the left.
 pub type Numbers = Vec<i128>;
 
+/// The lines in front of a text, and the number, from 1, of the first that is none, where one isn't.
+#[derive(Debug, Drop)]
+pub struct First {
+    pub lines: Numbers,
+    pub bad: Option<u32>,
+}
+
 /// What ends a string or a list: less than any tag or char.
 pub const END: i128 = -1;
 

@@ -1,5 +1,5 @@
--- Each line of each history of a program has its names: what is made has a specification, what is called has a head there, and what is
--- forked is a process.
+-- Each line of each history of a program has its names, and so has each call that comes next: what is made has a specification, what is
+-- called has a head there, and what is forked is a process.
 use Rattle.std.proofs.Common.{◌<◌, refl, sym, ap, ◌∙◌, subst, arith}
 use Rattle.std.specs.Prelude.{◌≡◌, ℕ, ℤ, zero, suc, List, [], ◌∷◌, ◌++◌, length, map, slice_get, Option, Some, None, option_map}
 use Rattle.std.specs.List.{AllByRecursion}
@@ -7,6 +7,7 @@ use Rattle.std.proofs.lemmas.List.{append_assoc, length-map}
 use Rattle.std.proofs.lemmas.List.Elements.{All-from_recursion}
 use Rattle.std.proofs.lemmas.Option.{slice_get-map, slice_get_within}
 use Rattle.orca_base.specs.declared.ids.KindNo.{KindNo}
+use Rattle.orca_base.specs.declared.ids.ObjectId.{ObjectId}
 use Rattle.orca_base.specs.declared.ids.OpNo.{OpNo}
 use Rattle.orca_base.specs.declared.ids.ProcessNo.{ProcessNo}
 use Rattle.orca_base.specs.declared.ids.TextNo.{TextNo}
@@ -15,6 +16,7 @@ use Rattle.type_rules.specs.TopLevel.{TopName}
 use Rattle.value_core.specs.Datum.{Data}
 use Rattle.value_core.specs.Fits.{Kinds}
 use Rattle.value_core.specs.History.{IsStep, Legal, Process, after_lines, forked, most_turns, opening, processes_of, replied}
+use Rattle.value_core.specs.Lawful.{next_of}
 use Rattle.value_core.specs.Meaning.{Computes, Performs}
 use Rattle.value_core.specs.declared.action.Action.{Action}
 use Rattle.value_core.specs.declared.action.Action.TheVariants as action
@@ -31,7 +33,7 @@ use Rattle.meaning_rules.specs.Fitting.{FitsArgs, FitsReply, FitsState, FitsText
 use Rattle.meaning_rules.specs.Meanings.{computes_of, performs_of}
 use Rattle.meaning_rules.specs.Programs.{process_texts, specifications}
 use Rattle.accepted_law.specs.NextNamed.{CallsKnown, HasHead, HeadOf, MakesKnown}
-use Rattle.program_names.specs.Naming.{AreNamesOf, HistoriesNamed, head_names, name_text, operation_texts}
+use Rattle.program_names.specs.Naming.{AreNamesOf, CallsNamed, HistoriesNamed, head_names, name_text, operation_texts}
 use Rattle.program_names.proofs.AreTables.{listed, operations_listed}
 
 -- what stands last in a list
@@ -106,6 +108,14 @@ module _ (us : List Source) (names : Names) (are : AreNamesOf us names) where
         ap (λ xs. slice_get xs number.0) (whole ∙ ap (λ a. before ++ forked a) is) ∙ last_at before new in
         forked_there _ text args (fits.texts number new there)
 
+    -- a call that comes next
+    call_named : (lines : List Line) → FitsBehind lines → (number : ProcessNo) (x : Process) (kind : KindNo) (op : OpNo) (object : ObjectId) (args : Data) →
+        slice_get (processes_of p q lines) number.0 ≡ Some x → next_of q x.text number x.args x.replies ≡ doing.At (action.Call kind op object args) →
+        HasNames names (action.Call kind op object args)
+    call_named lines fit number x kind op object args here next =
+        let f = fit.calls number x kind op object args here next in
+        called kind op kind.0 refl (calls f.0 kind op args f.2.args)
+
     line_named : (lines : List Line) (line : Line) → FitsBehind lines → FitsBehind (lines ++ line ∷ []) → IsStep p q (after_lines p (opening q) lines) line → HasNames names line.action
     line_named lines line fits next step = by line.action refl
       where
@@ -113,10 +123,9 @@ module _ (us : List Source) (names : Names) (are : AreNamesOf us names) where
         by (action.Make kind object) is =
             let known = makes step.process.text line.process step.process.args step.process.replies most_turns kind object (step.next ∙ ap (λ a. doing.At a) is) in
             let there = kinds_there in
-            omega (arith, known, there)
+            omega (arith, known.1, there)
         by (action.Call kind op object args) is =
-            let f = fits.calls line.process step.process kind op object args step.exists (step.next ∙ ap (λ a. doing.At a) is) in
-            called kind op kind.0 refl (calls f.0 kind op args f.2.args)
+            call_named lines fit line.process step.process kind op object args step.exists (step.next ∙ ap (λ a. doing.At a) is)
         by (action.Fork text args place_on) is = fork_fits lines line next text args place_on is
         by action.Ended is = tt
         by (action.Faulted fault) is = tt
@@ -134,3 +143,6 @@ module _ (us : List Source) (names : Names) (are : AreNamesOf us names) where
 
     pub histories_named : HistoriesNamed us names
     histories_named lines legal = All-from_recursion (λ l. HasNames names l.action) lines (walk [] lines legal)
+
+    pub calls_named : CallsNamed us names
+    calls_named lines legal number x kind op object args here next = call_named lines (fits_behind lines legal) number x kind op object args here next

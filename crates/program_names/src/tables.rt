@@ -7,7 +7,7 @@ ghost use Rattle.meaning_rules.specs.Programs.{is_process as is_process_text, is
 ghost use Rattle.type_forms.specs.Seen.{top, what};
 ghost use Rattle.accepted_law.specs.Limits.{IsWithinLimits};
 ghost use Rattle.history_text.specs.Sound.{AreTables};
-ghost use Rattle.program_names.specs.Naming.{AreNamesOf, HistoriesNamed, head_names, name_text, operation_texts};
+ghost use Rattle.program_names.specs.Naming.{AreNamesOf, CallsNamed, HistoriesNamed, head_names, name_text, operation_texts};
 
 use crate::law::names_law;
 use history_text::{Names, Operations};
@@ -138,10 +138,12 @@ pub fn names(alloc: Global, checked: &Checked<'_>) -> Result<Names, NoMemory>
     ensures are { IfOk result (λ names. AreNamesOf (map source checked.now.program.now.units.items) names) }
 
     // Where the program keeps within the limits, printers and readers of histories may be given them, and each line of each history of the
-    // program has its names there.
+    // program has its names there, and so has each call that is a process's next action after one.
     ensures tables { IsWithinLimits (map source checked.now.program.now.units.items) → IfOk result AreTables }
     ensures histories { IsWithinLimits (map source checked.now.program.now.units.items) →
         IfOk result (HistoriesNamed (map source checked.now.program.now.units.items)) }
+    ensures calls { IsWithinLimits (map source checked.now.program.now.units.items) →
+        IfOk result (CallsNamed (map source checked.now.program.now.units.items)) }
 {
     linking_law();
     names_law();

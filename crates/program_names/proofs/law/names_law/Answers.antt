@@ -1,5 +1,5 @@
 use Rattle.program_names.proofs.Lawful.{lawful}
-use Rattle.program_names.proofs.Lines.{histories_named}
+use Rattle.program_names.proofs.Lines.{calls_named, histories_named}
 use Rattle.program_names.proofs.AreTables.{are_tables}
 use Rattle.program_names.proofs.law.names_law.Goals as goal
 
@@ -8,6 +8,10 @@ returns c = record {
   tables = λ us names links typed texts limits. are_tables us names links typed texts (c.accepted_law.ensures.numbers us limits);
   histories = λ us names links typed texts limits are.
       histories_named us names are (c.accepted_law.ensures.makes us typed texts) (c.accepted_law.ensures.calls us links typed texts limits)
+      (lawful us (c.typed_law.ensures.programs us (c.accepted_law.ensures.accepted us links typed texts limits)) (c.meaning_law.ensures.reads us) (c.fitting_law.ensures.states us)
+      (c.fitting_law.ensures.texts us));
+  calls = λ us names links typed texts limits are.
+      calls_named us names are (c.accepted_law.ensures.makes us typed texts) (c.accepted_law.ensures.calls us links typed texts limits)
       (lawful us (c.typed_law.ensures.programs us (c.accepted_law.ensures.accepted us links typed texts limits)) (c.meaning_law.ensures.reads us) (c.fitting_law.ensures.states us)
       (c.fitting_law.ensures.texts us));
 }

@@ -23,3 +23,10 @@ returns-clause-histories c = λ limits.
     let us : List Source = map source c.args.checked.now.program.now.units.items in
     c.names_law.ensures.histories us names c.args.checked.now.program.now.links c.args.checked.now.well_typed
     (are_texts c.linking_law.ensures.units c.args.checked.now.program.now.units.items) limits (returns-clause-are c)
+
+pub returns-clause-calls : goal.returns-clause-calls
+returns-clause-calls c = λ limits.
+    let names : Names = record { kinds = c.in_ok-kinds_of.field-0; operations = c.in_ok-operations_of.field-0; texts = c.in_ok-texts_of.field-0 } in
+    let us : List Source = map source c.args.checked.now.program.now.units.items in
+    c.names_law.ensures.calls us names c.args.checked.now.program.now.links c.args.checked.now.well_typed
+    (are_texts c.linking_law.ensures.units c.args.checked.now.program.now.units.items) limits (returns-clause-are c)

@@ -9,9 +9,9 @@ use Rattle.eval_bodies.specs.Matching.{Both, Match}
 use Rattle.eval_bodies.specs.Objects.{IsObjectCode}
 use Rattle.eval_bodies.proofs.code.Code.new.Goals as goal
 
-pub returns : goal.returns
-returns c = λ s coded few.
-    let us = sources c.args.checked.now in
+pub returns-clause-code : goal.returns-clause-code
+returns-clause-code c = λ s coded few.
+    let us = sources c.args.checked in
     let t = (c.tables.ensures us s).typed in
     let tables = (c.in_ok-tables.ensures {u = tt}) us t coded in
     record {
