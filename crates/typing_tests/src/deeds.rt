@@ -131,7 +131,7 @@ fn deeds_change_variables(rt: HostRuntime) -> Result<(), Fail> {
     Ok(())
 }
 
-// A call with the variables 4 and 6, of which the second is lent by the first variable of the caller: in a loop it is 8.
+// A call whose second variable is for `out`, into the caller's first: in a loop it becomes 8.
 fn call(alloc: Global, run: &mut Run<'_>) -> Result<(), Stop> {
     let mut passed = Vec::new(alloc);
     passed.push(Passed::Given {

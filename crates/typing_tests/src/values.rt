@@ -5,7 +5,7 @@ use eval_bodies::{Code, Site};
 use eval_exprs::{Levels, evaluate};
 use eval_tables::Seen;
 use eval_variables::{Frame, Passed, Run, Stop};
-use orca_base::FaultKind;
+use orca_base::{FaultKind, KindNo};
 use orca_tree::{Expression, Statement};
 use std::alloc::Global;
 use std::test::Fail;
@@ -174,6 +174,20 @@ fn variables_open_by_their_types(rt: HostRuntime) -> Result<(), Fail> {
             .opening(rt.alloc(), Seen::of_known(kind))?;
         assert!(rt; value.is(&value_of(rt.alloc(), wanted)?), "{wanted}");
     }
+    Ok(())
+}
+
+// By the numbers of the top level's names: the function `twice` is the tenth of eleven.
+#[test]
+fn code_has_functions_and_object_types(rt: HostRuntime) -> Result<(), Fail> {
+    let program = program_of(rt.alloc(), &TEXTS)?;
+    let code = code_of(rt.alloc(), &program)?;
+    assert_eq!(rt; code.checked().symbols.index.count(), 11);
+    assert!(rt; matches!(code.function(9), Some(twice) if twice.has_result));
+    assert!(rt; code.function(10).is_none());
+    assert!(rt; code.object_type(KindNo(0)).is_none());
+    assert!(rt; matches!(code.object_type(KindNo(1)), Some(cell) if cell.operations.len() == 1));
+    assert!(rt; code.object_type(KindNo(2)).is_none());
     Ok(())
 }
 
