@@ -1,7 +1,7 @@
 //! Which operations of a program are reads.
 
 use crate::reading::program_of;
-use access_analysis::{class_listed, classes};
+use access_analysis::{class_listed, classes_of};
 use orca_base::{KindNo, OpNo};
 use std::test::Fail;
 use type_decls::check;
@@ -22,7 +22,7 @@ fn operations_have_classes_by_number(rt: HostRuntime) -> Result<(), Fail> {
     let Ok(checked) = check(rt.alloc(), &program) else {
         return Err("refused".into());
     };
-    let table = classes(rt.alloc(), &checked)?;
+    let table = classes_of(rt.alloc(), &checked)?;
     let [output, cell] = table.as_slice() else {
         return Err("not two object types".into());
     };
