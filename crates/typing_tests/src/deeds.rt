@@ -45,14 +45,7 @@ const DEEDS: [(Deed, usize, &[Step], &str, &str, &str); 10] = [
     (Deed::Put, 3, &[], "c97", "0", "<c97 c97 c97 c98>"),
     (Deed::Delete, 2, &[], "3", "0", "{2 4 5}"),
     (Deed::Take, 3, &[], "0", "c97", "<c97 c97 c98>"),
-    (
-        Deed::AddNode,
-        4,
-        &[],
-        "0",
-        "3",
-        "(4 {(1 10) (2 20) (3 0)})",
-    ),
+    (Deed::AddNode, 4, &[], "0", "3", "(4 {(1 10) (2 20) (3 0)})"),
     (Deed::DeleteNode, 4, &[], "1", "0", "(4 {(2 20) (3 0)})"),
     (Deed::Store, 4, &NODE_2, "21", "0", "(4 {(2 21) (3 0)})"),
 ];
@@ -99,8 +92,8 @@ fn variable(alloc: Global, slot: usize, run: &Run<'_>) -> Result<Value, Stop> {
 }
 
 // What came of a deed, where it didn't stop.
-fn given(result: Result<Option<Value>, Stop>) -> Result<Value, Fail> {
-    match result {
+fn given(came: Result<Option<Value>, Stop>) -> Result<Value, Fail> {
+    match came {
         Ok(Some(value)) => Ok(value),
         Ok(None) => Ok(Value::Int(0)),
         Err(_) => Err("stopped".into()),
@@ -131,15 +124,15 @@ fn deeds_change_variables(rt: HostRuntime) -> Result<(), Fail> {
     Ok(())
 }
 
+// What the call passes: the value 4, and a place.
+fn passed(alloc: Global, to: Target) -> Result<Vec<Passed>, NoMemory> {
+    let value = Value::Int(4);
+    Ok(vec![in alloc; Passed::Given { value }, Passed::Lent { to }]?)
+}
+
 // A call whose second variable is for `out`, into the caller's first: in a loop it becomes 8.
 fn call(alloc: Global, run: &mut Run<'_>) -> Result<(), Stop> {
-    let mut passed = Vec::new(alloc);
-    passed.push(Passed::Given {
-        value: Value::Int(4),
-    })?;
-    passed.push(Passed::Lent {
-        to: target(alloc, 0, &[])?,
-    })?;
+    let passed = passed(alloc, target(alloc, 0, &[])?)?;
     let mut own = Parts::new(alloc);
     own.push(Value::Int(4))?;
     own.push(Value::Int(6))?;

@@ -32,10 +32,11 @@ const TEXTS: [(&str, &str); 1] = [(
 )];
 
 // The values of the process's variables, where its expressions are evaluated.
-const VARIABLES: &str = "(5 [(7 e2) (8 e1) (9 e0)] {2 3 5} <c97 c97 c98> \"ab\" (3 {(1 10) (2 20)}) 2 o1.1)";
+const VARIABLES: &str =
+    "(5 [(7 e2) (8 e1) (9 e0)] {2 3 5} <c97 c97 c98> \"ab\" (3 {(1 10) (2 20)}) 2 o1.1)";
 
 // What comes of an expression: a value, a fault, or a call of an operation with these arguments.
-#[derive(Debug)]
+#[derive(Clone, Copy, Debug)]
 enum Outcome {
     Gives(&'static str),
     Faults(FaultKind),
@@ -97,11 +98,7 @@ impl Levels for NoCalls {
 }
 
 // Whether this is the outcome.
-fn is_outcome(
-    alloc: Global,
-    found: &Result<Value, Stop>,
-    wanted: &Outcome,
-) -> Result<bool, Fail> {
+fn is_outcome(alloc: Global, found: &Result<Value, Stop>, wanted: &Outcome) -> Result<bool, Fail> {
     match (found, wanted) {
         (Ok(value), Outcome::Gives(text)) => Ok(value.is(&value_of(alloc, text)?)),
         (Err(Stop::Faults { fault }), Outcome::Faults(wanted)) => Ok(*fault == *wanted),
@@ -149,9 +146,7 @@ fn written(statements: &[Statement]) -> &[Expression] {
 fn expressions_have_values_fault_or_act(rt: HostRuntime) -> Result<(), Fail> {
     let program = program_of(rt.alloc(), &TEXTS)?;
     let code = code_of(rt.alloc(), &program)?;
-    let main = code
-        .process(code.tables().main_text())
-        .ok_or("no process")?;
+    let main = code.process(code.tables().main_text()).ok_or("no process")?;
     let given = written(main.statements);
     assert_eq!(rt; given.len(), WANTED.len());
     for (e, wanted) in given.iter().zip(WANTED.iter()) {
@@ -165,13 +160,9 @@ fn expressions_have_values_fault_or_act(rt: HostRuntime) -> Result<(), Fail> {
 fn variables_open_by_their_types(rt: HostRuntime) -> Result<(), Fail> {
     let program = program_of(rt.alloc(), &TEXTS)?;
     let code = code_of(rt.alloc(), &program)?;
-    let main = code
-        .process(code.tables().main_text())
-        .ok_or("no process")?;
+    let main = code.process(code.tables().main_text()).ok_or("no process")?;
     for (kind, wanted) in main.body.names.types.iter().zip(OPENINGS.iter()) {
-        let value = code
-            .tables()
-            .opening(rt.alloc(), Seen::of_known(kind))?;
+        let value = code.tables().opening(rt.alloc(), Seen::of_known(kind))?;
         assert!(rt; value.is(&value_of(rt.alloc(), wanted)?), "{wanted}");
     }
     Ok(())
