@@ -181,12 +181,3 @@ fn code_has_functions_and_object_types(rt: HostRuntime) -> Result<(), Fail> {
     assert!(rt; code.object_type(KindNo(2)).is_none());
     Ok(())
 }
-
-// Asks that values of this type may be read by several threads at once.
-fn may_be_shared<T: Sync>() {}
-
-#[test]
-fn code_may_be_shared(_rt: HostRuntime) -> Result<(), Fail> {
-    may_be_shared::<Code<'static>>();
-    Ok(())
-}
