@@ -9,9 +9,9 @@ ghost use Rattle.world_rules.specs.Steps.{Replays};
 ghost use Rattle.world_rules.specs.Worlds.{Book, World as RunWorld, home_of};
 ghost use Rattle.world_rules.specs.declared.standing.Standing.TheVariants.{Going};
 ghost use Rattle.world_book.specs.Promise.{AllStuck, IsKept};
-ghost use Rattle.world_parts.specs.Choosing.{due_act, is_ready, longest_log};
+ghost use Rattle.world_parts.specs.Choosing.{due_act, is_ready, longest_log, spent_process};
 ghost use Rattle.world_parts.specs.Seen.{Of, tasks_out};
-ghost use Rattle.world_core.specs.Stepping.{ChecksIn, HandsOutOf, IsAstray, IsRefused, OutBefore, Stepped};
+ghost use Rattle.world_core.specs.Stepping.{ChecksIn, HandsOutOf, HasComputed, IsAstray, IsRefused, KeepsOut, OutBefore, Stepped};
 ghost use Rattle.world_core.specs.Telling.{AreNodeEnds, AreProcessEnds, EndsMean};
 
 use crate::ends::{NodeEnd, ProcessEnd, RunEnd};
@@ -94,6 +94,7 @@ impl<P: OneRun> World<P> {
         ensures refused { result ≡ Err StepError.NotEnabled → IsRefused P.run.frame event self.old }
         ensures enabled { IsRefused P.run.frame event self.old → (result ≡ Err StepError.NotEnabled) ⊎ (result ≡ Err StepError.NoMemory) }
         ensures tasks { OutBefore self.old self.new }
+        ensures out { OnOk result (KeepsOut P.run.frame event self.old self.new) }
         ensures fewer { tasks_out self.new ≤ tasks_out self.old }
         ensures script { W.told_script wire.new ≡ W.told_script wire.old }
         ensures since { W.loaded wire.new ≡ W.loaded wire.old }
@@ -132,6 +133,27 @@ impl<P: OneRun> World<P> {
         ensures err { OnErr result (self.new ≡ self.old) }
     {
         burst::check_in(&mut self.parts, done)
+    }
+
+    /// Lets a process that is ready, in a run that is going, compute on its member's copies as they are, and does the Burst event of that,
+    /// which becomes the last step: a check-out, what is computed and its check-in in one go, of which nothing comes back astray. Tasks that
+    /// are out stay so.
+    ///
+    /// Where there is no memory, the world is as it was.
+    pub fn compute(
+        &mut self,
+        alloc: Global,
+        machine: &P,
+        process: ProcessNo,
+    ) -> Result<(), NoMemory>
+        requires going { Of P.run.frame self.old (λ w. rules.standing P.run.frame w ≡ Going) }
+        requires ready { Of P.run.frame self.old (λ w. is_ready P.run.frame self.old w process.0 ≡ true) }
+        ensures done { OnOk result (HasComputed P.run.frame process self.old self.new) }
+        ensures out { self.new.out ≡ self.old.out }
+        ensures tasks { tasks_out self.new ≡ tasks_out self.old }
+        ensures err { OnErr result (self.new ≡ self.old) }
+    {
+        burst::compute(&mut self.parts, alloc, machine, process)
     }
 
     /// Ends every task that is out. Those processes are ready again, and nothing else changes. It takes no memory.
@@ -187,12 +209,27 @@ impl<P: OneRun> World<P> {
         self.parts.is_ready(process)
     }
 
+    /// The lowest process that computes and has no turns left.
+    pub fn spent_process(&self) -> Option<ProcessNo>
+        ensures { Of P.run.frame self.now (λ w. option_map (λ i. i.0) result ≡ spent_process P.run.frame w) }
+    {
+        self.parts.spent_process()
+    }
+
     /// Whether the moment is quiet: no packet can be delivered, and no process on a living member computes or is at an action that wasn't
     /// carried out. So no task is out.
     pub fn is_quiet(&self) -> bool
-        ensures { Of P.run.frame self.now (λ w. result ≡ rules.is_quiet P.run.frame w) }
+        ensures quiet { Of P.run.frame self.now (λ w. result ≡ rules.is_quiet P.run.frame w) }
+        ensures tasks { result ≡ true → tasks_out self.now ≡ 0 }
     {
         self.parts.is_quiet()
+    }
+
+    /// How many wires were given up: the one in use stands behind so many.
+    pub fn swaps(&self) -> u16
+        ensures { Of P.run.frame self.now (λ w. result ≡ w.swaps) }
+    {
+        self.parts.swaps
     }
 
     /// How many tasks are out.
@@ -247,11 +284,13 @@ impl<P: OneRun> World<P> {
     /// there is no memory, it is gone.
     pub fn into_end(self, alloc: Global) -> Result<RunEnd, NoMemory>
         ensures steps { IfOk result (λ end. end.steps.items ≡ self.steps) }
+        ensures replayed { (w : RunWorld) × Replays P.run.frame self.steps w }
         ensures book { Of P.run.frame self (λ w. IfOk result (λ end. end.book.items ≡ Book P.run.frame w)) }
         ensures legal { IfOk result (λ end. Legal P.run.frame.performs P.run.frame.computes end.book.items) }
         ensures nodes { Of P.run.frame self (λ w. IfOk result (λ end. AreNodeEnds P.run.frame w end.nodes.items)) }
         ensures processes { Of P.run.frame self (λ w. IfOk result (λ end. AreProcessEnds P.run.frame w end.processes.items)) }
         ensures mean { Of P.run.frame self (EndsMean P.run.frame) }
+        ensures stuck { Of P.run.frame self (AllStuck P.run.frame) }
         ensures kept { Of P.run.frame self (IsKept P.run.frame) }
     {
         book::into_end(self.parts, alloc)
