@@ -9,10 +9,10 @@ use Rattle.book_law.specs.declared.placing.Placed.{Placed}
 use Rattle.net_rules.specs.declared.fate.Fate.{Fate}
 use Rattle.net_rules.specs.declared.fate.Fate.TheVariants.{Pass}
 use Rattle.node_rules.specs.Conditions.{Fitness}
+use Rattle.node_rules.specs.Entries.{told_lines}
 use Rattle.node_rules.specs.Laws.{PartsAreWalks}
 use Rattle.node_rules.specs.Moments.{at_work}
 use Rattle.node_rules.specs.Starts.{EventFits, Start, part}
-use Rattle.node_rules.specs.Entries.{told_lines}
 use Rattle.run_law.specs.Growing.{ListGrows, TellsPart}
 use Rattle.run_law.specs.Sending.{SendsOwn}
 use Rattle.group_rules.specs.Sets.{In}
@@ -32,7 +32,6 @@ use Rattle.world_rules.specs.Standings.{standing}
 use Rattle.world_rules.specs.Steps.{AtWork, Known, Leads, Next, Possible, Replays, after_step, happens, posts, posts_all}
 use Rattle.world_rules.specs.Worlds.{World, agreed, applied_at}
 use Rattle.node_core.specs.Shown.{Left, Stood}
-use Rattle.node_core.specs.Stands as stands
 use Rattle.node_core.specs.Stands.{StandsAs}
 use Rattle.node_core.specs.declared.node.Node.{Node}
 use Rattle.world_parts.proofs.Leading.{applied_length}

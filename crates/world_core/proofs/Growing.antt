@@ -12,10 +12,7 @@ use Rattle.book_law.specs.declared.placing.Placed.{Placed}
 use Rattle.book_law.proofs.Books.{placed_here, placed_there}
 use Rattle.run_law.specs.Growing.{IsNew, ListGrows, PerformedGrows, TellsPart, lines_at}
 use Rattle.world_rules.specs.Frame.{Frame}
-use Rattle.world_rules.specs.Nodes.{Deed, entries_of}
-use Rattle.world_rules.specs.Nodes.Deed.{Acts, Applies, Mails, Performs, Submits}
 use Rattle.world_rules.specs.Worlds.{World, agreed, singles_in}
-use Rattle.node_core.specs.Stands as stands
 use Rattle.world_core.specs.Drafting.{behind, lines_behind}
 use Rattle.world_core.specs.Growing.{HasDrafted}
 

@@ -21,7 +21,6 @@ use Rattle.world_rules.specs.Steps.{AtWork, after_part, has_stirred, has_stirred
 use Rattle.world_rules.specs.Worlds.{World, agreed, singles_in}
 use Rattle.node_core.specs.Keeping.{KeepsTasks}
 use Rattle.node_core.specs.Shown.{Left, Stood}
-use Rattle.node_core.specs.Stands as stands
 use Rattle.node_core.specs.Stands.{IsDone, StandsAs}
 use Rattle.node_core.specs.declared.moved.Moved.{Moved}
 use Rattle.node_core.specs.declared.node.Node.{Node}
