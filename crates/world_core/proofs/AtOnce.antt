@@ -158,30 +158,21 @@ computed_is : {P S : Type 0} (stood : Stood S) (left : Left S) (f : Frame) (s ne
     → (burst : Burst) × IsBurst f w i ran.burst.place (ran.turns - start) burst × (0 ≡ length (bursts f w i ran.burst.place burst).mails)
     × IsWorld stood left f new (after_step f w (record { event = event.Burst i ran.burst.place (ran.turns - start); fates = [] }) burst)
 computed_is {P} {S} stood left f s new w i home start ran h run takes =
-    (burst, possible, nothing, step_world stood left f s new w (event.Burst i place turns) burst [] [] (placed place burst.reads) (not (length burst.reads == 0)) [] here leaves nothing changed)
+    (burst, possible, nothing, step_world stood left f s new w (event.Burst i ran.burst.place (ran.turns - start)) burst [] [] (placed ran.burst.place burst.reads) (not (length burst.reads == 0)) [] here leaves nothing changed)
   where
-    place : ℕ
-    place = ran.burst.place
-
-    turns : ℕ
-    turns = ran.turns - start
-
-    node : Node P S
-    node = run.before
-
-    where_is : place ≡ node.copies.applied
+    where_is : ran.burst.place ≡ run.before.copies.applied
     where_is = run.computed.place
 
-    b : Bursts stood left f s w i node.copies.applied
-    b = bursts_now stood left f s w i home start node h run.here
+    b : Bursts stood left f s w i run.before.copies.applied
+    b = bursts_now stood left f s w i home start run.before h run.here
 
-    r : RunsTo stood left f i (viewing node.copies.objects node.copies.applied) home (w.nodes home) b.start ran
-    r = ran_there stood left f s w i node.copies.applied home (viewing node.copies.objects node.copies.applied) node ran h.is b h.at_home run.here run.computed
+    r : RunsTo stood left f i (viewing run.before.copies.objects run.before.copies.applied) home (w.nodes home) b.start ran
+    r = ran_there stood left f s w i run.before.copies.applied home (viewing run.before.copies.objects run.before.copies.applied) run.before ran h.is b h.at_home run.here run.computed
 
     burst : Burst
     burst = record { reads = ran.burst.reads.items; end = r.ended }
 
-    there : IsBurst f w i node.copies.applied turns burst
+    there : IsBurst f w i run.before.copies.applied (ran.turns - start) burst
     there = record {
       start = b.start;
       here = b.here;
@@ -189,37 +180,37 @@ computed_is {P} {S} stood left f s new w i home start ran h run takes =
       computing = b.computing;
       after = b.after;
       before = b.before;
-      ran = ran_so stood left f s w i node.copies.applied home (viewing node.copies.objects node.copies.applied) ran b h.at_home
-          (viewed_now stood left f s w home node.copies.applied node (viewing node.copies.objects node.copies.applied) h.stands h.is run.here refl refl) r;
+      ran = ran_so stood left f s w i run.before.copies.applied home (viewing run.before.copies.objects run.before.copies.applied) ran b h.at_home
+          (viewed_now stood left f s w home run.before.copies.applied run.before (viewing run.before.copies.objects run.before.copies.applied) h.stands h.is run.here refl refl) r;
       took = omega (arith, h.from, ap turns_in b.here, r.turns, r.least);
     }
 
-    possible : IsBurst f w i place turns burst
-    possible = subst (λ (n : ℕ). IsBurst f w i n turns burst) (sym where_is) there
+    possible : IsBurst f w i ran.burst.place (ran.turns - start) burst
+    possible = subst (λ (n : ℕ). IsBurst f w i n (ran.turns - start) burst) (sym where_is) there
 
-    here : Here stood left f s w (event.Burst i place turns) burst
+    here : Here stood left f s w (event.Burst i ran.burst.place (ran.turns - start)) burst
     here = record { stands = h.stands; is = h.is; going = h.going; possible = possible }
 
     within : home_of f w i.0 < f.settings.nodes
     within = home_within stood left f s w h.stands i.0
 
-    leaves : Leaves f s w [] [] (placed place burst.reads) (not (length burst.reads == 0)) (bursts f w i place burst)
-    leaves = burst_leaves stood left f s w i place burst h.is within (applied_low stood left f s w h.stands h.is (home_of f w i.0) within place possible.before)
+    leaves : Leaves f s w [] [] (placed ran.burst.place burst.reads) (not (length burst.reads == 0)) (bursts f w i ran.burst.place burst)
+    leaves = burst_leaves stood left f s w i ran.burst.place burst h.is within (applied_low stood left f s w h.stands h.is (home_of f w i.0) within ran.burst.place possible.before)
 
-    nothing : 0 ≡ length (bursts f w i place burst).mails
-    nothing = outgoing_count f.settings.nodes [] (bursts f w i place burst).mails leaves.letters
+    nothing : 0 ≡ length (bursts f w i ran.burst.place burst).mails
+    nothing = outgoing_count f.settings.nodes [] (bursts f w i ran.burst.place burst).mails leaves.letters
 
-    stood_after : StandsAs stood left f home ran.node (computes i.0 place burst.reads burst.end (w.nodes home)).node
+    stood_after : StandsAs stood left f home ran.node (computes i.0 ran.burst.place burst.reads burst.end (w.nodes home)).node
     stood_after = subst (λ (n : ℕ). StandsAs stood left f home ran.node (computes i.0 n burst.reads burst.end (w.nodes home)).node) (sym where_is) r.node
 
     same : tasks_out (seen_of new) ≡ tasks_out (seen_of s)
-    same = ap all_outs (outs_still stood left f s new w i home start (event.Burst i place turns) ran h run takes)
+    same = ap all_outs (outs_still stood left f s new w i home start (event.Burst i ran.burst.place (ran.turns - start)) ran h run takes)
 
-    at_home : Changed stood left f s new (event.Burst i place turns) [] [] (placed place burst.reads) (not (length burst.reads == 0)) [] (after_part f home (computes i.0 place burst.reads burst.end (w.nodes home)) (untouched w))
+    at_home : Changed stood left f s new (event.Burst i ran.burst.place (ran.turns - start)) [] [] (placed ran.burst.place burst.reads) (not (length burst.reads == 0)) [] (after_part f home (computes i.0 ran.burst.place burst.reads burst.end (w.nodes home)) (untouched w))
     at_home = record {
-      nodes = nodes_added stood left f s.nodes.items new.nodes.items home ran.node (computes i.0 place burst.reads burst.end (w.nodes home)) (untouched w) (record { count = h.is.members; each = h.is.nodes }) takes.nodes stood_after;
+      nodes = nodes_added stood left f s.nodes.items new.nodes.items home ran.node (computes i.0 ran.burst.place burst.reads burst.end (w.nodes home)) (untouched w) (record { count = h.is.members; each = h.is.nodes }) takes.nodes stood_after;
       tasks = λ m j other r view at there out.
-          let was = tasks_added s.nodes.items s.nodes.items new.nodes.items home node ran.node (λ m j other r view at here out. (other, at, here)) takes.nodes (sym run.here) run.computed.only m j other r view at there out in
+          let was = tasks_added s.nodes.items s.nodes.items new.nodes.items home run.before ran.node (λ m j other r view at here out. (other, at, here)) takes.nodes (sym run.here) run.computed.only m j other r view at there out in
           ((h.is.tasks m j was.0 r view was.1 was.2 out).lives, was);
       lives = takes.lives;
       flights = takes.flights;
@@ -234,8 +225,8 @@ computed_is {P} {S} stood left f s new w i home start ran h run takes =
       piece_room = omega (arith, same, takes.piece_room);
     }
 
-    changed : Changed stood left f s new (event.Burst i place turns) [] [] (placed place burst.reads) (not (length burst.reads == 0)) [] (bursts f w i place burst)
-    changed = subst (λ (m : ℕ). Changed stood left f s new (event.Burst i place turns) [] [] (placed place burst.reads) (not (length burst.reads == 0)) [] (after_part f m (computes i.0 place burst.reads burst.end (w.nodes m)) (untouched w))) h.at_home at_home
+    changed : Changed stood left f s new (event.Burst i ran.burst.place (ran.turns - start)) [] [] (placed ran.burst.place burst.reads) (not (length burst.reads == 0)) [] (bursts f w i ran.burst.place burst)
+    changed = subst (λ (m : ℕ). Changed stood left f s new (event.Burst i ran.burst.place (ran.turns - start)) [] [] (placed ran.burst.place burst.reads) (not (length burst.reads == 0)) [] (after_part f m (computes i.0 ran.burst.place burst.reads burst.end (w.nodes m)) (untouched w))) h.at_home at_home
 
 pub computed_stands : {P S : Type 0} (stood : Stood S) (left : Left S) (f : Frame) (s new : Parts P S) (i : ProcessNo) (home start : ℕ) (ran : Ran P S) → (stands : Stands stood left f s) → Now stood left f s stands.world i home start
     → HasRunNow stood left f i home s ran → Takes s new home (event.Burst i ran.burst.place (ran.turns - start)) ran → Stands stood left f new

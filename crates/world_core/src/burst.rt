@@ -153,6 +153,7 @@ pub(crate) fn compute<P: OneRun>(
     ensures stands { Stands P.stood P.left P.run.frame parts.new }
     ensures done { OnOk result (HasComputed P.run.frame process (seen_of parts.old) (seen_of parts.new)) }
     ensures out { (seen_of parts.new).out ≡ (seen_of parts.old).out }
+    ensures tasks { tasks_out (seen_of parts.new) ≡ tasks_out (seen_of parts.old) }
     ensures err { OnErr result (seen_of parts.new ≡ seen_of parts.old) }
 {
     let home = parts.home_of(process);
