@@ -1,9 +1,10 @@
--- In a quiet moment no task is out.
-use Rattle.std.proofs.Common.{◌≡◌, ◌≤◌, ◌<◌, ◌+◌, ◌∙◌, ◌++◌, ◌&&◌, not, ℕ, suc, Bool, true, false, List, [], ◌∷◌, Option, Some, None, is_some, slice_get, get_or, take, drop, map, ap, sym, subst, refl, arith, length, length-append}
+-- What a task that is out is, that in a quiet moment none is, and each member as its node has it.
+use Rattle.std.proofs.Common.{◌≡◌, ◌≤◌, ◌<◌, ◌+◌, ◌∙◌, ◌++◌, ◌&&◌, not, ℕ, suc, Bool, true, false, List, [], ◌∷◌, Option, Some, None, IfSome, is_some, option_map, slice_get, get_or, take, drop, map, ap, sym, subst, refl, arith, length, length-append}
 use Rattle.std.proofs.lemmas.List.{take-append-drop, take_all}
 use Rattle.std.proofs.lemmas.Option.{slice_get_within}
 use Rattle.value_core.specs.declared.message.Message.{Message}
 use Rattle.object_manager.specs.Viewed.{Viewed}
+use Rattle.book_law.proofs.Processes.{get_some}
 use Rattle.net_rules.specs.Flights.{first_ready}
 use Rattle.world_facts.proofs.Rows.{not_any}
 use Rattle.world_law.specs.Holds.{Holds}
@@ -13,9 +14,11 @@ use Rattle.world_rules.specs.Nodes.{entries_of, known}
 use Rattle.world_rules.specs.Played.{Played, is_ready}
 use Rattle.world_rules.specs.Processes.{processes_in}
 use Rattle.world_rules.specs.Standings.{is_quiet, lives_at_home, process_count, some_process, stands}
+use Rattle.world_rules.specs.Steps.{objects_after}
 use Rattle.world_rules.specs.Worlds.{World, agreed, applied_at, home_of, played_in}
 use Rattle.node_core.specs.Pieces.{resident_at}
 use Rattle.node_core.specs.Shown.{IsPlayed, IsPlayedIf, Left, Stood, on_stage}
+use Rattle.node_core.specs.Stands.{StandsAs}
 use Rattle.node_core.specs.declared.node.Node.{Node}
 use Rattle.node_core.specs.declared.resident.Resident.{Resident}
 use Rattle.world_parts.proofs.Worlds.{one_list}
@@ -23,6 +26,7 @@ use Rattle.world_parts.specs.Seen.{Out, all_outs, outs, tasks_out}
 use Rattle.world_parts.specs.Standing.{IsTask, IsWorld, Stands, out_of, outs_of, seen_of}
 use Rattle.world_parts.specs.declared.parts.Parts.{Parts}
 use Rattle.world_core.specs.Drafting.{out_in}
+use Rattle.world_core.specs.Stepping.{IsOutAt, out_as}
 use Rattle.world_core.proofs.CheckingOut.{not_true}
 use Rattle.world_core.proofs.Handing.{out_some, seen_where}
 use Rattle.world_core.proofs.Running.{both}
@@ -41,12 +45,21 @@ known_listed stood left f s w h is m lt =
     let whole = ap (λ (l : List Message). length (processes_in f l)) (take-append-drop n (agreed f w)) in
     omega (arith, ap (λ (l : List Message). length (processes_in f l)) begins, ap length longer.1, length-append (processes_in f front) longer.0, whole)
 
--- ---- a process with a task out
+-- ---- a task that is out
 
--- it is one that computes on a living member
-works : {P S : Type 0} (stood : Stood S) (left : Left S) (f : Frame) (s : Parts P S) (w : World) → Stands stood left f s → IsWorld stood left f s w → (m i : ℕ) (task : Out S) → out_in s.nodes.items m i ≡ Some task
-    → (i < process_count f w) × ((lives_at_home f w i && stands is_ready (played_in f w i)) ≡ true)
-works {P} {S} stood left f s w h is m i task out = (exists, ap (λ (b : Bool). b && stands is_ready (played_in f w i)) lives ∙ ready)
+pub out_is : {P S : Type 0} (stood : Stood S) (left : Left S) (f : Frame) (s : Parts P S) (w : World) → Stands stood left f s → IsWorld stood left f s w → (m i : ℕ) (task : Out S) → out_in s.nodes.items m i ≡ Some task
+    → IsOutAt f w m i task
+out_is {P} {S} stood left f s w h is m i task out = record {
+  home = home;
+  lives = is_task.lives;
+  played = plays.0;
+  here = ap (λ (k : ℕ). (w.nodes k).played i) home ∙ plays.1;
+  computing = sym plays.2.stage ∙ ap on_stage is_task.computing;
+  calls = ap (λ (t : Out S). t.calls) (sym same) ∙ plays.2.calls;
+  after = omega (arith, is_task.after, plays.2.place, ap (λ (t : Out S). t.view.place) same);
+  before = omega (arith, is_task.before, ap (λ (t : Out S). t.view.place) same);
+  objects = ap (λ (t : Out S). t.view.objects) (sym same) ∙ is_task.objects ∙ ap (λ (t : Out S). objects_after f (w.nodes m) t.view.place) same;
+}
   where
     hold : Holds f w
     hold = h.laws.hold f refl refl h.settings s.ledger.steps w is.replays
@@ -66,17 +79,34 @@ works {P} {S} stood left f s w h is m i task out = (exists, ap (λ (b : Bool). b
     home : home_of f w i ≡ m
     home = (h.laws.home f h.settings.resilience).home w m i plays.0 hold.grouped hold.home plays.1
 
+    same : out_as here.0.state here.0.calls here.1 ≡ task
+    same =
+        let e : ◌≡◌ {A = Option (Out S)} (Some (out_as here.0.state here.0.calls here.1)) (Some task) =
+            sym (ap (λ (o : Option Viewed). option_map (λ (view : Viewed). out_as here.0.state here.0.calls view) o) here.3) ∙ sym (ap out_of here.2) ∙ at.2 in
+        cc e
+
+-- its process is one that computes on a living member
+works : {P S : Type 0} (stood : Stood S) (left : Left S) (f : Frame) (s : Parts P S) (w : World) → Stands stood left f s → IsWorld stood left f s w → (m i : ℕ) (task : Out S) → out_in s.nodes.items m i ≡ Some task
+    → (i < process_count f w) × ((lives_at_home f w i && stands is_ready (played_in f w i)) ≡ true)
+works {P} {S} stood left f s w h is m i task out = (exists, ap (λ (b : Bool). b && stands is_ready (played_in f w i)) (ap w.lives o.home ∙ o.lives) ∙ ready)
+  where
+    o : IsOutAt f w m i task
+    o = out_is stood left f s w h is m i task out
+
+    hold : Holds f w
+    hold = h.laws.hold f refl refl h.settings s.ledger.steps w is.replays
+
     within : m < f.settings.nodes
-    within = omega (arith, slice_get_within s.nodes.items m at.0 at.1, is.members)
+    within = let at = seen_where s.nodes.items m i task out in omega (arith, slice_get_within s.nodes.items m at.0 at.1, is.members)
+
+    known_there : i < length (known f (w.nodes m))
+    known_there = (hold.home m).known_here i o.played (ap (λ (k : ℕ). (w.nodes k).played i) (sym o.home) ∙ o.here)
 
     exists : i < process_count f w
-    exists = omega (arith, (hold.home m).known_here i plays.0 plays.1, known_listed stood left f s w h is m within)
-
-    lives : lives_at_home f w i ≡ true
-    lives = ap w.lives home ∙ is_task.lives
+    exists = omega (arith, known_there, known_listed stood left f s w h is m within)
 
     ready : stands is_ready (played_in f w i) ≡ true
-    ready = ap (λ (k : ℕ). stands is_ready ((w.nodes k).played i)) home ∙ ap (stands is_ready) plays.1 ∙ ap is_ready (sym plays.2.stage ∙ ap on_stage is_task.computing)
+    ready = ap (stands is_ready) o.here ∙ ap is_ready o.computing
 
 -- ---- so none is out
 
@@ -107,3 +137,13 @@ all_none (os ∷ oss) h =
 
 pub quiet_out : {P S : Type 0} (stood : Stood S) (left : Left S) (f : Frame) (s : Parts P S) (w : World) → Stands stood left f s → IsWorld stood left f s w → is_quiet f w ≡ true → tasks_out (seen_of s) ≡ 0
 quiet_out {P} {S} stood left f s w h is quiet = all_none (map outs_of s.nodes.items) (none_at stood left f s w h is quiet)
+
+-- ---- members
+
+pub node_stands : {P S : Type 0} (stood : Stood S) (left : Left S) (f : Frame) (s : Parts P S) (w : World) (m : ℕ) (o : Option (Node P S)) → IsWorld stood left f s w → slice_get s.nodes.items m ≡ o
+    → IfSome o (λ (node : Node P S). StandsAs stood left f m node (w.nodes m))
+node_stands stood left f s w m None is at = tt
+node_stands stood left f s w m (Some node) is at = is.nodes m node at
+
+pub some_node : {P S : Type 0} (stood : Stood S) (left : Left S) (f : Frame) (s : Parts P S) (m : ℕ) → Stands stood left f s → m < f.settings.nodes → is_some (slice_get s.nodes.items m) ≡ true
+some_node stood left f s m h lt = let node = get_some s.nodes.items m (omega (arith, lt, h.is.members)) in ap is_some node.1

@@ -1,5 +1,5 @@
 -- What the calls say that do an event, hand out a task or take one back.
-use Rattle.std.specs.Prelude.{◌≡◌, ◌+◌, ◌++◌, ◌∷◌, [], ◌==◌, ◌&&◌, ◌||◌, if◌then◌else◌, ℕ, Bool, true, false, List, Option, None, Some, map}
+use Rattle.std.specs.Prelude.{◌≡◌, ◌≤◌, ◌+◌, ◌++◌, ◌∷◌, [], ◌==◌, ◌&&◌, ◌||◌, if◌then◌else◌, ℕ, Bool, true, false, List, length, Option, None, Some, map}
 use Rattle.std.specs.List.{AllByRecursion as Each}
 use Rattle.net_rules.specs.declared.asked.Asked.{Asked}
 use Rattle.net_rules.specs.declared.asked.Asked.TheVariants.{Packet}
@@ -14,8 +14,9 @@ use Rattle.world_rules.specs.declared.standing.Standing.TheVariants as row
 use Rattle.world_rules.specs.declared.standing.Standing.TheVariants.{Going}
 use Rattle.world_rules.specs.Frame.{Frame}
 use Rattle.world_rules.specs.Played.{Played}
+use Rattle.world_rules.specs.Played.Stage.{Computing}
 use Rattle.world_rules.specs.Standings.{standing}
-use Rattle.world_rules.specs.Steps.{Next}
+use Rattle.world_rules.specs.Steps.{Next, objects_after}
 use Rattle.world_rules.specs.Worlds.{Told, World, home_of, played_in}
 use Rattle.world_calls.specs.Law.{view_of}
 use Rattle.world_facts.specs.Possible.{MayStep}
@@ -93,6 +94,23 @@ is_going row.Finished = false
 
 abbrev pub out_as : {S : Type 0} → S → ℕ → Viewed → Out S
 out_as start calls view = record { start = start; calls = calls; view = view }
+
+-- the task of process i that is out at member m, which lives: the process computes, and the task is over a view of the member's objects at
+-- a place that it applied, which isn't before the process's
+pub record IsOutAt {S : Type 0} (f : Frame) (w : World) (m i : ℕ) (task : Out S) : Type 0 where
+  pub home : home_of f w i ≡ m
+  pub lives : w.lives m ≡ true
+  pub played : Played
+  pub here : played_in f w i ≡ Some played
+  pub computing : played.stage ≡ Computing
+  pub calls : task.calls ≡ length played.replies
+  pub after : played.place ≤ task.view.place
+  pub before : task.view.place ≤ (w.nodes m).member.applied
+  pub objects : task.view.objects ≡ objects_after f (w.nodes m) task.view.place
+
+-- each that is out is so
+abbrev pub AreOut : {S : Type 0} → Frame → Seen S → Type 0
+AreOut {S} f s = Of f s (λ w. (m i : ℕ) (task : Out S) → out_at s m i ≡ Some task → IsOutAt f w m i task)
 
 -- of process i at its member the task that is out is this one, or none, and all others are as they were
 abbrev pub PutsOut : {S : Type 0} → Frame → ProcessNo → Option (Out S) → Seen S → Seen S → Type 0

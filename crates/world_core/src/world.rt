@@ -1,23 +1,25 @@
 //! The world of one run.
 
-ghost use Rattle.std.specs.Prelude.{◌≡◌, ◌⊎◌, ◌+◌, ◌≤◌, [], true, Err, IfErr, IfOk, OnErr, OnOk, option_map};
+ghost use Rattle.std.specs.Option.{option_copied};
+ghost use Rattle.std.specs.Prelude.{◌≡◌, ◌⊎◌, ◌+◌, ◌<◌, ◌≤◌, [], true, is_some, Err, IfErr, IfOk, IfSome, OnErr, OnOk, option_map};
 ghost use Rattle.value_core.specs.History.{Legal};
+ghost use Rattle.node_core.specs.Stands.{StandsAs};
 ghost use Rattle.net_rules.specs.Flights.{first_ready};
 ghost use Rattle.world_rules.specs.Frame.{AreSettings};
 ghost use Rattle.world_rules.specs.Standings as rules;
-ghost use Rattle.world_rules.specs.Steps.{Replays};
+ghost use Rattle.world_rules.specs.Steps.{Replays, lives_in};
 ghost use Rattle.world_rules.specs.Worlds.{Book, World as RunWorld, home_of};
 ghost use Rattle.world_rules.specs.declared.standing.Standing.TheVariants.{Going};
 ghost use Rattle.world_book.specs.Promise.{AllStuck, IsKept};
 ghost use Rattle.world_parts.specs.Choosing.{due_act, is_ready, longest_log, spent_process};
 ghost use Rattle.world_parts.specs.Seen.{Of, tasks_out};
-ghost use Rattle.world_core.specs.Stepping.{ChecksIn, HandsOutOf, HasComputed, IsAstray, IsRefused, KeepsOut, OutBefore, Stepped};
+ghost use Rattle.world_core.specs.Stepping.{AreOut, ChecksIn, HandsOutOf, HasComputed, IsAstray, IsRefused, KeepsOut, OutBefore, Stepped};
 ghost use Rattle.world_core.specs.Telling.{AreNodeEnds, AreProcessEnds, EndsMean};
 
 use crate::ends::{NodeEnd, ProcessEnd, RunEnd};
 use crate::step::StepError;
 use crate::{book, burst, step};
-use node_core::{Done, OneRun, Stray, Task};
+use node_core::{Done, Node, OneRun, Stray, Task};
 use orca_base::{NoMemory, ProcessNo};
 use std::alloc::Global;
 use std::marker::Model;
@@ -181,6 +183,23 @@ impl<P: OneRun> World<P> {
         self.parts.home_of(process)
     }
 
+    /// Whether this member lives; one that there isn't doesn't.
+    pub fn lives(&self, member: u8) -> bool
+        ensures { Of P.run.frame self.now (λ w. result ≡ lives_in P.run.frame w member) }
+    {
+        self.parts.lives(member)
+    }
+
+    /// The member of this number, where there is one: its node stands for the world's, so its calls tell its copies and where it stands in
+    /// the group.
+    pub fn node(&self, member: u8) -> Option<&Node<P>>
+        ensures some { member < P.run.frame.settings.nodes → is_some (option_copied result) ≡ true }
+        ensures stands { Of P.run.frame self.now (λ w. IfSome (option_copied result)
+            (λ node. StandsAs P.stood P.left P.run.frame member node (w.nodes member))) }
+    {
+        self.parts.node(member)
+    }
+
     /// The length of the longest log of a member.
     pub fn longest_log(&self) -> u64
         ensures { Of P.run.frame self.now (λ w. result ≡ longest_log P.run.frame w) }
@@ -232,9 +251,10 @@ impl<P: OneRun> World<P> {
         self.parts.swaps
     }
 
-    /// How many tasks are out.
+    /// How many tasks are out. Each is of a process that computes on a living member, over a view from the process's place on (`each`).
     pub fn tasks_out(&self) -> u16
-        ensures { result ≡ tasks_out self.now }
+        ensures count { result ≡ tasks_out self.now }
+        ensures each { AreOut P.run.frame self.now }
     {
         self.parts.tasks_out()
     }
@@ -284,6 +304,7 @@ impl<P: OneRun> World<P> {
     /// there is no memory, it is gone.
     pub fn into_end(self, alloc: Global) -> Result<RunEnd, NoMemory>
         ensures steps { IfOk result (λ end. end.steps.items ≡ self.steps) }
+        ensures longest { Of P.run.frame self (λ w. IfOk result (λ end. end.longest ≡ longest_log P.run.frame w)) }
         ensures replayed { (w : RunWorld) × Replays P.run.frame self.steps w }
         ensures book { Of P.run.frame self (λ w. IfOk result (λ end. end.book.items ≡ Book P.run.frame w)) }
         ensures legal { IfOk result (λ end. Legal P.run.frame.performs P.run.frame.computes end.book.items) }
