@@ -21,8 +21,8 @@ pub struct Cells;
 /// A process: its number, and how many actions it did, or 9 where it has ended.
 #[derive(Clone, Copy, Debug, PartialEq, Eq)]
 pub struct Player {
-    number: ProcessNo,
-    place: u8,
+    pub(crate) number: ProcessNo,
+    pub(crate) place: u8,
 }
 
 // Where a process stands after a reply: a fault ends it.

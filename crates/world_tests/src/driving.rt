@@ -28,13 +28,15 @@ pub fn settings(alloc: Global, nodes: u8, resilience: u8, events: u64, wires: u1
     requires wires { (1 ≤ wires) × (wires ≤ 1000) }
     ensures { AreSettings result }
 {
+    let none = Vec::new(alloc);
+    let choices = Items::new(none);
     Settings {
         nodes,
         resilience,
         turns: 1_000_000,
         events,
         wires,
-        choices: Items::new(Vec::new(alloc)),
+        choices,
     }
 }
 

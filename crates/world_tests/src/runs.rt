@@ -1,5 +1,7 @@
 //! Runs of a few members from their beginning to their end.
 
+ghost use Rattle.std.specs.Prelude.{◌≤◌};
+
 use crate::cells::Cells;
 use crate::driving::{Ran, ran, settings};
 use bag_processes::Scripts;
