@@ -26,6 +26,7 @@ fn burst(place: u64, turns: u32) -> Event {
 // ---- events that may not be
 
 // What the opening world refuses: of these events how many, and how many steps there are then; and whether a burst of no turn is done.
+#[derive(Drop)]
 struct Refusals {
     refused: u64,
     steps: usize,
@@ -331,6 +332,7 @@ fn computed_at_once(rt: HostRuntime) -> Result<(), Fail> {
 
 // What a wire with no memory lets be: the answers of an action that sends and of a crash, and how many steps there are then; and whether the
 // action is done over another wire.
+#[derive(Drop)]
 struct Room {
     sends: Result<(), StepError>,
     crashes: Result<(), StepError>,

@@ -133,13 +133,13 @@ fn one_cell_resilient(rt: HostRuntime) -> Result<(), Fail> {
     Ok(())
 }
 
-// Without an acknowledger a lost entry is asked for once its receiver hears of a later one: 9 Entry and 2 Nack packets, since the first
-// entry that is sent again tells of two accepted ones while the receiver holds one. Of the last entry nobody tells: it stays lost there.
+// Without an acknowledger a lost entry is asked for once its receiver hears of a later one: 8 Entry packets and one Nack, since a burst of
+// entries costs one Nack. Of the last entry nobody tells: it stays lost there.
 #[test]
 fn lost_entry(rt: HostRuntime) -> Result<(), Fail> {
     let alloc = rt.alloc();
     let (early, sent) = ran_by(alloc, 0, b"drop entry 2\n")?;
-    assert_eq!(rt; (early.standing, sent, early.end.book.len()), (Standing::Finished, 11, 4));
+    assert_eq!(rt; (early.standing, sent, early.end.book.len()), (Standing::Finished, 9, 4));
     let (late, sent) = ran_by(alloc, 0, b"drop entry 6\n")?;
     assert_eq!(rt; (late.standing, sent, late.end.book.len()), (Standing::Finished, 6, 4));
     let mut fewest = u64::MAX;
@@ -153,7 +153,7 @@ fn lost_entry(rt: HostRuntime) -> Result<(), Fail> {
 }
 
 // The first wire drops all, and is given up at its second entry: after one tick all goes over the second, which is asked of 2 Status,
-// 6 Entry, 3 Ack and 6 Accept packets.
+// 6 Entry, 3 Ack and 8 Accept packets.
 #[test]
 fn two_wires(rt: HostRuntime) -> Result<(), Fail> {
     let alloc = rt.alloc();
@@ -166,7 +166,7 @@ fn two_wires(rt: HostRuntime) -> Result<(), Fail> {
     for wire in &wires {
         sent.push(packets(wire.told()))?;
     }
-    assert_eq!(rt; sent.as_slice(), [2, 17].as_slice());
+    assert_eq!(rt; sent.as_slice(), [2, 19].as_slice());
     assert_eq!(rt; ran.end.book.len(), 4);
     Ok(())
 }
