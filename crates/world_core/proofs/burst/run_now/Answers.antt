@@ -14,8 +14,8 @@ member_of-before-requires-clause-within g c =
     let w = c.requires.stands.world in
     omega (arith, c.requires.home w c.requires.stands.is, home_within g.P.OneRun.stood g.P.OneRun.left g.P.OneRun.run.frame c.args.parts.now w c.requires.stands c.args.process.0)
 
-pub run_on-ran-requires : goal.run_on-ran-requires
-run_on-ran-requires g c =
+pub run_on-requires : goal.run_on-requires
+run_on-requires g c =
     let m = c.args.machine.now in
     let w = c.requires.stands.world in
     let is = c.requires.stands.is in
