@@ -47,11 +47,7 @@ fn refusals_as<T: RunName<Cells>>(
     refusals(alloc, &machine, settings)
 }
 
-fn refusals<P: OneRun>(
-    alloc: Global,
-    machine: &P,
-    settings: Settings,
-) -> Result<Refusals, NoMemory>
+fn refusals<P: OneRun>(alloc: Global, machine: &P, settings: Settings) -> Result<Refusals, NoMemory>
     requires settings { settings ≡ P.run.frame.settings }
     requires ranges { AreSettings settings }
 {
@@ -229,7 +225,10 @@ fn overtaken<P: OneRun>(
 fn tasks_come_back_once(rt: HostRuntime) -> Result<(), Fail> {
     let alloc = rt.alloc();
     let seen = tasks_as::<Brand>(alloc, &Cells, settings(alloc, 3, 0, 1000, 1))?;
-    assert_eq!(rt; seen.out.as_slice(), [(1, false), (0, true), (0, false)].as_slice());
+    assert_eq!(rt;
+        seen.out.as_slice(),
+        [(1, false), (0, true), (0, false)].as_slice()
+    );
     assert_eq!(rt; (seen.astray, seen.steps), (2, 1));
     Ok(())
 }
@@ -365,7 +364,9 @@ fn room<P: OneRun>(alloc: Global, machine: &P, settings: Settings) -> Result<Roo
     let sends = world.step(alloc, machine, Event::Act { process }, &mut full);
     let crashes = world.step(alloc, machine, Event::Crash { node: 2 }, &mut full);
     let steps = world.steps().len();
-    let done = world.step(alloc, machine, Event::Act { process }, &mut plain).is_ok();
+    let done = world
+        .step(alloc, machine, Event::Act { process }, &mut plain)
+        .is_ok();
     Ok(Room {
         sends,
         crashes,
@@ -379,7 +380,10 @@ fn room<P: OneRun>(alloc: Global, machine: &P, settings: Settings) -> Result<Roo
 fn sends_need_room(rt: HostRuntime) -> Result<(), Fail> {
     let alloc = rt.alloc();
     let seen = room_as::<Brand>(alloc, &Cells, settings(alloc, 3, 0, 1000, 1))?;
-    assert_eq!(rt; (seen.sends, seen.crashes), (Err(StepError::NoMemory), Ok(())));
+    assert_eq!(rt;
+        (seen.sends, seen.crashes),
+        (Err(StepError::NoMemory), Ok(()))
+    );
     assert_eq!(rt; (seen.steps, seen.done), (2, true));
     Ok(())
 }

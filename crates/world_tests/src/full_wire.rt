@@ -29,7 +29,11 @@ impl Wire for FullWire {
     }
 
     fn make_room(&mut self, questions: u32) -> Result<(), NoMemory> {
-        if questions == 0 { Ok(()) } else { Err(NoMemory) }
+        if questions == 0 {
+            Ok(())
+        } else {
+            Err(NoMemory)
+        }
     }
 
     fn fate(&mut self, _packet: u64, _kind: PacketKind, _from: u8, _to: u8, _length: u32) -> Fate {

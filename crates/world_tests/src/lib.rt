@@ -4,12 +4,11 @@
 //! processes are those of `bag_processes`. Nothing stands on it.
 #![tactic(auto)]
 
+#[cfg(test)]
+mod calls;
 mod cells;
 mod driving;
 mod full_wire;
-
-#[cfg(test)]
-mod calls;
 #[cfg(test)]
 mod runs;
 

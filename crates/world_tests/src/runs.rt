@@ -31,7 +31,12 @@ fn ran_by(alloc: Global, resilience: u8, text: &[u8]) -> Result<(Ran, u64), Fail
 {
     let mut wires = Vec::new(alloc);
     wires.push(scripted(alloc, text)?)?;
-    let ran = ran(alloc, &Cells, settings(alloc, 3, resilience, 1000, 1), wires.as_mut_slice())?;
+    let ran = ran(
+        alloc,
+        &Cells,
+        settings(alloc, 3, resilience, 1000, 1),
+        wires.as_mut_slice(),
+    )?;
     let mut sent = 0;
     for wire in &wires {
         sent = packets(wire.told());
@@ -67,7 +72,12 @@ fn one_cell(rt: HostRuntime) -> Result<(), Fail> {
     let alloc = rt.alloc();
     let mut wires = Vec::new(alloc);
     wires.push(PlainWire::new(alloc))?;
-    let ran = ran(alloc, &Cells, settings(alloc, 3, 0, 1000, 1), wires.as_mut_slice())?;
+    let ran = ran(
+        alloc,
+        &Cells,
+        settings(alloc, 3, 0, 1000, 1),
+        wires.as_mut_slice(),
+    )?;
     assert_eq!(rt; ran.standing, Standing::Finished);
     assert_eq!(rt; ran.end.steps.len(), 13);
     for wire in &wires {
@@ -86,7 +96,10 @@ fn one_cell(rt: HostRuntime) -> Result<(), Fail> {
     }
     assert_eq!(rt; ran.end.processes.len(), 1);
     for process in &ran.end.processes {
-        assert_eq!(rt; (process.node, process.replies.len(), process.turns), (0, 4, 0));
+        assert_eq!(rt;
+            (process.node, process.replies.len(), process.turns),
+            (0, 4, 0)
+        );
         assert!(rt; matches!(process.standing, ProcessStanding::Ended));
     }
     Ok(())
@@ -98,7 +111,12 @@ fn one_member(rt: HostRuntime) -> Result<(), Fail> {
     let alloc = rt.alloc();
     let mut wires = Vec::new(alloc);
     wires.push(PlainWire::new(alloc))?;
-    let ran = ran(alloc, &Cells, settings(alloc, 1, 0, 1000, 1), wires.as_mut_slice())?;
+    let ran = ran(
+        alloc,
+        &Cells,
+        settings(alloc, 1, 0, 1000, 1),
+        wires.as_mut_slice(),
+    )?;
     assert_eq!(rt; ran.standing, Standing::Finished);
     assert_eq!(rt; ran.end.steps.len(), 7);
     for wire in &wires {
@@ -139,9 +157,15 @@ fn one_cell_resilient(rt: HostRuntime) -> Result<(), Fail> {
 fn lost_entry(rt: HostRuntime) -> Result<(), Fail> {
     let alloc = rt.alloc();
     let (early, sent) = ran_by(alloc, 0, b"drop entry 2\n")?;
-    assert_eq!(rt; (early.standing, sent, early.end.book.len()), (Standing::Finished, 9, 4));
+    assert_eq!(rt;
+        (early.standing, sent, early.end.book.len()),
+        (Standing::Finished, 9, 4)
+    );
     let (late, sent) = ran_by(alloc, 0, b"drop entry 6\n")?;
-    assert_eq!(rt; (late.standing, sent, late.end.book.len()), (Standing::Finished, 6, 4));
+    assert_eq!(rt;
+        (late.standing, sent, late.end.book.len()),
+        (Standing::Finished, 6, 4)
+    );
     let mut fewest = u64::MAX;
     let mut all = 0u64;
     for node in &late.end.nodes {
@@ -160,8 +184,16 @@ fn two_wires(rt: HostRuntime) -> Result<(), Fail> {
     let mut wires = Vec::new(alloc);
     wires.push(scripted(alloc, b"drop any all\nswap entry 2\n")?)?;
     wires.push(scripted(alloc, b"# nothing\n")?)?;
-    let ran = ran(alloc, &Cells, settings(alloc, 3, 1, 1000, 2), wires.as_mut_slice())?;
-    assert_eq!(rt; (ran.standing, ran.swaps, ticks(ran.end.steps.as_slice())), (Standing::Finished, 1, 1));
+    let ran = ran(
+        alloc,
+        &Cells,
+        settings(alloc, 3, 1, 1000, 2),
+        wires.as_mut_slice(),
+    )?;
+    assert_eq!(rt;
+        (ran.standing, ran.swaps, ticks(ran.end.steps.as_slice())),
+        (Standing::Finished, 1, 1)
+    );
     let mut sent = Vec::new(alloc);
     for wire in &wires {
         sent.push(packets(wire.told()))?;
@@ -203,7 +235,12 @@ fn three_processes(rt: HostRuntime) -> Result<(), Fail> {
     let alloc = rt.alloc();
     let mut wires = Vec::new(alloc);
     wires.push(PlainWire::new(alloc))?;
-    let ran = ran(alloc, &Scripts, settings(alloc, 3, 0, 1000, 1), wires.as_mut_slice())?;
+    let ran = ran(
+        alloc,
+        &Scripts,
+        settings(alloc, 3, 0, 1000, 1),
+        wires.as_mut_slice(),
+    )?;
     assert_eq!(rt; ran.standing, Standing::Blocked);
     for node in &ran.end.nodes {
         assert_eq!(rt; node.applied, 10);
