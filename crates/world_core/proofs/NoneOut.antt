@@ -82,7 +82,7 @@ out_is {P} {S} stood left f s w h is m i task out = record {
     same : out_as here.0.state here.0.calls here.1 ≡ task
     same =
         let e : ◌≡◌ {A = Option (Out S)} (Some (out_as here.0.state here.0.calls here.1)) (Some task) =
-            sym (ap (λ (o : Option Viewed). option_map (λ (view : Viewed). out_as here.0.state here.0.calls view) o) here.3) ∙ sym (ap out_of here.2) ∙ at.2 in
+        sym (ap (λ (o : Option Viewed). option_map (λ (view : Viewed). out_as here.0.state here.0.calls view) o) here.3) ∙ sym (ap out_of here.2) ∙ at.2 in
         cc e
 
 -- its process is one that computes on a living member

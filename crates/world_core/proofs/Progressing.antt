@@ -105,7 +105,7 @@ progress_on {P} {S} stood left f s w end old new u m start before after moved is
   outs = λ k i.
       ap (λ (l : List (Node P S)). out_in l k i) next
       ∙ outs_kept s.nodes.items (taken old.parts.items s.nodes.items) m after (omega (arith, comes.within, is.members, taken_length old.parts.items s.nodes.items)) h.outs
-          (λ j. still_out before after keeps comes.computes j ∙ sym (seen_there s.nodes.items m j before comes.there)) k i;
+      (λ j. still_out before after keeps comes.computes j ∙ sym (seen_there s.nodes.items m j before comes.there)) k i;
   members = subst (λ (l : List (Part P S)). Each (λ (part : Part P S). part.member < f.settings.nodes) l) (sym added.parts)
       (each_push (λ (part : Part P S). part.member < f.settings.nodes) old.parts.items (record { member = before.member.me; node = after }) h.members (omega (arith, me, comes.within)));
   beside = h.beside ++ aside_of v.deeds;
