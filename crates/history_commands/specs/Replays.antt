@@ -5,6 +5,7 @@ use Rattle.std.specs.Fmt.{decimal}
 use Rattle.value_core.specs.declared.action.Line.{Line}
 use Rattle.value_core.specs.Meaning.{Performs, Computes}
 use Rattle.value_core.specs.History.{Legal}
+use Rattle.command_output.specs.declared.statuses.TheConstants.{BREACH, FINISHED}
 use Rattle.history_check.specs.declared.verdict.BreachRule.{BreachRule}
 use Rattle.history_check.specs.declared.verdict.BreachRule.TheVariants as part
 use Rattle.history_check.specs.Verdicts.{IsBreach}
@@ -20,7 +21,12 @@ IsToldOf p q names text (said.Form number) = (lines : List Line) × AreFirst nam
 IsToldOf p q names text (said.Part number rule) =
     (lines : List Line) × (bad : Option ℕ) × AreFirst names text lines bad × IsBreach p q lines number rule
 
--- ---- its line
+-- ---- its status and its line
+
+abbrev pub answer_status : Answer → ℕ
+answer_status said.Legal = FINISHED
+answer_status (said.Form number) = BREACH
+answer_status (said.Part number rule) = BREACH
 
 abbrev pub part_name : BreachRule → List ℕ
 part_name part.Process = codes "process"

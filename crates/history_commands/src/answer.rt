@@ -1,9 +1,10 @@
-//! What is said of a history's text, and its line.
+//! What is said of a history's text, with its status and its line.
 
 ghost use Rattle.std.specs.Prelude.{◌≡◌, ◌<◌, ◌-◌, ◌^◌, IfOk, length};
 ghost use Rattle.history_text.specs.Sound.{AreTables};
-ghost use Rattle.history_commands.specs.Replays.{IsToldOf, answer_line, breach_line, part_name};
+ghost use Rattle.history_commands.specs.Replays.{IsToldOf, answer_line, answer_status, breach_line, part_name};
 
+use command_output::{BREACH, FINISHED};
 use history_check::{BreachRule, Verdict, replay};
 use history_text::{Names, read_lines};
 use orca_base::NoMemory;
@@ -64,6 +65,16 @@ fn breach_line(alloc: Global, number: u32, part: &str) -> Result<Vec<u8>, NoMemo
 }
 
 impl Answer {
+    /// The status with which `replay` ends.
+    pub fn status(self) -> u8
+        ensures { result ≡ answer_status self }
+    {
+        match self {
+            Answer::Legal => FINISHED,
+            Answer::Form { .. } | Answer::Part { .. } => BREACH,
+        }
+    }
+
     /// The line that tells it.
     pub fn line(&self, alloc: Global) -> Result<Vec<u8>, NoMemory>
         ensures { IfOk result (λ line. line.items ≡ answer_line self.now) }
