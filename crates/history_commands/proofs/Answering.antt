@@ -1,6 +1,7 @@
 -- A text has one answer; what is printed is read back; and what may be printed.
-use Rattle.std.proofs.Common.{◌≡◌, ℕ, List, [], ◌∷◌, Option, Some, None, refl, sym, ap, subst, ◌∙◌, inl, inr}
+use Rattle.std.proofs.Common.{◌≡◌, ◌≢◌, ◌⊎◌, ℕ, List, [], ◌∷◌, Option, Some, None, refl, sym, ap, subst, ◌∙◌, inl, inr}
 use Rattle.std.specs.List.{All}
+use Rattle.std.specs.Prelude.{Result, Ok, Err, IfOk, OnErr}
 use Rattle.std.proofs.lemmas.List.Elements.{All-cons, All-head, All-nil, All-tail}
 use Rattle.value_core.specs.declared.action.Line.{Line}
 use Rattle.value_core.specs.History.{Legal}
@@ -11,11 +12,13 @@ use Rattle.history_check.specs.Verdicts.{IsVerdict}
 use Rattle.history_check.specs.declared.verdict.Verdict.{Verdict}
 use Rattle.history_check.specs.declared.verdict.Verdict.TheVariants as verdict
 use Rattle.history_check.proofs.Agreeing.{one_verdict}
+use Rattle.command_output.specs.declared.statuses.TheConstants.{NO_MEMORY, WRITE_FAULT}
+use Rattle.command_output.specs.Printed.{Ends, EndsAs, Grew}
 use Rattle.history_text.specs.Sound.{AreFirst, AreLines, AreTables, HasNames, IsPrintable}
 use Rattle.history_text.specs.declared.names.Names.{Names}
 use Rattle.history_text.proofs.Histories.{one_front, whole_front}
 use Rattle.history_commands.specs.ReadBack.{ReadsBack}
-use Rattle.history_commands.specs.Replays.{IsToldOf}
+use Rattle.history_commands.specs.Replays.{IsSaid, IsToldOf, answer_line, answer_status}
 use Rattle.history_commands.specs.declared.answer.Answer.{Answer}
 use Rattle.history_commands.specs.declared.answer.Answer.TheVariants as said
 
@@ -59,3 +62,17 @@ printable names [] sound known = All-nil (IsPrintable names)
 printable names (line ∷ lines) sound known =
     All-cons (IsPrintable names) line lines (sound line (inl refl), All-head (λ (l : Line). HasNames names l.action) line lines known)
     (printable names lines (λ l inside. sound l (inr inside)) (All-tail (λ (l : Line). HasNames names l.action) line lines known))
+
+-- ---- what is said
+
+-- it doesn't end with the status of a write fault
+pub answer_apart : (answer : Answer) → answer_status answer ≢ WRITE_FAULT
+answer_apart said.Legal h = absurd cc
+answer_apart (said.Form number) h = absurd cc
+answer_apart (said.Part number rule) h = absurd cc
+
+-- the answer's line was printed, or there was no memory for it
+pub said_of : {L E : Type 0} (bytes : L → List ℕ) (line : Result L E) (p : Performs) (q : Computes) (names : Names) (text : List ℕ) (old new : Option (List ℕ)) (answer : Answer) (status : ℕ) → IsToldOf p q names text answer →
+    IfOk line (λ l. bytes l ≡ answer_line answer) → IfOk line (λ l. Grew old new (Ends (answer_status answer) status (bytes l))) → OnErr line ((status ≡ NO_MEMORY) × (new ≡ old)) → EndsAs (answer_status answer) status → IsSaid p q names text old new status
+said_of bytes (Ok l) p q names text old new answer status told is grew silent ends = inl (answer, told, ends, subst (λ (t : List ℕ). Grew old new (Ends (answer_status answer) status t)) is grew)
+said_of bytes (Err e) p q names text old new answer status told is grew silent ends = inr silent

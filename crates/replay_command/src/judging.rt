@@ -13,8 +13,8 @@ ghost use Rattle.command_files.specs.Replays.{HasRead};
 ghost use Rattle.command_files.specs.Sources.{Word};
 ghost use Rattle.replay_command.specs.Endings.{IsReplayAnswer};
 
-use command_output::{NO_MEMORY, WRITE_FAULT, print_ending};
-use history_commands::replay_text;
+use command_output::{NO_MEMORY, WRITE_FAULT};
+use history_commands::say_answer;
 use orca_io::Sink;
 use program_names::names;
 use std::alloc::Global;
@@ -47,8 +47,5 @@ pub fn judge<P: Processor, K: Sink>(
     let Ok(table) = names(alloc, checked) else {
         return NO_MEMORY;
     };
-    match replay_text(alloc, machine, &table, text) {
-        Ok(answer) => print_ending(out, answer.line(alloc), answer.status()),
-        Err(_) => NO_MEMORY,
-    }
+    say_answer(alloc, out, machine, &table, text)
 }
