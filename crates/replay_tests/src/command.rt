@@ -5,12 +5,14 @@ ghost use Rattle.orca_base.specs.declared.limits.TheConstants.{HISTORY_BYTES};
 ghost use Rattle.link_rules.specs.Units.{source};
 ghost use Rattle.accepted_law.specs.Limits.{IsWithinLimits};
 ghost use Rattle.small_program.specs.Scope.{IsScoped};
+ghost use Rattle.history_text.specs.Sound.{AreTables};
 
 use command_files::replay_files;
 use command_output::NO_MEMORY;
 use history_commands::say_answer;
+use history_text::Names;
 use orca_base::{NoMemory, Refusal};
-use orca_front::{accepted, linked};
+use orca_front::{SourceFile, accepted, linked};
 use orca_io::{MemoryShelf, MemorySink, Shelf, Sink};
 use orca_meaning::TreeMachine;
 use orca_modules::Program;
@@ -24,6 +26,9 @@ use type_decls::Checked;
 
 // More operations or fields than a test's program has.
 const MANY: usize = 100;
+
+// More bytes than most of the tests' texts have.
+const MOST: usize = 1_000;
 
 // The machine of a small program with few operations and fields.
 fn machine_of_small(program: SmallProgram) -> Result<TreeMachine, NoMemory>
@@ -96,13 +101,51 @@ fn replayed<F: Shelf, K: Sink>(
     }
 }
 
+/// The machine of the program in this text, which is a small one.
+pub fn machine_in(alloc: Global, text: &str) -> Result<TreeMachine, Fail> {
+    if text.len() > MOST {
+        return Err(Fail::from("too long a text"));
+    }
+    let mut sources = Vec::new(alloc);
+    sources.push(SourceFile {
+        name: "one.orca",
+        text: Vec::from_slice(alloc, text.as_bytes())?,
+    })?;
+    let program = linked(alloc, &sources).ok().ok_or("no program")?;
+    Ok(machine_of(alloc, &program)?)
+}
+
+/// The status for this short text as a history, and what is said of it. Want of memory is the test's error.
+pub fn said_of(
+    alloc: Global,
+    machine: &TreeMachine,
+    names: &Names,
+    text: &str,
+) -> Result<(u8, String), Fail>
+    requires { AreTables names.now }
+{
+    if text.len() > MOST {
+        return Err(Fail::from("too long a text"));
+    }
+    let mut out = MemorySink::new(alloc, Vec::new(alloc));
+    let status = say_answer(alloc, &mut out, machine, names, text.as_bytes());
+    if status == NO_MEMORY {
+        return Err(Fail::from("no memory"));
+    }
+    let bytes = Vec::from_slice(alloc, out.bytes())?;
+    let printed = String::from_utf8(bytes).ok().ok_or("no text")?;
+    Ok((status, printed))
+}
+
 /// A file of a test: its name, and its text.
+#[derive(Clone, Copy)]
 pub struct TestFile<'a> {
     pub name: &'a str,
-    pub text: &'a str,
+    pub text: &'a [u8],
 }
 
 /// The calls of a test that fail, by their numbers: of reads and of writes.
+#[derive(Clone, Copy)]
 pub struct Failing<'a> {
     pub reads: &'a [u64],
     pub writes: &'a [u64],
@@ -114,7 +157,7 @@ pub const SURE: Failing<'static> = Failing {
     writes: &[],
 };
 
-/// The status of `replay`, and what it printed, where these files are there.
+/// The status of `replay`, and what it printed, where these files are there. Want of memory is the test's error.
 pub fn outcome(
     alloc: Global,
     there: &[TestFile<'_>],
@@ -126,12 +169,15 @@ pub fn outcome(
     for file in there {
         kept.push((
             String::from_str(alloc, file.name)?,
-            Vec::from_slice(alloc, file.text.as_bytes())?,
+            Vec::from_slice(alloc, file.text)?,
         ))?;
     }
     let mut shelf = MemoryShelf::new(kept, Vec::from_slice(alloc, failing.reads)?);
     let mut out = MemorySink::new(alloc, Vec::from_slice(alloc, failing.writes)?);
     let status = replayed(alloc, &mut shelf, &mut out, history, files);
+    if status == NO_MEMORY {
+        return Err(Fail::from("no memory"));
+    }
     let bytes = Vec::from_slice(alloc, out.bytes())?;
     let printed = String::from_utf8(bytes).ok().ok_or("no text")?;
     Ok((status, printed))

@@ -6,6 +6,7 @@ use std::alloc::Global;
 use std::test::Fail;
 
 // What a row asks for, and how it ends.
+#[derive(Clone, Copy)]
 struct Row<'a> {
     history: &'a str,
     files: &'a [&'a str],
@@ -19,19 +20,19 @@ fn is_so(alloc: Global, row: &Row<'_>) -> Result<bool, Fail> {
     let there = [
         TestFile {
             name: "one.orca",
-            text: ONE,
+            text: ONE.as_bytes(),
         },
         TestFile {
             name: "e.orca",
-            text: "begin",
+            text: b"begin",
         },
         TestFile {
             name: "h.txt",
-            text: BOOK,
+            text: BOOK.as_bytes(),
         },
         TestFile {
             name: "b.txt",
-            text: "x\n",
+            text: b"x\n",
         },
     ];
     let sure = Failing {
@@ -102,22 +103,20 @@ fn files_are_counted_first(rt: HostRuntime) -> Result<(), Fail> {
 #[test]
 fn sizes_before_texts(rt: HostRuntime) -> Result<(), Fail> {
     let alloc = rt.alloc();
-    let spaces = String::from_utf8(vec![in alloc; b' '; 64_000_001]?)
-        .ok()
-        .ok_or("no text")?;
-    let source = spaces.as_str().get(..1_000_001).ok_or("no front")?;
+    let spaces = vec![in alloc; b' '; 64_000_001]?;
+    let source = vec![in alloc; b' '; 1_000_001]?;
     let there = [
         TestFile {
             name: "e.orca",
-            text: "begin",
+            text: b"begin",
         },
         TestFile {
             name: "long.orca",
-            text: source,
+            text: &source,
         },
         TestFile {
             name: "long.txt",
-            text: spaces.as_str(),
+            text: &spaces,
         },
     ];
     let sure = Failing {

@@ -2,8 +2,8 @@
 //! `--history` prints, whole, cut and read back.
 //!
 //! Programs are small ones here, since no other have a machine yet, and the commands' calls are put together as the top call has them. They
-//! stand here, so that the crates below have none; nothing stands on it. With each allocation refused in turn (`rt try --test --fail-alloc N`)
-//! a test ends by its own error for want of memory, or passes.
+//! stand here, so that the crates below have none; nothing stands on it. With each allocation refused in turn, outside the gate
+//! (`rt try --test --fail-alloc N`), a test passes or ends by the error `no memory`: another answer would be an assertion that fails.
 #![tactic(auto)]
 
 #[cfg(test)]

@@ -21,18 +21,25 @@ const PRINTED: &str = "6
 0 3 call Output$WriteLine o0.0 (\"6\") guard 0 none
 ";
 
-// Prints both.
-fn print<K: Sink>(
+// Prints both, and tells whether all was written. Want of memory is the test's error.
+fn is_printed<K: Sink>(
     alloc: Global,
     out: &mut K,
     names: &Names,
     lines: &[Line],
-) -> Result<(), SinkFault>
+) -> Result<bool, Fail>
     requires tables { AreTables names.now }
     requires lines { All (IsPrintable names.now) lines.now }
 {
-    out.put(b"6\n")?;
-    print_lines(alloc, out, names, lines)
+    let done = match out.put(b"6\n") {
+        Ok(()) => print_lines(alloc, out, names, lines),
+        Err(fault) => Err(fault),
+    };
+    match done {
+        Ok(()) => Ok(true),
+        Err(SinkFault::Failed) => Ok(false),
+        Err(SinkFault::NoMemory) => Err(Fail::from("no memory")),
+    }
 }
 
 // What these many lines of the text are.
@@ -58,14 +65,12 @@ fn one_cell_with_a_failing_write(rt: HostRuntime) -> Result<(), Fail> {
     let lines = lines_of(alloc, &names, BOOK).ok().ok_or("no history")?;
     for failing in 1..6u64 {
         let mut out = MemorySink::new(alloc, vec![in alloc; failing; 1]?);
-        let done = print(alloc, &mut out, &names, &lines);
-        assert_eq!(rt; done, Err(SinkFault::Failed));
+        assert!(rt; !is_printed(alloc, &mut out, &names, &lines)?);
         let front = first_lines(alloc, failing.wrapping_sub(1))?;
         assert_eq!(rt; out.bytes(), front.as_slice());
     }
     let mut out = MemorySink::new(alloc, vec![in alloc; 6; 1]?);
-    let done = print(alloc, &mut out, &names, &lines);
-    assert_eq!(rt; done, Ok(()));
+    assert!(rt; is_printed(alloc, &mut out, &names, &lines)?);
     assert_eq!(rt; out.bytes(), PRINTED.as_bytes());
     Ok(())
 }
@@ -79,13 +84,12 @@ fn one_cell_cut_at_each_byte(rt: HostRuntime) -> Result<(), Fail> {
     let mut front = Vec::new(alloc);
     for byte in PRINTED.as_bytes() {
         let mut out = CutSink::new(alloc, front.len());
-        let done = print(alloc, &mut out, &names, &lines);
-        assert_eq!(rt; done, Err(SinkFault::Failed));
+        assert!(rt; !is_printed(alloc, &mut out, &names, &lines)?);
         assert_eq!(rt; out.bytes(), front.as_slice());
         front.push(*byte)?;
     }
     let mut out = CutSink::new(alloc, front.len());
-    assert_eq!(rt; print(alloc, &mut out, &names, &lines), Ok(()));
+    assert!(rt; is_printed(alloc, &mut out, &names, &lines)?);
     assert_eq!(rt; out.bytes(), PRINTED.as_bytes());
     Ok(())
 }
@@ -97,18 +101,18 @@ fn what_is_printed_is_legal(rt: HostRuntime) -> Result<(), Fail> {
     let names = cell_names(alloc)?;
     let lines = lines_of(alloc, &names, BOOK).ok().ok_or("no history")?;
     let mut out = MemorySink::new(alloc, Vec::new(alloc));
-    let done = print_lines(alloc, &mut out, &names, &lines);
-    assert_eq!(rt; done, Ok(()));
+    assert!(rt; is_printed(alloc, &mut out, &names, &lines)?);
     let bytes = Vec::from_slice(alloc, out.bytes())?;
     let text = String::from_utf8(bytes).ok().ok_or("no text")?;
+    let book = text.as_str().strip_prefix("6\n").ok_or("no output")?;
     let there = [
         TestFile {
             name: "one.orca",
-            text: ONE,
+            text: ONE.as_bytes(),
         },
         TestFile {
             name: "h.txt",
-            text: text.as_str(),
+            text: book.as_bytes(),
         },
     ];
     let (status, line) = outcome(alloc, &there, "h.txt", &["one.orca"], &SURE)?;
