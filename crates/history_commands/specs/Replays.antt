@@ -50,5 +50,5 @@ answer_line (said.Part number rule) = breach_line number (part_name rule)
 abbrev pub IsSaid : Performs → Computes → Names → List ℕ → Option (List ℕ) → Option (List ℕ) → ℕ → Type 0
 IsSaid p q names text old new status =
     ((answer : Answer) × IsToldOf p q names text answer × EndsAs (answer_status answer) status
-        × Grew old new (Ends (answer_status answer) status (answer_line answer)))
+    × Grew old new (Ends (answer_status answer) status (answer_line answer)))
     ⊎ ((status ≡ NO_MEMORY) × (new ≡ old))

@@ -10,7 +10,7 @@ use Rattle.accepted_law.specs.Limits.{IsWithinLimits}
 use Rattle.orca_front.specs.Sources.{IsAccepted}
 use Rattle.meaning_rules.specs.Meanings.{computes_of, performs_of}
 use Rattle.history_text.specs.declared.names.Names.{Names}
-use Rattle.history_commands.specs.Replays.{IsSaid}
+use Rattle.history_commands.specs.Replays.{IsSaid, answer_line, answer_status}
 use Rattle.program_names.specs.Naming.{AreNamesOf}
 use Rattle.command_files.specs.Replays.{HasRead}
 use Rattle.replay_command.specs.Endings as because
@@ -27,5 +27,5 @@ answer_of bytes (Err e) told rose history files old new wanted status text is gr
 pub judged_so : (told : Option (List File)) (rose : Type 0) (history : Word) (files : List Word) (sources : List File) (text : List ℕ) (units : List Source) (names : Names) (old new : Option (List ℕ)) (status : ℕ) →
     HasRead told history files sources text → IsAccepted sources units → IsWithinLimits units → AreNamesOf units names → IsSaid (performs_of units) (computes_of units) names text old new status → IsReplayAnswer told rose history files old new status
 judged_so told rose history files sources text units names old new status read accepted within are (inl said) =
-    inl (_, _, because.judged sources text units names said.0 read accepted within are said.1, said.2, said.3)
+    inl (answer_status said.0, answer_line said.0, because.judged sources text units names said.0 read accepted within are said.1, said.2, said.3)
 judged_so told rose history files sources text units names old new status read accepted within are (inr silent) = inr silent

@@ -45,10 +45,12 @@ fn is_so(alloc: Global, row: &Row<'_>) -> Result<bool, Fail> {
         writes: &[1],
     };
     let (failed, nothing) = outcome(alloc, &there, row.history, row.files, &failing)?;
-    Ok(status == row.status
-        && printed.as_str() == row.line
-        && failed == 10
-        && nothing.as_str() == "")
+    Ok(
+        status == row.status
+            && printed.as_str() == row.line
+            && failed == 10
+            && nothing.as_str() == "",
+    )
 }
 
 // The files are read in order, the history last; then the program is judged, and then the history. Reads are numbered from 1, and one of a file
@@ -63,8 +65,20 @@ fn causes_in_order(rt: HostRuntime) -> Result<(), Fail> {
         ("gone.txt", one, 0, 9, "orca: no file gone.txt\n"),
         ("gone.txt", gone, 0, 9, "orca: no file gone.orca\n"),
         ("gone.txt", other, 0, 9, "orca: no file gone.txt\n"),
-        ("b.txt", other, 0, 1, "orca: e.orca:1:1: unexpected 'begin'\n"),
-        ("b.txt", one, 0, 13, "orca: history breaks at line 1: form\n"),
+        (
+            "b.txt",
+            other,
+            0,
+            1,
+            "orca: e.orca:1:1: unexpected 'begin'\n",
+        ),
+        (
+            "b.txt",
+            one,
+            0,
+            13,
+            "orca: history breaks at line 1: form\n",
+        ),
         ("gone.txt", one, 1, 8, "orca: cannot read one.orca\n"),
         ("h.txt", one, 2, 8, "orca: cannot read h.txt\n"),
         ("h.txt", other, 2, 8, "orca: cannot read h.txt\n"),
@@ -124,8 +138,14 @@ fn sizes_before_texts(rt: HostRuntime) -> Result<(), Fail> {
         writes: &[],
     };
     let (status, line) = outcome(alloc, &there, "gone.txt", &["e.orca", "long.orca"], &sure)?;
-    assert_eq!(rt; (status, line.as_str()), (11, "orca: limit of source bytes: 1000000\n"));
+    assert_eq!(rt;
+        (status, line.as_str()),
+        (11, "orca: limit of source bytes: 1000000\n")
+    );
     let (status, line) = outcome(alloc, &there, "long.txt", &["e.orca"], &sure)?;
-    assert_eq!(rt; (status, line.as_str()), (11, "orca: limit of history bytes: 64000000\n"));
+    assert_eq!(rt;
+        (status, line.as_str()),
+        (11, "orca: limit of history bytes: 64000000\n")
+    );
     Ok(())
 }
