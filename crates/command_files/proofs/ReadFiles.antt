@@ -105,7 +105,7 @@ replay_since told old faults before new history files (replays.Program fault) sa
 replay_since told old faults before new history files (replays.Absent file) same quiet all h = (all, (h.0, subst (λ (t : Option (List File)). IsAbsent t history) same h.1))
 replay_since told old faults before new history files replays.TooLong same quiet all h = (all, subst (λ (t : Option (List File)). IsTooLong t HISTORY_BYTES history) same h)
 replay_since told old faults before new history files (replays.Failed file) same quiet all h =
-    (all, (h.0, (subst (λ (t : Option (List File)). IsThere t history) same h.1, subst (λ (f : ℕ). Rose f new) quiet h.2)))
+    (all, (h.0, subst (λ (t : Option (List File)). IsThere t history) same h.1, subst (λ (f : ℕ). Rose f new) quiet h.2))
 
 pub history_since : (T U : Type 0) (told old : Option (List File)) (faults before new : ℕ) (history : Word) (files : List Word) (r : Refusal ReplayFault) → told ≡ old → faults ≡ before → IsProgramRead old files →
     IfBecause {T = T} (Err r) (IsHistoryFault told (Rose faults new) history) → IfBecause {T = U} (Err r) (IsReplayFault old (Rose before new) history files)

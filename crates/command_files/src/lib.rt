@@ -10,12 +10,12 @@ mod lines;
 mod load_fault;
 mod program;
 mod replay_fault;
-mod replay_files;
-mod sources;
+mod replay_reading;
+mod source_files;
 
 pub use lines::{absent_line, unread_line};
 pub use load_fault::LoadFault;
 pub use program::front_status;
 pub use replay_fault::ReplayFault;
-pub use replay_files::{ReplayFiles, replay_files};
-pub use sources::sources;
+pub use replay_reading::{ReplayFiles, replay_files};
+pub use source_files::sources;

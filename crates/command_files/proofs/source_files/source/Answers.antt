@@ -1,6 +1,6 @@
 use Rattle.std.proofs.Common.{arith, inl, refl}
 use Rattle.command_files.proofs.ReadFiles.{read_is}
-use Rattle.command_files.proofs.sources.source.Goals as goal
+use Rattle.command_files.proofs.source_files.source.Goals as goal
 
 pub returns-in-Ok : goal.returns-in-Ok
 returns-in-Ok g c =

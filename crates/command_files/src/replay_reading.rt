@@ -9,7 +9,7 @@ ghost use Rattle.command_files.specs.Replays.{HasRead, IsHistoryFault, IsReplayF
 ghost use Rattle.command_files.specs.Sources.{IsRead};
 
 use crate::replay_fault::ReplayFault;
-use crate::sources::sources;
+use crate::source_files::sources;
 use orca_base::{HISTORY_BYTES, Refusal, refuse};
 use orca_front::SourceFile;
 use orca_io::{Shelf, ShelfFault};
@@ -65,8 +65,9 @@ pub fn replay_files<'a, F: Shelf>(
         Err(Refusal::Because { cause }) => return refuse(ReplayFault::Program { fault: cause }),
         Err(Refusal::NoMemory) => return Err(Refusal::NoMemory),
     };
-    match history_in(alloc, shelf, history) {
-        Ok(history) => Ok(ReplayFiles { sources, history }),
-        Err(refusal) => Err(refusal),
-    }
+    let history = match history_in(alloc, shelf, history) {
+        Ok(history) => history,
+        Err(refusal) => return Err(refusal),
+    };
+    Ok(ReplayFiles { sources, history })
 }

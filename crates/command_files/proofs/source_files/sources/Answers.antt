@@ -3,7 +3,7 @@ use Rattle.std.specs.Borrow.{Bor}
 use Rattle.orca_front.specs.declared.source.SourceFile.{SourceFile}
 use Rattle.command_files.specs.Sources.{Word}
 use Rattle.command_files.proofs.ReadFiles.{ReadSoFar, all_read, fault_next, none_read, only_left, reads_more, reads_since, stops_next}
-use Rattle.command_files.proofs.sources.sources.Goals as goal
+use Rattle.command_files.proofs.source_files.sources.Goals as goal
 
 abbrev none : Bor Word
 none = record { ref_ptr = (0, 0); now = [] }

@@ -1,6 +1,6 @@
 use Rattle.std.proofs.Common.{◌≡◌}
 use Rattle.command_files.proofs.ReadFiles.{ReadSoFar}
-use Rattle.command_files.proofs.sources.sources.Given as goal
+use Rattle.command_files.proofs.source_files.sources.Given as goal
 
 abbrev pub invariant-files : goal.invariant-files
 invariant-files g l = record {

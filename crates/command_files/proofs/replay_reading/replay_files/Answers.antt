@@ -1,13 +1,13 @@
 use Rattle.std.proofs.Common.{◌∙◌, map}
 use Rattle.orca_front.specs.Sources.{file_of}
 use Rattle.command_files.proofs.ReadFiles.{history_since, only_left, quiet_since, read_since}
-use Rattle.command_files.proofs.replay_files.replay_files.Goals as goal
+use Rattle.command_files.proofs.replay_reading.replay_files.Goals as goal
 
-pub returns-in-Ok-history_in-clause-read : goal.returns-in-Ok-history_in-clause-read
-returns-in-Ok-history_in-clause-read g c = (c.in-Ok.ensures.read, read_since _ _ _ _ c.sources.ensures.same c.in-Ok-history_in.ensures.read)
+pub returns-clause-read : goal.returns-clause-read
+returns-clause-read g c = (c.in-Ok.ensures.read, read_since _ _ _ _ c.sources.ensures.same c.in-Ok-history_in.ensures.read)
 
-pub returns-in-Ok-history_in-clause-quiet : goal.returns-in-Ok-history_in-clause-quiet
-returns-in-Ok-history_in-clause-quiet g c = quiet_since _ _ _ _ (only_left c.in-Ok.ensures.quiet) c.in-Ok-history_in.ensures.quiet
+pub returns-clause-quiet : goal.returns-clause-quiet
+returns-clause-quiet g c = quiet_since _ _ _ _ (only_left c.in-Ok.ensures.quiet) c.in-Ok-history_in.ensures.quiet
 
 pub returns-in-Err-clause-refused : goal.returns-in-Err-clause-refused
 returns-in-Err-clause-refused g c =

@@ -1,6 +1,6 @@
 use Rattle.std.proofs.Common.{arith, inl}
 use Rattle.command_files.proofs.ReadFiles.{read_is}
-use Rattle.command_files.proofs.replay_files.history_in.Goals as goal
+use Rattle.command_files.proofs.replay_reading.history_in.Goals as goal
 
 pub returns-in-Ok : goal.returns-in-Ok
 returns-in-Ok g c =
