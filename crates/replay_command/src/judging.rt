@@ -44,8 +44,8 @@ pub fn judge<P: Processor, K: Sink>(
     ensures failed { result ≡ WRITE_FAULT → Rose (K.faults out.old) (K.faults out.new) }
     ensures stopped { K.faults out.old < K.faults out.new → HasStopped result }
 {
-    let Ok(table) = names(alloc, checked) else {
-        return NO_MEMORY;
-    };
-    say_answer(alloc, out, machine, &table, text)
+    match names(alloc, checked) {
+        Ok(table) => say_answer(alloc, out, machine, &table, text),
+        Err(_) => NO_MEMORY,
+    }
 }
