@@ -9,9 +9,9 @@ returns-clause-read g c = (c.in-Ok.ensures.read, read_since _ _ _ _ c.sources.en
 pub returns-clause-quiet : goal.returns-clause-quiet
 returns-clause-quiet g c = quiet_since _ _ _ _ (only_left c.in-Ok.ensures.quiet) c.in-Ok-history_in.ensures.quiet
 
-pub returns-in-Err-history_in-clause-refused : goal.returns-in-Err-history_in-clause-refused
-returns-in-Err-history_in-clause-refused g c =
-    history_since _ _ _ _ _ _ _ _ _ c.in-Err-history_in.refusal c.sources.ensures.same (only_left c.in-Ok.ensures.quiet) (map file_of c.in-Ok.sources.items, c.in-Ok.ensures.read) c.in-Err-history_in.ensures.refused
+pub returns-in-Err-clause-refused : goal.returns-in-Err-clause-refused
+returns-in-Err-clause-refused g c =
+    history_since _ _ _ _ _ _ _ _ _ c.in-Err.refusal c.sources.ensures.same (only_left c.in-Ok.ensures.quiet) (map file_of c.in-Ok.sources.items, c.in-Ok.ensures.read) c.in-Err.ensures.refused
 
-pub returns-in-Err-history_in-clause-quiet : goal.returns-in-Err-history_in-clause-quiet
-returns-in-Err-history_in-clause-quiet g c = quiet_since _ _ _ _ (only_left c.in-Ok.ensures.quiet) c.in-Err-history_in.ensures.quiet
+pub returns-in-Err-clause-quiet : goal.returns-in-Err-clause-quiet
+returns-in-Err-clause-quiet g c = quiet_since _ _ _ _ (only_left c.in-Ok.ensures.quiet) c.in-Err.ensures.quiet
