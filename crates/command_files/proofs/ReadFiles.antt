@@ -117,6 +117,12 @@ pub quiet_since : (old between new : ℕ) (Q : Type 0) → between ≡ old → (
 quiet_since old between new Q same (inl e) = inl (e ∙ same)
 quiet_since old between new Q same (inr q) = inr q
 
+-- and so where the history wasn't read
+pub quiet_on : (T U : Type 0) (old between new : ℕ) (r : Refusal ReplayFault) → between ≡ old → (new ≡ between) ⊎ MatchRefusal {T = T} (Err r) (λ _. ⊥) IsUnreadable → (new ≡ old) ⊎ MatchRefusal {T = U} (Err r) (λ _. ⊥) IsUnreadable
+quiet_on T U old between new r same (inl e) = inl (e ∙ same)
+quiet_on T U old between new (Because fault) same (inr h) = inr h
+quiet_on T U old between new NoMemory same (inr h) = inr h
+
 -- the text, as the shelf told it before
 pub read_since : (told old : Option (List File)) (limit : ℕ) (file : File) → told ≡ old → IsRead told limit file → IsRead old limit file
 read_since told old limit file same read = subst (λ (t : Option (List File)). IsRead t limit file) same read
