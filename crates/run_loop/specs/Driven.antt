@@ -1,5 +1,5 @@
 -- How a run stands while it is driven: what the functions of drive.rt say to each other.
-use Rattle.std.specs.Prelude.{◌≡◌, ◌<◌, ◌++◌, ℕ, suc, List, [], ◌∷◌, length, Option, slice_index_or, slice_set}
+use Rattle.std.specs.Prelude.{◌≡◌, ◌<◌, ◌≤◌, ◌++◌, ℕ, suc, List, [], ◌∷◌, length, Option, slice_index_or, slice_set}
 use Rattle.group_rules.specs.Sets.{In}
 use Rattle.net_rules.specs.declared.asked.Asked.{Asked}
 use Rattle.net_rules.specs.declared.asked.Asked.TheVariants.{Act}
@@ -22,6 +22,11 @@ use Rattle.run_loop.specs.Asked.{HaveToldOn, WereUsedUpTo, asked_since}
 abbrev pub told_more : ℕ → List Asked → List (List Asked) → List (List Asked)
 told_more wire more told = slice_set told wire (slice_index_or told wire [] ++ more)
 
+-- each question about an act came before an event with a number up to this one
+abbrev pub AreUpTo : ℕ → List (ℕ × Option WireAct) → Type 0
+AreUpTo n [] = Unit {0}
+AreUpTo n (one ∷ more) = (one.0 ≤ n) × AreUpTo n more
+
 -- ---- between events
 
 -- the run goes on by these steps, with no task out; the wire in use is behind as many as there were swaps; and the wires, which told `old`
@@ -34,6 +39,7 @@ pub record IsDriven (f : Frame) (s : Seen) (in_use : ℕ) (old new : List (List 
   pub wires : length new ≡ f.settings.wires
   pub told : HaveToldOn old new
   pub used : WereUsed f s.steps world (asked_since old new)
+  pub numbers : (wire : ℕ) → AreUpTo (suc (length s.steps)) (acts_in (asked_since old new wire))
   pub idle : tasks_out s ≡ 0
 
 -- it is going

@@ -1,0 +1,4 @@
+pub mod Telling
+pub mod Using
+pub mod Due
+pub mod Driving
