@@ -16,7 +16,7 @@ use Rattle.world_rules.specs.Worlds.{World}
 use Rattle.world_facts.specs.Rows.{ReadsStanding}
 use Rattle.run_loop.specs.Asked.{HaveToldOn, WereUsedSo, asked_since}
 use Rattle.orca_meaning.specs.Program.{computes_of, performs_of}
-use Rattle.run_loop.specs.Left.{run_of, spent_in}
+use Rattle.run_loop.specs.Left.{run_of}
 use Rattle.orca_cli.specs.declared.kept.Kept.{Kept}
 use Rattle.orca_cli.specs.declared.statuses.TheConstants.{NO_MEMORY}
 use Rattle.orca_cli.specs.Job.{Word, deed_in, runs}
@@ -93,7 +93,7 @@ pub record IsRun (f : Frame) (name : Action → List ℕ) (k : Kept) (status : �
   pub lacked : standing f world ≡ Going → status ≡ NO_MEMORY
   pub printed :
       Grew old new (Ends (standing_status (standing f world)) status
-      (output_of k.book.items ++ ending_line name (standing f world) (spent_in f world) k.processes.items))
+      (output_of k.book.items ++ ending_line name f.settings.turns (standing f world) k.processes.items))
   pub told : HaveToldOn before.told after.told
   pub used : WereUsedSo (standing f world) f k.events.items world (asked_since before.told after.told)
 

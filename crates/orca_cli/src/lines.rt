@@ -122,7 +122,7 @@ pub fn events_line(alloc: Global) -> Result<Vec<u8>, NoMemory>
 }
 
 /// A process took its turns.
-pub fn turns_line(alloc: Global, process: u16) -> Result<Vec<u8>, NoMemory>
+pub fn turns_line(alloc: Global, process: usize) -> Result<Vec<u8>, NoMemory>
     ensures { IfOk result (λ line. line.items ≡ lines.turns_line process) }
 {
     let line = format!(in alloc; "orca: process {process} out of turns\n")?;

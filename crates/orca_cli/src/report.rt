@@ -8,7 +8,7 @@ ghost use Rattle.world_rules.specs.declared.standing.Standing.TheVariants.{Going
 ghost use Rattle.orca_cli.specs.Lines.{line_with};
 ghost use Rattle.orca_cli.specs.Printed.{Ends, EndsAs, Grew, HasStopped, WroteOf};
 ghost use Rattle.orca_cli.specs.Small.{awaited_name};
-ghost use Rattle.orca_cli.specs.Standings.{ending_line, fault_said, first_faulted, first_waiting, spent_said, standing_status, wait_said};
+ghost use Rattle.orca_cli.specs.Standings.{ending_line, fault_said, first_faulted, first_spent, first_waiting, run_status, spent_said, standing_status, wait_said};
 
 use crate::lines::{
     blocked_line, events_line, faulted_line, no_group_line, run_limit_line, turns_line,
@@ -17,7 +17,7 @@ use crate::small::awaited_name;
 use crate::statuses::{
     BLOCKED, FAULTED, FINISHED, LIMIT, NO_GROUP, NO_MEMORY, OUT_OF_EVENTS, OUT_OF_TURNS, WRITE_FAULT,
 };
-use orca_base::{FaultKind, KindNo, NoMemory, ProcessNo};
+use orca_base::{FaultKind, KindNo, NoMemory};
 use orca_io::{Sink, SinkFault};
 use run_loop::{ProcessEnd, ProcessStanding, RunEnd, Standing};
 use small_program::SmallProgram;
@@ -30,23 +30,31 @@ pub fn report<K: Sink>(
     alloc: Global,
     out: &mut K,
     program: &SmallProgram,
+    turns: u64,
     standing: Standing,
-    spent: Option<ProcessNo>,
     end: &RunEnd,
 ) -> u8
     ensures ends { EndsAs (standing_status standing) result }
     ensures lacked { standing ≡ Going → result ≡ NO_MEMORY }
     ensures printed { Grew (K.told out.old) (K.told out.new) (Ends (standing_status standing) result
         (output_of end.now.book.items
-        ++ ending_line (awaited_name program.now) standing (option_map (λ i. i.0) spent) end.now.processes.items)) }
+        ++ ending_line (awaited_name program.now) turns standing end.now.processes.items)) }
     ensures later { K.faults out.old ≤ K.faults out.new }
     ensures failed { result ≡ WRITE_FAULT → Rose (K.faults out.old) (K.faults out.new) }
     ensures stopped { K.faults out.old < K.faults out.new → HasStopped result }
 {
-    match print_run(alloc, out, program, standing, spent, end) {
-        Err(SinkFault::NoMemory) => NO_MEMORY,
-        Err(SinkFault::Failed) if standing != Standing::Going => WRITE_FAULT,
-        _ => standing_status(standing),
+    let printed = print_run(alloc, out, program, turns, standing, end);
+    run_status(standing, printed)
+}
+
+// The status of a run that stands so, of which so much was printed.
+fn run_status(standing: Standing, printed: Result<(), SinkFault>) -> u8
+    ensures { result ≡ run_status standing printed }
+{
+    match (standing, printed) {
+        (Standing::Going, _) | (_, Err(SinkFault::NoMemory)) => NO_MEMORY,
+        (_, Err(SinkFault::Failed)) => WRITE_FAULT,
+        (standing, Ok(())) => standing_status(standing),
     }
 }
 
@@ -71,18 +79,18 @@ fn print_run<K: Sink>(
     alloc: Global,
     out: &mut K,
     program: &SmallProgram,
+    turns: u64,
     standing: Standing,
-    spent: Option<ProcessNo>,
     end: &RunEnd,
 ) -> Result<(), SinkFault>
     ensures wrote { Grew (K.told out.old) (K.told out.new) (WroteOf result (output_of end.now.book.items
-        ++ ending_line (awaited_name program.now) standing (option_map (λ i. i.0) spent) end.now.processes.items)) }
+        ++ ending_line (awaited_name program.now) turns standing end.now.processes.items)) }
     ensures later { K.faults out.old ≤ K.faults out.new }
     ensures failed { IsErrOf result SinkFault.Failed → Rose (K.faults out.old) (K.faults out.new) }
     ensures quiet { OnOk result (K.faults out.new ≡ K.faults out.old) }
 {
     print_book(alloc, out, &end.book)?;
-    let line = ending_line(alloc, program, standing, spent, &end.processes)?;
+    let line = ending_line(alloc, program, turns, standing, &end.processes)?;
     put_some(out, &line)
 }
 
@@ -90,19 +98,19 @@ fn print_run<K: Sink>(
 fn ending_line(
     alloc: Global,
     program: &SmallProgram,
+    turns: u64,
     standing: Standing,
-    spent: Option<ProcessNo>,
     ends: &[ProcessEnd],
 ) -> Result<Vec<u8>, NoMemory>
     ensures { IfOk result (λ line. line.items ≡
-        ending_line (awaited_name program.now) standing (option_map (λ i. i.0) spent) ends.now) }
+        ending_line (awaited_name program.now) turns standing ends.now) }
 {
     match standing {
         Standing::Faulted => fault_said(alloc, ends),
         Standing::Blocked => wait_said(alloc, program, ends),
         Standing::NoGroup => no_group_line(alloc),
         Standing::OutOfEvents => events_line(alloc),
-        Standing::OutOfTurns => spent_said(alloc, spent),
+        Standing::OutOfTurns => spent_said(alloc, turns, ends),
         Standing::Limit { what, number } => run_limit_line(alloc, what, number),
         Standing::Finished | Standing::Going => Ok(Vec::new(alloc)),
     }
@@ -159,14 +167,26 @@ fn first_waiting(ends: &[ProcessEnd]) -> Option<(usize, &Action)>
     None
 }
 
-// Of the process that has no turns left.
-fn spent_said(alloc: Global, spent: Option<ProcessNo>) -> Result<Vec<u8>, NoMemory>
-    ensures { IfOk result (λ line. line.items ≡ spent_said (option_map (λ i. i.0) spent)) }
+// Of the lowest process that took so many turns.
+fn spent_said(alloc: Global, turns: u64, ends: &[ProcessEnd]) -> Result<Vec<u8>, NoMemory>
+    ensures { IfOk result (λ line. line.items ≡ spent_said (first_spent turns ends.now)) }
 {
-    match spent {
-        Some(process) => turns_line(alloc, process.0),
+    match first_spent(turns, ends) {
+        Some(process) => turns_line(alloc, process),
         None => Ok(Vec::new(alloc)),
     }
+}
+
+// The lowest process that took so many turns.
+fn first_spent(turns: u64, ends: &[ProcessEnd]) -> Option<usize>
+    ensures { option_map (λ number. (number, tt)) result ≡ first_spent turns ends.now }
+{
+    'ends: for number in 0..ends.len() {
+        if ends[number].turns == turns {
+            return Some(number);
+        }
+    }
+    None
 }
 
 // Prints what the lines of a book write, one put a line, up to the first that fails.

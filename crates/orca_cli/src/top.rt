@@ -191,7 +191,14 @@ fn run_small<K: Sink, W: Wire>(
     let Some(end) = ran.end else {
         return nothing();
     };
-    let status = report(alloc, out, &machine.program, ran.standing, ran.spent, &end);
+    let status = report(
+        alloc,
+        out,
+        &machine.program,
+        options.turns,
+        ran.standing,
+        &end,
+    );
     Ended {
         status,
         kept: Some(Kept {

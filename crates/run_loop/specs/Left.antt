@@ -1,35 +1,27 @@
 -- What a run leaves.
-use Rattle.std.specs.Prelude.{◌≡◌, ℕ, List, Option, option_map}
+use Rattle.std.specs.Prelude.{◌≡◌, List}
 use Rattle.net_rules.specs.declared.asked.Asked.{Asked}
-use Rattle.orca_base.specs.declared.ids.ProcessNo.{ProcessNo}
 use Rattle.value_core.specs.Meaning.{Computes, Performs}
 use Rattle.world_rules.specs.declared.settings.Settings.{Settings}
 use Rattle.world_rules.specs.declared.standing.Standing.{Standing}
 use Rattle.world_rules.specs.Frame.{Frame}
 use Rattle.world_rules.specs.Standings as rules
-use Rattle.world_rules.specs.Standings.{has_no_turns, process_count}
 use Rattle.world_rules.specs.Steps.{Replays}
-use Rattle.world_rules.specs.Worlds.{Book, World, played_in}
+use Rattle.world_rules.specs.Worlds.{Book, World}
 use Rattle.world_book.specs.Promise.{AllStuck, IsKept}
-use Rattle.world_parts.specs.Choosing.{lowest}
 use Rattle.world_core.specs.Telling.{AreNodeEnds, AreProcessEnds, EndsMean}
 use Rattle.world_core.specs.declared.ends.RunEnd.{RunEnd}
-use Rattle.run_loop.specs.Asked.{HaveToldOn, WereUsedSo, asked_since}
+use Rattle.run_loop.specs.Asked.{WereUsedSo, asked_since}
 
 -- the run of a program with these meanings, by these settings
 abbrev pub run_of : Performs → Computes → Settings → Frame
 run_of p q settings = record { performs = p; computes = q; settings = settings }
 
--- the lowest process that has used its turns, and computes
-abbrev pub spent_in : Frame → World → Option ℕ
-spent_in f w = lowest (process_count f w) (λ i. has_no_turns f (played_in f w i))
-
--- how a run stands, who has no turns left, and what is kept are those of the world to which its steps lead. What is so of each run: its
--- book is a history, and replies and copies are the book's; who waits at its end is stuck; processes stand by what they do next
-pub record IsLeft (f : Frame) (w : World) (standing : Standing) (spent : Option ProcessNo) (end : RunEnd) : Type 0 where
+-- how a run stands, and what is kept, are those of the world to which its steps lead. What is so of each run: its book is a history, and
+-- replies and copies are the book's; who waits at its end is stuck; processes stand by what they do next
+pub record IsLeft (f : Frame) (w : World) (standing : Standing) (end : RunEnd) : Type 0 where
   pub replays : Replays f end.steps.items w
   pub stands : standing ≡ rules.standing f w
-  pub spends : option_map (λ i. i.0) spent ≡ spent_in f w
   pub book : end.book.items ≡ Book f w
   pub nodes : AreNodeEnds f w end.nodes.items
   pub processes : AreProcessEnds f w end.processes.items
@@ -38,7 +30,7 @@ pub record IsLeft (f : Frame) (w : World) (standing : Standing) (spent : Option 
   pub mean : EndsMean f w
 
 -- and the wires, which told `old` before it and tell `new` behind it, were used in it
-pub record HasRun (f : Frame) (standing : Standing) (spent : Option ProcessNo) (old new : List (List Asked)) (end : RunEnd) : Type 0 where
+pub record HasRun (f : Frame) (standing : Standing) (old new : List (List Asked)) (end : RunEnd) : Type 0 where
   pub world : World
-  pub left : IsLeft f world standing spent end
+  pub left : IsLeft f world standing end
   pub used : WereUsedSo standing f end.steps.items world (asked_since old new)

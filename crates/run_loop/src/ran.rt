@@ -7,7 +7,6 @@ ghost use Rattle.run_loop.specs.Left.{HasRun, run_of};
 
 use crate::drive::Driver;
 use node_core::{OneRun, RunMachine, RunName};
-use orca_base::ProcessNo;
 use std::alloc::Global;
 use std::marker::Brand;
 use value_core::Processor;
@@ -19,8 +18,6 @@ use world_core::{RunEnd, Settings, Standing};
 pub struct Ran {
     /// How it stands: it is going only where there was no memory.
     pub standing: Standing,
-    /// The lowest process that has used its turns, and computes.
-    pub spent: Option<ProcessNo>,
     /// All that is kept of it; none where there was no memory to begin, or for what is kept.
     pub end: Option<RunEnd>,
 }
@@ -39,7 +36,7 @@ pub fn run<M: Processor, W: Wire>(
     requires ranges { AreSettings settings }
     requires wires { settings.wires ≡ length wires.old }
     ensures run { IfSome result.end (HasRun (run_of (M.performs machine.now) (M.computes machine.now) settings)
-        result.standing result.spent (map W.told wires.old) (map W.told wires.new)) }
+        result.standing (map W.told wires.old) (map W.told wires.new)) }
     ensures told { HaveToldOn (map W.told wires.old) (map W.told wires.new) }
     ensures scripts { map W.told_script wires.new ≡ map W.told_script wires.old }
     ensures loaded { map W.loaded wires.new ≡ map W.loaded wires.old }
@@ -60,7 +57,7 @@ fn run_as<T: RunName<M>, M: Processor, W: Wire>(
     requires ranges { AreSettings settings }
     requires wires { settings.wires ≡ length wires.old }
     ensures run { IfSome result.end (HasRun (run_of (M.performs machine.now) (M.computes machine.now) settings)
-        result.standing result.spent (map W.told wires.old) (map W.told wires.new)) }
+        result.standing (map W.told wires.old) (map W.told wires.new)) }
     ensures told { HaveToldOn (map W.told wires.old) (map W.told wires.new) }
     ensures scripts { map W.told_script wires.new ≡ map W.told_script wires.old }
     ensures loaded { map W.loaded wires.new ≡ map W.loaded wires.old }
@@ -80,7 +77,7 @@ fn run_tied<P: OneRun, W: Wire>(
     requires told { map W.told wires.old ≡ P.run.told }
     requires ranges { AreSettings settings }
     requires wires { settings.wires ≡ length wires.old }
-    ensures run { IfSome result.end (HasRun P.run.frame result.standing result.spent (map W.told wires.old) (map W.told wires.new)) }
+    ensures run { IfSome result.end (HasRun P.run.frame result.standing (map W.told wires.old) (map W.told wires.new)) }
     ensures told { HaveToldOn (map W.told wires.old) (map W.told wires.new) }
     ensures scripts { map W.told_script wires.new ≡ map W.told_script wires.old }
     ensures loaded { map W.loaded wires.new ≡ map W.loaded wires.old }
@@ -88,14 +85,12 @@ fn run_tied<P: OneRun, W: Wire>(
     let Ok(mut driver) = Driver::new(alloc, machine, settings) else {
         return Ran {
             standing: Standing::Going,
-            spent: None,
             end: None,
         };
     };
     let _ = driver.drive(alloc, machine, wires);
     Ran {
         standing: driver.world.standing(),
-        spent: driver.world.spent_process(),
         end: driver.world.into_end(alloc).ok(),
     }
 }

@@ -1,7 +1,7 @@
 use Rattle.std.proofs.Common.{◌≡◌, drop}
 use Rattle.value_core.specs.History.{output_of}
 use Rattle.orca_cli.proofs.CliLemmas.{GrewUpTo}
-use Rattle.orca_cli.proofs.run.print_book.Given as goal
+use Rattle.orca_cli.proofs.report.print_book.Given as goal
 
 abbrev pub invariant-lines : goal.invariant-lines
 invariant-lines g l = record {
