@@ -75,12 +75,12 @@ swaps_step f steps w v step count replays next =
 
 -- ---- before the run
 
-pub opens : (f : Frame) (s : Seen) (told : List (List Asked)) → s.steps ≡ [] → tasks_out s ≡ 0 → length told ≡ f.settings.wires → 1 ≤ f.settings.wires → IsDriven f s 0 told told
-opens f s told none idle wires some = record {
+pub opens : (f : Frame) (s : Seen) (told : List (List Asked)) → s.steps ≡ [] → tasks_out s ≡ 0 → length told ≡ f.settings.wires → AreSettings f.settings → IsDriven f s 0 told told
+opens f s told none idle wires settings = record {
   world = opening_world f;
   replays = subst (λ (steps : List Step). Replays f steps (opening_world f)) (sym none) refl;
   swaps = refl;
-  within = omega (arith, wires, some);
+  within = let some = settings.a_wire in omega (arith, wires, some);
   wires = wires;
   told = tells_itself told;
   used = subst (λ (steps : List Step). WereUsed f steps (opening_world f) (asked_since told told)) (sym none) (record {
@@ -91,6 +91,7 @@ opens f s told none idle wires some = record {
   });
   numbers = λ wire. subst (λ (l : List Asked). AreUpTo (suc (length s.steps)) (acts_in l)) (sym (none_since told wire)) tt;
   idle = idle;
+  settings = settings;
 }
   where
     no_step : (n : ℕ) (step : Step) → entry_at [] n ≡ Some step → ⊥
@@ -129,6 +130,7 @@ module _ (f : Frame) (s : Seen) (in_use : ℕ) (old new : List (List Asked)) (an
       used = used_asked in_use (suc (length s.steps)) answer (asked_since old h.before) (asked_since old new) asks f s.steps h.driven.world refl h.driven.used fine;
       numbers = numbers_asked in_use (suc (length s.steps)) answer (asked_since old h.before) (asked_since old new) asks (suc (length s.steps)) (omega arith) h.driven.numbers;
       idle = h.driven.idle;
+      settings = h.driven.settings;
     };
     answer = answer;
     asked = asked_is in_use (suc (length s.steps)) answer (asked_since old h.before) (asked_since old new) asks;
@@ -197,7 +199,7 @@ pub record Does (f : Frame) (s after : Seen) (in_use : ℕ) (new told : List (Li
 module _ (f : Frame) (s after : Seen) (in_use next_use : ℕ) (old new told : List (List Asked)) (step : Step) (count : AllCounted)
     (w : World) (replays : Replays f s.steps w) (swaps : in_use ≡ w.swaps) (within : in_use < length new) (wires : length new ≡ f.settings.wires) (tells : HaveToldOn old new)
     (used : IsUsed f s.steps w (asked_since old new)) (given : (wire : ℕ) → AreAccounted f (s.steps ++ step ∷ []) (acts_in (asked_since old new wire))) (numbers : (wire : ℕ) → AreUpTo (suc (length s.steps)) (acts_in (asked_since old new wire)))
-    (does_it : Does f s after in_use new told w step) where
+    (settings : AreSettings f.settings) (does_it : Does f s after in_use new told w step) where
   abbrev all : List Step
   all = s.steps ++ step ∷ []
 
@@ -241,6 +243,7 @@ module _ (f : Frame) (s after : Seen) (in_use next_use : ℕ) (old new told : Li
           (subst (λ (l : List (ℕ × Option WireAct)). AreUpTo (suc (length all)) l) (sym (acts_same in_use does_it.more (asked_since old new) (asked_since old told) packets wire))
           (up_to_more (suc (length s.steps)) (suc (length all)) (acts_in (asked_since old new wire)) (let longer = one_longer s.steps step in omega (arith, longer)) (numbers wire)));
       idle = does_it.idle;
+      settings = settings;
     };
     one = ap length does_it.steps ∙ one_longer s.steps step;
   }
@@ -341,7 +344,7 @@ due_done f s after in_use old new told what prior now count tell on due st same 
     let within = d.within in
     let length_is = ap length put ∙ length-set new in_use now in
     driven_on f s after in_use in_use old new told st.step count d.world d.replays d.swaps d.within d.wires d.told (is_used f s.steps d.world (asked_since old new) d.used)
-    (λ wire. all_accounted f s.steps st.step (acts_in (asked_since old new wire)) (d.numbers wire) (d.used.given wire)) d.numbers
+    (λ wire. all_accounted f s.steps st.step (acts_in (asked_since old new wire)) (d.numbers wire) (d.used.given wire)) d.numbers d.settings
     (stepped_is f s after in_use new told what prior now d.world count tell d.replays d.swaps st (inl (due_swaps what due)) same put (omega (arith, tasks, idle)))
     (λ plain. (on.answer, on.asked))
     (λ act is. absurd (due_not_given act (subst IsDue (sym st.event_is ∙ is) due)))
@@ -366,6 +369,7 @@ act_done f s after in_use next_use old new told act prior now count tell h st sa
         (λ wire. all_accounted f s.steps st.step (acts_in (before_it wire)) (d.numbers wire) (d.used.given wire))
         (inl (st.step, step_last s.steps st.step, st.event_is)))
     (numbers_asked in_use n (Some act) before_it since asked n (omega arith) d.numbers)
+    d.settings
     (stepped_is f s after in_use new told (event_of act) prior now d.world count tell d.replays d.swaps st (act_swaps act) same put (omega (arith, tasks, idle)))
     (λ plain. (Some act, asked_is in_use n (Some act) before_it since asked))
     (λ other is. answer_is in_use n (Some act) before_it since asked ∙ ap (λ (a : WireAct). Some (Some a)) (same_act act other (sym st.event_is ∙ is)))
@@ -387,7 +391,7 @@ burst_done f s after in_use old new process count on in_it tasks =
     let led = in_it.leads d.world d.replays in
     let step : Step = record { event = event.Burst process in_it.place in_it.turns; fates = [] } in
     driven_on f s after in_use in_use old new new step count d.world d.replays d.swaps d.within d.wires d.told (is_used f s.steps d.world (asked_since old new) d.used)
-    (λ wire. all_accounted f s.steps step (acts_in (asked_since old new wire)) (d.numbers wire) (d.used.given wire)) d.numbers
+    (λ wire. all_accounted f s.steps step (acts_in (asked_since old new wire)) (d.numbers wire) (d.used.given wire)) d.numbers d.settings
     (record {
       world = led.0;
       next = led.1;

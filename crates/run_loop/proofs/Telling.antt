@@ -1,5 +1,5 @@
 -- What wires told, as one of them tells more.
-use Rattle.std.proofs.Common.{◌≡◌, ◌∙◌, ◌<◌, ◌⊎◌, ⊎_elim, inl, inr, ℕ, List, [], ◌∷◌, ◌++◌, drop, length, ap, sym, subst, refl, arith, append_assoc}
+use Rattle.std.proofs.Common.{◌≡◌, ◌∙◌, ◌<◌, ◌⊎◌, ⊎_elim, inl, inr, ℕ, List, [], ◌∷◌, ◌++◌, drop, get_or, length, map, set, zero, suc, ap, sym, subst, refl, arith, append_assoc}
 use Rattle.std.specs.Prelude.{slice_index_or}
 use Rattle.std.proofs.Math.Seq.{drop-append_seam}
 use Rattle.std.proofs.lemmas.Bool.{cases_eq}
@@ -57,3 +57,23 @@ tells_itself told = record {
     none : (xs : List Asked) → xs ++ [] ≡ xs
     none [] = refl
     none (x ∷ xs) = ap (λ (l : List Asked). x ∷ l) (none xs)
+
+-- ---- a wire in the list
+
+-- one that tells more, at its place
+pub told_set : {W : Type 0} (told : W → List Asked) (wires : List W) (at : ℕ) (wire first : W) (more : List Asked) → at < length wires → told wire ≡ told (get_or wires at first) ++ more → map told (set wires at wire) ≡ told_more at more (map told wires)
+told_set told [] at wire first more lt h = absurd (omega (arith, lt))
+told_set told (w ∷ wires) zero wire first more lt h = ap (λ (l : List Asked). l ∷ map told wires) h
+told_set told (w ∷ wires) (suc at) wire first more lt h = ap (λ (l : List (List Asked)). told w ∷ l) (told_set told wires at wire first more (omega (arith, lt)) h)
+
+-- what it tells is what the list has there
+pub told_at : {W : Type 0} (told : W → List Asked) (wires : List W) (at : ℕ) (first : W) → at < length wires → told (get_or wires at first) ≡ slice_index_or (map told wires) at []
+told_at told [] at first lt = absurd (omega (arith, lt))
+told_at told (w ∷ wires) zero first lt = refl
+told_at told (w ∷ wires) (suc at) first lt = told_at told wires at first (omega (arith, lt))
+
+-- and put there again
+pub put_at : {W A : Type 0} (says : W → A) (wires : List W) (at : ℕ) (wire : W) → map says (set wires at wire) ≡ set (map says wires) at (says wire)
+put_at says [] at wire = refl
+put_at says (w ∷ wires) zero wire = refl
+put_at says (w ∷ wires) (suc at) wire = ap (λ l. says w ∷ l) (put_at says wires at wire)

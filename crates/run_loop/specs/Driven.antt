@@ -8,13 +8,28 @@ use Rattle.world_rules.specs.declared.event.Event.{Event}
 use Rattle.world_rules.specs.declared.event.Event.TheVariants as event
 use Rattle.world_rules.specs.declared.standing.Standing.TheVariants.{Going}
 use Rattle.world_rules.specs.Acts.{WereUsed, acts_in}
-use Rattle.world_rules.specs.Frame.{Frame}
+use Rattle.world_rules.specs.Frame.{AreSettings, Frame}
 use Rattle.world_rules.specs.Standings.{standing}
 use Rattle.world_rules.specs.Steps.{Replays}
 use Rattle.world_rules.specs.Worlds.{World}
+use Rattle.world_facts.specs.Counted.{AllCounted}
 use Rattle.world_facts.specs.Possible.{MayStep}
+use Rattle.world_facts.specs.Rows.{AllRead}
+use Rattle.world_law.specs.Packets.{AllNumber}
+use Rattle.world_book.specs.Holding.{RunsHold}
+use Rattle.world_book.specs.Submitting.{ProcessesMaySubmit}
 use Rattle.world_parts.specs.Seen.{Of, Seen, tasks_out}
 use Rattle.run_loop.specs.Asked.{HaveToldOn, WereUsedUpTo, asked_since}
+
+-- ---- what is so of each run of a program by these settings
+
+-- worlds count their steps and swaps, standings are read off the table, packets are numbered, and what the group's side asks holds
+pub record Laws (f : Frame) : Type 0 where
+  pub count : AllCounted
+  pub read : AllRead
+  pub number : AllNumber
+  pub hold : RunsHold f.performs f.computes
+  pub may : ProcessesMaySubmit f.performs f.computes
 
 -- ---- wires
 
@@ -41,6 +56,7 @@ pub record IsDriven (f : Frame) (s : Seen) (in_use : ℕ) (old new : List (List 
   pub used : WereUsed f s.steps world (asked_since old new)
   pub numbers : (wire : ℕ) → AreUpTo (suc (length s.steps)) (acts_in (asked_since old new wire))
   pub idle : tasks_out s ≡ 0
+  pub settings : AreSettings f.settings
 
 -- it is going
 abbrev pub IsGoing : Frame → Seen → Type 0

@@ -1,10 +1,11 @@
 //! What drives a run: it does the next event, again and again.
 
 ghost use Rattle.std.specs.Prelude.{◌≡◌, ◌≢◌, ◌<◌, ◌+◌, [], false, true, Err, IfOk, None, Ok, OnErr, OnOk, Some, length, map};
+ghost use Rattle.world_rules.specs.Frame.{AreSettings};
 ghost use Rattle.world_rules.specs.Standings as rules;
 ghost use Rattle.world_rules.specs.declared.standing.Standing.TheVariants.{Going};
 ghost use Rattle.world_parts.specs.Seen.{Of, tasks_out};
-ghost use Rattle.run_loop.specs.Driven.{HasAnswered, HasStopped, IsDriven, IsDue, IsGoing, MayBe, MayGoOn, WentOn};
+ghost use Rattle.run_loop.specs.Driven.{HasAnswered, HasStopped, IsDriven, IsDue, IsGoing, Laws, MayBe, MayGoOn, WentOn};
 
 use crate::asking::{ask, event_of, swaps_of};
 use crate::order::{Bursts, chosen};
@@ -13,7 +14,10 @@ use node_core::OneRun;
 use orca_base::NoMemory;
 use std::alloc::Global;
 use wires::Wire;
+use world_book::legal_book;
 use world_core::{Event, Settings, Standing, StepError, World};
+use world_facts::{standings_mean, worlds_count};
+use world_law::packets_are_numbered;
 
 /// A run that is driven: its world, which wire is in use, and how many bursts each process has computed.
 #[derive(Drop)]
@@ -56,6 +60,7 @@ impl<P: OneRun> Driver<P> {
         ensures scripts { map W.told_script wires.new ≡ map W.told_script wires.old }
         ensures loaded { map W.loaded wires.new ≡ map W.loaded wires.old }
     {
+        laws_of_driving(machine);
         'events: while self.world.standing() == Standing::Going {
             self.next(alloc, machine, wires)?;
         }
@@ -102,6 +107,7 @@ impl<P: OneRun> Driver<P> {
         ensures scripts { map W.told_script wires.new ≡ map W.told_script wires.old }
         ensures loaded { map W.loaded wires.new ≡ map W.loaded wires.old }
     {
+        laws_of_driving(machine);
         let Some(act) = act else {
             return Ok(false);
         };
@@ -130,6 +136,7 @@ impl<P: OneRun> Driver<P> {
         ensures scripts { map W.told_script wires.new ≡ map W.told_script wires.old }
         ensures loaded { map W.loaded wires.new ≡ map W.loaded wires.old }
     {
+        laws_of_driving(machine);
         if let Some(process) = self.world.due_act() {
             return self.step(alloc, machine, Event::Act { process }, wires);
         }
@@ -161,10 +168,21 @@ impl<P: OneRun> Driver<P> {
         ensures scripts { map W.told_script wires.new ≡ map W.told_script wires.old }
         ensures loaded { map W.loaded wires.new ≡ map W.loaded wires.old }
     {
+        laws_of_driving(machine);
         match self.world.step(alloc, machine, event, &mut wires[self.in_use]) {
             Ok(()) => Ok(()),
             Err(StepError::NoMemory) => Err(NoMemory),
             Err(StepError::NotEnabled) => unreachable!(),
         }
     }
+}
+
+// What is so of each run of the program. A call of this function does nothing.
+fn laws_of_driving<P: OneRun>(machine: &P)
+    ensures { Laws P.run.frame }
+{
+    legal_book(machine);
+    packets_are_numbered();
+    worlds_count();
+    standings_mean();
 }
