@@ -29,7 +29,7 @@ use Rattle.world_book.proofs.Kept.{submits}
 use Rattle.world_book.specs.Holding.{RunsHold}
 use Rattle.world_book.specs.Submitting.{ProcessesMaySubmit}
 use Rattle.world_parts.specs.Seen.{Of, Seen, tasks_out}
-use Rattle.world_core.specs.Stepping.{ChecksIn, IsRefused, Stepped, told_so}
+use Rattle.world_core.specs.Stepping.{HasComputed, IsRefused, Stepped, told_so}
 use Rattle.run_loop.specs.Asked.{HaveToldOn, WereUsedSo, asked_since}
 use Rattle.run_loop.specs.Driven.{AreUpTo, HasAnswered, HasStopped, IsDriven, IsDue, IsGoing, MayGoOn, WentOn, told_more}
 use Rattle.run_loop.proofs.Due.{refused_passes}
@@ -75,7 +75,7 @@ swaps_step f steps w v step count replays next =
 
 -- ---- before the run
 
-pub opens : (f : Frame) (s : Seen) (told : List (List Asked)) → s.steps ≡ [] → tasks_out s ≡ 0 → length told ≡ f.settings.wires → AreSettings f.settings → IsDriven f s 0 told told
+pub opens : {S : Type 0} (f : Frame) (s : Seen S) (told : List (List Asked)) → s.steps ≡ [] → tasks_out s ≡ 0 → length told ≡ f.settings.wires → AreSettings f.settings → IsDriven f s 0 told told
 opens f s told none idle wires settings = record {
   world = opening_world f;
   replays = subst (λ (steps : List Step). Replays f steps (opening_world f)) (sym none) refl;
@@ -100,7 +100,7 @@ opens f s told none idle wires settings = record {
 
 -- ---- the wire in use was asked about an act
 
-module _ (f : Frame) (s : Seen) (in_use : ℕ) (old new : List (List Asked)) (answer : Option WireAct) (h : HasAnswered f s in_use old new answer) where
+module _ {S : Type 0} (f : Frame) (s : Seen S) (in_use : ℕ) (old new : List (List Asked)) (answer : Option WireAct) (h : HasAnswered f s in_use old new answer) where
   pub asks : AskedAct in_use (suc (length s.steps)) answer (asked_since old h.before) (asked_since old new)
   asks = record {
     here =
@@ -111,7 +111,7 @@ module _ (f : Frame) (s : Seen) (in_use : ℕ) (old new : List (List Asked)) (an
         ∙ since_other old h.before in_use other (Act (suc (length s.steps)) answer ∷ []) apart;
   }
 
-  same_length : length new ≡ length h.before
+  pub same_length : length new ≡ length h.before
   same_length = ap length h.told ∙ length-set h.before in_use (slice_index_or h.before in_use [] ++ Act (suc (length s.steps)) answer ∷ [])
 
   pub tells_asked : HaveToldOn old new
@@ -154,10 +154,10 @@ module _ (f : Frame) (s : Seen) (in_use : ℕ) (old new : List (List Asked)) (an
   }
 
 -- it gave nothing; or what may not be, which is passed over
-pub gives_nothing : (f : Frame) (s : Seen) (in_use : ℕ) (old new : List (List Asked)) → HasAnswered f s in_use old new None → MayGoOn f s in_use old new
+pub gives_nothing : {S : Type 0} (f : Frame) (s : Seen S) (in_use : ℕ) (old new : List (List Asked)) → HasAnswered f s in_use old new None → MayGoOn f s in_use old new
 gives_nothing f s in_use old new h = goes_on f s in_use old new None h tt
 
-pub passes_over : (f : Frame) (s : Seen) (in_use : ℕ) (old new : List (List Asked)) (act : WireAct) → HasAnswered f s in_use old new (Some act) → IsGoing f s → IsRefused f (event_of act) s → MayGoOn f s in_use old new
+pub passes_over : {S : Type 0} (f : Frame) (s : Seen S) (in_use : ℕ) (old new : List (List Asked)) (act : WireAct) → HasAnswered f s in_use old new (Some act) → IsGoing f s → IsRefused f (event_of act) s → MayGoOn f s in_use old new
 passes_over f s in_use old new act h going refused =
     let w = h.driven.world in
     goes_on f s in_use old new (Some act) h (inr (
@@ -167,7 +167,7 @@ passes_over f s in_use old new act h going refused =
     ))
 
 -- memory lacked where nothing was asked, or what was asked is accounted for
-pub stops : (f : Frame) (s : Seen) (in_use : ℕ) (old new : List (List Asked)) → IsDriven f s in_use old new → IsGoing f s → HasStopped f s old new
+pub stops : {S : Type 0} (f : Frame) (s : Seen S) (in_use : ℕ) (old new : List (List Asked)) → IsDriven f s in_use old new → IsGoing f s → HasStopped f s old new
 stops f s in_use old new d going = record {
   world = d.world;
   replays = d.replays;
@@ -186,7 +186,7 @@ stops f s in_use old new d going = record {
 -- ---- a step was done
 
 -- of the wire in use, and of what its packets told
-pub record Does (f : Frame) (s after : Seen) (in_use : ℕ) (new told : List (List Asked)) (w : World) (step : Step) : Type 0 where
+pub record Does {S : Type 0} (f : Frame) (s after : Seen S) (in_use : ℕ) (new told : List (List Asked)) (w : World) (step : Step) : Type 0 where
   pub world : World
   pub next : Next f w step world
   pub steps : after.steps ≡ s.steps ++ step ∷ []
@@ -196,7 +196,7 @@ pub record Does (f : Frame) (s after : Seen) (in_use : ℕ) (new told : List (Li
   pub tells : told ≡ told_more in_use (map told_so more) new
   pub idle : tasks_out after ≡ 0
 
-module _ (f : Frame) (s after : Seen) (in_use next_use : ℕ) (old new told : List (List Asked)) (step : Step) (count : AllCounted)
+module _ {S : Type 0} (f : Frame) (s after : Seen S) (in_use next_use : ℕ) (old new told : List (List Asked)) (step : Step) (count : AllCounted)
     (w : World) (replays : Replays f s.steps w) (swaps : in_use ≡ w.swaps) (within : in_use < length new) (wires : length new ≡ f.settings.wires) (tells : HaveToldOn old new)
     (used : IsUsed f s.steps w (asked_since old new)) (given : (wire : ℕ) → AreAccounted f (s.steps ++ step ∷ []) (acts_in (asked_since old new wire))) (numbers : (wire : ℕ) → AreUpTo (suc (length s.steps)) (acts_in (asked_since old new wire)))
     (settings : AreSettings f.settings) (does_it : Does f s after in_use new told w step) where
@@ -320,7 +320,7 @@ same_act does.Swap does.Swap e = refl
 told_so_more : (in_use : ℕ) (new told : List (List Asked)) (prior after more : List Asked) → prior ≡ slice_index_or new in_use [] → after ≡ prior ++ more → told ≡ slice_set new in_use after → told ≡ told_more in_use more new
 told_so_more in_use new told prior after more same grown put = put ∙ ap (slice_set new in_use) (grown ∙ ap (λ (l : List Asked). l ++ more) same)
 
-stepped_is : (f : Frame) (s after : Seen) (in_use : ℕ) (new told : List (List Asked)) (what : Event) (prior now : List Asked) (w : World) → AllCounted → TellsInUse f → Replays f s.steps w → in_use ≡ w.swaps
+stepped_is : {S : Type 0} (f : Frame) (s after : Seen S) (in_use : ℕ) (new told : List (List Asked)) (what : Event) (prior now : List Asked) (w : World) → AllCounted → TellsInUse f → Replays f s.steps w → in_use ≡ w.swaps
     → (st : Stepped f what s after prior now) → (swaps_by what ≡ 0) ⊎ (what ≡ event.Swap) → prior ≡ slice_index_or new in_use [] → told ≡ slice_set new in_use now → tasks_out after ≡ 0 → Does f s after in_use new told w st.step
 stepped_is f s after in_use new told what prior now w count tell replays use_is st kind same put idle =
     let led = st.leads w replays in
@@ -336,7 +336,7 @@ stepped_is f s after in_use new told what prior now w count tell replays use_is 
     }
 
 -- what was due was done
-pub due_done : (f : Frame) (s after : Seen) (in_use : ℕ) (old new told : List (List Asked)) (what : Event) (prior now : List Asked) → AllCounted → TellsInUse f → MayGoOn f s in_use old new → IsDue what
+pub due_done : {S : Type 0} (f : Frame) (s after : Seen S) (in_use : ℕ) (old new told : List (List Asked)) (what : Event) (prior now : List Asked) → AllCounted → TellsInUse f → MayGoOn f s in_use old new → IsDue what
     → Stepped f what s after prior now → prior ≡ slice_index_or new in_use [] → told ≡ slice_set new in_use now → tasks_out after ≤ tasks_out s → WentOn f s after in_use old told
 due_done f s after in_use old new told what prior now count tell on due st same put tasks =
     let d = on.driven in
@@ -352,7 +352,7 @@ due_done f s after in_use old new told what prior now count tell on due st same 
     (omega (arith, within, length_is))
 
 -- the wire's act was done
-pub act_done : (f : Frame) (s after : Seen) (in_use next_use : ℕ) (old new told : List (List Asked)) (act : WireAct) (prior now : List Asked) → AllCounted → TellsInUse f → HasAnswered f s in_use old new (Some act)
+pub act_done : {S : Type 0} (f : Frame) (s after : Seen S) (in_use next_use : ℕ) (old new told : List (List Asked)) (act : WireAct) (prior now : List Asked) → AllCounted → TellsInUse f → HasAnswered f s in_use old new (Some act)
     → Stepped f (event_of act) s after prior now → prior ≡ slice_index_or new in_use [] → told ≡ slice_set new in_use now → tasks_out after ≤ tasks_out s → next_use ≡ in_use + swaps_by (event_of act) → next_use < length told → WentOn f s after next_use old told
 act_done f s after in_use next_use old new told act prior now count tell h st same put tasks moves low =
     let d = h.driven in
@@ -385,7 +385,7 @@ burst_not_given (does.Crash node) process place turns e = cc e
 burst_not_given (does.Suspect node) process place turns e = cc e
 burst_not_given does.Swap process place turns e = cc e
 
-pub burst_done : (f : Frame) (s after : Seen) (in_use : ℕ) (old new : List (List Asked)) (process : ProcessNo) → AllCounted → MayGoOn f s in_use old new → ChecksIn f process s after → tasks_out after ≡ tasks_out s → WentOn f s after in_use old new
+pub burst_done : {S : Type 0} (f : Frame) (s after : Seen S) (in_use : ℕ) (old new : List (List Asked)) (process : ProcessNo) → AllCounted → MayGoOn f s in_use old new → HasComputed f process s after → tasks_out after ≡ tasks_out s → WentOn f s after in_use old new
 burst_done f s after in_use old new process count on in_it tasks =
     let d = on.driven in
     let led = in_it.leads d.world d.replays in
@@ -409,7 +409,7 @@ burst_done f s after in_use old new process count on in_it tasks =
 
 -- ---- how long it may go on
 
-pub few_steps : (f : Frame) (s : Seen) (in_use : ℕ) (old new : List (List Asked)) → AllCounted → AllRead → IsDriven f s in_use old new → IsGoing f s → length s.steps < f.settings.events
+pub few_steps : {S : Type 0} (f : Frame) (s : Seen S) (in_use : ℕ) (old new : List (List Asked)) → AllCounted → AllRead → IsDriven f s in_use old new → IsGoing f s → length s.steps < f.settings.events
 few_steps f s in_use old new count read d going =
     let rows = (read f d.world).says Going (going d.world d.replays) in
     let events = rows.0.events in
@@ -429,9 +429,9 @@ ended_so Blocked f steps w asked over used = used
 ended_so Finished f steps w asked over used = used
 
 -- of whichever world it is, by how that stands
-pub used_over : (f : Frame) (s : Seen) (in_use : ℕ) (old new : List (List Asked)) (stands : Standing) → (d : IsDriven f s in_use old new) → stands ≡ standing f d.world → (stands ≡ Going → ⊥)
+pub used_over : {S : Type 0} (f : Frame) (s : Seen S) (in_use : ℕ) (old new : List (List Asked)) (stands : Standing) → (d : IsDriven f s in_use old new) → stands ≡ standing f d.world → (stands ≡ Going → ⊥)
     → WereUsedSo stands f s.steps d.world (asked_since old new)
 used_over f s in_use old new stands d is over = ended_so stands f s.steps d.world (asked_since old new) over d.used
 
-pub used_stopped : (f : Frame) (s : Seen) (old new : List (List Asked)) (stands : Standing) → (h : HasStopped f s old new) → stands ≡ standing f h.world → WereUsedSo stands f s.steps h.world (asked_since old new)
+pub used_stopped : {S : Type 0} (f : Frame) (s : Seen S) (old new : List (List Asked)) (stands : Standing) → (h : HasStopped f s old new) → stands ≡ standing f h.world → WereUsedSo stands f s.steps h.world (asked_since old new)
 used_stopped f s old new stands h is = subst (λ (st : Standing). WereUsedSo st f s.steps h.world (asked_since old new)) (sym (is ∙ h.going)) h.used

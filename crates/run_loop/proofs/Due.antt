@@ -87,18 +87,18 @@ packet_may w p e = ready_first w.flights p e
 
 -- ---- tasks
 
-none_out : (bs : List Bool) (i : ℕ) → outs bs ≡ 0 → slice_index_or bs i false ≡ false
+none_out : {A : Type 0} (os : List (Option A)) (i : ℕ) → outs os ≡ 0 → is_some (slice_index_or os i None) ≡ false
 none_out [] i e = refl
-none_out (true ∷ bs) i e = absurd (omega (arith, e))
-none_out (false ∷ bs) zero e = refl
-none_out (false ∷ bs) (suc i) e = none_out bs i (omega (arith, e))
+none_out (Some x ∷ os) i e = absurd (omega (arith, e))
+none_out (None ∷ os) zero e = refl
+none_out (None ∷ os) (suc i) e = none_out os i (omega (arith, e))
 
-all_none_out : (all : List (List Bool)) (m i : ℕ) → all_outs all ≡ 0 → slice_index_or (slice_index_or all m []) i false ≡ false
+all_none_out : {A : Type 0} (all : List (List (Option A))) (m i : ℕ) → all_outs all ≡ 0 → is_some (slice_index_or (slice_index_or all m []) i None) ≡ false
 all_none_out [] m i e = refl
-all_none_out (bs ∷ all) zero i e = none_out bs i (omega (arith, e))
-all_none_out (bs ∷ all) (suc m) i e = all_none_out all m i (omega (arith, e))
+all_none_out (os ∷ all) zero i e = none_out os i (omega (arith, e))
+all_none_out (os ∷ all) (suc m) i e = all_none_out all m i (omega (arith, e))
 
-pub not_out : (s : Seen) (m i : ℕ) → tasks_out s ≡ 0 → is_out s m i ≡ false
+pub not_out : {S : Type 0} (s : Seen S) (m i : ℕ) → tasks_out s ≡ 0 → is_out s m i ≡ false
 not_out s m i e = all_none_out s.out m i e
 
 -- ---- a moment at which nothing is due is quiet
@@ -129,7 +129,7 @@ quiet_if (Some p) b e h = absurd (cc e)
 apart : (b : Bool) → b ≡ true → b ≡ false → ⊥
 apart b one two = let e : true ≡ false = sym one ∙ two in cc e
 
-pub quiet_now : (f : Frame) (s : Seen) (w : World) → tasks_out s ≡ 0 → due_act f w ≡ None → first_ready w.flights ≡ None → ((i : ℕ) → i < process_count f w → is_ready f s w i ≡ false) → is_quiet f w ≡ true
+pub quiet_now : {S : Type 0} (f : Frame) (s : Seen S) (w : World) → tasks_out s ≡ 0 → due_act f w ≡ None → first_ready w.flights ≡ None → ((i : ℕ) → i < process_count f w → is_ready f s w i ≡ false) → is_quiet f w ≡ true
 quiet_now f s w idle act packet ready = quiet_if (first_ready w.flights) _ packet (false_from_ne_true _ none)
   where
     each : (i : ℕ) → i < process_count f w → (lives_at_home f w i && stands played.is_ready (played_in f w i)) ≡ false
@@ -150,7 +150,7 @@ act_may f w i going due = (going, (tt, lowest_is (λ k. may_act f w (process k))
 pub deliver_may : (f : Frame) (w : World) (packet copy : ℕ) → standing f w ≡ Going → first_ready w.flights ≡ Some (packet, copy) → MayStep f w (event.Deliver packet copy)
 deliver_may f w packet copy going due = (going, (tt, packet_may w (packet, copy) due))
 
-pub tick_may : (f : Frame) (s : Seen) (w : World) → standing f w ≡ Going → tasks_out s ≡ 0 → due_act f w ≡ None → first_ready w.flights ≡ None
+pub tick_may : {S : Type 0} (f : Frame) (s : Seen S) (w : World) → standing f w ≡ Going → tasks_out s ≡ 0 → due_act f w ≡ None → first_ready w.flights ≡ None
     → ((i : ℕ) → i < process_count f w → is_ready f s w i ≡ false) → MayStep f w event.Tick
 tick_may f s w going idle act packet ready = (going, (tt, quiet_now f s w idle act packet ready))
 

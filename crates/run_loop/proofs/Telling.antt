@@ -77,3 +77,9 @@ pub put_at : {W A : Type 0} (says : W → A) (wires : List W) (at : ℕ) (wire :
 put_at says [] at wire = refl
 put_at says (w ∷ wires) zero wire = refl
 put_at says (w ∷ wires) (suc at) wire = ap (λ l. says w ∷ l) (put_at says wires at wire)
+
+-- one that tells the same, at its place
+pub kept_at : {W A : Type 0} (says : W → A) (wires : List W) (at : ℕ) (first wire : W) → says wire ≡ says (get_or wires at first) → map says (set wires at wire) ≡ map says wires
+kept_at says [] at first wire same = refl
+kept_at says (x ∷ wires) zero first wire same = ap (λ a. a ∷ map says wires) same
+kept_at says (x ∷ wires) (suc at) first wire same = ap (λ l. says x ∷ l) (kept_at says wires at first wire same)

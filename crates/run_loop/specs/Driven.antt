@@ -46,7 +46,7 @@ AreUpTo n (one ∷ more) = (one.0 ≤ n) × AreUpTo n more
 
 -- the run goes on by these steps, with no task out; the wire in use is behind as many as there were swaps; and the wires, which told `old`
 -- before the run, were used in it
-pub record IsDriven (f : Frame) (s : Seen) (in_use : ℕ) (old new : List (List Asked)) : Type 0 where
+pub record IsDriven {S : Type 0} (f : Frame) (s : Seen S) (in_use : ℕ) (old new : List (List Asked)) : Type 0 where
   pub world : World
   pub replays : Replays f s.steps world
   pub swaps : in_use ≡ world.swaps
@@ -59,11 +59,11 @@ pub record IsDriven (f : Frame) (s : Seen) (in_use : ℕ) (old new : List (List 
   pub settings : AreSettings f.settings
 
 -- it is going
-abbrev pub IsGoing : Frame → Seen → Type 0
+abbrev pub IsGoing : {S : Type 0} → Frame → Seen S → Type 0
 IsGoing f s = Of f s (λ w. standing f w ≡ Going)
 
 -- the event may be
-abbrev pub MayBe : Frame → Seen → Event → Type 0
+abbrev pub MayBe : {S : Type 0} → Frame → Seen S → Event → Type 0
 MayBe f s event = Of f s (λ w. MayStep f w event)
 
 -- it is none that a wire gives
@@ -79,13 +79,13 @@ IsDue event.Swap = ⊥
 -- ---- before an event
 
 -- the wire in use was asked about an act before the next event, and gave this
-pub record HasAnswered (f : Frame) (s : Seen) (in_use : ℕ) (old new : List (List Asked)) (answer : Option WireAct) : Type 0 where
+pub record HasAnswered {S : Type 0} (f : Frame) (s : Seen S) (in_use : ℕ) (old new : List (List Asked)) (answer : Option WireAct) : Type 0 where
   pub before : List (List Asked)
   pub driven : IsDriven f s in_use old before
   pub told : new ≡ told_more in_use (Act (suc (length s.steps)) answer ∷ []) before
 
 -- it was asked, and what it gave is nothing, or was passed over
-pub record MayGoOn (f : Frame) (s : Seen) (in_use : ℕ) (old new : List (List Asked)) : Type 0 where
+pub record MayGoOn {S : Type 0} (f : Frame) (s : Seen S) (in_use : ℕ) (old new : List (List Asked)) : Type 0 where
   pub driven : IsDriven f s in_use old new
   pub answer : Option WireAct
   pub asked : In (suc (length s.steps), answer) (acts_in (asked_since old new in_use))
@@ -93,12 +93,12 @@ pub record MayGoOn (f : Frame) (s : Seen) (in_use : ℕ) (old new : List (List A
 -- ---- after an event
 
 -- the run went on by one step
-pub record WentOn (f : Frame) (before after : Seen) (in_use : ℕ) (old new : List (List Asked)) : Type 0 where
+pub record WentOn {S : Type 0} (f : Frame) (before after : Seen S) (in_use : ℕ) (old new : List (List Asked)) : Type 0 where
   pub driven : IsDriven f after in_use old new
   pub one : length after.steps ≡ suc (length before.steps)
 
 -- memory lacked: the steps lead to a world that is going, and the wires were used but for a last question
-pub record HasStopped (f : Frame) (s : Seen) (old new : List (List Asked)) : Type 0 where
+pub record HasStopped {S : Type 0} (f : Frame) (s : Seen S) (old new : List (List Asked)) : Type 0 where
   pub world : World
   pub replays : Replays f s.steps world
   pub going : standing f world ≡ Going

@@ -6,6 +6,7 @@ use std::alloc::{AllocError, Global};
 use std::test::Fail;
 
 // A run of the one cell that finishes: its options, its script, its events, and of each member how many entries it applied and its incarnation.
+#[derive(Drop)]
 struct Row<'a> {
     options: &'a [&'a str],
     script: &'a str,
