@@ -182,8 +182,8 @@ module _ (f : Frame) (w : World) (k : Kept) (end : IsEndOf f w k) (stand : EndsS
     pub stuck_kept : is_over_run f w ≡ true → AllStuck f w → (i : ProcessNo) (act : Action) → StandsAt k i.0 (standing.Waits act) → IsStuck f.performs f.computes k.book.items i
     stuck_kept over stuck i act at =
         let h = stand_of i.0 (standing.Waits act) at in
-        let as = waits_as i act (w.lives (home_of f w i.0)) (played_in f w i.0) (λ r here. (at_home i r here).stands) h.1 in
-        subst (λ (l : List Line). IsStuck f.performs f.computes l i) (sym end.book) (stuck.living over i as.1.0 as.1.1 as.0 as.1.2)
+        let waits = waits_as i act (w.lives (home_of f w i.0)) (played_in f w i.0) (λ r here. (at_home i r here).stands) h.1 in
+        subst (λ (l : List Line). IsStuck f.performs f.computes l i) (sym end.book) (stuck.living over i waits.1.0 waits.1.1 waits.0 waits.1.2)
 
     over_faults : (act : Action) (fault : FaultKind) → is_fault act ≡ false → end_over act ≡ Stand.Faulted fault → ⊥
     over_faults (action.Make kind object) fault none e = cc e

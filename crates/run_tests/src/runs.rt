@@ -324,7 +324,7 @@ fn windows_are_crossed(rt: HostRuntime) -> Result<(), Fail> {
 #[test]
 fn a_fifth_is_lost(rt: HostRuntime) -> Result<(), Fail> {
     let alloc = rt.alloc();
-    let text = many(alloc, 600)?;
+    let text = many(alloc, 100)?;
     let line = [
         "run", "--nodes", "5", "--resilience", "1", "--script", "f.txt", "m.orca",
     ];
@@ -337,10 +337,10 @@ fn a_fifth_is_lost(rt: HostRuntime) -> Result<(), Fail> {
     assert_eq!(rt; tried.ended.status, FINISHED);
     assert_eq!(rt; tried.printed.as_str(), "7\n");
     let kept = tried.ended.kept.as_ref().ok_or("nothing kept")?;
-    assert_eq!(rt; kept.book.len(), 603);
+    assert_eq!(rt; kept.book.len(), 103);
     assert!(rt; matches!(
         kept.processes.as_slice(),
-        [main] if main.replies.len() == 603 && matches!(main.standing, ProcessStanding::Ended)
+        [main] if main.replies.len() == 103 && matches!(main.standing, ProcessStanding::Ended)
     ));
     Ok(())
 }
