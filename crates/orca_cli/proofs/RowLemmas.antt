@@ -1,7 +1,8 @@
 -- What each standing says of what is kept: row by row.
-use Rattle.std.proofs.Common.{◌≡◌, ◌∙◌, ◌<◌, ◌≤◌, ◌+◌, ◌⊎◌, ⊎_elim, inl, inr, ◌||◌, ℕ, zero, suc, Bool, true, false, if◌then◌else◌, not, List, [], ◌∷◌, ◌++◌, length, length-map, map, Option, Some, None, ap, sym, subst, refl, arith}
+use Rattle.std.proofs.Common.{◌≡◌, ◌∙◌, ◌<◌, ◌≤◌, ◌+◌, ◌⊎◌, ⊎_elim, inl, inr, ◌||◌, ℕ, zero, suc, Bool, true, false, if◌then◌else◌, not, List, [], ◌∷◌, ◌++◌, length, map, Option, Some, None, ap, sym, subst, refl, arith}
 use Rattle.std.specs.Prelude.{slice_get}
 use Rattle.std.specs.List.{count_by}
+use Rattle.std.proofs.lemmas.List.{length-map}
 use Rattle.std.proofs.lemmas.List.Sums.{sum_by-cons}
 use Rattle.orca_base.specs.declared.fault.FaultKind.{FaultKind}
 use Rattle.orca_base.specs.declared.ids.ProcessNo.{ProcessNo}
@@ -236,11 +237,11 @@ module _ (f : Frame) (w : World) (k : Kept) (end : IsEndOf f w k) (stand : EndsS
     busy_kept kept busy spent =
         let i : ProcessNo = record { 0 = spent.0 } in
         let r = spent.1 in
-        let begun = spent.2.0 in
+        let begun = spent.2 in
         let at = kept_at spent.0 begun.exists in
         let stands = at_home i r begun.here in
         let low = stands.turns in
-        let high = spent.2.1 in
+        let high = spent.3 in
         let here = get_below (processes_of f w) spent.0 begun.exists in
         let of = kept.processes.each spent.0 here.0 here.1 in
         let known : IsPlayedAs of.process r = subst (IsKnownAs of.process) begun.here of.here in
@@ -257,7 +258,7 @@ module _ (f : Frame) (w : World) (k : Kept) (end : IsEndOf f w k) (stand : EndsS
               ap (λ (t : TextNo). f.computes.doing t i of.process.args at.0.replies f.settings.turns) (sym known.text)
               ∙ ap (λ (a : Data). f.computes.doing r.text i a at.0.replies f.settings.turns) (sym known.args)
               ∙ ap (λ (l : List Reply). f.computes.doing r.text i r.args l f.settings.turns) replies
-              ∙ busy spent.0 r begun.here spent.2.2 high;
+              ∙ busy spent.0 r begun.here spent.4 high;
         }
 
 -- ---- 5
@@ -274,11 +275,14 @@ count_shift : (n : ℕ) (test : ℕ → Bool) → count (suc n) test ≡ (if tes
 count_shift zero test = one_of (test 0)
 count_shift (suc n) test = one_more (test (suc n)) (count (suc n) test) (count n (λ m. test (suc m))) (if test 0 then 1 else 0) (count_shift n test)
 
+one_if : Bool → ℕ
+one_if b = if b then 1 else 0
+
 counted : (p : NodeEnd → Bool) (nodes : List NodeEnd) (test : ℕ → Bool) → ((m : ℕ) (e : NodeEnd) → slice_get nodes m ≡ Some e → p e ≡ test m) → count_by p nodes ≡ count (length nodes) test
 counted p [] test each = refl
 counted p (x ∷ nodes) test each =
-    let first : count_by p (x ∷ nodes) ≡ (if p x then 1 else 0) + count_by p nodes = sum_by-cons (λ (e : NodeEnd). if p e then 1 else 0) x nodes in
-    let head : (if p x then 1 else 0) ≡ (if test 0 then 1 else 0) = ap (λ (b : Bool). if b then 1 else 0) (each 0 x refl) in
+    let first : count_by p (x ∷ nodes) ≡ (if p x then 1 else 0) + count_by p nodes = sum_by-cons (λ (e : NodeEnd). one_if (p e)) x nodes in
+    let head : ◌≡◌ {A = ℕ} (if p x then 1 else 0) (if test 0 then 1 else 0) = ap one_if (each 0 x refl) in
     let rest = counted p nodes (λ m. test (suc m)) (λ m e at. each (suc m) e at) in
     let all = count_shift (length nodes) test in
     omega (arith, first, head, rest, all)
@@ -315,11 +319,11 @@ events_kept f w k count read end high =
 pub row_kept : (f : Frame) (w : World) (k : Kept) → AllCounted → AllRead → IsEndOf f w k → EndsStand f w → FinishedEnds f w → ProcessesStand f w → IsKept f w → AllStuck f w → SpentAreBusy f w → (s : Standing) → rules.standing f w ≡ s → KeptRow f w k s
 row_kept f w k count read end stand finished processes kept stuck busy (Limit what number) is = (read f w).says (Limit what number) is
 row_kept f w k count read end stand finished processes kept stuck busy OutOfTurns is = busy_kept f w k end stand processes kept busy ((read f w).says OutOfTurns is).1
-row_kept f w k count read end stand finished processes kept stuck busy OutOfEvents is = events_kept f w k count read end ((read f w).says OutOfEvents is).2.1
-row_kept f w k count read end stand finished processes kept stuck busy NoGroup is = let row = (read f w).says NoGroup is in (lost_kept f w k end row.2.2.1, row.2.2.1)
+row_kept f w k count read end stand finished processes kept stuck busy OutOfEvents is = events_kept f w k count read end ((read f w).says OutOfEvents is).2
+row_kept f w k count read end stand finished processes kept stuck busy NoGroup is = let row = (read f w).says NoGroup is in (lost_kept f w k end row.3, row.3)
 row_kept f w k count read end stand finished processes kept stuck busy Faulted is = faulted_kept f w k end stand is
 row_kept f w k count read end stand finished processes kept stuck busy Blocked is =
     let row = (read f w).says Blocked is in
-    blocked_kept f w k end stand processes is (((read f w).over).1 row.1) stuck row.2.0
+    blocked_kept f w k end stand processes is (((read f w).over).1 row.1) stuck row.2
 row_kept f w k count read end stand finished processes kept stuck busy Finished is = let row = (read f w).says Finished is in ended_kept f w k end stand processes is finished row.1
 row_kept f w k count read end stand finished processes kept stuck busy Going is = tt
