@@ -275,7 +275,7 @@ count_shift : (n : ℕ) (test : ℕ → Bool) → count (suc n) test ≡ (if tes
 count_shift zero test = one_of (test 0)
 count_shift (suc n) test = one_more (test (suc n)) (count (suc n) test) (count n (λ m. test (suc m))) (if test 0 then 1 else 0) (count_shift n test)
 
-one_if : Bool → ℕ
+abbrev one_if : Bool → ℕ
 one_if b = if b then 1 else 0
 
 counted : (p : NodeEnd → Bool) (nodes : List NodeEnd) (test : ℕ → Bool) → ((m : ℕ) (e : NodeEnd) → slice_get nodes m ≡ Some e → p e ≡ test m) → count_by p nodes ≡ count (length nodes) test
