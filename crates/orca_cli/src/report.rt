@@ -157,7 +157,7 @@ fn wait_said(
 
 // The lowest process that waits, and at which action.
 fn first_waiting(ends: &[ProcessEnd]) -> Option<(usize, &Action)>
-    ensures { option_map (λ p. (p.0, p.1.now)) result.entry ≡ first_waiting ends.now }
+    ensures { option_map (λ p. (p.0, p.1.now)) result ≡ first_waiting ends.now }
 {
     'ends: for number in 0..ends.len() {
         if let ProcessStanding::Waits { action } = &ends[number].standing {
