@@ -1,0 +1,64 @@
+-- What each standing says of what is kept: the table of statuses, row by row (docs/FORMATS.md, Statuses).
+use Rattle.std.specs.Prelude.{◌≡◌, ◌⊎◌, ◌<◌, ◌||◌, ℕ, List, Some, length, slice_get}
+use Rattle.std.specs.List.{count_by}
+use Rattle.orca_base.specs.declared.fault.FaultKind.{FaultKind}
+use Rattle.orca_base.specs.declared.ids.ProcessNo.{ProcessNo}
+use Rattle.value_core.specs.History.{IsStuck, Process, processes_of}
+use Rattle.value_core.specs.declared.action.Action.{Action}
+use Rattle.value_core.specs.declared.meaning.Doing.TheVariants.{Busy}
+use Rattle.world_rules.specs.declared.standing.Standing.{Standing}
+use Rattle.world_rules.specs.declared.standing.Standing.TheVariants.{Limit, OutOfTurns, OutOfEvents, NoGroup, Faulted, Blocked, Finished, Going}
+use Rattle.world_rules.specs.Frame.{Frame}
+use Rattle.world_rules.specs.Worlds.{World}
+use Rattle.world_facts.specs.Rows.{IsLimited, LacksGroup}
+use Rattle.world_core.specs.declared.ends.NodeEnd.{NodeEnd}
+use Rattle.world_core.specs.declared.ends.ProcessEnd.{ProcessEnd}
+use Rattle.world_core.specs.declared.ends.ProcessStanding.{ProcessStanding}
+use Rattle.world_core.specs.declared.ends.ProcessStanding.TheVariants as standing
+use Rattle.orca_cli.specs.declared.kept.Kept.{Kept}
+
+-- process i is kept, and stands so
+abbrev pub StandsAt : Kept → ℕ → ProcessStanding → Type 0
+StandsAt k i stands = (end : ProcessEnd) × (slice_get k.processes.items i ≡ Some end) × (end.standing ≡ stands)
+
+abbrev pub NoneFaulted : Kept → Type 0
+NoneFaulted k = (i : ℕ) (fault : FaultKind) → StandsAt k i (standing.Faulted fault) → ⊥
+
+-- each process ended, but for those whose members crashed before they did
+abbrev pub AllEnded : Kept → Type 0
+AllEnded k =
+    (i : ℕ) (end : ProcessEnd) → slice_get k.processes.items i ≡ Some end →
+    (end.standing ≡ standing.Ended) ⊎ (end.standing ≡ standing.Crashed)
+
+-- some process waits for the reply to an action; and each that does is stuck: by the history it is at a call whose guards are all false
+pub record SomeStuck (f : Frame) (k : Kept) : Type 0 where
+  pub number : ℕ
+  pub act : Action
+  pub waits : StandsAt k number (standing.Waits act)
+  pub stuck :
+      (i : ProcessNo) (act : Action) → StandsAt k i.0 (standing.Waits act) → IsStuck f.performs f.computes k.book.items i
+
+-- a process took all the turns that there are, and is busy then after its replies
+pub record SomeBusy (f : Frame) (k : Kept) : Type 0 where
+  pub number : ProcessNo
+  pub end : ProcessEnd
+  pub kept : slice_get k.processes.items number.0 ≡ Some end
+  pub turns : end.turns ≡ f.settings.turns
+  pub process : Process
+  pub exists : slice_get (processes_of f.performs f.computes k.book.items) number.0 ≡ Some process
+  pub busy : f.computes.doing process.text number process.args end.replies f.settings.turns ≡ Busy
+
+-- more than r members are crashed or outside
+abbrev pub LostTooMany : Frame → Kept → Type 0
+LostTooMany f k = f.settings.resilience < count_by (λ (n : NodeEnd). n.crashed || n.outside) k.nodes.items
+
+-- the row of a standing; the first that holds is the run's
+abbrev pub KeptRow : Frame → World → Kept → Standing → Type 0
+KeptRow f w k (Limit what number) = IsLimited f w what number
+KeptRow f w k OutOfTurns = SomeBusy f k
+KeptRow f w k OutOfEvents = length k.events.items ≡ f.settings.events
+KeptRow f w k NoGroup = LostTooMany f k × LacksGroup f w
+KeptRow f w k Faulted = (i : ℕ) × (fault : FaultKind) × StandsAt k i (standing.Faulted fault)
+KeptRow f w k Blocked = NoneFaulted k × SomeStuck f k
+KeptRow f w k Finished = AllEnded k
+KeptRow f w k Going = Unit {0}
