@@ -1,15 +1,16 @@
 -- What is told of a run: its status, and what was printed.
-use Rattle.std.proofs.Common.{◌≡◌, ◌≢◌, ◌⊎◌, ℕ, ◌<◌, List, [], ◌++◌, Option, Some, None, refl, sym, ap, ◌∙◌, subst, inl, inr, arith, append_assoc}
-use Rattle.std.specs.Prelude.{Result, Ok, Err, OnOk}
+use Rattle.std.proofs.Common.{◌≡◌, ◌≢◌, ◌⊎◌, ℕ, zero, suc, ◌+◌, ◌==◌, ◌<◌, ◌≤◌, Bool, true, false, List, [], ◌∷◌, ◌++◌, length, get_or, drop, add-one, drop-cons, Option, Some, None, refl, sym, ap, ◌∙◌, subst, inl, inr, arith, append_assoc}
+use Rattle.std.specs.Prelude.{Result, Ok, Err, OnOk, if◌then◌else◌}
 use Rattle.std.proofs.lemmas.List.{append-nil}
 use Rattle.orca_io.specs.declared.sink.SinkFault.{SinkFault}
 use Rattle.orca_io.specs.declared.sink.SinkFault.TheVariants as faults
 use Rattle.orca_io.specs.Sinks.{Puts}
 use Rattle.world_rules.specs.declared.standing.Standing.{Standing}
 use Rattle.world_rules.specs.declared.standing.Standing.TheVariants.{Limit, OutOfTurns, OutOfEvents, NoGroup, Faulted, Blocked, Finished, Going}
+use Rattle.world_core.specs.declared.ends.ProcessEnd.{ProcessEnd}
 use Rattle.orca_cli.specs.declared.statuses.TheConstants.{NO_MEMORY, WRITE_FAULT}
 use Rattle.orca_cli.specs.Printed.{Ends, EndsAs, Grew, HasStopped, WroteOf}
-use Rattle.orca_cli.specs.Standings.{run_status, standing_status, write_status}
+use Rattle.orca_cli.specs.Standings.{first_of, or_later, run_status, spent_of, standing_status, write_status}
 use Rattle.orca_cli.proofs.CliLemmas.{GrewUpTo, grew_all, grew_fault, grew_front, grew_put}
 
 -- ---- of a status that is wanted
@@ -87,6 +88,40 @@ status_quiet NoGroup printed old new quiet rose = write_quiet _ printed old new 
 status_quiet Faulted printed old new quiet rose = write_quiet _ printed old new quiet rose
 status_quiet Blocked printed old new quiet rose = write_quiet _ printed old new quiet rose
 status_quiet Finished printed old new quiet rose = write_quiet _ printed old new quiet rose
+
+-- ---- the lowest process of which there is something to say, as they are gone through
+
+drop_past : {A : Type 0} (xs : List A) (n : ℕ) → length xs ≤ n → drop n xs ≡ []
+drop_past [] zero low = refl
+drop_past [] (suc n) low = refl
+drop_past (x ∷ xs) zero low = absurd (omega (arith, low))
+drop_past (x ∷ xs) (suc n) low = drop_past xs n (omega (arith, low))
+
+module _ {A : Type 0} (says : ProcessEnd → Option A) (ends : List ProcessEnd) (n : ℕ) where
+  -- what is left from a place on begins with what stands there
+  first_here : (e : ProcessEnd) → n < length ends → e ≡ get_or ends n e → first_of says n (drop n ends) ≡ or_later n (says e) (first_of says (suc n) (drop (suc n) ends))
+  first_here e lt is = ap (first_of says n) (drop-cons ends n e lt) ∙ ap (λ (x : ProcessEnd). or_later n (says x) (first_of says (suc n) (drop (suc n) ends))) (sym is)
+
+  -- of this one there is nothing to say
+  pub first_passed : (e : ProcessEnd) → n < length ends → e ≡ get_or ends n e → says e ≡ None → first_of says n (drop n ends) ≡ first_of says 0 ends → first_of says (n + 1) (drop (n + 1) ends) ≡ first_of says 0 ends
+  first_passed e lt is none so_far =
+      subst (λ (k : ℕ). first_of says k (drop k ends) ≡ first_of says 0 ends) (sym (add-one n))
+      (sym (first_here e lt is ∙ ap (λ (o : Option A). or_later n o (first_of says (suc n) (drop (suc n) ends))) none) ∙ so_far)
+
+  -- of this one there is
+  pub first_found : (e : ProcessEnd) (x : A) → n < length ends → e ≡ get_or ends n e → says e ≡ Some x → first_of says n (drop n ends) ≡ first_of says 0 ends → Some (n, x) ≡ first_of says 0 ends
+  first_found e x lt is some so_far =
+      sym (first_here e lt is ∙ ap (λ (o : Option A). or_later n o (first_of says (suc n) (drop (suc n) ends))) some) ∙ so_far
+
+  -- of none there is
+  pub first_none : length ends ≤ n → first_of says n (drop n ends) ≡ first_of says 0 ends → None ≡ first_of says 0 ends
+  first_none past so_far = sym (ap (first_of says n) (drop_past ends n past)) ∙ so_far
+
+pub spent_not : (turns : ℕ) (e : ProcessEnd) → (e.turns == turns) ≡ false → spent_of turns e ≡ None
+spent_not turns e is = ap (λ (b : Bool). if b then Some tt else None) is
+
+pub spent_is : (turns : ℕ) (e : ProcessEnd) → (e.turns == turns) ≡ true → spent_of turns e ≡ Some tt
+spent_is turns e is = ap (λ (b : Bool). if b then Some tt else None) is
 
 -- ---- a text, and a line behind it
 

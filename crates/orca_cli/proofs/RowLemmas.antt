@@ -6,6 +6,7 @@ use Rattle.std.proofs.lemmas.List.{length-map}
 use Rattle.std.proofs.lemmas.List.Sums.{sum_by-cons}
 use Rattle.orca_base.specs.declared.fault.FaultKind.{FaultKind}
 use Rattle.orca_base.specs.declared.ids.ProcessNo.{ProcessNo}
+use Rattle.orca_base.specs.declared.what.What.{What}
 use Rattle.value_core.specs.Datum.{Data}
 use Rattle.orca_base.specs.declared.ids.TextNo.{TextNo}
 use Rattle.value_core.specs.History as history
@@ -15,8 +16,8 @@ use Rattle.value_core.specs.declared.action.Action.TheVariants as action
 use Rattle.value_core.specs.declared.action.Line.{Line}
 use Rattle.value_core.specs.declared.action.Reply.{Reply}
 use Rattle.value_core.specs.declared.meaning.Doing.{Doing}
-use Rattle.value_core.specs.declared.meaning.Doing.TheVariants.{Busy}
 use Rattle.group_rules.specs.Sets.{count}
+use Rattle.run_law.specs.Spent.{SpentBusy}
 use Rattle.world_rules.specs.declared.standing.Standing.{Standing}
 use Rattle.world_rules.specs.declared.standing.Standing.TheVariants.{Limit, OutOfTurns, OutOfEvents, NoGroup, Faulted, Blocked, Finished, Going}
 use Rattle.world_rules.specs.Frame.{Frame}
@@ -43,14 +44,8 @@ use Rattle.world_core.specs.declared.ends.ProcessStanding.{ProcessStanding}
 use Rattle.world_core.specs.declared.ends.ProcessStanding.TheVariants as standing
 use Rattle.orca_cli.specs.declared.kept.Kept.{Kept}
 use Rattle.orca_cli.specs.Kept.{IsEndOf}
-use Rattle.orca_cli.specs.Rows.{AllEnded, KeptRow, LostTooMany, NoneFaulted, SomeBusy, SomeStuck, StandsAt}
+use Rattle.orca_cli.specs.Rows.{AllEnded, KeptRow, LostTooMany, NoneFaulted, ShownRows, SomeBusy, SomeStuck, StandsAt}
 use Rattle.orca_cli.proofs.KeptLemmas.{end_is, get_below}
-
--- wanted of the law of runs: a process that computes and has taken all its turns is busy then
-abbrev pub SpentAreBusy : Frame → World → Type 0
-SpentAreBusy f w =
-    (i : ℕ) (r : Played) → played_in f w i ≡ Some r → r.stage ≡ Computing → f.settings.turns ≤ r.turns →
-    f.computes.doing r.text (record { 0 = i }) r.args r.replies f.settings.turns ≡ Busy
 
 -- ---- standings there and back
 
@@ -215,8 +210,54 @@ module _ (f : Frame) (w : World) (k : Kept) (end : IsEndOf f w k) (stand : EndsS
     fault_as true (Some r) fault h e = fault_living r.stage fault (h r refl) e
     fault_as false (Some r) fault h e = fault_crashed r.stage fault (h r refl) e
 
-    pub blocked_kept : rules.standing f w ≡ Blocked → is_over_run f w ≡ true → AllStuck f w → rows.NoneFaulted f w → NoneFaulted k × SomeStuck f k
-    blocked_kept is over stuck none =
+    -- who is busy computes, on a member that lives
+    over_busy : (act : Action) → end_over act ≡ Stand.Busy → ⊥
+    over_busy (action.Make kind object) e = cc e
+    over_busy (action.Call kind op object args) e = cc e
+    over_busy (action.Fork text args place_on) e = cc e
+    over_busy action.Ended e = cc e
+    over_busy (action.Faulted kind) e = cc e
+
+    busy_living : (stage : Stage) → end_living stage ≡ Stand.Busy → stage ≡ Computing
+    busy_living Computing e = refl
+    busy_living (Acting act) e = absurd (cc e)
+    busy_living (Submitted act) e = absurd (cc e)
+    busy_living (Reading act) e = absurd (cc e)
+    busy_living (Asking act) e = absurd (cc e)
+    busy_living (Over act) e = absurd (over_busy act e)
+
+    busy_crashed : (stage : Stage) → end_crashed stage ≡ Stand.Busy → ⊥
+    busy_crashed Computing e = cc e
+    busy_crashed (Acting act) e = cc e
+    busy_crashed (Submitted act) e = cc e
+    busy_crashed (Reading act) e = cc e
+    busy_crashed (Asking act) e = cc e
+    busy_crashed (Over act) e = over_busy act e
+
+    busy_as : (b : Bool) (o : Option Played) → end_of b o ≡ Stand.Busy → (b ≡ true) × ((r : Played) → o ≡ Some r → r.stage ≡ Computing)
+    busy_as true None e = (refl, λ r is. let no : None ≡ Some r = is in absurd (cc no))
+    busy_as false None e = absurd (cc e)
+    busy_as true (Some s) e = (refl, λ r is. let same : s ≡ r = cc is in ap (λ (p : Played). p.stage) (sym same) ∙ busy_living s.stage e)
+    busy_as false (Some s) e = absurd (busy_crashed s.stage e)
+
+    ended_computes : (stage : Stage) → is_over stage ≡ true → stage ≡ Computing → ⊥
+    ended_computes stage over e = let no : false ≡ true = sym (ap is_over e) ∙ over in cc no
+
+    rests_computes : (i : ℕ) (stage : Stage) → rows.Rests f w i stage → stage ≡ Computing → ⊥
+    rests_computes i stage rests e = subst (rows.Rests f w i) e rests
+
+    -- where the run is over nobody is
+    none_busy : rows.IsOver f w → (i : ℕ) → StandsAt k i standing.Busy → ⊥
+    none_busy over i at =
+        let s = stand_of i standing.Busy at in
+        let is = busy_as (w.lives (home_of f w i)) (played_in f w i) s.1 in
+        ⊎_elim
+        (λ (all : rows.AllEnded f w). let h = all i s.0 is.0 in ended_computes h.0.stage h.2 (is.1 h.0 h.1.here))
+        (λ (rest : rows.AllRest f w). let h = rest.processes i s.0 is.0 in rests_computes i h.0.stage h.2 (is.1 h.0 h.1.here))
+        over
+
+    pub blocked_kept : rules.standing f w ≡ Blocked → rows.IsOver f w → is_over_run f w ≡ true → AllStuck f w → rows.NoneFaulted f w → NoneFaulted k × SomeStuck f k
+    blocked_kept is ends over stuck none =
         let h = stand.blocked is in
         let lives = h.1 in
         let at = kept_at h.0 lives.0 in (
@@ -227,13 +268,14 @@ module _ (f : Frame) (w : World) (k : Kept) (end : IsEndOf f w k) (stand : EndsS
             number = h.0;
             act = h.2.0;
             waits = (at.0, at.1, the_wait at.0.standing h.2.0 (ap (λ (e : facts.ProcessEnd). e.stand) at.2 ∙ h.2.1));
+            none_busy = none_busy ends;
             stuck = stuck_kept over stuck;
           },
         )
 
     -- ---- 7
 
-    pub busy_kept : IsKept f w → SpentAreBusy f w → rows.SomeSpent f w → SomeBusy f k
+    pub busy_kept : IsKept f w → SpentBusy f w → rows.SomeSpent f w → SomeBusy f k
     busy_kept kept busy spent =
         let i : ProcessNo = record { 0 = spent.0 } in
         let r = spent.1 in
@@ -260,6 +302,64 @@ module _ (f : Frame) (w : World) (k : Kept) (end : IsEndOf f w k) (stand : EndsS
               ∙ ap (λ (l : List Reply). f.computes.doing r.text i r.args l f.settings.turns) replies
               ∙ busy spent.0 r begun.here spent.4 high;
         }
+
+    -- ---- the other way
+
+    all_turns : (i : ProcessNo) (r : Played) (stage : Stage) → played.StandsAt f i r stage → f.settings.turns ≤ r.turns → stage ≡ Computing
+    all_turns i r Computing at high = refl
+    all_turns i r (Acting act) at high = let low = at.0.turns in absurd (omega (arith, low, high))
+    all_turns i r (Submitted act) at high = let low = at.0.turns in absurd (omega (arith, low, high))
+    all_turns i r (Reading act) at high = let low = at.0.turns in absurd (omega (arith, low, high))
+    all_turns i r (Asking act) at high = let low = at.0.turns in absurd (omega (arith, low, high))
+    all_turns i r (Over act) at high = let low = at.0.turns in absurd (omega (arith, low, high))
+
+    spent_by : (i : ProcessNo) (o : Option Played) → played_in f w i.0 ≡ o → 1 ≤ f.settings.turns → i.0 < process_count f w → turns_in o ≡ f.settings.turns → rows.SomeSpent f w
+    spent_by i None here some lt is = let none : 0 ≡ f.settings.turns = is in absurd (omega (arith, some, none))
+    spent_by i (Some r) here some lt is =
+        let turns : r.turns ≡ f.settings.turns = is in
+        let high : f.settings.turns ≤ r.turns = omega (arith, turns) in
+        (i.0, r, record { exists = lt; here = here }, high, all_turns i r r.stage (at_home i r here).stands high)
+
+    pub turns_shown : AllRead → 1 ≤ f.settings.turns → (i : ℕ) (e : ProcessEnd) → slice_get k.processes.items i ≡ Some e → e.turns ≡ f.settings.turns → rows.IsUnlimited f w → rules.standing f w ≡ OutOfTurns
+    turns_shown read some i e at is unlimited =
+        let found = end_is f w k.processes.items i e end.processes stand at in
+        (read f w).only OutOfTurns refl
+        (unlimited, spent_by (record { 0 = i }) (played_in f w i) refl some found.0 (sym (ap (λ (x : facts.ProcessEnd). x.turns) found.1) ∙ is))
+
+    pub events_shown : AllCounted → AllRead → length k.events.items ≡ f.settings.events → rows.IsUnlimited f w
+        → ((i : ℕ) (e : ProcessEnd) → slice_get k.processes.items i ≡ Some e → e.turns < f.settings.turns) → rules.standing f w ≡ OutOfEvents
+    events_shown counts read many unlimited few =
+        let steps = (counts f k.events.items w end.replays).steps in
+        (read f w).only OutOfEvents refl (
+          unlimited,
+          (λ i r begun computing.
+              let at = kept_at i begun.exists in
+              let below = few i at.0 at.1 in
+              let turns : at.0.turns ≡ r.turns = ap (λ (x : facts.ProcessEnd). x.turns) at.2 ∙ ap turns_in begun.here in
+              omega (arith, below, turns)),
+          omega (arith, steps, many),
+        )
+
+limited : (f : Frame) (w : World) (what : What) (number : ℕ) → rows.IsLimited f w what number → rows.IsUnlimited f w → ⊥
+limited f w what number (inl h) un = let e : None ≡ Some (what, number) = sym (un.members h.0 h.1 h.2) ∙ h.3 in cc e
+limited f w what number (inr h) un = let high = h.0 in let low = un.lines in omega (arith, high, low)
+
+limits_shown : (f : Frame) (w : World) → AllRead → (what : What) (number : ℕ) → rows.IsLimited f w what number → (s : Standing) → rules.standing f w ≡ s → rows.is_limit s ≡ true
+limits_shown f w read what number h (Limit passed most) is = refl
+limits_shown f w read what number h OutOfTurns is = absurd (limited f w what number h ((read f w).says OutOfTurns is).0)
+limits_shown f w read what number h OutOfEvents is = absurd (limited f w what number h ((read f w).says OutOfEvents is).0)
+limits_shown f w read what number h NoGroup is = absurd (limited f w what number h ((read f w).says NoGroup is).0)
+limits_shown f w read what number h Faulted is = absurd (limited f w what number h ((read f w).says Faulted is).0.limits)
+limits_shown f w read what number h Blocked is = absurd (limited f w what number h ((read f w).says Blocked is).0.limits)
+limits_shown f w read what number h Finished is = absurd (limited f w what number h ((read f w).says Finished is).0.limits)
+limits_shown f w read what number h Going is = absurd (limited f w what number h ((read f w).says Going is).0.limits)
+
+pub rows_shown : (f : Frame) (w : World) (k : Kept) → AllCounted → AllRead → IsEndOf f w k → EndsStand f w → ProcessesStand f w → 1 ≤ f.settings.turns → ShownRows f w k
+rows_shown f w k counts read end stand processes some = record {
+  limits = λ what number h. limits_shown f w read what number h (rules.standing f w) refl;
+  turns = turns_shown f w k end stand processes read some;
+  events = events_shown f w k end stand processes counts read;
+}
 
 -- ---- 5
 
@@ -316,7 +416,7 @@ events_kept f w k count read end high =
 
 -- ---- each row
 
-pub row_kept : (f : Frame) (w : World) (k : Kept) → AllCounted → AllRead → IsEndOf f w k → EndsStand f w → FinishedEnds f w → ProcessesStand f w → IsKept f w → AllStuck f w → SpentAreBusy f w → (s : Standing) → rules.standing f w ≡ s → KeptRow f w k s
+pub row_kept : (f : Frame) (w : World) (k : Kept) → AllCounted → AllRead → IsEndOf f w k → EndsStand f w → FinishedEnds f w → ProcessesStand f w → IsKept f w → AllStuck f w → SpentBusy f w → (s : Standing) → rules.standing f w ≡ s → KeptRow f w k s
 row_kept f w k count read end stand finished processes kept stuck busy (Limit what number) is = (read f w).says (Limit what number) is
 row_kept f w k count read end stand finished processes kept stuck busy OutOfTurns is = busy_kept f w k end stand processes kept busy ((read f w).says OutOfTurns is).1
 row_kept f w k count read end stand finished processes kept stuck busy OutOfEvents is = events_kept f w k count read end ((read f w).says OutOfEvents is).2
@@ -324,6 +424,6 @@ row_kept f w k count read end stand finished processes kept stuck busy NoGroup i
 row_kept f w k count read end stand finished processes kept stuck busy Faulted is = faulted_kept f w k end stand is
 row_kept f w k count read end stand finished processes kept stuck busy Blocked is =
     let row = (read f w).says Blocked is in
-    blocked_kept f w k end stand processes is (((read f w).over).1 row.1) stuck row.2
+    blocked_kept f w k end stand processes is row.1 (((read f w).over).1 row.1) stuck row.2
 row_kept f w k count read end stand finished processes kept stuck busy Finished is = let row = (read f w).says Finished is in ended_kept f w k end stand processes is finished row.1
 row_kept f w k count read end stand finished processes kept stuck busy Going is = tt

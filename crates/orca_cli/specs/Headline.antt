@@ -1,5 +1,5 @@
 -- The headline: what a run keeps and prints, and that its network was really used.
-use Rattle.std.specs.Prelude.{◌≡◌, ◌≢◌, ◌++◌, ℕ, suc, List, [], length, map, Option, Some, option_map, slice_get}
+use Rattle.std.specs.Prelude.{◌≡◌, ◌⊎◌, ◌++◌, ℕ, suc, List, [], length, map, Option, Some, option_map, slice_get}
 use Rattle.command_line.specs.declared.request.RunOptions.{RunOptions}
 use Rattle.net_rules.specs.declared.asked.Asked.{Asked}
 use Rattle.net_rules.specs.declared.line.ScriptLine.{ScriptLine}
@@ -14,7 +14,7 @@ use Rattle.world_rules.specs.Frame.{Frame}
 use Rattle.world_rules.specs.Standings.{standing}
 use Rattle.world_rules.specs.Worlds.{World}
 use Rattle.world_facts.specs.Rows.{ReadsStanding}
-use Rattle.run_loop.specs.Asked.{HaveToldOn, WereUsedSo, asked_since}
+use Rattle.run_loop.specs.Asked.{HaveToldOn, NoneAskedBehind, WereUsedSo, asked_since}
 use Rattle.orca_meaning.specs.Program.{computes_of, performs_of}
 use Rattle.run_loop.specs.Left.{run_of}
 use Rattle.orca_cli.specs.declared.kept.Kept.{Kept}
@@ -23,7 +23,7 @@ use Rattle.orca_cli.specs.Job.{Word, deed_in, runs}
 use Rattle.orca_cli.specs.Kept.{IsEndOf, IsHistory}
 use Rattle.orca_cli.specs.Loaded.{IsLoaded}
 use Rattle.orca_cli.specs.Printed.{Ends, EndsAs, Grew}
-use Rattle.orca_cli.specs.Rows.{KeptRow}
+use Rattle.orca_cli.specs.Rows.{KeptRow, ShownRows}
 use Rattle.orca_cli.specs.Scripts.{IsScriptOf}
 use Rattle.orca_cli.specs.Small.{AreSmall, awaited_name}
 use Rattle.orca_cli.specs.Standings.{ending_line, standing_status}
@@ -73,29 +73,32 @@ pub record AreLoaded (lines : List ScriptLine) (old new : Wires) : Type 0 where
   pub scripts : (wire : ℕ) → slice_get new.scripts (suc wire) ≡ slice_get old.scripts (suc wire)
   pub loaded : (wire : ℕ) → slice_get new.loaded (suc wire) ≡ slice_get old.loaded (suc wire)
 
--- nothing was run: the wires are as they were, unless memory lacked; what they told, they tell
-pub record AreUntouched (status : ℕ) (old new : Wires) : Type 0 where
-  pub same : status ≢ NO_MEMORY → new ≡ old
-  pub told : HaveToldOn old.told new.told
+-- nothing was run: the wires are as they were; or memory lacked, and they tell what they told, and maybe more
+abbrev pub AreUntouched : ℕ → Wires → Wires → Type 0
+AreUntouched status old new = (new ≡ old) ⊎ ((status ≡ NO_MEMORY) × HaveToldOn old.told new.told)
 
 -- ---- the run
 
 -- What is kept is the end of the run to which its events lead, and a history with its processes and copies. How that run stands is read off
--- what is kept (`row`), in both directions off its world (`reads`), and gives the status. What the history writes was printed, and behind it
--- the line of the standing; where a write failed or memory lacked, a front of both was. And the wires were used in the run
-pub record IsRun (f : Frame) (name : Action → List ℕ) (k : Kept) (status : ℕ) (old new : Option (List ℕ)) (before after : Wires) : Type 0 where
+-- what is kept (`row`, `only`), in both directions off its world (`reads`), and gives the status. What the history writes was printed, and behind it
+-- the line of the standing; where a write failed or memory lacked, a front of both was. And the wires, which told `before` and tell `after`,
+-- were used in the run; one that was never in use was asked nothing
+pub record IsRun (f : Frame) (name : Action → List ℕ) (k : Kept) (status : ℕ) (old new : Option (List ℕ)) (before after : List (List Asked)) :
+    Type 0 where
   pub world : World
   pub end : IsEndOf f world k
   pub history : IsHistory f world k
   pub reads : ReadsStanding f world
   pub row : KeptRow f world k (standing f world)
+  pub only : ShownRows f world k
   pub ends : EndsAs (standing_status (standing f world)) status
   pub lacked : standing f world ≡ Going → status ≡ NO_MEMORY
   pub printed :
       Grew old new (Ends (standing_status (standing f world)) status
       (output_of k.book.items ++ ending_line name f.settings.turns (standing f world) k.processes.items))
-  pub told : HaveToldOn before.told after.told
-  pub used : WereUsedSo (standing f world) f k.events.items world (asked_since before.told after.told)
+  pub told : HaveToldOn before after
+  pub used : WereUsedSo (standing f world) f k.events.items world (asked_since before after)
+  pub unused : NoneAskedBehind world.swaps (asked_since before after)
 
 -- it is the run that the words ask for, of the program in files, in the source's meaning
 pub record IsRunOf (words : List Word) (files : Option (List File)) (k : Kept) (status : ℕ) (old new : Option (List ℕ))
@@ -104,5 +107,5 @@ pub record IsRunOf (words : List Word) (files : Option (List File)) (k : Kept) (
   pub settings : Settings
   pub lines : List ScriptLine
   pub named : IsNamed words files (length before.told) program settings lines
-  pub run : IsRun (run_of (performs_of program) (computes_of program) settings) (awaited_name program) k status old new before after
+  pub run : IsRun (run_of (performs_of program) (computes_of program) settings) (awaited_name program) k status old new before.told after.told
   pub loaded : AreLoaded lines before after

@@ -1,7 +1,7 @@
 -- What the program does for its words (docs/FORMATS.md, The program).
 use Rattle.std.specs.Prelude.{ℕ, ◌==◌, ◌&&◌, ◌||◌, not, Bool, List, map, Option, Some, None, option_and_then, option_map, if◌then◌else◌}
 use Rattle.command_line.specs.declared.request.RunOptions.{RunOptions}
-use Rattle.command_line.specs.Asked.{Asked}
+use Rattle.command_line.specs.Asked.{Asked, IsRunWithin}
 use Rattle.command_line.specs.Asked as ask
 use Rattle.command_line.specs.Command.{Command}
 use Rattle.command_line.specs.Help.{help_of, version_line}
@@ -34,6 +34,12 @@ abbrev pub script_of : Deed → Option Word
 script_of (says text) = None
 script_of (checks files) = None
 script_of (runs options script files) = script
+
+-- the numbers of its options are in their ranges, where it has options
+abbrev pub IsDeedWithin : Deed → Type 0
+IsDeedWithin (says text) = Unit {0}
+IsDeedWithin (checks files) = Unit {0}
+IsDeedWithin (runs options script files) = IsRunWithin options
 
 -- so far a run is by one thread, whichever number of them isn't asked for, and prints its output alone
 abbrev pub usual_workers : ℕ

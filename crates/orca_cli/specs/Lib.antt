@@ -7,6 +7,7 @@ pub mod Loaded
 pub mod Scripts
 pub mod Endings
 pub mod Standings
+pub mod Laws
 pub mod Kept
 pub mod Rows
 pub mod Headline

@@ -1,8 +1,9 @@
 -- What each standing says of what is kept: the table of statuses, row by row (docs/FORMATS.md, Statuses).
-use Rattle.std.specs.Prelude.{◌≡◌, ◌⊎◌, ◌<◌, ◌||◌, ℕ, List, Some, length, slice_get}
+use Rattle.std.specs.Prelude.{◌≡◌, ◌⊎◌, ◌<◌, ◌||◌, ℕ, List, Some, true, length, slice_get}
 use Rattle.std.specs.List.{count_by}
 use Rattle.orca_base.specs.declared.fault.FaultKind.{FaultKind}
 use Rattle.orca_base.specs.declared.ids.ProcessNo.{ProcessNo}
+use Rattle.orca_base.specs.declared.what.What.{What}
 use Rattle.value_core.specs.History.{IsStuck, Process, processes_of}
 use Rattle.value_core.specs.declared.action.Action.{Action}
 use Rattle.value_core.specs.declared.meaning.Doing.TheVariants.{Busy}
@@ -10,7 +11,8 @@ use Rattle.world_rules.specs.declared.standing.Standing.{Standing}
 use Rattle.world_rules.specs.declared.standing.Standing.TheVariants.{Limit, OutOfTurns, OutOfEvents, NoGroup, Faulted, Blocked, Finished, Going}
 use Rattle.world_rules.specs.Frame.{Frame}
 use Rattle.world_rules.specs.Worlds.{World}
-use Rattle.world_facts.specs.Rows.{IsLimited, LacksGroup}
+use Rattle.world_facts.specs.Rows.{IsLimited, IsUnlimited, LacksGroup, is_limit}
+use Rattle.world_rules.specs.Standings as rules
 use Rattle.world_core.specs.declared.ends.NodeEnd.{NodeEnd}
 use Rattle.world_core.specs.declared.ends.ProcessEnd.{ProcessEnd}
 use Rattle.world_core.specs.declared.ends.ProcessStanding.{ProcessStanding}
@@ -30,11 +32,13 @@ AllEnded k =
     (i : ℕ) (end : ProcessEnd) → slice_get k.processes.items i ≡ Some end →
     (end.standing ≡ standing.Ended) ⊎ (end.standing ≡ standing.Crashed)
 
--- some process waits for the reply to an action; and each that does is stuck: by the history it is at a call whose guards are all false
+-- some process waits for the reply to an action, and none computes; and each that waits is stuck: by the history it is at a call whose
+-- guards are all false
 pub record SomeStuck (f : Frame) (k : Kept) : Type 0 where
   pub number : ℕ
   pub act : Action
   pub waits : StandsAt k number (standing.Waits act)
+  pub none_busy : (i : ℕ) → StandsAt k i standing.Busy → ⊥
   pub stuck :
       (i : ProcessNo) (act : Action) → StandsAt k i.0 (standing.Waits act) → IsStuck f.performs f.computes k.book.items i
 
@@ -52,6 +56,8 @@ pub record SomeBusy (f : Frame) (k : Kept) : Type 0 where
 abbrev pub LostTooMany : Frame → Kept → Type 0
 LostTooMany f k = f.settings.resilience < count_by (λ (n : NodeEnd). n.crashed || n.outside) k.nodes.items
 
+-- ---- the rows
+
 -- the row of a standing; the first that holds is the run's
 abbrev pub KeptRow : Frame → World → Kept → Standing → Type 0
 KeptRow f w k (Limit what number) = IsLimited f w what number
@@ -62,3 +68,15 @@ KeptRow f w k Faulted = (i : ℕ) × (fault : FaultKind) × StandsAt k i (standi
 KeptRow f w k Blocked = NoneFaulted k × SomeStuck f k
 KeptRow f w k Finished = AllEnded k
 KeptRow f w k Going = Unit {0}
+
+-- The other way, of rows that what is kept shows: where a limit was passed the run stands at one; else, where a process took all its turns, it
+-- is out of turns; else, where there are as many events as stated, it is out of events
+pub record ShownRows (f : Frame) (w : World) (k : Kept) : Type 0 where
+  pub limits : (what : What) (number : ℕ) → IsLimited f w what number → is_limit (rules.standing f w) ≡ true
+  pub turns :
+      (i : ℕ) (end : ProcessEnd) → slice_get k.processes.items i ≡ Some end → end.turns ≡ f.settings.turns →
+      IsUnlimited f w → rules.standing f w ≡ OutOfTurns
+  pub events :
+      length k.events.items ≡ f.settings.events → IsUnlimited f w →
+      ((i : ℕ) (end : ProcessEnd) → slice_get k.processes.items i ≡ Some end → end.turns < f.settings.turns) →
+      rules.standing f w ≡ OutOfEvents

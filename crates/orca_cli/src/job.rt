@@ -1,8 +1,8 @@
 //! What the program does for its words, as far as it is built.
 
-ghost use Rattle.std.specs.Prelude.{◌≡◌, map, option_map, string_bytes, IfOk};
-ghost use Rattle.command_line.specs.Asked.{asked_of};
-ghost use Rattle.orca_cli.specs.Job.{built, deed_in, deed_of, is_run_built, run_built};
+ghost use Rattle.std.specs.Prelude.{◌≡◌, map, option_map, string_bytes, IfOk, IfSome};
+ghost use Rattle.command_line.specs.Asked.{IsRunWithin, IsWithin, asked_of};
+ghost use Rattle.orca_cli.specs.Job.{IsDeedWithin, built, deed_in, deed_of, is_run_built, run_built};
 
 use command_line::{Request, RunOptions, help, read_words, version};
 use orca_base::{NoMemory, Refusal};
@@ -29,7 +29,8 @@ pub enum Job<'a> {
 
 /// What the program does for the words, or none where they are no command or ask for what is not built yet.
 pub fn job_of<'a>(alloc: Global, words: &'a [String]) -> Result<Option<Job<'a>>, NoMemory>
-    ensures { IfOk result (λ j. option_map deed_of j ≡ deed_in (map string_bytes words.entry.now)) }
+    ensures is { IfOk result (λ j. option_map deed_of j ≡ deed_in (map string_bytes words.entry.now)) }
+    ensures within { IfOk result (λ j. IfSome j (λ job. IsDeedWithin (deed_of job))) }
 {
     match read_words(alloc, words) {
         Ok(request) => Ok(job_built(request)),
@@ -40,7 +41,9 @@ pub fn job_of<'a>(alloc: Global, words: &'a [String]) -> Result<Option<Job<'a>>,
 
 // What is done for a request, where that is built.
 fn job_built<'a>(request: Request<'a>) -> Option<Job<'a>>
-    ensures { option_map deed_of result ≡ built (asked_of request.entry) }
+    requires { IsWithin (asked_of request) }
+    ensures is { option_map deed_of result ≡ built (asked_of request.entry) }
+    ensures within { IfSome result (λ job. IsDeedWithin (deed_of job)) }
 {
     match request {
         Request::Help { of } => Some(Job::Says { text: help(of) }),
@@ -74,7 +77,9 @@ fn run_built<'a>(
     script: Option<&'a str>,
     files: Vec<&'a str>,
 ) -> Option<Job<'a>>
-    ensures { option_map deed_of result ≡ run_built options (option_map (λ s. s.now) script.entry) (map (λ s. s.now) files.entry.items) }
+    requires { IsRunWithin options }
+    ensures is { option_map deed_of result ≡ run_built options (option_map (λ s. s.now) script.entry) (map (λ s. s.now) files.entry.items) }
+    ensures within { IfSome result (λ job. IsDeedWithin (deed_of job)) }
 {
     if is_run_built(options) {
         Some(Job::Runs {

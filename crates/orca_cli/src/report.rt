@@ -1,6 +1,6 @@
 //! What is told of a run, once it is over.
 
-ghost use Rattle.std.specs.Prelude.{◌≡◌, ◌≢◌, ◌⊎◌, ◌≤◌, ◌<◌, ◌++◌, IfOk, IsErrOf, OnOk, option_map};
+ghost use Rattle.std.specs.Prelude.{◌≡◌, ◌≢◌, ◌⊎◌, ◌==◌, ◌≤◌, ◌<◌, ◌++◌, IfOk, IsErrOf, OnOk, option_map};
 ghost use Rattle.orca_io.specs.Causes.{Rose};
 ghost use Rattle.orca_io.specs.Sinks.{Puts};
 ghost use Rattle.value_core.specs.History.{output_by, output_of};
@@ -8,7 +8,7 @@ ghost use Rattle.world_rules.specs.declared.standing.Standing.TheVariants.{Going
 ghost use Rattle.orca_cli.specs.Lines.{line_with};
 ghost use Rattle.orca_cli.specs.Printed.{Ends, EndsAs, Grew, HasStopped, WroteOf};
 ghost use Rattle.orca_cli.specs.Small.{awaited_name};
-ghost use Rattle.orca_cli.specs.Standings.{ending_line, fault_said, first_faulted, first_spent, first_waiting, run_status, spent_said, standing_status, wait_said};
+ghost use Rattle.orca_cli.specs.Standings.{awaited_of, ending_line, fault_of, fault_said, first_faulted, first_spent, first_waiting, run_status, spent_said, standing_status, wait_said};
 
 use crate::lines::{
     blocked_line, events_line, faulted_line, no_group_line, run_limit_line, turns_line,
@@ -131,11 +131,25 @@ fn first_faulted(ends: &[ProcessEnd]) -> Option<(usize, FaultKind)>
     ensures { option_map (λ p. (p.0, p.1)) result ≡ first_faulted ends.now }
 {
     'ends: for number in 0..ends.len() {
-        if let ProcessStanding::Faulted { fault } = &ends[number].standing {
-            return Some((number, *fault));
+        let end = &ends[number];
+        if let Some(fault) = fault_of(&end.standing) {
+            return Some((number, fault));
         }
     }
     None
+}
+
+// How it faulted, if it did.
+fn fault_of(standing: &ProcessStanding) -> Option<FaultKind>
+    ensures { result ≡ fault_of standing.now }
+{
+    match standing {
+        ProcessStanding::Faulted { fault } => Some(*fault),
+        ProcessStanding::Ended
+        | ProcessStanding::Waits { .. }
+        | ProcessStanding::Busy
+        | ProcessStanding::Crashed => None,
+    }
 }
 
 // Of the lowest process that waits.
@@ -160,11 +174,25 @@ fn first_waiting(ends: &[ProcessEnd]) -> Option<(usize, &Action)>
     ensures { option_map (λ p. (p.0, p.1.now)) result ≡ first_waiting ends.now }
 {
     'ends: for number in 0..ends.len() {
-        if let ProcessStanding::Waits { action } = &ends[number].standing {
+        let end = &ends[number];
+        if let Some(action) = awaited_of(&end.standing) {
             return Some((number, action));
         }
     }
     None
+}
+
+// The action at which it waits, if it does.
+fn awaited_of(standing: &ProcessStanding) -> Option<&Action>
+    ensures { option_map (λ a. a.now) result ≡ awaited_of standing.now }
+{
+    match standing {
+        ProcessStanding::Waits { action } => Some(action),
+        ProcessStanding::Ended
+        | ProcessStanding::Faulted { .. }
+        | ProcessStanding::Busy
+        | ProcessStanding::Crashed => None,
+    }
 }
 
 // Of the lowest process that took so many turns.
@@ -182,11 +210,19 @@ fn first_spent(turns: u64, ends: &[ProcessEnd]) -> Option<usize>
     ensures { option_map (λ number. (number, tt)) result ≡ first_spent turns ends.now }
 {
     'ends: for number in 0..ends.len() {
-        if ends[number].turns == turns {
+        let end = &ends[number];
+        if has_spent(turns, end) {
             return Some(number);
         }
     }
     None
+}
+
+// Whether it took so many turns.
+fn has_spent(turns: u64, end: &ProcessEnd) -> bool
+    ensures { result ≡ (end.now.turns == turns) }
+{
+    end.turns == turns
 }
 
 // Prints what the lines of a book write, one put a line, up to the first that fails.

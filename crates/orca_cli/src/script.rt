@@ -1,6 +1,6 @@
 //! The script of a run.
 
-ghost use Rattle.std.specs.Prelude.{◌≡◌, ◌⊎◌, ◌≤◌, ◌<◌, ◌-◌, ◌^◌, IfOk, IfSome, Some, length, option_map};
+ghost use Rattle.std.specs.Prelude.{◌≡◌, ◌⊎◌, ◌≤◌, ◌<◌, ◌-◌, ◌^◌, IfOk, MatchOption, Some, length, option_map};
 ghost use Rattle.fault_scripts.specs.Says.{IsScript};
 ghost use Rattle.orca_base.specs.Refusal.{IfBecause, MatchRefusal};
 ghost use Rattle.orca_io.specs.Causes.{Rose};
@@ -61,7 +61,7 @@ pub fn script_of<'a, F: Shelf>(
     file: Option<&'a str>,
 ) -> Result<Script, Refusal<ScriptFault<'a>>>
     ensures script { IfOk result (IsScriptOf (F.told shelf.old) (option_map (λ f. f.now) file.entry)) }
-    ensures refused { IfBecause result (λ fault. IfSome (option_map (λ f. f.now) file.entry) (λ name.
+    ensures refused { IfBecause result (λ fault. MatchOption (option_map (λ f. f.now) file.entry) ⊥ (λ name.
         IsScriptFault (F.told shelf.old) (Rose (F.faults shelf.old) (F.faults shelf.new)) name fault)) }
     ensures quiet { (F.faults shelf.new ≡ F.faults shelf.old) ⊎ MatchRefusal result (λ _. ⊥) IsUnreadable }
     ensures same { F.told shelf.new ≡ F.told shelf.old }

@@ -1,6 +1,6 @@
 //! The top call.
 
-ghost use Rattle.std.specs.Prelude.{◌≡◌, ◌⊎◌, ◌<◌, ◌≤◌, [], ℕ, List, None, IfNone, IfOk, IfSome, Option, Some, length, map, option_map, slice_index_or, string_bytes};
+ghost use Rattle.std.specs.Prelude.{◌≡◌, ◌⊎◌, ◌<◌, ◌≤◌, [], ℕ, List, None, IfNone, IfOk, IfSome, OnOk, Option, Some, length, map, option_map, slice_index_or, string_bytes};
 ghost use Rattle.command_line.specs.Asked.{IsRunWithin};
 ghost use Rattle.orca_base.specs.Refusal.{IfBecause};
 ghost use Rattle.orca_io.specs.Causes.{Rose};
@@ -14,6 +14,7 @@ ghost use Rattle.run_loop.specs.Left.{run_of};
 ghost use Rattle.orca_cli.specs.Endings.{IsAnswer};
 ghost use Rattle.orca_cli.specs.Headline.{AreLoaded, AreUntouched, IsRun, IsRunOf, settings_of, wires_of};
 ghost use Rattle.orca_cli.specs.Job.{Word, checks, deed_in, files_in, runs, script_in};
+ghost use Rattle.orca_cli.specs.Laws.{RunLaws};
 ghost use Rattle.orca_cli.specs.Loaded.{IsFailed, IsLoadFault, front_status};
 ghost use Rattle.orca_cli.specs.Printed.{HasStopped};
 ghost use Rattle.orca_cli.specs.Scripts.{HasScript, IsScriptFault, IsUnreadable};
@@ -34,15 +35,17 @@ use crate::statuses::{
 };
 use command_line::RunOptions;
 use fault_scripts::Script;
-use orca_base::{Items, Refusal};
+use orca_base::{Items, NoMemory, Refusal};
 use orca_front::{FrontFault, SourceFile, accepted, fault_line, linked};
 use orca_io::{Shelf, Sink};
 use orca_meaning::TreeMachine;
 use orca_modules::Program;
+use run_law::run_law;
 use run_loop::{Settings, run};
 use small_program::SmallProgram;
 use std::alloc::Global;
 use wires::Wire;
+use world_facts::{book_by_places, ends_stand, processes_stand, standings_mean, worlds_count};
 
 // Prints why files weren't read.
 fn said_unread<K: Sink>(alloc: Global, out: &mut K, fault: LoadFault<'_>) -> Ended
@@ -157,6 +160,70 @@ fn settings_of(alloc: Global, options: RunOptions, wires: u16) -> Settings
     }
 }
 
+// Loads the first wire with a script.
+fn load_first<W: Wire>(alloc: Global, script: &Script, wires: &mut [W]) -> Result<(), NoMemory>
+    requires { 1 ≤ length wires.old }
+    ensures loaded { OnOk result (AreLoaded script.now
+        (wires_of W.told W.told_script W.loaded wires.old) (wires_of W.told W.told_script W.loaded wires.new)) }
+    ensures told { map W.told wires.new ≡ map W.told wires.old }
+    ensures count { length wires.new ≡ length wires.old }
+{
+    wires[0].load(alloc, script)
+}
+
+// What is so of each run of the program. A call of this function does nothing.
+fn laws_of_runs(machine: &TreeMachine)
+    ensures { RunLaws (performs_of machine.now.program) (computes_of machine.now.program) }
+{
+    book_by_places();
+    ends_stand();
+    processes_stand();
+    run_law(machine);
+    standings_mean();
+    worlds_count();
+}
+
+// Runs a small program over wires as they are loaded, and tells what came of it.
+fn run_loaded<K: Sink, W: Wire>(
+    alloc: Global,
+    machine: &TreeMachine,
+    options: RunOptions,
+    out: &mut K,
+    wires: &mut [W],
+) -> Ended
+    requires options { IsRunWithin options }
+    requires wires { (1 ≤ length wires.old) × (length wires.old ≤ 1000) }
+    ensures none { IfNone result.kept ((result.status ≡ NO_MEMORY) × (K.told out.new ≡ K.told out.old)) }
+    ensures kept { IfSome result.kept (λ k. IsRun
+        (run_of (performs_of machine.now.program) (computes_of machine.now.program) (settings_of options (length wires.old)))
+        (awaited_name machine.now.program) k result.status (K.told out.old) (K.told out.new)
+        (map W.told wires.old) (map W.told wires.new)) }
+    ensures told { HaveToldOn (map W.told wires.old) (map W.told wires.new) }
+    ensures scripts { map W.told_script wires.new ≡ map W.told_script wires.old }
+    ensures loaded { map W.loaded wires.new ≡ map W.loaded wires.old }
+    ensures later { K.faults out.old ≤ K.faults out.new }
+    ensures failed { result.status ≡ WRITE_FAULT → Rose (K.faults out.old) (K.faults out.new) }
+    ensures stopped { K.faults out.old < K.faults out.new → HasStopped result.status }
+{
+    laws_of_runs(machine);
+    let settings = settings_of(alloc, options, wires.len() as u16);
+    let ran = run(alloc, machine, settings, wires);
+    let Some(end) = ran.end else {
+        return nothing();
+    };
+    let standing = ran.standing;
+    let status = report(alloc, out, &machine.program, options.turns, standing, &end);
+    Ended {
+        status,
+        kept: Some(Kept {
+            book: end.book,
+            events: end.steps,
+            nodes: end.nodes,
+            processes: end.processes,
+        }),
+    }
+}
+
 // Runs a small program with this script, and tells what came of it. Where memory lacks before the run begins, nothing was asked.
 fn run_small<K: Sink, W: Wire>(
     alloc: Global,
@@ -172,9 +239,10 @@ fn run_small<K: Sink, W: Wire>(
     requires options { IsRunWithin options }
     requires wires { (1 ≤ length wires.old) × (length wires.old ≤ 1000) }
     ensures none { IfNone result.kept ((result.status ≡ NO_MEMORY) × (K.told out.new ≡ K.told out.old)) }
-    ensures kept { IfSome result.kept (λ k. IsRun (run_of (performs_of program) (computes_of program) (settings_of options (length wires.old)))
+    ensures kept { IfSome result.kept (λ k. IsRun
+        (run_of (performs_of program) (computes_of program) (settings_of options (length wires.old)))
         (awaited_name program) k result.status (K.told out.old) (K.told out.new)
-        (wires_of W.told W.told_script W.loaded wires.old) (wires_of W.told W.told_script W.loaded wires.new)) }
+        (map W.told wires.old) (map W.told wires.new)) }
     ensures loaded { IfSome result.kept (λ k. AreLoaded script.now
         (wires_of W.told W.told_script W.loaded wires.old) (wires_of W.told W.told_script W.loaded wires.new)) }
     ensures told { HaveToldOn (map W.told wires.old) (map W.told wires.new) }
@@ -182,32 +250,10 @@ fn run_small<K: Sink, W: Wire>(
     ensures failed { result.status ≡ WRITE_FAULT → Rose (K.faults out.old) (K.faults out.new) }
     ensures stopped { K.faults out.old < K.faults out.new → HasStopped result.status }
 {
-    if wires[0].load(alloc, script).is_err() {
+    if load_first(alloc, script, wires).is_err() {
         return nothing();
     }
-    let machine = TreeMachine::new(program);
-    let settings = settings_of(alloc, options, wires.len() as u16);
-    let ran = run(alloc, &machine, settings, wires);
-    let Some(end) = ran.end else {
-        return nothing();
-    };
-    let status = report(
-        alloc,
-        out,
-        &machine.program,
-        options.turns,
-        ran.standing,
-        &end,
-    );
-    Ended {
-        status,
-        kept: Some(Kept {
-            book: end.book,
-            events: end.steps,
-            nodes: end.nodes,
-            processes: end.processes,
-        }),
-    }
+    run_loaded(alloc, &TreeMachine::new(program), options, out, wires)
 }
 
 // Runs the program in the files with the script in another, or says why not.

@@ -30,7 +30,7 @@ use Rattle.world_book.specs.Holding.{RunsHold}
 use Rattle.world_book.specs.Submitting.{ProcessesMaySubmit}
 use Rattle.world_parts.specs.Seen.{Of, Seen, tasks_out}
 use Rattle.world_core.specs.Stepping.{HasComputed, IsRefused, Stepped, told_so}
-use Rattle.run_loop.specs.Asked.{HaveToldOn, WereUsedSo, asked_since}
+use Rattle.run_loop.specs.Asked.{HaveToldOn, NoneAskedBehind, WereUsedSo, asked_since}
 use Rattle.run_loop.specs.Driven.{AreUpTo, HasAnswered, HasStopped, IsDriven, IsDue, IsGoing, MayGoOn, WentOn, told_more}
 use Rattle.run_loop.proofs.Due.{refused_passes}
 use Rattle.run_loop.proofs.Telling.{none_since, since_here, since_other, tells_itself, tells_on}
@@ -89,6 +89,7 @@ opens f s told none idle wires settings = record {
     caused = λ n step act there is. absurd (no_step n step there);
     given = λ wire. subst (λ (l : List Asked). AreAccounted f [] (acts_in l)) (sym (none_since told wire)) tt;
   });
+  unused = λ wire lt. none_since told wire;
   numbers = λ wire. subst (λ (l : List Asked). AreUpTo (suc (length s.steps)) (acts_in l)) (sym (none_since told wire)) tt;
   idle = idle;
   settings = settings;
@@ -117,6 +118,9 @@ module _ {S : Type 0} (f : Frame) (s : Seen S) (in_use : ℕ) (old new : List (L
   pub tells_asked : HaveToldOn old new
   tells_asked = subst (HaveToldOn old) (sym h.told) (tells_on old h.before in_use (Act (suc (length s.steps)) answer ∷ []) h.driven.told h.driven.within)
 
+  pub unused_asked : NoneAskedBehind in_use (asked_since old new)
+  unused_asked wire lt = asks.others wire (λ e. absurd (omega (arith, lt, e))) ∙ h.driven.unused wire lt
+
   -- where what it gave is accounted for, the run may go on
   pub goes_on : IsAccounted f s.steps (suc (length s.steps)) answer → MayGoOn f s in_use old new
   goes_on fine = record {
@@ -128,6 +132,7 @@ module _ {S : Type 0} (f : Frame) (s : Seen S) (in_use : ℕ) (old new : List (L
       wires = same_length ∙ h.driven.wires;
       told = tells_asked;
       used = used_asked in_use (suc (length s.steps)) answer (asked_since old h.before) (asked_since old new) asks f s.steps h.driven.world refl h.driven.used fine;
+      unused = unused_asked;
       numbers = numbers_asked in_use (suc (length s.steps)) answer (asked_since old h.before) (asked_since old new) asks (suc (length s.steps)) (omega arith) h.driven.numbers;
       idle = h.driven.idle;
       settings = h.driven.settings;
@@ -151,6 +156,7 @@ module _ {S : Type 0} (f : Frame) (s : Seen S) (in_use : ℕ) (old new : List (L
       in_use = subst (λ k. asked_since old new k ≡ asked_since old h.before k ++ Act (suc (length s.steps)) answer ∷ []) h.driven.swaps asks.here;
       others = λ wire apart. asks.others wire (λ e. apart (e ∙ h.driven.swaps));
     };
+    unused = subst (λ k. NoneAskedBehind k (asked_since old new)) h.driven.swaps unused_asked;
   }
 
 -- it gave nothing; or what may not be, which is passed over
@@ -181,6 +187,7 @@ stops f s in_use old new d going = record {
     in_use = sym (append-nil (asked_since old new d.world.swaps));
     others = λ wire apart. refl;
   };
+  unused = subst (λ k. NoneAskedBehind k (asked_since old new)) d.swaps d.unused;
 }
 
 -- ---- a step was done
@@ -225,8 +232,8 @@ module _ {S : Type 0} (f : Frame) (s after : Seen S) (in_use next_use : ℕ) (ol
 
   pub driven_on : (is_burst step.event ≡ false → (answer : Option WireAct) × In (suc (length s.steps), answer) (acts_in (asked_since old new in_use)))
       → ((act : WireAct) → step.event ≡ event_of act → last_answer (suc (length s.steps)) (acts_in (asked_since old new in_use)) ≡ Some (Some act))
-      → next_use ≡ in_use + swaps_by step.event → next_use < length told → WentOn f s after next_use old told
-  driven_on asked caused moves low = record {
+      → NoneAskedBehind in_use (asked_since old new) → next_use ≡ in_use + swaps_by step.event → next_use < length told → WentOn f s after next_use old told
+  driven_on asked caused unused moves low = record {
     driven = record {
       world = does_it.world;
       replays = subst (λ (l : List Step). Replays f l does_it.world) (sym does_it.steps) led;
@@ -238,6 +245,7 @@ module _ {S : Type 0} (f : Frame) (s after : Seen S) (in_use next_use : ℕ) (ol
           (used_stepped in_use does_it.more (asked_since old new) (asked_since old told) packets f s.steps w does_it.world step used does_it.told_is given
           (λ plain. subst (λ k. (answer : Option WireAct) × In (suc (length s.steps), answer) (acts_in (asked_since old new k))) (sym in_use_is) (asked plain))
           (λ act is. subst (λ k. last_answer (suc (length s.steps)) (acts_in (asked_since old new k)) ≡ Some (Some act)) (sym in_use_is) (caused act is)));
+      unused = λ wire lt. packets.others wire (λ e. absurd (omega (arith, lt, moves, e))) ∙ unused wire (omega (arith, lt, moves));
       numbers = λ wire.
           subst (λ (l : List Step). AreUpTo (suc (length l)) (acts_in (asked_since old told wire))) (sym does_it.steps)
           (subst (λ (l : List (ℕ × Option WireAct)). AreUpTo (suc (length all)) l) (sym (acts_same in_use does_it.more (asked_since old new) (asked_since old told) packets wire))
@@ -348,6 +356,7 @@ due_done f s after in_use old new told what prior now count tell on due st same 
     (stepped_is f s after in_use new told what prior now d.world count tell d.replays d.swaps st (inl (due_swaps what due)) same put (omega (arith, tasks, idle)))
     (λ plain. (on.answer, on.asked))
     (λ act is. absurd (due_not_given act (subst IsDue (sym st.event_is ∙ is) due)))
+    d.unused
     (let none = ap swaps_by st.event_is ∙ due_swaps what due in omega (arith, none))
     (omega (arith, within, length_is))
 
@@ -373,6 +382,7 @@ act_done f s after in_use next_use old new told act prior now count tell h st sa
     (stepped_is f s after in_use new told (event_of act) prior now d.world count tell d.replays d.swaps st (act_swaps act) same put (omega (arith, tasks, idle)))
     (λ plain. (Some act, asked_is in_use n (Some act) before_it since asked))
     (λ other is. answer_is in_use n (Some act) before_it since asked ∙ ap (λ (a : WireAct). Some (Some a)) (same_act act other (sym st.event_is ∙ is)))
+    (unused_asked f s in_use old new (Some act) h)
     (moves ∙ ap (λ (e : Event). in_use + swaps_by e) (sym st.event_is))
     low
 
@@ -404,6 +414,7 @@ burst_done f s after in_use old new process count on in_it tasks =
     })
     (λ plain. (on.answer, on.asked))
     (λ act is. absurd (burst_not_given act process in_it.place in_it.turns is))
+    d.unused
     (omega arith)
     d.within
 

@@ -16,7 +16,7 @@ use Rattle.world_book.specs.Promise.{AllStuck, IsKept}
 use Rattle.world_parts.specs.Seen.{Of, Seen, tasks_out}
 use Rattle.world_core.specs.Telling.{AreNodeEnds, AreProcessEnds, EndsMean}
 use Rattle.world_core.specs.declared.ends.RunEnd.{RunEnd}
-use Rattle.run_loop.specs.Asked.{HaveToldOn, WereUsedSo, asked_since}
+use Rattle.run_loop.specs.Asked.{HaveToldOn, NoneAskedBehind, WereUsedSo, asked_since}
 use Rattle.run_loop.specs.Driven.{HasStopped, IsDriven}
 use Rattle.run_loop.specs.Left.{HasRun}
 use Rattle.run_loop.proofs.Driving.{opens, used_over, used_stopped}
@@ -37,6 +37,7 @@ pub record HasGone {S : Type 0} (f : Frame) (s : Seen S) (st : Standing) (old ne
   pub world : World
   pub replays : Replays f s.steps world
   pub used : WereUsedSo st f s.steps world (asked_since old new)
+  pub unused : NoneAskedBehind world.swaps (asked_since old new)
   pub told : HaveToldOn old new
 
 pub gone : {S T E : Type 0} (f : Frame) (s : Seen S) (in_use : ℕ) (st : Standing) (old new : List (List Asked)) (r : Result T E) → OnOk r (IsDriven f s in_use old new) → OnOk r (Of f s (λ w. rules.standing f w ≢ Going))
@@ -45,12 +46,14 @@ gone f s in_use st old new (Ok x) d over stopped stands = record {
   world = d.world;
   replays = d.replays;
   used = used_over f s in_use old new st d (stands d.world d.replays) (λ going. over d.world d.replays (sym (stands d.world d.replays) ∙ going));
+  unused = subst (λ (k : ℕ). NoneAskedBehind k (asked_since old new)) d.swaps d.unused;
   told = d.told;
 }
 gone f s in_use st old new (Err e) driven over h stands = record {
   world = h.world;
   replays = h.replays;
   used = used_stopped f s old new st h (stands h.world h.replays);
+  unused = h.unused;
   told = h.told;
 }
 
@@ -72,4 +75,5 @@ ran f s st old new (Ok end) h stands stuck steps book nodes processes mean kept 
     mean = mean h.world h.replays;
   };
   used = subst (λ (l : List Step). WereUsedSo st f l h.world (asked_since old new)) (sym steps) h.used;
+  unused = h.unused;
 }

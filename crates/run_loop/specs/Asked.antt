@@ -1,5 +1,5 @@
--- What wires were asked in a run, and that the network was really used where the run stopped for want of memory.
-use Rattle.std.specs.Prelude.{◌≡◌, ◌⊎◌, ◌++◌, ℕ, suc, List, [], ◌∷◌, length, drop, Option, slice_index_or}
+-- What wires were asked in a run, which were asked nothing, and that the network was really used where the run stopped for want of memory.
+use Rattle.std.specs.Prelude.{◌≡◌, ◌⊎◌, ◌<◌, ◌++◌, ℕ, suc, List, [], ◌∷◌, length, drop, Option, slice_index_or}
 use Rattle.net_rules.specs.declared.asked.Asked.{Asked}
 use Rattle.net_rules.specs.declared.asked.Asked.TheVariants.{Act}
 use Rattle.net_rules.specs.declared.fate.WireAct.{WireAct}
@@ -20,6 +20,10 @@ asked_since old new wire = drop (length (slice_index_or old wire [])) (slice_ind
 pub record HaveToldOn (old new : List (List Asked)) : Type 0 where
   pub count : length new ≡ length old
   pub each : (wire : ℕ) → slice_index_or new wire [] ≡ slice_index_or old wire [] ++ asked_since old new wire
+
+-- the wires behind the one in use, which were never in use, were asked nothing
+abbrev pub NoneAskedBehind : ℕ → (ℕ → List Asked) → Type 0
+NoneAskedBehind in_use asked = (wire : ℕ) → in_use < wire → asked wire ≡ []
 
 -- ---- where memory lacked
 

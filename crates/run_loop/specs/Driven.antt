@@ -19,7 +19,7 @@ use Rattle.world_law.specs.Packets.{AllNumber}
 use Rattle.world_book.specs.Holding.{RunsHold}
 use Rattle.world_book.specs.Submitting.{ProcessesMaySubmit}
 use Rattle.world_parts.specs.Seen.{Of, Seen, tasks_out}
-use Rattle.run_loop.specs.Asked.{HaveToldOn, WereUsedUpTo, asked_since}
+use Rattle.run_loop.specs.Asked.{HaveToldOn, NoneAskedBehind, WereUsedUpTo, asked_since}
 
 -- ---- what is so of each run of a program by these settings
 
@@ -45,7 +45,7 @@ AreUpTo n (one ∷ more) = (one.0 ≤ n) × AreUpTo n more
 -- ---- between events
 
 -- the run goes on by these steps, with no task out; the wire in use is behind as many as there were swaps; and the wires, which told `old`
--- before the run, were used in it
+-- before the run, were used in it, and those behind the one in use asked nothing
 pub record IsDriven {S : Type 0} (f : Frame) (s : Seen S) (in_use : ℕ) (old new : List (List Asked)) : Type 0 where
   pub world : World
   pub replays : Replays f s.steps world
@@ -54,6 +54,7 @@ pub record IsDriven {S : Type 0} (f : Frame) (s : Seen S) (in_use : ℕ) (old ne
   pub wires : length new ≡ f.settings.wires
   pub told : HaveToldOn old new
   pub used : WereUsed f s.steps world (asked_since old new)
+  pub unused : NoneAskedBehind in_use (asked_since old new)
   pub numbers : (wire : ℕ) → AreUpTo (suc (length s.steps)) (acts_in (asked_since old new wire))
   pub idle : tasks_out s ≡ 0
   pub settings : AreSettings f.settings
@@ -97,10 +98,12 @@ pub record WentOn {S : Type 0} (f : Frame) (before after : Seen S) (in_use : ℕ
   pub driven : IsDriven f after in_use old new
   pub one : length after.steps ≡ suc (length before.steps)
 
--- memory lacked: the steps lead to a world that is going, and the wires were used but for a last question
+-- memory lacked: the steps lead to a world that is going, and the wires were used but for a last question; those behind the one in use were
+-- asked nothing
 pub record HasStopped {S : Type 0} (f : Frame) (s : Seen S) (old new : List (List Asked)) : Type 0 where
   pub world : World
   pub replays : Replays f s.steps world
   pub going : standing f world ≡ Going
   pub told : HaveToldOn old new
   pub used : WereUsedUpTo f s.steps world (asked_since old new)
+  pub unused : NoneAskedBehind world.swaps (asked_since old new)

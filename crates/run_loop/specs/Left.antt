@@ -11,7 +11,7 @@ use Rattle.world_rules.specs.Worlds.{Book, World}
 use Rattle.world_book.specs.Promise.{AllStuck, IsKept}
 use Rattle.world_core.specs.Telling.{AreNodeEnds, AreProcessEnds, EndsMean}
 use Rattle.world_core.specs.declared.ends.RunEnd.{RunEnd}
-use Rattle.run_loop.specs.Asked.{WereUsedSo, asked_since}
+use Rattle.run_loop.specs.Asked.{NoneAskedBehind, WereUsedSo, asked_since}
 
 -- the run of a program with these meanings, by these settings
 abbrev pub run_of : Performs → Computes → Settings → Frame
@@ -29,8 +29,9 @@ pub record IsLeft (f : Frame) (w : World) (standing : Standing) (end : RunEnd) :
   pub stuck : AllStuck f w
   pub mean : EndsMean f w
 
--- and the wires, which told `old` before it and tell `new` behind it, were used in it
+-- and the wires, which told `old` before it and tell `new` behind it, were used in it; a wire that was never in use was asked nothing
 pub record HasRun (f : Frame) (standing : Standing) (old new : List (List Asked)) (end : RunEnd) : Type 0 where
   pub world : World
   pub left : IsLeft f world standing end
   pub used : WereUsedSo standing f end.steps.items world (asked_since old new)
+  pub unused : NoneAskedBehind world.swaps (asked_since old new)
