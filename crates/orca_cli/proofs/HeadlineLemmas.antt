@@ -1,5 +1,5 @@
 -- What a run leaves is what the headline says of it: from the run that was driven, the law of runs, and what was printed.
-use Rattle.std.proofs.Common.{◌≡◌, ◌∙◌, ◌<◌, ◌≤◌, ℕ, Bool, true, false, List, [], ◌∷◌, ◌++◌, get_or, length, map, set, Option, Some, None, IfNone, IfSome, suc, ap, sym, subst, refl, arith}
+use Rattle.std.proofs.Common.{◌≡◌, ◌∙◌, ◌<◌, ◌≤◌, ℕ, Bool, true, false, List, [], ◌∷◌, ◌++◌, get_or, length, map, set, Option, Some, None, IfNone, IfSome, Result, Ok, Err, OnOk, suc, ap, sym, subst, refl, arith}
 use Rattle.std.specs.Prelude.{option_map, slice_get}
 use Rattle.std.proofs.lemmas.List.{length-map}
 use Rattle.command_line.specs.Asked.{IsRunWithin}
@@ -104,6 +104,11 @@ is_run_by p q options wires settings name end standing status old new before aft
 -- of what there is
 pub some_is : {T : Type 0} (o : Option T) (x : T) (P : T → Type 0) → o ≡ Some x → IfSome o P → P x
 some_is o x P is h = subst (λ (o : Option _). IfSome o P) is h
+
+-- of a result
+pub ok_both : {T E A B C : Type 0} (r : Result T E) → (A → B → C) → OnOk r A → OnOk r B → OnOk r C
+ok_both (Ok x) so a b = so a b
+ok_both (Err e) so a b = tt
 
 -- ---- the wires
 

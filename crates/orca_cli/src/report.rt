@@ -130,8 +130,7 @@ fn fault_said(alloc: Global, ends: &[ProcessEnd]) -> Result<Vec<u8>, NoMemory>
 fn first_faulted(ends: &[ProcessEnd]) -> Option<(usize, FaultKind)>
     ensures { option_map (λ p. (p.0, p.1)) result ≡ first_faulted ends.now }
 {
-    'ends: for number in 0..ends.len() {
-        let end = &ends[number];
+    'ends: for (number, end) in ends.iter().enumerate() {
         if let Some(fault) = fault_of(&end.standing) {
             return Some((number, fault));
         }
@@ -173,8 +172,7 @@ fn wait_said(
 fn first_waiting(ends: &[ProcessEnd]) -> Option<(usize, &Action)>
     ensures { option_map (λ p. (p.0, p.1.now)) result ≡ first_waiting ends.now }
 {
-    'ends: for number in 0..ends.len() {
-        let end = &ends[number];
+    'ends: for (number, end) in ends.iter().enumerate() {
         if let Some(action) = awaited_of(&end.standing) {
             return Some((number, action));
         }
@@ -209,8 +207,7 @@ fn spent_said(alloc: Global, turns: u64, ends: &[ProcessEnd]) -> Result<Vec<u8>,
 fn first_spent(turns: u64, ends: &[ProcessEnd]) -> Option<usize>
     ensures { option_map (λ number. (number, tt)) result ≡ first_spent turns ends.now }
 {
-    'ends: for number in 0..ends.len() {
-        let end = &ends[number];
+    'ends: for (number, end) in ends.iter().enumerate() {
         if has_spent(turns, end) {
             return Some(number);
         }

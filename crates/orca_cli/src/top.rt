@@ -146,16 +146,17 @@ fn said_unscripted<K: Sink>(alloc: Global, out: &mut K, fault: ScriptFault<'_>) 
     said(out, fault.line(alloc), fault.status())
 }
 
-// The settings of a run with these options over so many wires: each object is at every member.
-fn settings_of(alloc: Global, options: RunOptions, wires: u16) -> Settings
-    ensures { result ≡ settings_of options wires }
+// The settings of a run with these options over these wires: each object is at every member.
+fn settings_of<W: Wire>(alloc: Global, options: RunOptions, wires: &[W]) -> Settings
+    requires { length wires.now ≤ 1000 }
+    ensures { result ≡ settings_of options (length wires.now) }
 {
     Settings {
         nodes: options.group.nodes,
         resilience: options.group.resilience,
         turns: options.turns,
         events: options.events,
-        wires,
+        wires: wires.len() as u16,
         choices: Items::new(Vec::new(alloc)),
     }
 }
@@ -206,13 +207,19 @@ fn run_loaded<K: Sink, W: Wire>(
     ensures stopped { K.faults out.old < K.faults out.new → HasStopped result.status }
 {
     laws_of_runs(machine);
-    let settings = settings_of(alloc, options, wires.len() as u16);
+    let settings = settings_of(alloc, options, wires);
     let ran = run(alloc, machine, settings, wires);
     let Some(end) = ran.end else {
         return nothing();
     };
-    let standing = ran.standing;
-    let status = report(alloc, out, &machine.program, options.turns, standing, &end);
+    let status = report(
+        alloc,
+        out,
+        &machine.program,
+        options.turns,
+        ran.standing,
+        &end,
+    );
     Ended {
         status,
         kept: Some(Kept {
@@ -250,10 +257,10 @@ fn run_small<K: Sink, W: Wire>(
     ensures failed { result.status ≡ WRITE_FAULT → Rose (K.faults out.old) (K.faults out.new) }
     ensures stopped { K.faults out.old < K.faults out.new → HasStopped result.status }
 {
-    if load_first(alloc, script, wires).is_err() {
-        return nothing();
+    match load_first(alloc, script, wires) {
+        Ok(()) => run_loaded(alloc, &TreeMachine::new(program), options, out, wires),
+        Err(_) => nothing(),
     }
-    run_loaded(alloc, &TreeMachine::new(program), options, out, wires)
 }
 
 // Runs the program in the files with the script in another, or says why not.
