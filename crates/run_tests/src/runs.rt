@@ -1,6 +1,6 @@
 //! Runs without faults, and with faults from which the group recovers.
 
-use crate::tried::{Counts, ONE, counts, members, one_cell, tried};
+use crate::tried::{Counts, ONE, counts, lone_wire, members, one_cell, tried, tried_over};
 use orca_cli::{FINISHED, ProcessStanding, Step};
 use std::alloc::{AllocError, Global};
 use std::test::Fail;
@@ -41,6 +41,8 @@ fn is_so(rt: &HostRuntime, row: &Row<'_>) -> Result<bool, Fail> {
         && same)
 }
 
+// The make, the assignment and the write are three entries, each behind a burst and an act, and a last burst finds the end; the read is
+// answered within the third burst. Nobody else is to be told.
 #[test]
 fn one_cell_on_one_member(rt: HostRuntime) -> Result<(), Fail> {
     assert!(rt; is_so(&rt, &Row {
@@ -54,6 +56,7 @@ fn one_cell_on_one_member(rt: HostRuntime) -> Result<(), Fail> {
     Ok(())
 }
 
+// Each of three entries goes to two members.
 #[test]
 fn one_cell_on_three_members(rt: HostRuntime) -> Result<(), Fail> {
     assert!(rt; is_so(&rt, &Row {
@@ -67,6 +70,7 @@ fn one_cell_on_three_members(rt: HostRuntime) -> Result<(), Fail> {
     Ok(())
 }
 
+// Each of three entries goes to two members, one of which acknowledges it, and then both are told that it is accepted: 3 times 2 + 1 + 2.
 #[test]
 fn one_cell_resilient(rt: HostRuntime) -> Result<(), Fail> {
     assert!(rt; is_so(&rt, &Row {
@@ -80,6 +84,7 @@ fn one_cell_resilient(rt: HostRuntime) -> Result<(), Fail> {
     Ok(())
 }
 
+// Each of three entries goes to 15 members, 7 of which acknowledge it, and with the last of these all 15 are told: 3 times 15 + 7 + 15.
 #[test]
 fn sixteen_members(rt: HostRuntime) -> Result<(), Fail> {
     assert!(rt; is_so(&rt, &Row {
@@ -277,6 +282,25 @@ fn acts_passed_over(rt: HostRuntime) -> Result<(), Fail> {
         members(alloc, kept)?.as_slice(),
         [(3, 0, false), (0, 0, true), (3, 0, false)].as_slice()
     );
+    Ok(())
+}
+
+// With no wire behind the one in use a swap is passed over: six packets and thirteen events, as without a script.
+#[test]
+fn swap_without_a_next_wire(rt: HostRuntime) -> Result<(), Fail> {
+    let alloc = rt.alloc();
+    let mut wires = lone_wire(alloc)?;
+    let tried = tried_over(
+        alloc,
+        &["run", "--script", "f.txt", "one.orca"],
+        &[("one.orca", ONE), ("f.txt", "swap entry 2\n")],
+        &[],
+        &mut wires,
+    )?;
+    assert_eq!(rt; tried.ended.status, FINISHED);
+    assert_eq!(rt; tried.printed.as_str(), "6\n");
+    let kept = tried.ended.kept.as_ref().ok_or("nothing kept")?;
+    assert_eq!(rt; counts(&kept.events), Counts::plain(4, 3, 6));
     Ok(())
 }
 

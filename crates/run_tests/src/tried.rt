@@ -124,20 +124,38 @@ pub fn wires(alloc: Global) -> Result<Vec<Box<dyn Wire + Send>>, Fail> {
     Ok(wires)
 }
 
-/// What comes of these words over these files, where the puts of these numbers fail.
+/// The first of these alone.
+pub fn lone_wire(alloc: Global) -> Result<Vec<Box<dyn Wire + Send>>, Fail> {
+    let mut wires: Vec<Box<dyn Wire + Send>> = Vec::new(alloc);
+    wires.push(Box::new(alloc, ScriptWire::new(alloc)?)?)?;
+    Ok(wires)
+}
+
+/// What comes of these words over these files and two wires, where the puts of these numbers fail.
 pub fn tried(
     alloc: Global,
     line: &[&str],
     files: &[(&str, &str)],
     failing: &[u64],
 ) -> Result<Tried, Fail> {
+    let mut wires = wires(alloc)?;
+    tried_over(alloc, line, files, failing, &mut wires)
+}
+
+/// The same over these wires.
+pub fn tried_over(
+    alloc: Global,
+    line: &[&str],
+    files: &[(&str, &str)],
+    failing: &[u64],
+    wires: &mut Vec<Box<dyn Wire + Send>>,
+) -> Result<Tried, Fail> {
     let mut shelf = shelf(alloc, files, &[])?;
     let mut out = MemorySink::new(alloc, Vec::from_slice(alloc, failing)?);
-    let mut wires = wires(alloc)?;
-    if wires.len() != 2 {
-        return Err("not two wires".into());
+    if wires.len() == 0 || wires.len() > 1000 {
+        return Err("no such number of wires".into());
     }
-    let ended = orca_main(alloc, &words(alloc, line)?, &mut shelf, &mut out, &mut wires);
+    let ended = orca_main(alloc, &words(alloc, line)?, &mut shelf, &mut out, wires);
     let printed = String::from_utf8(Vec::from_slice(alloc, out.bytes())?)
         .ok()
         .ok_or("no text")?;
