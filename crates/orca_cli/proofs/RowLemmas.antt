@@ -44,7 +44,7 @@ use Rattle.world_core.specs.declared.ends.ProcessStanding.{ProcessStanding}
 use Rattle.world_core.specs.declared.ends.ProcessStanding.TheVariants as standing
 use Rattle.orca_cli.specs.declared.kept.Kept.{Kept}
 use Rattle.orca_cli.specs.Kept.{IsEndOf}
-use Rattle.orca_cli.specs.Rows.{AllEnded, KeptRow, LostTooMany, NoneFaulted, ShownRows, SomeBusy, SomeStuck, StandsAt}
+use Rattle.orca_cli.specs.Rows.{AllEnded, HaveTurns, KeptRow, LostTooMany, NoneFaulted, ShownRows, SomeBusy, SomeStuck, StandsAt}
 use Rattle.orca_cli.proofs.KeptLemmas.{end_is, get_below}
 
 -- ---- standings there and back
@@ -320,25 +320,136 @@ module _ (f : Frame) (w : World) (k : Kept) (end : IsEndOf f w k) (stand : EndsS
         let high : f.settings.turns ≤ r.turns = omega (arith, turns) in
         (i.0, r, record { exists = lt; here = here }, high, all_turns i r r.stage (at_home i r here).stands high)
 
-    pub turns_shown : AllRead → 1 ≤ f.settings.turns → (i : ℕ) (e : ProcessEnd) → slice_get k.processes.items i ≡ Some e → e.turns ≡ f.settings.turns → rows.IsUnlimited f w → rules.standing f w ≡ OutOfTurns
-    turns_shown read some i e at is unlimited =
+    pub turns_shown : AllRead → 1 ≤ f.settings.turns → rows.IsUnlimited f w → (i : ℕ) (e : ProcessEnd) → slice_get k.processes.items i ≡ Some e → e.turns ≡ f.settings.turns → rules.standing f w ≡ OutOfTurns
+    turns_shown read some unlimited i e at is =
         let found = end_is f w k.processes.items i e end.processes stand at in
         (read f w).only OutOfTurns refl
         (unlimited, spent_by (record { 0 = i }) (played_in f w i) refl some found.0 (sym (ap (λ (x : facts.ProcessEnd). x.turns) found.1) ∙ is))
 
-    pub events_shown : AllCounted → AllRead → length k.events.items ≡ f.settings.events → rows.IsUnlimited f w
-        → ((i : ℕ) (e : ProcessEnd) → slice_get k.processes.items i ≡ Some e → e.turns < f.settings.turns) → rules.standing f w ≡ OutOfEvents
-    events_shown counts read many unlimited few =
+    none_spent : HaveTurns f k → rows.NoneSpent f w
+    none_spent few i r begun computing =
+        let at = kept_at i begun.exists in
+        let below = few i at.0 at.1 in
+        let turns : at.0.turns ≡ r.turns = ap (λ (x : facts.ProcessEnd). x.turns) at.2 ∙ ap turns_in begun.here in
+        omega (arith, below, turns)
+
+    pub events_shown : AllCounted → AllRead → rows.IsUnlimited f w → HaveTurns f k → length k.events.items ≡ f.settings.events → rules.standing f w ≡ OutOfEvents
+    events_shown counts read unlimited few many =
         let steps = (counts f k.events.items w end.replays).steps in
-        (read f w).only OutOfEvents refl (
-          unlimited,
-          (λ i r begun computing.
-              let at = kept_at i begun.exists in
-              let below = few i at.0 at.1 in
-              let turns : at.0.turns ≡ r.turns = ap (λ (x : facts.ProcessEnd). x.turns) at.2 ∙ ap turns_in begun.here in
-              omega (arith, below, turns)),
-          omega (arith, steps, many),
+        (read f w).only OutOfEvents refl (unlimited, none_spent few, omega (arith, steps, many))
+
+    pub group_shown : AllCounted → AllRead → rows.IsUnlimited f w → HaveTurns f k → length k.events.items < f.settings.events → rows.LacksGroup f w → rules.standing f w ≡ NoGroup
+    group_shown counts read unlimited few many lacks =
+        let steps = (counts f k.events.items w end.replays).steps in
+        (read f w).only NoGroup refl (unlimited, none_spent few, omega (arith, steps, many), lacks)
+
+    -- who is said to have faulted has, and who has is said to have
+    faulted_over : (act : Action) (fault : FaultKind) → end_over act ≡ Stand.Faulted fault → is_fault act ≡ true
+    faulted_over (action.Make kind object) fault e = absurd (cc e)
+    faulted_over (action.Call kind op object args) fault e = absurd (cc e)
+    faulted_over (action.Fork text args place_on) fault e = absurd (cc e)
+    faulted_over action.Ended fault e = absurd (cc e)
+    faulted_over (action.Faulted kind) fault e = refl
+
+    faulted_living : (stage : Stage) (fault : FaultKind) → end_living stage ≡ Stand.Faulted fault → has_faulted stage ≡ true
+    faulted_living Computing fault e = absurd (cc e)
+    faulted_living (Acting act) fault e = absurd (cc e)
+    faulted_living (Submitted act) fault e = absurd (cc e)
+    faulted_living (Reading act) fault e = absurd (cc e)
+    faulted_living (Asking act) fault e = absurd (cc e)
+    faulted_living (Over act) fault e = faulted_over act fault e
+
+    faulted_crashed : (stage : Stage) (fault : FaultKind) → end_crashed stage ≡ Stand.Faulted fault → has_faulted stage ≡ true
+    faulted_crashed Computing fault e = absurd (cc e)
+    faulted_crashed (Acting act) fault e = absurd (cc e)
+    faulted_crashed (Submitted act) fault e = absurd (cc e)
+    faulted_crashed (Reading act) fault e = absurd (cc e)
+    faulted_crashed (Asking act) fault e = absurd (cc e)
+    faulted_crashed (Over act) fault e = faulted_over act fault e
+
+    faulted_as : (b : Bool) (o : Option Played) (fault : FaultKind) → end_of b o ≡ Stand.Faulted fault → (r : Played) × (o ≡ Some r) × (has_faulted r.stage ≡ true)
+    faulted_as true None fault e = absurd (cc e)
+    faulted_as false None fault e = absurd (cc e)
+    faulted_as true (Some r) fault e = (r, refl, faulted_living r.stage fault e)
+    faulted_as false (Some r) fault e = (r, refl, faulted_crashed r.stage fault e)
+
+    fault_of_over : (b : Bool) (act : Action) → is_fault act ≡ true → (fault : FaultKind) × (end_at b (Over act) ≡ Stand.Faulted fault)
+    fault_of_over b (action.Make kind object) e = absurd (cc e)
+    fault_of_over b (action.Call kind op object args) e = absurd (cc e)
+    fault_of_over b (action.Fork text args place_on) e = absurd (cc e)
+    fault_of_over b action.Ended e = absurd (cc e)
+    fault_of_over true (action.Faulted kind) e = (kind, refl)
+    fault_of_over false (action.Faulted kind) e = (kind, refl)
+
+    fault_of_stage : (b : Bool) (stage : Stage) → has_faulted stage ≡ true → (fault : FaultKind) × (end_at b stage ≡ Stand.Faulted fault)
+    fault_of_stage b Computing e = absurd (cc e)
+    fault_of_stage b (Acting act) e = absurd (cc e)
+    fault_of_stage b (Submitted act) e = absurd (cc e)
+    fault_of_stage b (Reading act) e = absurd (cc e)
+    fault_of_stage b (Asking act) e = absurd (cc e)
+    fault_of_stage b (Over act) e = fault_of_over b act e
+
+    -- where no end is said to be by a fault, none was
+    none_by : ((i : ℕ) (fault : FaultKind) → i < process_count f w → (process_end f w i).stand ≡ Stand.Faulted fault → ⊥) → rows.NoneFaulted f w
+    none_by h i r begun = either (has_faulted r.stage) refl
+      where
+        either : (b : Bool) → has_faulted r.stage ≡ b → has_faulted r.stage ≡ false
+        either false e = e
+        either true e =
+            let fault = fault_of_stage (w.lives (home_of f w i)) r.stage e in
+            absurd (h i fault.0 begun.exists (ap (end_of (w.lives (home_of f w i))) begun.here ∙ fault.1))
+
+    pub faulted_shown : AllRead → rows.MayGoOn f w → rows.IsOver f w → (i : ℕ) (fault : FaultKind) → StandsAt k i (standing.Faulted fault) → rules.standing f w ≡ Faulted
+    faulted_shown read may over i fault at =
+        let s = stand_of i (standing.Faulted fault) at in
+        let is = faulted_as (w.lives (home_of f w i)) (played_in f w i) fault s.1 in
+        (read f w).only Faulted refl (may, over, (i, is.0, record { exists = s.0; here = is.1 }, is.2))
+
+    pub blocked_shown : AllRead → rows.MayGoOn f w → rows.IsOver f w → NoneFaulted k → (i : ℕ) (act : Action) → StandsAt k i (standing.Waits act) → rules.standing f w ≡ Blocked
+    blocked_shown read may over none i act at =
+        let s = stand_of i (standing.Waits act) at in
+        let waits = waits_as (record { 0 = i }) act (w.lives (home_of f w i)) (played_in f w i) (λ r here. (at_home (record { 0 = i }) r here).stands) s.1 in
+        (read f w).only Blocked refl (
+          may,
+          over,
+          none_by (λ j fault lt is. let e = kept_at j lt in none j fault (e.0, e.1, the_fault e.0.standing fault (ap (λ (x : facts.ProcessEnd). x.stand) e.2 ∙ is))),
+          (i, waits.1.0, record { exists = s.0; here = waits.1.1 }, waits.0, waits.1.2),
         )
+
+    ended_living : (stage : Stage) → end_living stage ≡ Stand.Ended → is_over stage ≡ true
+    ended_living Computing e = absurd (cc e)
+    ended_living (Acting act) e = absurd (cc e)
+    ended_living (Submitted act) e = absurd (cc e)
+    ended_living (Reading act) e = absurd (cc e)
+    ended_living (Asking act) e = absurd (cc e)
+    ended_living (Over act) e = refl
+
+    ended_as : (o : Option Played) → end_of true o ≡ Stand.Ended → (r : Played) × (o ≡ Some r) × (is_over r.stage ≡ true)
+    ended_as None e = absurd (cc e)
+    ended_as (Some r) e = (r, refl, ended_living r.stage e)
+
+    ended_or : (s : ProcessStanding) (stand : Stand) → (s ≡ standing.Ended) ⊎ (s ≡ standing.Crashed) → on_standing s ≡ stand → (stand ≡ Stand.Ended) ⊎ (stand ≡ Stand.Crashed)
+    ended_or s stand (inl e) is = inl (sym is ∙ ap on_standing e)
+    ended_or s stand (inr e) is = inr (sym is ∙ ap on_standing e)
+
+    fault_apart : (stand : Stand) (fault : FaultKind) → (stand ≡ Stand.Ended) ⊎ (stand ≡ Stand.Crashed) → stand ≡ Stand.Faulted fault → ⊥
+    fault_apart stand fault (inl e) is = let no : Stand.Ended ≡ Stand.Faulted fault = sym e ∙ is in cc no
+    fault_apart stand fault (inr e) is = let no : Stand.Crashed ≡ Stand.Faulted fault = sym e ∙ is in cc no
+
+    pub finished_shown : AllRead → rows.MayGoOn f w → AllEnded k → rules.standing f w ≡ Finished
+    finished_shown read may all =
+        (read f w).only Finished refl (may, none_by (λ i fault lt is. fault_apart (process_end f w i).stand fault (stands i lt) is), ended)
+      where
+        stands : (i : ℕ) → i < process_count f w → ((process_end f w i).stand ≡ Stand.Ended) ⊎ ((process_end f w i).stand ≡ Stand.Crashed)
+        stands i lt = let e = kept_at i lt in ended_or e.0.standing (process_end f w i).stand (all i e.0 e.1) (ap (λ (x : facts.ProcessEnd). x.stand) e.2)
+
+        ended : rows.AllEnded f w
+        ended i lt lives = ⊎_elim
+            (λ (e : (process_end f w i).stand ≡ Stand.Ended).
+                let is = ended_as (played_in f w i) (ap (λ b. end_of b (played_in f w i)) (sym lives) ∙ e) in
+                (is.0, record { exists = lt; here = is.1 }, is.2))
+            (λ (e : (process_end f w i).stand ≡ Stand.Crashed). let no : true ≡ false = sym lives ∙ stand.crashed i e in absurd (cc no))
+            (stands i lt)
 
 limited : (f : Frame) (w : World) (what : What) (number : ℕ) → rows.IsLimited f w what number → rows.IsUnlimited f w → ⊥
 limited f w what number (inl h) un = let e : None ≡ Some (what, number) = sym (un.members h.0 h.1 h.2) ∙ h.3 in cc e
@@ -359,6 +470,10 @@ rows_shown f w k counts read end stand processes some = record {
   limits = λ what number h. limits_shown f w read what number h (rules.standing f w) refl;
   turns = turns_shown f w k end stand processes read some;
   events = events_shown f w k end stand processes counts read;
+  group = group_shown f w k end stand processes counts read;
+  faulted = faulted_shown f w k end stand processes read;
+  blocked = blocked_shown f w k end stand processes read;
+  finished = finished_shown f w k end stand processes read;
 }
 
 -- ---- 5

@@ -11,7 +11,7 @@ use Rattle.world_rules.specs.declared.standing.Standing.{Standing}
 use Rattle.world_rules.specs.declared.standing.Standing.TheVariants.{Limit, OutOfTurns, OutOfEvents, NoGroup, Faulted, Blocked, Finished, Going}
 use Rattle.world_rules.specs.Frame.{Frame}
 use Rattle.world_rules.specs.Worlds.{World}
-use Rattle.world_facts.specs.Rows.{IsLimited, IsUnlimited, LacksGroup, is_limit}
+use Rattle.world_facts.specs.Rows.{IsLimited, IsOver, IsUnlimited, LacksGroup, MayGoOn, is_limit}
 use Rattle.world_rules.specs.Standings as rules
 use Rattle.world_core.specs.declared.ends.NodeEnd.{NodeEnd}
 use Rattle.world_core.specs.declared.ends.ProcessEnd.{ProcessEnd}
@@ -69,14 +69,22 @@ KeptRow f w k Blocked = NoneFaulted k × SomeStuck f k
 KeptRow f w k Finished = AllEnded k
 KeptRow f w k Going = Unit {0}
 
--- The other way, of rows that what is kept shows: where a limit was passed the run stands at one; else, where a process took all its turns, it
--- is out of turns; else, where there are as many events as stated, it is out of events
+-- no kept process took all its turns
+abbrev pub HaveTurns : Frame → Kept → Type 0
+HaveTurns f k = (i : ℕ) (end : ProcessEnd) → slice_get k.processes.items i ≡ Some end → end.turns < f.settings.turns
+
+-- The other way, row by row, each where none above it holds. A limit was passed; a process took all its turns; there are as many events as
+-- stated; there is no group; the run is over, and a process faulted, or none did and one waits; each process ended
 pub record ShownRows (f : Frame) (w : World) (k : Kept) : Type 0 where
   pub limits : (what : What) (number : ℕ) → IsLimited f w what number → is_limit (rules.standing f w) ≡ true
   pub turns :
-      (i : ℕ) (end : ProcessEnd) → slice_get k.processes.items i ≡ Some end → end.turns ≡ f.settings.turns →
-      IsUnlimited f w → rules.standing f w ≡ OutOfTurns
-  pub events :
-      length k.events.items ≡ f.settings.events → IsUnlimited f w →
-      ((i : ℕ) (end : ProcessEnd) → slice_get k.processes.items i ≡ Some end → end.turns < f.settings.turns) →
-      rules.standing f w ≡ OutOfEvents
+      IsUnlimited f w → (i : ℕ) (end : ProcessEnd) → slice_get k.processes.items i ≡ Some end → end.turns ≡ f.settings.turns →
+      rules.standing f w ≡ OutOfTurns
+  pub events : IsUnlimited f w → HaveTurns f k → length k.events.items ≡ f.settings.events → rules.standing f w ≡ OutOfEvents
+  pub group : IsUnlimited f w → HaveTurns f k → length k.events.items < f.settings.events → LacksGroup f w → rules.standing f w ≡ NoGroup
+  pub faulted :
+      MayGoOn f w → IsOver f w → (i : ℕ) (fault : FaultKind) → StandsAt k i (standing.Faulted fault) → rules.standing f w ≡ Faulted
+  pub blocked :
+      MayGoOn f w → IsOver f w → NoneFaulted k → (i : ℕ) (act : Action) → StandsAt k i (standing.Waits act) →
+      rules.standing f w ≡ Blocked
+  pub finished : MayGoOn f w → AllEnded k → rules.standing f w ≡ Finished
