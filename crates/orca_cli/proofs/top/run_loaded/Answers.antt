@@ -5,11 +5,11 @@ use Rattle.orca_cli.specs.Small.{awaited_name}
 use Rattle.orca_cli.proofs.HeadlineLemmas.{is_run_by, ranges_as, some_is}
 use Rattle.orca_cli.proofs.top.run_loaded.Goals as goal
 
-pub run-requires-clause-ranges : goal.run-requires-clause-ranges
-run-requires-clause-ranges g c = ranges_as c.args.options (length c.args.wires.now) c.settings_of-settings.result c.settings_of-settings.ensures c.requires.options c.requires.wires
+pub run-ran-requires-clause-ranges : goal.run-ran-requires-clause-ranges
+run-ran-requires-clause-ranges g c = ranges_as c.args.options (length c.args.wires.now) c.settings_of-settings.result c.settings_of-settings.ensures c.requires.options c.requires.wires
 
-pub run-requires-clause-wires : goal.run-requires-clause-wires
-run-requires-clause-wires g c = ap (λ (s : Settings). s.wires) c.settings_of-settings.ensures
+pub run-ran-requires-clause-wires : goal.run-ran-requires-clause-wires
+run-ran-requires-clause-wires g c = ap (λ (s : Settings). s.wires) c.settings_of-settings.ensures
 
 pub returns-clause-kept : goal.returns-clause-kept
 returns-clause-kept g c =
