@@ -9,10 +9,11 @@ use Rattle.book_law.specs.declared.placing.Placed.{Placed}
 use Rattle.net_rules.specs.declared.fate.Fate.{Fate}
 use Rattle.net_rules.specs.declared.fate.Fate.TheVariants.{Pass}
 use Rattle.node_rules.specs.Conditions.{Fitness}
+use Rattle.node_rules.specs.Entries.{told_lines}
 use Rattle.node_rules.specs.Laws.{PartsAreWalks}
 use Rattle.node_rules.specs.Moments.{at_work}
 use Rattle.node_rules.specs.Starts.{EventFits, Start, part}
-use Rattle.run_law.specs.Growing.{ListGrows, TellsPart, told_of}
+use Rattle.run_law.specs.Growing.{ListGrows, TellsPart}
 use Rattle.run_law.specs.Sending.{SendsOwn}
 use Rattle.group_rules.specs.Sets.{In}
 use Rattle.group_rules.specs.World.{Past}
@@ -31,7 +32,6 @@ use Rattle.world_rules.specs.Standings.{standing}
 use Rattle.world_rules.specs.Steps.{AtWork, Known, Leads, Next, Possible, Replays, after_step, happens, posts, posts_all}
 use Rattle.world_rules.specs.Worlds.{World, agreed, applied_at}
 use Rattle.node_core.specs.Shown.{Left, Stood}
-use Rattle.node_core.specs.Stands as stands
 use Rattle.node_core.specs.Stands.{StandsAs}
 use Rattle.node_core.specs.declared.node.Node.{Node}
 use Rattle.world_parts.proofs.Leading.{applied_length}
@@ -39,7 +39,6 @@ use Rattle.world_parts.specs.Standing.{IsWorld, Laws, Stands}
 use Rattle.world_parts.specs.declared.parts.Parts.{Parts}
 use Rattle.world_core.specs.Drafting.{MayAdd}
 use Rattle.world_core.specs.declared.draft.Draft.{Draft}
-use Rattle.world_core.proofs.Growing.{told_same}
 use Rattle.world_core.proofs.Progressing.{Comes}
 
 -- ---- lists
@@ -142,7 +141,7 @@ may_add {P} {S} stood left f fitness s w end m start node draft walks grows come
     Joins : ℕ → Type 0
     Joins n =
         StandsAs stood left f n node (w.nodes m) × EventFits f fitness n start (w.nodes m) × Each (IsSoundMail f) (mails_of (part f n start (w.nodes m)).deeds)
-        × ((w.nodes m).copies.applied + length (stands.entries_of (part f n start (w.nodes m)).deeds) ≡ length (entries_of (part f n start (w.nodes m)).node))
+        × ((w.nodes m).copies.applied + length (told_lines (part f n start (w.nodes m)).deeds) ≡ length (entries_of (part f n start (w.nodes m)).node))
         × (length (entries_of (part f n start (w.nodes m)).node) < 2 ^ 62)
 
     now : ℕ
@@ -154,8 +153,8 @@ may_add {P} {S} stood left f fitness s w end m start node draft walks grows come
     there : length (entries_of (part f m start (w.nodes m)).node) ≡ now
     there = ap (λ (n : nodes.Node). length (entries_of n)) (sym comes.tells.node) ∙ many
 
-    told : (w.nodes m).copies.applied + length (stands.entries_of (part f m start (w.nodes m)).deeds) ≡ length (entries_of (part f m start (w.nodes m)).node)
-    told = ap (λ l. (w.nodes m).copies.applied + length l) (told_same (part f m start (w.nodes m)).deeds) ∙ comes.tells.count ∙ sym there
+    told : (w.nodes m).copies.applied + length (told_lines (part f m start (w.nodes m)).deeds) ≡ length (entries_of (part f m start (w.nodes m)).node)
+    told = comes.tells.count ∙ sym there
 
     small : length (entries_of (part f m start (w.nodes m)).node) < 2 ^ 62
     small =

@@ -10,12 +10,9 @@ use Rattle.book_law.specs.Book.{aside_at}
 use Rattle.book_law.specs.Performed.{Performed, placed}
 use Rattle.book_law.specs.declared.placing.Placed.{Placed}
 use Rattle.book_law.proofs.Books.{placed_here, placed_there}
-use Rattle.run_law.specs.Growing.{IsNew, ListGrows, PerformedGrows, TellsPart, lines_at, told_of}
+use Rattle.run_law.specs.Growing.{IsNew, ListGrows, PerformedGrows, TellsPart, lines_at}
 use Rattle.world_rules.specs.Frame.{Frame}
-use Rattle.world_rules.specs.Nodes.{Deed, entries_of}
-use Rattle.world_rules.specs.Nodes.Deed.{Acts, Applies, Mails, Performs, Submits}
 use Rattle.world_rules.specs.Worlds.{World, agreed, singles_in}
-use Rattle.node_core.specs.Stands as stands
 use Rattle.world_core.specs.Drafting.{behind, lines_behind}
 use Rattle.world_core.specs.Growing.{HasDrafted}
 
@@ -155,14 +152,6 @@ fronts_on list entries before messages now front within low had =
         }
 
 -- ---- a member's part
-
-pub told_same : (deeds : List Deed) → stands.entries_of deeds ≡ told_of deeds
-told_same [] = refl
-told_same (Submits x ∷ deeds) = told_same deeds
-told_same (Acts act ∷ deeds) = told_same deeds
-told_same (Mails mail ∷ deeds) = told_same deeds
-told_same (Applies lines ∷ deeds) = ap (λ (l : List (List Line)). l ++ lines ∷ []) (told_same deeds)
-told_same (Performs performed ∷ deeds) = told_same deeds
 
 -- places up to so many
 up_to_none : (most n : ℕ) (xs : List Placed) → ((k : ℕ) (r : Placed) → slice_get xs k ≡ Some r → r.place ≤ most) → most < n → aside_at n xs ≡ []

@@ -9,8 +9,9 @@ use Rattle.object_manager.specs.Viewed.{Viewed}
 use Rattle.book_law.specs.Performed.{Performed}
 use Rattle.book_law.specs.declared.placing.Placed.{Placed}
 use Rattle.group_rules.specs.Steps.{is_empty}
+use Rattle.node_rules.specs.Entries.{told_lines}
 use Rattle.node_rules.specs.Starts.{Start, part}
-use Rattle.run_law.specs.Growing.{ListGrows, PerformedGrows, TellsPart, told_of}
+use Rattle.run_law.specs.Growing.{ListGrows, PerformedGrows, TellsPart}
 use Rattle.world_rules.specs.Frame.{Frame}
 use Rattle.world_rules.specs.Mail.{Mail, posted}
 use Rattle.world_rules.specs.Nodes as nodes
@@ -19,7 +20,6 @@ use Rattle.world_rules.specs.Steps.{AtWork, after_part, has_stirred, has_stirred
 use Rattle.world_rules.specs.Worlds.{World, agreed, singles_in}
 use Rattle.node_core.specs.Keeping.{KeepsTasks}
 use Rattle.node_core.specs.Shown.{Left, Stood}
-use Rattle.node_core.specs.Stands as stands
 use Rattle.node_core.specs.Stands.{IsDone, StandsAs}
 use Rattle.node_core.specs.declared.moved.Moved.{Moved}
 use Rattle.node_core.specs.declared.node.Node.{Node}
@@ -33,7 +33,7 @@ use Rattle.world_core.specs.declared.draft.Draft.{Draft}
 use Rattle.world_core.specs.declared.draft.Part.{Part}
 use Rattle.world_core.specs.declared.letters.Outgoing.{Outgoing}
 use Rattle.world_core.proofs.Adding.{letters_added, nodes_added, set_length, stays_at, stirred_added, taken_push, tasks_added, with_other, with_own}
-use Rattle.world_core.proofs.Growing.{Fronts, Tells, drafted_all, drafted_first, drafted_list, drafted_on, fronts_on, told_same}
+use Rattle.world_core.proofs.Growing.{Fronts, Tells, drafted_all, drafted_first, drafted_list, drafted_on, fronts_on}
 
 -- nothing is drafted
 pub record IsEmpty {P S : Type 0} (draft : Draft P S) : Type 0 where
@@ -163,8 +163,8 @@ progress_on {P} {S} stood left f s w end old new u m start before after moved is
     had : front ++ moved.messages.items ≡ take now (agreed f end)
     had = done.messages ∙ ap entries_of (sym comes.tells.node) ∙ grows.begin m comes.within
 
-    told : moved.entries.items ≡ told_of v.deeds
-    told = done.did.entries ∙ told_same v.deeds
+    told : moved.entries.items ≡ told_lines v.deeds
+    told = done.did.entries
 
     tells : Tells f end (length front) now moved.entries.items (aside_of v.deeds)
     tells =

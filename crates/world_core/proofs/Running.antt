@@ -16,7 +16,8 @@ use Rattle.book_law.specs.declared.placing.Placed.{Placed}
 use Rattle.group_rules.specs.Sets.{with_at}
 use Rattle.node_rules.specs.Bursting.{BurstFits}
 use Rattle.node_rules.specs.Conditions.{Fitness}
-use Rattle.run_law.specs.Earlier.{BurstsFitEarlier, MayApplyAgain, view_at}
+use Rattle.node_rules.specs.Entries.{MayApplyAgain}
+use Rattle.run_law.specs.Earlier.{BurstsFitEarlier, view_at}
 use Rattle.world_facts.specs.Ends.{turns_in}
 use Rattle.world_law.specs.Holds.{Holds}
 use Rattle.world_law.specs.Lists.{OneList}
@@ -245,14 +246,12 @@ first_entries stood left f s w m place entries h is lt low taken_is =
 -- they may be applied again
 pub may_view : {P S : Type 0} (stood : Stood S) (left : Left S) (f : Frame) (fitness : Fitness) (s : Parts P S) (w : World) (m place : ℕ) (entries : List Message) (node : Node P S) → Stands stood left f s → IsWorld stood left f s w
     → m < f.settings.nodes → place ≤ (w.nodes m).member.applied → entries ≡ take place s.ledger.entries → Some node ≡ slice_get s.nodes.items m
-    → ((entries : List Message) → entries ≡ take (length entries) (entries_of (w.nodes m)) → MayApplyAgain f fitness (w.nodes m) entries) → MayViewAfter stood left f fitness.state fitness.args entries node
+    → ((entries : List Message) → entries ≡ take (length entries) (entries_of (w.nodes m)) → MayApplyAgain f fitness.state fitness.args (w.nodes m) entries) → MayViewAfter stood left f fitness.state fitness.args entries node
 may_view stood left f fitness s w m place entries node h is lt low taken_is at again = record {
   member = m;
   node = w.nodes m;
   stands = is.nodes m node (sym at);
-  each = λ n x there.
-      let may = again entries (first_entries stood left f s w m place entries h is lt low taken_is).1 n x there in
-      record { may = record { fits = may.fits; blocked = may.blocked; applies = may.applies; room = may.few }; within = may.within };
+  each = again entries (first_entries stood left f s w m place entries h is lt low taken_is).1;
 }
 
 pub viewed_again : {P S : Type 0} (stood : Stood S) (left : Left S) (f : Frame) (s : Parts P S) (w : World) (m place : ℕ) (entries : List Message) (node : Node P S) (view : Viewed) → Stands stood left f s → IsWorld stood left f s w

@@ -20,8 +20,9 @@ use Rattle.world_rules.specs.Worlds.{World, agreed, singles_in}
 use Rattle.node_core.specs.Pieces.{resident_at}
 use Rattle.node_core.specs.Shown.{Left, Stood}
 use Rattle.node_core.specs.Keeping.{KeepsTasks}
-use Rattle.node_core.specs.Stands.{IsDone, IsPostOf, StandsAs, entries_of}
+use Rattle.node_core.specs.Stands.{IsDone, IsPostOf, StandsAs}
 use Rattle.node_rules.specs.Conditions.{Fitness}
+use Rattle.node_rules.specs.Entries.{told_lines}
 use Rattle.node_rules.specs.Starts.{EventFits, Start, part}
 use Rattle.node_rules.specs.Starts.Start.{Comes}
 use Rattle.world_law.specs.SoundPackets.{IsSoundMail}
@@ -135,7 +136,7 @@ pub record MayAdd {P S : Type 0} (stood : Stood S) (left : Left S) (f : Frame) (
   pub fits : EventFits f fitness before.member.me start node
   pub sound : Each (IsSoundMail f) (mails_of (part f before.member.me start node).deeds)
   pub told :
-      node.copies.applied + length (entries_of (part f before.member.me start node).deeds) ≡
+      node.copies.applied + length (told_lines (part f before.member.me start node).deeds) ≡
       length (nodes.entries_of (part f before.member.me start node).node)
   pub had : node.copies.applied ≡ length (nodes.entries_of node)
   pub small : length (nodes.entries_of (part f before.member.me start node).node) < 2 ^ 62
