@@ -87,7 +87,7 @@ get_below (x ∷ xs) (suc k) lt = get_below xs k (omega (arith, lt))
 pub end_is : (f : Frame) (w : World) (ends : List ProcessEnd) (i : ℕ) (end : ProcessEnd) → AreProcessEnds f w ends → EndsStand f w → slice_get ends i ≡ Some end → (i < process_count f w) × (on_process_end end ≡ process_end f w i)
 end_is f w ends i end are stand at =
     let here : slice_get (process_ends f w) i ≡ Some (on_process_end end) =
-        ap (λ (l : List facts.ProcessEnd). slice_get l i) (sym are) ∙ slice_get-map on_process_end ends i ∙ ap (option_map on_process_end) at in
+    ap (λ (l : List facts.ProcessEnd). slice_get l i) (sym are) ∙ slice_get-map on_process_end ends i ∙ ap (option_map on_process_end) at in
     let count = stand.processes in
     let within = slice_get_within (process_ends f w) i (on_process_end end) here in
     let lt : i < process_count f w = omega (arith, within, count) in
@@ -125,8 +125,8 @@ process_kept f w kept stand mean book is ends are i end at =
     let of = kept.processes.each i.0 begun.0 begun.1 in
     let same = found.1 in
     let says = known_as f w i of.process (played_in f w i.0) (w.lives (home_of f w i.0)) end.replies (on_standing end.standing) of.here
-        (ap (λ (e : facts.ProcessEnd). e.replies) same) (ap (λ (e : facts.ProcessEnd). e.stand) same)
-        (λ r here. subst (StandsBy (next_of f.computes r.text i r.args r.replies)) (sym (ap (λ (e : facts.ProcessEnd). e.stand) same)) (mean i r here)) in
+    (ap (λ (e : facts.ProcessEnd). e.replies) same) (ap (λ (e : facts.ProcessEnd). e.stand) same)
+    (λ r here. subst (StandsBy (next_of f.computes r.text i r.args r.replies)) (sym (ap (λ (e : facts.ProcessEnd). e.stand) same)) (mean i r here)) in
     record {
       process = of.process;
       exists = ap (λ (l : List Line). slice_get (history.processes_of f.performs f.computes l) i.0) is ∙ of.exists;

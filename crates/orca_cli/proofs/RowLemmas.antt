@@ -446,8 +446,8 @@ module _ (f : Frame) (w : World) (k : Kept) (end : IsEndOf f w k) (stand : EndsS
         ended : rows.AllEnded f w
         ended i lt lives = ⊎_elim
             (λ (e : (process_end f w i).stand ≡ Stand.Ended).
-                let is = ended_as (played_in f w i) (ap (λ b. end_of b (played_in f w i)) (sym lives) ∙ e) in
-                (is.0, record { exists = lt; here = is.1 }, is.2))
+            let is = ended_as (played_in f w i) (ap (λ b. end_of b (played_in f w i)) (sym lives) ∙ e) in
+            (is.0, record { exists = lt; here = is.1 }, is.2))
             (λ (e : (process_end f w i).stand ≡ Stand.Crashed). let no : true ≡ false = sym lives ∙ stand.crashed i e in absurd (cc no))
             (stands i lt)
 
@@ -509,7 +509,7 @@ pub lost_kept : (f : Frame) (w : World) (k : Kept) → IsEndOf f w k → rows.La
 lost_kept f w k end lacks =
     let lost = lacks.lost in
     let is = counted (λ (n : NodeEnd). n.crashed || n.outside) k.nodes.items (λ m. not (w.lives m) || (w.nodes m).member.outside)
-        (λ m e at. let n = end.nodes.each m e at in lost_or e.crashed e.outside (not (w.lives m)) ((w.nodes m).member.outside) n.crashed n.outside) in
+    (λ m e at. let n = end.nodes.each m e at in lost_or e.crashed e.outside (not (w.lives m)) ((w.nodes m).member.outside) n.crashed n.outside) in
     let same = ap (λ n. count n (λ m. not (w.lives m) || (w.nodes m).member.outside)) end.nodes.count in
     omega (arith, lost, is, same)
 

@@ -15,7 +15,8 @@ use crate::lines::{
 };
 use crate::small::awaited_name;
 use crate::statuses::{
-    BLOCKED, FAULTED, FINISHED, LIMIT, NO_GROUP, NO_MEMORY, OUT_OF_EVENTS, OUT_OF_TURNS, WRITE_FAULT,
+    BLOCKED, FAULTED, FINISHED, LIMIT, NO_GROUP, NO_MEMORY, OUT_OF_EVENTS, OUT_OF_TURNS,
+    WRITE_FAULT,
 };
 use orca_base::{FaultKind, KindNo, NoMemory};
 use orca_io::{Sink, SinkFault};

@@ -350,11 +350,15 @@ fn does<F: Shelf, K: Sink, W: Wire>(
     match job_of(alloc, words) {
         Ok(Some(Job::Says { text })) => said(out, whole(alloc, text), FINISHED),
         Ok(Some(Job::Checks { files })) => check_files(alloc, &files, shelf, out),
-        Ok(Some(Job::Runs {
-            options,
-            script,
-            files,
-        })) => run_files(alloc, options, script, &files, shelf, out, wires),
+        Ok(
+            Some(
+                Job::Runs {
+                    options,
+                    script,
+                    files,
+                },
+            ),
+        ) => run_files(alloc, options, script, &files, shelf, out, wires),
         Ok(None) => said(out, usage_line(alloc), USAGE),
         Err(_) => nothing(),
     }

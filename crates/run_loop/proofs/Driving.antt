@@ -375,8 +375,8 @@ act_done f s after in_use next_use old new told act prior now count tell h st sa
     driven_on f s after in_use next_use old new told st.step count d.world d.replays d.swaps (omega (arith, within, longer)) (longer ∙ d.wires) (tells_asked f s in_use old new (Some act) h)
     (still_used in_use n (Some act) before_it since asked f s.steps d.world refl d.used)
     (given_asked in_use n (Some act) before_it since asked f (s.steps ++ st.step ∷ [])
-        (λ wire. all_accounted f s.steps st.step (acts_in (before_it wire)) (d.numbers wire) (d.used.given wire))
-        (inl (st.step, step_last s.steps st.step, st.event_is)))
+    (λ wire. all_accounted f s.steps st.step (acts_in (before_it wire)) (d.numbers wire) (d.used.given wire))
+    (inl (st.step, step_last s.steps st.step, st.event_is)))
     (numbers_asked in_use n (Some act) before_it since asked n (omega arith) d.numbers)
     d.settings
     (stepped_is f s after in_use new told (event_of act) prior now d.world count tell d.replays d.swaps st (act_swaps act) same put (omega (arith, tasks, idle)))

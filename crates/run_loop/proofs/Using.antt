@@ -181,14 +181,14 @@ module _ (wire n : ℕ) (answer : Option WireAct) (a b : ℕ → List Asked) (as
   acts_kept : (other m : ℕ) (given : Option WireAct) → In (m, given) (acts_in (a other)) → In (m, given) (acts_in (b other))
   acts_kept other m given h = ⊎_elim
       (λ (e : other ≡ wire). subst (λ k. In (m, given) (acts_in (a k)) → In (m, given) (acts_in (b k))) (sym e)
-          (λ (h : In (m, given) (acts_in (a wire))). subst (In (m, given)) (sym acts_here) (in_left (m, given) (acts_in (a wire)) ((n, answer) ∷ []) h)) h)
+      (λ (h : In (m, given) (acts_in (a wire))). subst (In (m, given)) (sym acts_here) (in_left (m, given) (acts_in (a wire)) ((n, answer) ∷ []) h)) h)
       (λ apart. subst (λ (l : List Asked). In (m, given) (acts_in l)) (sym (asked.others other apart)) h)
       (cases_eq other wire)
 
   answers_kept : (other m : ℕ) → (n ≡ m → ⊥) → last_answer m (acts_in (b other)) ≡ last_answer m (acts_in (a other))
   answers_kept other m new = ⊎_elim
       (λ (e : other ≡ wire). subst (λ k. last_answer m (acts_in (b k)) ≡ last_answer m (acts_in (a k))) (sym e)
-          (ap (last_answer m) acts_here ∙ last_kept m (acts_in (a wire)) ((n, answer) ∷ []) (other_answer m n answer new)))
+      (ap (last_answer m) acts_here ∙ last_kept m (acts_in (a wire)) ((n, answer) ∷ []) (other_answer m n answer new)))
       (λ apart. ap (λ (l : List Asked). last_answer m (acts_in l)) (asked.others other apart))
       (cases_eq other wire)
 
@@ -201,7 +201,7 @@ module _ (wire n : ℕ) (answer : Option WireAct) (a b : ℕ → List Asked) (as
   pub numbers_asked : (m : ℕ) → n ≤ m → ((other : ℕ) → AreUpTo m (acts_in (a other))) → (other : ℕ) → AreUpTo m (acts_in (b other))
   numbers_asked m low h other = ⊎_elim
       (λ (e : other ≡ wire). subst (λ k. AreUpTo m (acts_in (b k))) (sym e)
-          (subst (AreUpTo m) (sym acts_here) (up_to_append m (acts_in (a wire)) ((n, answer) ∷ []) (h wire) (low, tt))))
+      (subst (AreUpTo m) (sym acts_here) (up_to_append m (acts_in (a wire)) ((n, answer) ∷ []) (h wire) (low, tt))))
       (λ apart. subst (λ (l : List Asked). AreUpTo m (acts_in l)) (sym (asked.others other apart)) (h other))
       (cases_eq other wire)
 
@@ -219,7 +219,7 @@ module _ (wire n : ℕ) (answer : Option WireAct) (a b : ℕ → List Asked) (as
   pub given_asked : (f : Frame) (steps : List Step) → ((other : ℕ) → AreAccounted f steps (acts_in (a other))) → IsAccounted f steps n answer → (other : ℕ) → AreAccounted f steps (acts_in (b other))
   given_asked f steps given fine other = ⊎_elim
       (λ (e : other ≡ wire). subst (λ k. AreAccounted f steps (acts_in (b k))) (sym e)
-          (subst (AreAccounted f steps) (sym acts_here) (accounted_append f steps (acts_in (a wire)) ((n, answer) ∷ []) (given wire) (fine, tt))))
+      (subst (AreAccounted f steps) (sym acts_here) (accounted_append f steps (acts_in (a wire)) ((n, answer) ∷ []) (given wire) (fine, tt))))
       (λ apart. subst (λ (l : List Asked). AreAccounted f steps (acts_in l)) (sym (asked.others other apart)) (given other))
       (cases_eq other wire)
 
@@ -240,19 +240,19 @@ module _ (wire : ℕ) (more : List Told) (a b : ℕ → List Asked) (asked : Ask
   pub acts_same : (other : ℕ) → acts_in (b other) ≡ acts_in (a other)
   acts_same other = ⊎_elim
       (λ (e : other ≡ wire). subst (λ k. acts_in (b k) ≡ acts_in (a k)) (sym e)
-          (ap acts_in asked.here ∙ acts_append (a wire) (map told_so more) ∙ ap (λ (l : List (ℕ × Option WireAct)). acts_in (a wire) ++ l) (no_acts_told more) ∙ append-nil (acts_in (a wire))))
+      (ap acts_in asked.here ∙ acts_append (a wire) (map told_so more) ∙ ap (λ (l : List (ℕ × Option WireAct)). acts_in (a wire) ++ l) (no_acts_told more) ∙ append-nil (acts_in (a wire))))
       (λ apart. ap acts_in (asked.others other apart))
       (cases_eq other wire)
 
   packets_more : (told : List Told) (other : ℕ) → packets_in (a other) ≡ asked_of other told → packets_in (b other) ≡ asked_of other (told ++ more)
   packets_more told other h = ⊎_elim
       (λ (e : other ≡ wire). subst (λ k. packets_in (a k) ≡ asked_of k told → packets_in (b k) ≡ asked_of k (told ++ more)) (sym e)
-          (λ (h : packets_in (a wire) ≡ asked_of wire told).
-              ap packets_in asked.here ∙ packets_append (a wire) (map told_so more)
-              ∙ ap (λ (l : List Asked). packets_in (a wire) ++ l) (packets_told more ∙ sym (asked_here wire more asked.wires))
-              ∙ ap (λ (l : List Asked). l ++ asked_of wire more) h ∙ sym (asked_append wire told more)) h)
+      (λ (h : packets_in (a wire) ≡ asked_of wire told).
+      ap packets_in asked.here ∙ packets_append (a wire) (map told_so more)
+      ∙ ap (λ (l : List Asked). packets_in (a wire) ++ l) (packets_told more ∙ sym (asked_here wire more asked.wires))
+      ∙ ap (λ (l : List Asked). l ++ asked_of wire more) h ∙ sym (asked_append wire told more)) h)
       (λ apart. ap packets_in (asked.others other apart) ∙ h ∙ sym (append-nil (asked_of other told))
-          ∙ ap (λ (l : List Asked). asked_of other told ++ l) (sym (asked_elsewhere wire other more asked.wires apart)) ∙ sym (asked_append other told more))
+      ∙ ap (λ (l : List Asked). asked_of other told ++ l) (sym (asked_elsewhere wire other more asked.wires apart)) ∙ sym (asked_append other told more))
       (cases_eq other wire)
 
   -- the network was used still: before a step that is no burst the wire in use was asked about an act, and a step that a wire gave is its

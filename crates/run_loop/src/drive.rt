@@ -29,11 +29,7 @@ pub(crate) struct Driver<P: OneRun> {
 
 impl<P: OneRun> Driver<P> {
     /// Before the first event, by the run's settings, over the first wire.
-    pub(crate) fn new(
-        alloc: Global,
-        machine: &P,
-        settings: Settings,
-    ) -> Result<Driver<P>, NoMemory>
+    pub(crate) fn new(alloc: Global, machine: &P, settings: Settings) -> Result<Driver<P>, NoMemory>
         requires settings { settings ≡ P.run.frame.settings }
         requires ranges { AreSettings settings }
         ensures { IfOk result (λ d. (d.world.steps ≡ []) × (tasks_out d.world ≡ 0) × (d.in_use ≡ 0)) }
@@ -68,12 +64,7 @@ impl<P: OneRun> Driver<P> {
     }
 
     // Does the next event: what the wire in use gives, or what is due, where that gives nothing or what it gives is passed over.
-    fn next<W: Wire>(
-        &mut self,
-        alloc: Global,
-        machine: &P,
-        wires: &mut [W],
-    ) -> Result<(), NoMemory>
+    fn next<W: Wire>(&mut self, alloc: Global, machine: &P, wires: &mut [W]) -> Result<(), NoMemory>
         requires driven { IsDriven P.run.frame self.old.world self.old.in_use P.run.told (map W.told wires.old) }
         requires going { IsGoing P.run.frame self.old.world }
         ensures went { OnOk result (WentOn P.run.frame self.old.world self.new.world self.new.in_use P.run.told (map W.told wires.new)) }
@@ -111,7 +102,10 @@ impl<P: OneRun> Driver<P> {
         let Some(act) = act else {
             return Ok(false);
         };
-        match self.world.step(alloc, machine, event_of(act), &mut wires[self.in_use]) {
+        match self
+            .world
+            .step(alloc, machine, event_of(act), &mut wires[self.in_use])
+        {
             Ok(()) => {
                 self.in_use += swaps_of(act);
                 Ok(true)
@@ -123,12 +117,7 @@ impl<P: OneRun> Driver<P> {
 
     // Does what is due: the action of the lowest process that is at one, the packet of the lowest number that can be delivered, a burst of
     // a process that is ready. Where there is none of these, the moment is quiet, and time passes.
-    fn due<W: Wire>(
-        &mut self,
-        alloc: Global,
-        machine: &P,
-        wires: &mut [W],
-    ) -> Result<(), NoMemory>
+    fn due<W: Wire>(&mut self, alloc: Global, machine: &P, wires: &mut [W]) -> Result<(), NoMemory>
         requires on { MayGoOn P.run.frame self.old.world self.old.in_use P.run.told (map W.told wires.old) }
         requires going { IsGoing P.run.frame self.old.world }
         ensures went { OnOk result (WentOn P.run.frame self.old.world self.new.world self.new.in_use P.run.told (map W.told wires.new)) }
@@ -169,7 +158,10 @@ impl<P: OneRun> Driver<P> {
         ensures loaded { map W.loaded wires.new ≡ map W.loaded wires.old }
     {
         laws_of_driving(machine);
-        match self.world.step(alloc, machine, event, &mut wires[self.in_use]) {
+        match self
+            .world
+            .step(alloc, machine, event, &mut wires[self.in_use])
+        {
             Ok(()) => Ok(()),
             Err(StepError::NoMemory) => Err(NoMemory),
             Err(StepError::NotEnabled) => unreachable!(),

@@ -22,10 +22,12 @@ fn out_of_events(rt: HostRuntime) -> Result<(), Fail> {
         }
     );
     assert_eq!(rt; kept.book.len(), 0);
-    assert!(rt; matches!(
+    assert!(rt;
+        matches!(
         kept.processes.as_slice(),
         [main] if main.replies.len() == 0 && matches!(main.standing, ProcessStanding::Waits { .. })
-    ));
+    )
+    );
     Ok(())
 }
 
@@ -65,10 +67,12 @@ fn too_many_crashes(rt: HostRuntime) -> Result<(), Fail> {
         members(alloc, kept)?.as_slice(),
         [(0, 0, false), (0, 0, true), (0, 0, true)].as_slice()
     );
-    assert!(rt; matches!(
+    assert!(rt;
+        matches!(
         kept.processes.as_slice(),
         [main] if matches!(main.standing, ProcessStanding::Waits { .. })
-    ));
+    )
+    );
     Ok(())
 }
 
@@ -76,7 +80,11 @@ fn too_many_crashes(rt: HostRuntime) -> Result<(), Fail> {
 #[test]
 fn nobody_lives(rt: HostRuntime) -> Result<(), Fail> {
     let alloc = rt.alloc();
-    let tried = one_cell(alloc, &["--nodes", "2"], "crash 1 entry 1\ncrash 0 entry 1\n")?;
+    let tried = one_cell(
+        alloc,
+        &["--nodes", "2"],
+        "crash 1 entry 1\ncrash 0 entry 1\n",
+    )?;
     assert_eq!(rt; tried.ended.status, NO_GROUP);
     assert_eq!(rt; tried.printed.as_str(), "orca: no group\n");
     let kept = tried.ended.kept.as_ref().ok_or("nothing kept")?;
@@ -89,7 +97,10 @@ fn nobody_lives(rt: HostRuntime) -> Result<(), Fail> {
         }
     );
     assert_eq!(rt; kept.book.len(), 1);
-    assert_eq!(rt; members(alloc, kept)?.as_slice(), [(1, 0, true), (0, 0, true)].as_slice());
+    assert_eq!(rt;
+        members(alloc, kept)?.as_slice(),
+        [(1, 0, true), (0, 0, true)].as_slice()
+    );
     Ok(())
 }
 
@@ -110,10 +121,12 @@ fn member_of_main_crashes(rt: HostRuntime) -> Result<(), Fail> {
         }
     );
     assert_eq!(rt; kept.book.len(), 1);
-    assert!(rt; matches!(
+    assert!(rt;
+        matches!(
         kept.processes.as_slice(),
         [main] if main.replies.len() == 1 && matches!(main.standing, ProcessStanding::Crashed)
-    ));
+    )
+    );
     Ok(())
 }
 

@@ -6,12 +6,9 @@
 
 #[cfg(test)]
 mod faults;
-
 #[cfg(test)]
 mod refusals;
-
 #[cfg(test)]
 mod runs;
-
 #[cfg(test)]
 mod tried;

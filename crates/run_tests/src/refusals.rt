@@ -16,9 +16,11 @@ fn is_refused(
 ) -> Result<bool, Fail> {
     let files = [("one.orca", ONE), ("f.txt", script), ("e.orca", "begin")];
     let tried = tried(rt.alloc(), line, &files, &[])?;
-    Ok(tried.ended.status == status
-        && tried.printed.as_str() == printed
-        && tried.ended.kept.is_none())
+    Ok(
+        tried.ended.status == status
+            && tried.printed.as_str() == printed
+            && tried.ended.kept.is_none(),
+    )
 }
 
 #[test]
@@ -120,7 +122,15 @@ fn script_at_its_limit(rt: HostRuntime) -> Result<(), Fail> {
     let files = [("one.orca", ONE), ("f.txt", longest.as_str())];
     assert_eq!(rt; tried(alloc, &line, &files, &[])?.printed.as_str(), "6\n");
     let longer = "#".repeat(alloc, 1_000_001)?;
-    assert!(rt; is_refused(&rt, &line, longer.as_str(), 11, "orca: limit of script bytes: 1000000\n")?);
+    assert!(rt;
+        is_refused(
+            &rt,
+            &line,
+            longer.as_str(),
+            11,
+            "orca: limit of script bytes: 1000000\n"
+        )?
+    );
     Ok(())
 }
 

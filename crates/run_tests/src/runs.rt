@@ -32,69 +32,91 @@ fn is_so(rt: &HostRuntime, row: &Row<'_>) -> Result<bool, Fail> {
             && !node.crashed
             && !node.outside;
     }
-    Ok(tried.ended.status == FINISHED
-        && tried.printed.as_str() == "6\n"
-        && counts(&kept.events) == row.counts
-        && kept.events.len() == row.counts.steps()
-        && kept.book.len() == 4
-        && kept.nodes.len() == row.nodes
-        && same)
+    Ok(
+        tried.ended.status == FINISHED
+            && tried.printed.as_str() == "6\n"
+            && counts(&kept.events) == row.counts
+            && kept.events.len() == row.counts.steps()
+            && kept.book.len() == 4
+            && kept.nodes.len() == row.nodes
+            && same,
+    )
 }
 
 // The make, the assignment and the write are three entries, each behind a burst and an act, and a last burst finds the end; the read is
 // answered within the third burst. Nobody else is to be told.
 #[test]
 fn one_cell_on_one_member(rt: HostRuntime) -> Result<(), Fail> {
-    assert!(rt; is_so(&rt, &Row {
-        options: &["--nodes", "1"],
-        script: "",
-        counts: Counts::plain(4, 3, 0),
-        applied: 3,
-        incarnation: 0,
-        nodes: 1,
-    })?);
+    assert!(rt;
+        is_so(
+            &rt,
+            &Row {
+                options: &["--nodes", "1"],
+                script: "",
+                counts: Counts::plain(4, 3, 0),
+                applied: 3,
+                incarnation: 0,
+                nodes: 1,
+            }
+        )?
+    );
     Ok(())
 }
 
 // Each of three entries goes to two members.
 #[test]
 fn one_cell_on_three_members(rt: HostRuntime) -> Result<(), Fail> {
-    assert!(rt; is_so(&rt, &Row {
-        options: &[],
-        script: "",
-        counts: Counts::plain(4, 3, 6),
-        applied: 3,
-        incarnation: 0,
-        nodes: 3,
-    })?);
+    assert!(rt;
+        is_so(
+            &rt,
+            &Row {
+                options: &[],
+                script: "",
+                counts: Counts::plain(4, 3, 6),
+                applied: 3,
+                incarnation: 0,
+                nodes: 3,
+            }
+        )?
+    );
     Ok(())
 }
 
 // Each of three entries goes to two members, one of which acknowledges it, and then both are told that it is accepted: 3 times 2 + 1 + 2.
 #[test]
 fn one_cell_resilient(rt: HostRuntime) -> Result<(), Fail> {
-    assert!(rt; is_so(&rt, &Row {
-        options: &RESILIENT,
-        script: "",
-        counts: Counts::plain(4, 3, 15),
-        applied: 3,
-        incarnation: 0,
-        nodes: 3,
-    })?);
+    assert!(rt;
+        is_so(
+            &rt,
+            &Row {
+                options: &RESILIENT,
+                script: "",
+                counts: Counts::plain(4, 3, 15),
+                applied: 3,
+                incarnation: 0,
+                nodes: 3,
+            }
+        )?
+    );
     Ok(())
 }
 
 // Each of three entries goes to 15 members, 7 of which acknowledge it, and with the last of these all 15 are told: 3 times 15 + 7 + 15.
 #[test]
 fn sixteen_members(rt: HostRuntime) -> Result<(), Fail> {
-    assert!(rt; is_so(&rt, &Row {
-        options: &["--nodes", "16", "--resilience", "7"],
-        script: "",
-        counts: Counts::plain(4, 3, 111),
-        applied: 3,
-        incarnation: 0,
-        nodes: 16,
-    })?);
+    assert!(rt;
+        is_so(
+            &rt,
+            &Row {
+                options: &["--nodes", "16", "--resilience", "7"],
+                script: "",
+                counts: Counts::plain(4, 3, 111),
+                applied: 3,
+                incarnation: 0,
+                nodes: 16,
+            }
+        )?
+    );
     Ok(())
 }
 
@@ -117,14 +139,19 @@ fn lost_entry(rt: HostRuntime) -> Result<(), Fail> {
             },
         ),
     ] {
-        assert!(rt; is_so(&rt, &Row {
-            options,
-            script: "drop entry 2\n",
-            counts,
-            applied: 3,
-            incarnation: 0,
-            nodes: 3,
-        })?);
+        assert!(rt;
+            is_so(
+                &rt,
+                &Row {
+                    options,
+                    script: "drop entry 2\n",
+                    counts,
+                    applied: 3,
+                    incarnation: 0,
+                    nodes: 3,
+                }
+            )?
+        );
     }
     Ok(())
 }
@@ -155,14 +182,19 @@ fn lost_last_entry(rt: HostRuntime) -> Result<(), Fail> {
 #[test]
 fn cut_entry(rt: HostRuntime) -> Result<(), Fail> {
     for (script, packets) in [("cut entry 2 51\n", 17), ("cut entry 2 52\n", 15)] {
-        assert!(rt; is_so(&rt, &Row {
-            options: &RESILIENT,
-            script,
-            counts: Counts::plain(4, 3, packets),
-            applied: 3,
-            incarnation: 0,
-            nodes: 3,
-        })?);
+        assert!(rt;
+            is_so(
+                &rt,
+                &Row {
+                    options: &RESILIENT,
+                    script,
+                    counts: Counts::plain(4, 3, packets),
+                    applied: 3,
+                    incarnation: 0,
+                    nodes: 3,
+                }
+            )?
+        );
     }
     Ok(())
 }
@@ -171,51 +203,66 @@ fn cut_entry(rt: HostRuntime) -> Result<(), Fail> {
 // appends each once. The held packet never comes.
 #[test]
 fn held_and_repeated(rt: HostRuntime) -> Result<(), Fail> {
-    assert!(rt; is_so(&rt, &Row {
-        options: &[],
-        script: "hold entry 3 2\ntwice any all\n",
-        counts: Counts {
-            deliveries: 20,
-            ..Counts::plain(4, 3, 11)
-        },
-        applied: 3,
-        incarnation: 0,
-        nodes: 3,
-    })?);
+    assert!(rt;
+        is_so(
+            &rt,
+            &Row {
+                options: &[],
+                script: "hold entry 3 2\ntwice any all\n",
+                counts: Counts {
+                    deliveries: 20,
+                    ..Counts::plain(4, 3, 11)
+                },
+                applied: 3,
+                incarnation: 0,
+                nodes: 3,
+            }
+        )?
+    );
     Ok(())
 }
 
 // The first acknowledgement is held for two ticks: at each the sequencer tells what is accepted, and the others how far they are.
 #[test]
 fn held_acknowledgement(rt: HostRuntime) -> Result<(), Fail> {
-    assert!(rt; is_so(&rt, &Row {
-        options: &RESILIENT,
-        script: "hold ack 1 2\n",
-        counts: Counts {
-            ticks: 2,
-            ..Counts::plain(4, 3, 27)
-        },
-        applied: 3,
-        incarnation: 0,
-        nodes: 3,
-    })?);
+    assert!(rt;
+        is_so(
+            &rt,
+            &Row {
+                options: &RESILIENT,
+                script: "hold ack 1 2\n",
+                counts: Counts {
+                    ticks: 2,
+                    ..Counts::plain(4, 3, 27)
+                },
+                applied: 3,
+                incarnation: 0,
+                nodes: 3,
+            }
+        )?
+    );
     Ok(())
 }
 
 // Members 1 and 2 suspect member 0, which lives. Both coordinate, and incarnation 5 wins, with the make that member 0 held.
 #[test]
 fn suspected_sequencer(rt: HostRuntime) -> Result<(), Fail> {
-    assert!(rt; is_so(&rt, &Row {
-        options: &RESILIENT,
-        script: "suspect 1 entry 2\nsuspect 2 entry 2\n",
-        counts: Counts {
-            suspects: 2,
-            ..Counts::plain(4, 3, 26)
-        },
-        applied: 3,
-        incarnation: 5,
-        nodes: 3,
-    })?);
+    assert!(rt;
+        is_so(
+            &rt,
+            &Row {
+                options: &RESILIENT,
+                script: "suspect 1 entry 2\nsuspect 2 entry 2\n",
+                counts: Counts {
+                    suspects: 2,
+                    ..Counts::plain(4, 3, 26)
+                },
+                applied: 3,
+                incarnation: 5,
+                nodes: 3,
+            }
+        )?
+    );
     Ok(())
 }
 
@@ -259,14 +306,19 @@ fn swapped_wire(rt: HostRuntime) -> Result<(), Fail> {
 #[test]
 fn acts_passed_over(rt: HostRuntime) -> Result<(), Fail> {
     let alloc = rt.alloc();
-    assert!(rt; is_so(&rt, &Row {
-        options: &[],
-        script: "crash 9 entry 2\n",
-        counts: Counts::plain(4, 3, 6),
-        applied: 3,
-        incarnation: 0,
-        nodes: 3,
-    })?);
+    assert!(rt;
+        is_so(
+            &rt,
+            &Row {
+                options: &[],
+                script: "crash 9 entry 2\n",
+                counts: Counts::plain(4, 3, 6),
+                applied: 3,
+                incarnation: 0,
+                nodes: 3,
+            }
+        )?
+    );
     let tried = one_cell(alloc, &[], "crash 1 entry 2\nsuspect 1 entry 2\n")?;
     assert_eq!(rt; tried.ended.status, FINISHED);
     assert_eq!(rt; tried.printed.as_str(), "6\n");
@@ -317,7 +369,14 @@ fn windows_are_crossed(rt: HostRuntime) -> Result<(), Fail> {
     let alloc = rt.alloc();
     let text = many(alloc, 600)?;
     let line = [
-        "run", "--nodes", "5", "--resilience", "1", "--script", "f.txt", "m.orca",
+        "run",
+        "--nodes",
+        "5",
+        "--resilience",
+        "1",
+        "--script",
+        "f.txt",
+        "m.orca",
     ];
     for (script, packets, deliveries) in [("", 5490, 5490), ("drop entry 402\n", 5492, 5491)] {
         let tried = tried(
@@ -350,7 +409,14 @@ fn a_fifth_is_lost(rt: HostRuntime) -> Result<(), Fail> {
     let alloc = rt.alloc();
     let text = many(alloc, 100)?;
     let line = [
-        "run", "--nodes", "5", "--resilience", "1", "--script", "f.txt", "m.orca",
+        "run",
+        "--nodes",
+        "5",
+        "--resilience",
+        "1",
+        "--script",
+        "f.txt",
+        "m.orca",
     ];
     let tried = tried(
         alloc,
@@ -362,9 +428,11 @@ fn a_fifth_is_lost(rt: HostRuntime) -> Result<(), Fail> {
     assert_eq!(rt; tried.printed.as_str(), "7\n");
     let kept = tried.ended.kept.as_ref().ok_or("nothing kept")?;
     assert_eq!(rt; kept.book.len(), 103);
-    assert!(rt; matches!(
+    assert!(rt;
+        matches!(
         kept.processes.as_slice(),
         [main] if main.replies.len() == 103 && matches!(main.standing, ProcessStanding::Ended)
-    ));
+    )
+    );
     Ok(())
 }

@@ -59,7 +59,12 @@ impl Counts {
 
     /// How many events these are.
     pub fn steps(self) -> usize {
-        (self.bursts + self.acts + self.deliveries + self.ticks + self.crashes + self.suspects
+        (self.bursts
+            + self.acts
+            + self.deliveries
+            + self.ticks
+            + self.crashes
+            + self.suspects
             + self.swaps) as usize
     }
 }

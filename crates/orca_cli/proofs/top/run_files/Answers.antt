@@ -20,8 +20,8 @@ returns-in-Err-Because-script_of-clause-refused g c = λ words asked.
     let quiet = only_left c.in-Ok.ensures.quiet in
     if_none _ _
     (unscripted_run words _ c.args.options _ told rose c.in-Err-Because-script_of.cause _ asked
-        (rw (c.sources.ensures.same, quiet, c.in-Err-Because-script_of.field-0-is) at c.in-Err-Because-script_of.ensures.refused)
-        (λ name named fault. c.said_unscripted.ensures.said words told _ _ _ (map file_of c.in-Ok.sources.items) name (files_run words _ c.args.options _ asked) c.in-Ok.ensures.read named fault))
+    (rw (c.sources.ensures.same, quiet, c.in-Err-Because-script_of.field-0-is) at c.in-Err-Because-script_of.ensures.refused)
+    (λ name named fault. c.said_unscripted.ensures.said words told _ _ _ (map file_of c.in-Ok.sources.items) name (files_run words _ c.args.options _ asked) c.in-Ok.ensures.read named fault))
 
 pub returns-in-Err-Because-script_of-clause-read_fault : goal.returns-in-Err-Because-script_of-clause-read_fault
 returns-in-Err-Because-script_of-clause-read_fault g c = λ rose.
@@ -58,9 +58,9 @@ returns-in-Ok-Some-clause-kept g c = λ words asked.
     let script = rw c.sources.ensures.same at c.in-Ok-script_of.ensures.script in
     run_of_words g.W.Wire.told g.W.Wire.told_script g.W.Wire.loaded c.args.wires.now c.run_small.new.wires words _ c.in-Ok-Some.small c.args.options c.in-Ok-script_of.script c.run_small.result.kept c.run_small.result.status _ _
     (run_named words _ (length (map g.W.Wire.told c.args.wires.now)) c.args.options _ _ (map source c.in-Ok-program_of.program.units.items) c.in-Ok-Some.small c.in-Ok-script_of.script asked
-        (map file_of c.in-Ok.sources.items, c.in-Ok.ensures.read, rw c.deref.ensures.value at c.in-Ok-program_of.ensures.accepted)
-        (rw (c.deref-2.ensures.value, c.in-Ok-Some.field-0-is) at c.in-Ok-Some.ensures.small)
-        script)
+    (map file_of c.in-Ok.sources.items, c.in-Ok.ensures.read, rw c.deref.ensures.value at c.in-Ok-program_of.ensures.accepted)
+    (rw (c.deref-2.ensures.value, c.in-Ok-Some.field-0-is) at c.in-Ok-Some.ensures.small)
+    script)
     c.run_small.ensures.kept c.run_small.ensures.loaded
 
 pub returns-in-Ok-Some-clause-untouched : goal.returns-in-Ok-Some-clause-untouched
@@ -70,6 +70,6 @@ pub returns-in-Ok-None-clause-refused : goal.returns-in-Ok-None-clause-refused
 returns-in-Ok-None-clause-refused g c = λ words asked.
     if_none _ _ (answer_of (λ l. l.items) c.not_yet_line.result words _ _ _ _ 15 _ (lines.not_yet_line (slice_index_or (map (λ f. f.now) c.args.files.now) 0 [])) (rw c.first_of.ensures at c.not_yet_line.ensures) c.said.ensures.printed c.said.ensures.silent c.said.ensures.status
     (because.not_yet c.args.options _ _ (map source c.in-Ok-program_of.program.units.items) asked
-        (has_script words _ _ c.args.options _ c.in-Ok-script_of.script asked (rw c.sources.ensures.same at c.in-Ok-script_of.ensures.script))
-        (map file_of c.in-Ok.sources.items, c.in-Ok.ensures.read, rw c.deref.ensures.value at c.in-Ok-program_of.ensures.accepted)
-        (rw (c.deref-2.ensures.value, c.in-Ok-None.field-0-is) at c.in-Ok-None.ensures.none)))
+    (has_script words _ _ c.args.options _ c.in-Ok-script_of.script asked (rw c.sources.ensures.same at c.in-Ok-script_of.ensures.script))
+    (map file_of c.in-Ok.sources.items, c.in-Ok.ensures.read, rw c.deref.ensures.value at c.in-Ok-program_of.ensures.accepted)
+    (rw (c.deref-2.ensures.value, c.in-Ok-None.field-0-is) at c.in-Ok-None.ensures.none)))

@@ -15,7 +15,7 @@ returns-in-Ok-clause-loaded g c =
     if_some c.run_loaded.result.kept
     (λ k. AreLoaded c.args.script.now (wires_of g.W.Wire.told g.W.Wire.told_script g.W.Wire.loaded c.args.wires.now) (wires_of g.W.Wire.told g.W.Wire.told_script g.W.Wire.loaded c.run_loaded.new.wires))
     (λ k. still_loaded g.W.Wire.told g.W.Wire.told_script g.W.Wire.loaded c.args.wires.now c.load_first.new.wires c.run_loaded.new.wires c.args.script.now c.in-Ok.ensures.loaded
-        c.run_loaded.ensures.scripts c.run_loaded.ensures.loaded)
+    c.run_loaded.ensures.scripts c.run_loaded.ensures.loaded)
 
 pub returns-in-Ok-clause-told : goal.returns-in-Ok-clause-told
 returns-in-Ok-clause-told g c = rw c.load_first.ensures.told at c.run_loaded.ensures.told

@@ -19,12 +19,12 @@ pub returns-in-Some-chosen-clause-went : goal.returns-in-Some-chosen-clause-went
 returns-in-Some-chosen-clause-went g c =
     ok_as c.compute.result
     (λ done. burst_done g.P.OneRun.run.frame c.args.self.now.world c.compute.new.self c.args.self.now.in_use g.P.OneRun.run.told (map g.W.Wire.told c.args.wires.now) c.in-Some-chosen.process
-        c.laws_of_driving.ensures.count c.requires.on done c.compute.ensures.tasks)
+    c.laws_of_driving.ensures.count c.requires.on done c.compute.ensures.tasks)
     c.compute.ensures.done
 
 pub returns-in-Some-chosen-clause-stopped : goal.returns-in-Some-chosen-clause-stopped
 returns-in-Some-chosen-clause-stopped g c =
     err_as c.compute.result
     (λ same. stopped_as g.P.OneRun.run.frame c.args.self.now.world c.compute.new.self c.args.self.now.in_use g.P.OneRun.run.told (map g.W.Wire.told c.args.wires.now) (map g.W.Wire.told c.args.wires.now)
-        c.requires.on.driven c.requires.going same refl)
+    c.requires.on.driven c.requires.going same refl)
     c.compute.ensures.err

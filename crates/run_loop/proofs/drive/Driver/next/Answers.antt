@@ -6,4 +6,4 @@ pub returns-in_err-act-clause-stopped : goal.returns-in_err-act-clause-stopped
 returns-in_err-act-clause-stopped g c =
     on_err c.from_residual.result _
     (stopped_as g.P.OneRun.run.frame c.args.self.now.world c.args.self.now.world c.args.self.now.in_use g.P.OneRun.run.told (map g.W.Wire.told c.args.wires.now) (map g.W.Wire.told c.ask.new.wires)
-        c.requires.driven c.requires.going refl c.in_err-act.ensures.err)
+    c.requires.driven c.requires.going refl c.in_err-act.ensures.err)
