@@ -41,7 +41,7 @@ use orca_io::{Shelf, Sink};
 use orca_meaning::TreeMachine;
 use orca_modules::Program;
 use run_law::run_law;
-use run_loop::{Settings, run};
+use run_loop::{Ran, Settings, run};
 use small_program::SmallProgram;
 use std::alloc::Global;
 use wires::Wire;
@@ -209,17 +209,11 @@ fn run_loaded<K: Sink, W: Wire>(
     laws_of_runs(machine);
     let settings = settings_of(alloc, options, wires);
     let ran = run(alloc, machine, settings, wires);
-    let Some(end) = ran.end else {
+    let Ran { standing, end } = ran;
+    let Some(end) = end else {
         return nothing();
     };
-    let status = report(
-        alloc,
-        out,
-        &machine.program,
-        options.turns,
-        ran.standing,
-        &end,
-    );
+    let status = report(alloc, out, &machine.program, options.turns, standing, &end);
     Ended {
         status,
         kept: Some(Kept {
