@@ -24,7 +24,7 @@ usage: orca COMMAND
   -h, --help                  prints this; behind a command's name, more about it
   -V, --version               prints the version
 
-So far `check` is built, and `run` with one file and no options.
+So far `check` is built, and `run` for small programs, of one object type and one process.
 ";
 
 /// The command `check`.
@@ -47,7 +47,8 @@ usage: orca run [OPTIONS] FILE...
   --history       prints the history of the run, too
   --explain       prints where each line of the history took place, too
 
-So far only one file is run, on one member, and no option is built.
+So far programs that are run are small, of one object type and one process, and `--workers`,
+`--history` and `--explain` aren't built.
 ";
 
 /// The command `code`.

@@ -12,6 +12,7 @@ use Rattle.orca_base.specs.declared.limits.TheConstants.{MODULES, SOURCE_BYTES}
 use Rattle.orca_base.specs.declared.refusal.Refusal.{Refusal}
 use Rattle.orca_base.specs.declared.refusal.Refusal.TheVariants.{Because, NoMemory}
 use Rattle.orca_base.specs.Refusal.{IfBecause}
+use Rattle.net_rules.specs.declared.line.ScriptLine.{ScriptLine}
 use Rattle.orca_lexer.specs.declared.token.Token.{Token}
 use Rattle.orca_grammar.specs.Forms.{spelled}
 use Rattle.orca_grammar.specs.Grammar.{IsText}
@@ -39,15 +40,17 @@ use Rattle.small_program.proofs.Sizes.{tokens_long}
 use Rattle.value_core.specs.History.{output_by, output_of}
 use Rattle.value_core.specs.declared.action.Line.{Line}
 use Rattle.orca_cli.specs.declared.job.Job.{Job}
-use Rattle.orca_cli.specs.declared.kept.Kept.{Kept}
 use Rattle.orca_cli.specs.declared.load_fault.LoadFault.{LoadFault}
 use Rattle.orca_cli.specs.declared.load_fault.LoadFault.TheVariants as loads
+use Rattle.orca_cli.specs.declared.script.ScriptFault.{ScriptFault}
+use Rattle.orca_cli.specs.declared.script.ScriptFault.TheVariants as scripts
 use Rattle.orca_cli.specs.declared.statuses.TheConstants.{NO_MEMORY, READ_FAULT, WRITE_FAULT}
 use Rattle.orca_cli.specs.Endings.{IsAnswer, IsEnding}
-use Rattle.orca_cli.specs.Headline.{IsNamed}
-use Rattle.orca_cli.specs.Job.{Word, checks, deed_in, deed_of, files_in, files_of, runs}
+use Rattle.orca_cli.specs.Headline.{IsNamed, settings_of}
+use Rattle.orca_cli.specs.Job.{IsDeedWithin, Word, checks, deed_in, deed_of, files_in, files_of, runs, script_in, script_of}
 use Rattle.orca_cli.specs.Loaded.{IsAbsent, IsFailed, IsLoaded, IsLoadFault, IsThere, IsTooLong, Reads, front_status, load_status}
 use Rattle.orca_cli.specs.Printed.{Grew, WroteOf, Ends, EndsAs}
+use Rattle.orca_cli.specs.Scripts.{HasScript, IsScriptFault, IsScriptOf, IsUnreadable, script_status}
 use Rattle.orca_cli.specs.Small.{AreSmall, TakesRoom}
 use Rattle.orca_cli.specs.Sources.{AreRead, IsRead, StopsAt}
 
@@ -153,6 +156,10 @@ deed_is words found job is says some same = sym says ∙ ap (option_map deed_of)
 pub deed_none : (words : List Word) (found : Option Job) → option_map deed_of found ≡ deed_in words → found ≡ None → deed_in words ≡ None
 deed_none words found says none = sym says ∙ ap (option_map deed_of) none
 
+-- the options of a run are in their ranges
+pub within_is : (found : Option Job) (job is : Job) → IfSome found (λ j. IsDeedWithin (deed_of j)) → found ≡ Some job → job ≡ is → IsDeedWithin (deed_of is)
+within_is found job is within some same = subst (λ (j : Job). IsDeedWithin (deed_of j)) same (subst (λ (o : Option Job). IfSome o (λ j. IsDeedWithin (deed_of j))) some within)
+
 -- ---- files
 
 -- a file that was read
@@ -247,20 +254,48 @@ refused_status fronts.TooNested h = absurd cc
 refused_status (fronts.Unlinked error) h = absurd cc
 refused_status (fronts.Mistyped error) h = absurd cc
 
+pub unscripted_status : (fault : ScriptFault) → script_status fault ≢ WRITE_FAULT
+unscripted_status (scripts.Absent file) h = absurd cc
+unscripted_status (scripts.TooLong file) h = absurd cc
+unscripted_status (scripts.Failed file) h = absurd cc
+unscripted_status (scripts.Bad error) h = absurd cc
+
+pub unreadable_status : (fault : ScriptFault) → IsUnreadable fault → script_status fault ≡ READ_FAULT
+unreadable_status (scripts.Absent file) h = absurd h
+unreadable_status (scripts.TooLong file) h = absurd h
+unreadable_status (scripts.Failed file) h = refl
+unreadable_status (scripts.Bad error) h = absurd h
+
 pub failed_status : (fault : LoadFault) → IsFailed fault → load_status fault ≡ READ_FAULT
 failed_status loads.TooMany h = absurd h
 failed_status (loads.Absent file) h = absurd h
 failed_status (loads.TooLong file) h = absurd h
 failed_status (loads.Failed file) h = refl
 
--- the program in files is the named one
-pub named : (words : List Word) (told : Option (List File)) (options : RunOptions) (script : Option Word) (files : List Word) (units : List Source) (p : SmallProgram) → deed_in words ≡ Some (runs options script files) → IsLoaded told files units → AreSmall units p →
-    IsNamed words told p
-named words told options script files units p asked loaded small = record { options = options; script = script; files = files; units = units; asked = asked; loaded = loaded; small = small }
+pub script_run : (words files : List Word) (options : RunOptions) (script : Option Word) → deed_in words ≡ Some (runs options script files) → script_in words ≡ script
+script_run words files options script asked = ap (option_and_then script_of) asked
 
-pub kept_named : (words : List Word) (told : Option (List File)) (p q : SmallProgram) (kept : Option Kept) (Q : Type 0) (R S : SmallProgram → Kept → Type 0) → IsNamed words told p → q ≡ p → MatchOption kept Q (λ k. R q k × S q k) → IfSome kept (λ k. (x : SmallProgram) × IsNamed words told x × R x k × S x k)
-kept_named words told p q None Q R S is same h = tt
-kept_named words told p q (Some k) Q R S is same h = (q, subst (IsNamed words told) (sym same) is, h.0, h.1)
+pub script_checked : (words files : List Word) → deed_in words ≡ Some (checks files) → script_in words ≡ None
+script_checked words files asked = ap (option_and_then script_of) asked
+
+-- a check has no script; a run has the one that was read
+pub has_none : (words : List Word) (told : Option (List File)) (files : List Word) → deed_in words ≡ Some (checks files) → HasScript told words
+has_none words told files asked = ([], subst (λ (o : Option Word). IsScriptOf told o []) (sym (script_checked words files asked)) refl)
+
+pub has_script : (words : List Word) (told : Option (List File)) (files : List Word) (options : RunOptions) (script : Option Word) (lines : List ScriptLine) → deed_in words ≡ Some (runs options script files) → IsScriptOf told script lines → HasScript told words
+has_script words told files options script lines asked is = (lines, subst (λ (o : Option Word). IsScriptOf told o lines) (sym (script_run words files options script asked)) is)
+
+-- where a run has no script though its files were read, it is that of the file that the words name
+pub unscripted_run : (words files : List Word) (options : RunOptions) (script : Option Word) (told : Option (List File)) (rose : Type 0) (fault : ScriptFault) (A : Type 0) → deed_in words ≡ Some (runs options script files)
+    → MatchOption script ⊥ (λ name. IsScriptFault told rose name fault) → ((name : Word) → script_in words ≡ Some name → IsScriptFault told rose name fault → A) → A
+unscripted_run words files options None told rose fault A asked is so = absurd is
+unscripted_run words files options (Some name) told rose fault A asked is so = so name (script_run words files options (Some name) asked) is
+
+-- the run is the one that the words name
+pub run_named : (words : List Word) (told : Option (List File)) (wires : ℕ) (options : RunOptions) (script : Option Word) (files : List Word) (units : List Source) (p : SmallProgram) (lines : List ScriptLine) → deed_in words ≡ Some (runs options script files)
+    → IsLoaded told files units → AreSmall units p → IsScriptOf told script lines → IsNamed words told wires p (settings_of options wires) lines
+run_named words told wires options script files units p lines asked loaded small has =
+    record { options = options; script = script; files = files; units = units; asked = asked; loaded = loaded; small = small; settings_are = refl; script_has = has }
 
 -- ---- how much room small programs take
 

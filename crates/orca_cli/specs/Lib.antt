@@ -4,6 +4,10 @@ pub mod Printed
 pub mod Small
 pub mod Sources
 pub mod Loaded
+pub mod Scripts
 pub mod Endings
+pub mod Standings
+pub mod Laws
+pub mod Kept
+pub mod Rows
 pub mod Headline
-pub mod Stops

@@ -1,5 +1,12 @@
 -- The lines that the program says where it ends, and the line that an action writes (docs/FORMATS.md, The program).
 use Rattle.std.specs.Prelude.{ℕ, List, [], ◌∷◌, ◌++◌, codes}
+use Rattle.std.specs.Fmt.{decimal}
+use Rattle.fault_scripts.specs.declared.error.ScriptError.{ScriptError}
+use Rattle.fault_scripts.specs.declared.error.ScriptError.TheVariants.{BadNumber, UnknownWord}
+use Rattle.orca_base.specs.declared.fault.FaultKind.{FaultKind}
+use Rattle.orca_base.specs.declared.fault.FaultKind.TheVariants as fault
+use Rattle.orca_base.specs.declared.what.What.{What}
+use Rattle.orca_base.specs.declared.what.What.TheVariants as what
 use Rattle.value_core.specs.Datum.{Data}
 use Rattle.value_core.specs.History.{string_first}
 
@@ -23,3 +30,52 @@ not_yet_line file = codes "orca: " ++ file ++ (codes ": not yet" ++ 10 ∷ [])
 -- the string that is the first argument, and a line feed
 abbrev pub line_with : Data → List ℕ
 line_with args = string_first args ++ 10 ∷ []
+
+-- ---- where a script is none
+
+abbrev pub script_said : ℕ → List ℕ → List ℕ
+script_said line said = codes "orca: script line " ++ decimal line ++ (codes ": " ++ said ++ 10 ∷ [])
+
+abbrev pub script_line : ScriptError → List ℕ
+script_line (UnknownWord line) = script_said line (codes "unknown word")
+script_line (BadNumber line) = script_said line (codes "bad number")
+
+-- ---- where a run ends otherwise than by its program
+
+abbrev pub fault_name : FaultKind → List ℕ
+fault_name fault.Overflow = codes "Overflow"
+fault_name fault.DivideByZero = codes "DivideByZero"
+fault_name fault.IndexOutside = codes "IndexOutside"
+fault_name fault.FromEmpty = codes "FromEmpty"
+fault_name fault.TooLarge = codes "TooLarge"
+fault_name fault.TooLong = codes "TooLong"
+fault_name fault.TooDeep = codes "TooDeep"
+fault_name fault.NoReturn = codes "NoReturn"
+
+abbrev pub faulted_line : ℕ → FaultKind → List ℕ
+faulted_line process kind = codes "orca: process " ++ decimal process ++ (codes " faulted: " ++ fault_name kind ++ 10 ∷ [])
+
+-- it waits for an operation of this name
+abbrev pub blocked_line : ℕ → List ℕ → List ℕ
+blocked_line process name = codes "orca: blocked: process " ++ decimal process ++ (codes " waits for " ++ name ++ 10 ∷ [])
+
+abbrev pub no_group_line : List ℕ
+no_group_line = codes "orca: no group" ++ 10 ∷ []
+
+abbrev pub events_line : List ℕ
+events_line = codes "orca: out of events" ++ 10 ∷ []
+
+abbrev pub turns_line : ℕ → List ℕ
+turns_line process = codes "orca: process " ++ decimal process ++ (codes " out of turns" ++ 10 ∷ [])
+
+-- what a limit is of
+abbrev pub what_name : What → List ℕ
+what_name what.SourceBytes = codes "source bytes"
+what_name what.ScriptBytes = codes "script bytes"
+what_name what.HistoryBytes = codes "history bytes"
+what_name what.Modules = codes "modules"
+what_name what.Nesting = codes "nesting"
+what_name what.CodeLength = codes "code length"
+what_name what.Objects = codes "objects"
+what_name what.Processes = codes "processes"
+what_name what.HistoryLines = codes "history lines"

@@ -1,3 +1,1 @@
-pub mod KnownLemmas
-pub mod ExecutionLemmas
 pub mod RangeLemmas

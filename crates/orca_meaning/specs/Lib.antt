@@ -3,7 +3,6 @@ pub mod Processes
 pub mod Program
 pub mod Stages
 pub mod Ranges
-pub mod Known
 pub mod StageLaws
 pub mod Fitting
 pub mod HeadLaws
@@ -11,4 +10,3 @@ pub mod ClassLaws
 pub mod FitLaws
 pub mod SoundLaws
 pub mod LawfulLaws
-pub mod Executions

@@ -1,15 +1,12 @@
-//! What a small program means, what performs and computes it, and its execution on one member.
+//! What a small program means, and what performs and computes it.
 //!
-//! specs/Operations.antt and specs/Processes.antt say what operations and processes mean, by recursion on the tree. A
-//! `TreeMachine`, made of a scoped program, meets `Performer` and `Processor` of `value_core` with these meanings
-//! (specs/Program.antt); specs/Fitting.antt says what fits. An `Execution` asks it for a program's lines one by one: the
-//! floor above uses that they are a history of the program (`Follows` of specs/Executions.antt). `next_action`, `class`,
-//! `make` and `perform` are the same meanings as free functions. The crate stands on the trees of `small_program` and the histories of
-//! `value_core`. It prints nothing, keeps no replies in a process's state, and knows neither guards nor turns: a small
-//! program has none.
+//! specs/Operations.antt and specs/Processes.antt say what operations and processes mean, by recursion on the tree. The floor above
+//! uses a `TreeMachine`: made of a scoped program, it meets `Performer` and `Processor` of `value_core` with these meanings
+//! (specs/Program.antt); specs/Fitting.antt says what fits. `next_action`, `class`, `make` and `perform` are the same meanings as free
+//! functions. The crate stands on the trees of `small_program` and the histories of `value_core`. It runs nothing, prints nothing, keeps no
+//! replies in a process's state, and knows neither guards nor turns: a small program has none.
 #![tactic(auto)]
 
-mod execution;
 mod machine;
 mod next;
 mod operations;
@@ -18,7 +15,6 @@ mod process;
 mod processing;
 mod ranges;
 
-pub use execution::Execution;
 pub use machine::TreeMachine;
 pub use next::next_action;
 pub use operations::{class, make, perform};

@@ -12,7 +12,7 @@ use value_core::{Doing, Parts, Reply};
 
 /// What a process does next: the process of this number, of this text and with these arguments, after these replies, where
 /// it may take so many turns (`doing_of` of specs/Processes.antt). A small program has one text, without parameters, and
-/// none of its phrases takes a turn. The cost is that of going through the replies; a run goes by `Execution` instead.
+/// none of its phrases takes a turn. The cost is that of going through the replies; a run keeps a process's state instead.
 pub fn next_action(
     alloc: Global,
     program: &SmallProgram,

@@ -3,7 +3,7 @@ use Rattle.link_rules.specs.Units.{source}
 use Rattle.orca_front.specs.Sources.{file_of}
 use Rattle.orca_cli.specs.Endings as because
 use Rattle.orca_cli.specs.Lines as lines
-use Rattle.orca_cli.proofs.CliLemmas.{answer_of, files_checked}
+use Rattle.orca_cli.proofs.CliLemmas.{answer_of, files_checked, has_none}
 use Rattle.orca_cli.proofs.top.check_files.Goals as goal
 
 pub returns-in-Err-Because-clause-said : goal.returns-in-Err-Because-clause-said
@@ -17,4 +17,4 @@ returns-in-Ok-program_of-clause-said g c = λ words asked.
 
 pub returns-in-Err-Because-program_of-clause-said : goal.returns-in-Err-Because-program_of-clause-said
 returns-in-Err-Because-program_of-clause-said g c = λ words asked.
-    c.said_refused.ensures.said words _ _ _ _ (map file_of c.in-Ok.sources.items) (files_checked words _ asked) c.in-Ok.ensures.read (rw (c.deref.ensures.value, c.in-Err-Because-program_of.field-0-is) at c.in-Err-Because-program_of.ensures.refused)
+    c.said_refused.ensures.said words _ _ _ _ (map file_of c.in-Ok.sources.items) (files_checked words _ asked) c.in-Ok.ensures.read (has_none words _ _ asked) (rw (c.deref.ensures.value, c.in-Err-Because-program_of.field-0-is) at c.in-Err-Because-program_of.ensures.refused)

@@ -8,5 +8,5 @@ pub said-requires : goal.said-requires
 said-requires g c = rw c.front_status.ensures (refused_status c.args.fault.now)
 
 pub returns-clause-said : goal.returns-clause-said
-returns-clause-said g c = λ words told before now files sources asked read is.
-    answer_of (λ l. l.items) c.fault_line.result words told _ _ _ (front_status c.args.fault.now) _ (fault_line c.args.fault.now) c.fault_line.ensures (rw c.front_status.ensures at c.said.ensures.printed) c.said.ensures.silent (rw c.front_status.ensures at c.said.ensures.status) (because.refused files sources c.args.fault.now asked read is)
+returns-clause-said g c = λ words told before now files sources asked read has is.
+    answer_of (λ l. l.items) c.fault_line.result words told _ _ _ (front_status c.args.fault.now) _ (fault_line c.args.fault.now) c.fault_line.ensures (rw c.front_status.ensures at c.said.ensures.printed) c.said.ensures.silent (rw c.front_status.ensures at c.said.ensures.status) (because.refused files sources c.args.fault.now asked read has is)
