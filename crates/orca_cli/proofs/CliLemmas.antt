@@ -40,67 +40,23 @@ use Rattle.small_program.proofs.Sizes.{tokens_long}
 use Rattle.value_core.specs.History.{output_by, output_of}
 use Rattle.value_core.specs.declared.action.Line.{Line}
 use Rattle.orca_cli.specs.declared.job.Job.{Job}
-use Rattle.orca_cli.specs.declared.load_fault.LoadFault.{LoadFault}
-use Rattle.orca_cli.specs.declared.load_fault.LoadFault.TheVariants as loads
+use Rattle.command_files.specs.declared.load_fault.LoadFault.{LoadFault}
+use Rattle.command_files.specs.declared.load_fault.LoadFault.TheVariants as loads
 use Rattle.orca_cli.specs.declared.script.ScriptFault.{ScriptFault}
 use Rattle.orca_cli.specs.declared.script.ScriptFault.TheVariants as scripts
-use Rattle.orca_cli.specs.declared.statuses.TheConstants.{NO_MEMORY, READ_FAULT, WRITE_FAULT}
+use Rattle.command_output.specs.declared.statuses.TheConstants.{NO_MEMORY, READ_FAULT, WRITE_FAULT}
 use Rattle.orca_cli.specs.Endings.{IsAnswer, IsEnding}
 use Rattle.orca_cli.specs.Headline.{IsNamed, settings_of}
-use Rattle.orca_cli.specs.Job.{IsDeedWithin, Word, checks, deed_in, deed_of, files_in, files_of, runs, script_in, script_of}
-use Rattle.orca_cli.specs.Loaded.{IsAbsent, IsFailed, IsLoaded, IsLoadFault, IsThere, IsTooLong, Reads, front_status, load_status}
-use Rattle.orca_cli.specs.Printed.{Grew, WroteOf, Ends, EndsAs}
+use Rattle.command_files.specs.Sources.{Word}
+use Rattle.orca_cli.specs.Job.{IsDeedWithin, checks, deed_in, deed_of, files_in, files_of, runs, script_in, script_of}
+use Rattle.command_output.proofs.Putting.{GrewUpTo, grew_fault, grew_put}
+use Rattle.command_files.specs.Loaded.{IsAbsent, IsFailed, IsLoaded, IsLoadFault, IsThere, IsTooLong, Reads, front_status, load_status}
+use Rattle.command_output.specs.Printed.{Grew, WroteOf, Ends, EndsAs}
 use Rattle.orca_cli.specs.Scripts.{HasScript, IsScriptFault, IsScriptOf, IsUnreadable, script_status}
 use Rattle.orca_cli.specs.Small.{AreSmall, TakesRoom}
-use Rattle.orca_cli.specs.Sources.{AreRead, IsRead, StopsAt}
+use Rattle.command_files.specs.Sources.{AreRead, IsRead, StopsAt}
 
 -- ---- what was printed
-
--- the told bytes grew by the front of a text in front of this rest
-abbrev pub GrewUpTo : Option (List ℕ) → Option (List ℕ) → List ℕ → List ℕ → Type 0
-GrewUpTo old new whole rest = Grew old new (λ t. whole ≡ t ++ rest)
-
-pub grew_none : (told : Option (List ℕ)) (whole : List ℕ) → GrewUpTo told told whole whole
-grew_none None whole = refl
-grew_none (Some old) whole = ([], sym (append-nil old), refl)
-
--- one piece more
-pub grew_put : (first old new : Option (List ℕ)) (whole piece rest : List ℕ) → GrewUpTo first old whole (piece ++ rest) → Puts old new piece (Ok tt) → GrewUpTo first new whole rest
-grew_put None None new whole piece rest h p = p
-grew_put None (Some old) new whole piece rest h p = absurd cc
-grew_put (Some first) None new whole piece rest h p = absurd h
-grew_put (Some first) (Some old) None whole piece rest h p = absurd p
-grew_put (Some first) (Some old) (Some new) whole piece rest h p =
-    (h.0 ++ piece, p ∙ ap (λ (l : List ℕ). l ++ piece) h.1 ∙ append_assoc first h.0 piece, h.2 ∙ sym (append_assoc h.0 piece rest))
-
--- a piece that was not put whole: a front of the text was
-pub grew_fault : (first old new : Option (List ℕ)) (whole piece rest : List ℕ) (fault : SinkFault) → GrewUpTo first old whole (piece ++ rest) → Puts old new piece (Err fault) → Grew first new (WroteOf (Err fault) whole)
-grew_fault None None new whole piece rest fault h p = p
-grew_fault None (Some old) new whole piece rest fault h p = absurd cc
-grew_fault (Some first) None new whole piece rest fault h p = absurd h
-grew_fault (Some first) (Some old) None whole piece rest fault h p = absurd p
-grew_fault (Some first) (Some old) (Some new) whole piece rest faults.Failed h p = (
-  h.0 ++ take p.0 piece,
-  p.1 ∙ ap (λ (l : List ℕ). l ++ take p.0 piece) h.1 ∙ append_assoc first h.0 (take p.0 piece),
-  (
-    drop p.0 piece ++ rest,
-    h.2 ∙ ap (λ (l : List ℕ). h.0 ++ (l ++ rest)) (sym (take-append-drop p.0 piece))
-        ∙ ap (λ (l : List ℕ). h.0 ++ l) (append_assoc (take p.0 piece) (drop p.0 piece) rest) ∙ sym (append_assoc h.0 (take p.0 piece) (drop p.0 piece ++ rest)),
-  ),
-)
-grew_fault (Some first) (Some old) (Some new) whole piece rest faults.NoMemory h p = (h.0, p ∙ h.1, (piece ++ rest, h.2))
-
--- where nothing more is put, a front of the text was
-pub grew_front : (first old : Option (List ℕ)) (whole rest : List ℕ) (fault : SinkFault) → GrewUpTo first old whole rest → Grew first old (WroteOf (Err fault) whole)
-grew_front None old whole rest fault h = h
-grew_front (Some first) None whole rest fault h = h
-grew_front (Some first) (Some old) whole rest fault h = (h.0, h.1, (rest, h.2))
-
--- and where nothing is left, all of it
-pub grew_all : (first old : Option (List ℕ)) (whole rest : List ℕ) → rest ≡ [] → GrewUpTo first old whole rest → Grew first old (WroteOf (Ok tt) whole)
-grew_all None old whole rest e h = h
-grew_all (Some first) None whole rest e h = h
-grew_all (Some first) (Some old) whole rest e h = (h.0, h.1, sym (h.2 ∙ ap (λ (l : List ℕ). h.0 ++ l) e ∙ append-nil h.0))
 
 -- what a line and those behind it write
 output_drop : (book : List Line) (i : ℕ) (line : Line) → i < length book → line ≡ get_or book i line → output_of (drop i book) ≡ output_by line.action ++ output_of (drop (suc i) book)
@@ -122,19 +78,6 @@ pub grew_line_fault : (first old new : Option (List ℕ)) (book : List Line) (i 
     Puts old new piece (Err fault) → Grew first new (WroteOf (Err fault) (output_of book))
 grew_line_fault first old new book i line piece fault less is says told puts =
     grew_fault first old new (output_of book) piece (output_of (drop (suc i) book)) fault (line_left first old book i line piece less is says told) puts
-
-pub empty_is : {A : Type 0} → (l : List A) → true ≡ (length l == 0) → l ≡ []
-empty_is [] h = refl
-empty_is (x ∷ l) h = absurd (grind (arith, nat_tests))
-
-pub puts_none : (told : Option (List ℕ)) (piece : List ℕ) → true ≡ (length piece == 0) → Puts told told piece (Ok tt)
-puts_none None piece e = refl
-puts_none (Some old) piece e = sym (ap (λ (l : List ℕ). old ++ l) (empty_is piece e) ∙ append-nil old)
-
-pub put_failed : (old new : Option (List ℕ)) (piece : List ℕ) (status : ℕ) → Puts old new piece (Err faults.Failed) → Grew old new (Ends status WRITE_FAULT piece)
-put_failed None new piece status h = h
-put_failed (Some old) None piece status h = h
-put_failed (Some old) (Some new) piece status h = (take h.0 piece, h.1, inr (inl refl, (drop h.0 piece, sym (take-append-drop h.0 piece))))
 
 -- ---- how the program ends where it runs nothing
 
@@ -160,79 +103,6 @@ deed_none words found says none = sym says ∙ ap (option_map deed_of) none
 pub within_is : (found : Option Job) (job is : Job) → IfSome found (λ j. IsDeedWithin (deed_of j)) → found ≡ Some job → job ≡ is → IsDeedWithin (deed_of is)
 within_is found job is within some same = subst (λ (j : Job). IsDeedWithin (deed_of j)) same (subst (λ (o : Option Job). IfSome o (λ j. IsDeedWithin (deed_of j))) some within)
 
--- ---- files
-
--- a file that was read
-pub read_is : (told : Option (List File)) (file text : List ℕ) → IfSome told (λ files. (content_of files file ≡ Some text) × (length text ≤ SOURCE_BYTES)) → length text ≤ SOURCE_BYTES → IsRead told SOURCE_BYTES (file, text)
-read_is None file text h bytes = record { content = tt; bytes = bytes }
-read_is (Some files) file text h bytes = record { content = h.0; bytes = bytes }
-
--- the names of the first files, and what was read of them
-pub record ReadSoFar (told : Option (List File)) (files : List (Bor Word)) (i : ℕ) (sources : List SourceFile) : Type 0 where
-  pub names : map (λ (f : Bor Word). f.now) (take i files) ≡ map (λ (s : File). s.0) (map file_of sources)
-  pub read : All (IsRead told SOURCE_BYTES) (map file_of sources)
-
-pub none_read : (told : Option (List File)) (files : List (Bor Word)) → ReadSoFar told files 0 []
-none_read told files = record { names = refl; read = All-nil (IsRead told SOURCE_BYTES) }
-
-one_more : (xs : List (Bor Word)) (i : ℕ) (x d : Bor Word) → i < length xs → x ≡ get_or xs i d → take (i + 1) xs ≡ take i xs ++ x ∷ []
-one_more xs i x d lt is =
-    let next : i + 1 ≡ suc i = omega arith in
-    ap (λ (k : ℕ). take k xs) next ∙ take-suc xs i d lt ∙ ap (λ (y : Bor Word). take i xs ++ y ∷ []) (sym is)
-
--- one file more
-pub reads_more : (told : Option (List File)) (files : List (Bor Word)) (i : ℕ) (file d : Bor Word) (sources new : List SourceFile) (s : SourceFile) → i < length files → file ≡ get_or files i d → new ≡ sources ++ s ∷ [] → ReadSoFar told files i sources →
-    s.name.now ≡ file.now → IsRead told SOURCE_BYTES (file_of s) → ReadSoFar told files (i + 1) new
-reads_more told files i file d sources new s lt is pushed so_far named read =
-    let news = ap (map file_of) pushed ∙ map-append file_of sources (s ∷ []) in
-    record {
-      names =
-          ap (map (λ (f : Bor Word). f.now)) (one_more files i file d lt is) ∙ map-append (λ (f : Bor Word). f.now) (take i files) (file ∷ [])
-          ∙ ap (λ (l : List Word). l ++ file.now ∷ []) so_far.names ∙ ap (λ (w : Word). map (λ (s : File). s.0) (map file_of sources) ++ w ∷ []) (sym named)
-          ∙ sym (ap (map (λ (s : File). s.0)) news ∙ map-append (λ (s : File). s.0) (map file_of sources) (file_of s ∷ []));
-      read = subst (All (IsRead told SOURCE_BYTES)) (sym news) (All-push (IsRead told SOURCE_BYTES) (map file_of sources) (file_of s) so_far.read read);
-    }
-
--- where reading stops at the next file
-pub stops_next : (told : Option (List File)) (files : List (Bor Word)) (i : ℕ) (file d : Bor Word) (sources : List SourceFile) → length files ≤ MODULES → i < length files → file ≡ get_or files i d → ReadSoFar told files i sources →
-    StopsAt told (map (λ (f : Bor Word). f.now) files) file.now
-stops_next told files i file d sources few lt is so_far = record {
-  few = subst (λ (n : ℕ). n ≤ MODULES) (sym (length-map files (λ (f : Bor Word). f.now))) few;
-  before = map file_of sources;
-  after = map (λ (f : Bor Word). f.now) (drop (suc i) files);
-  splits =
-      ap (map (λ (f : Bor Word). f.now)) (sym (take-append-drop i files) ∙ ap (λ (r : List (Bor Word)). take i files ++ r) (drop-cons files i d lt ∙ ap (λ (y : Bor Word). y ∷ drop (suc i) files) (sym is)))
-      ∙ map-append (λ (f : Bor Word). f.now) (take i files) (file ∷ drop (suc i) files)
-      ∙ ap (λ (l : List Word). l ++ file.now ∷ map (λ (f : Bor Word). f.now) (drop (suc i) files)) so_far.names;
-  read = so_far.read;
-}
-
-pub only_left : {A : Type 0} → A ⊎ ⊥ → A
-only_left (inl a) = a
-only_left (inr h) = absurd h
-
--- what was read of a file, over what was so before any was read
-pub reads_since : (told old : Option (List File)) (faults before new : ℕ) (name : Word) (x y : Result SourceFile (Refusal LoadFault)) → told ≡ old → faults ≡ before → x ≡ y → Reads told (Rose faults new) name x → Reads old (Rose before new) name y
-reads_since told old faults before new name x y same quiet is h =
-    subst (λ (r : Result SourceFile (Refusal LoadFault)). Reads old (Rose before new) name r) is
-    (subst (λ (t : Option (List File)). Reads t (Rose before new) name x) same (subst (λ (f : ℕ). Reads told (Rose f new) name x) quiet h))
-
--- why reading stopped there
-pub fault_next : (T : Type 0) (told : Option (List File)) (rose : Type 0) (files : List Word) (name : Word) (r : Refusal LoadFault) → StopsAt told files name → Reads told rose name (Err r) → IfBecause {T = T} (Err r) (IsLoadFault told rose files)
-fault_next T told rose files name (Because (loads.Absent file)) stops h = (subst (StopsAt told files) (sym h.0) stops, subst (IsAbsent told) (sym h.0) h.1)
-fault_next T told rose files name (Because (loads.TooLong file)) stops h = (subst (StopsAt told files) (sym h.0) stops, subst (IsTooLong told SOURCE_BYTES) (sym h.0) h.1)
-fault_next T told rose files name (Because (loads.Failed file)) stops h = (subst (StopsAt told files) (sym h.0) stops, subst (IsThere told) (sym h.0) h.1, h.2)
-fault_next T told rose files name (Because loads.TooMany) stops h = absurd h
-fault_next T told rose files name NoMemory stops h = tt
-
--- all files were read
-pub all_read : (told : Option (List File)) (files : List (Bor Word)) (i : ℕ) (sources : List SourceFile) → length files ≤ MODULES → length files ≤ i → ReadSoFar told files i sources → AreRead told (map (λ (f : Bor Word). f.now) files) (map file_of sources)
-all_read told files i sources few end so_far = record {
-  few = subst (λ (n : ℕ). n ≤ MODULES) (sym (length-map files (λ (f : Bor Word). f.now))) few;
-  names = ap (map (λ (f : Bor Word). f.now)) (sym (take_all i files end)) ∙ so_far.names;
-  read = so_far.read;
-}
-
 -- ---- what the words ask for
 
 pub files_checked : (words files : List Word) → deed_in words ≡ Some (checks files) → files_in words ≡ Some files
@@ -240,37 +110,6 @@ files_checked words files asked = ap (option_and_then files_of) asked
 
 pub files_run : (words files : List Word) (options : RunOptions) (script : Option Word) → deed_in words ≡ Some (runs options script files) → files_in words ≡ Some files
 files_run words files options script asked = ap (option_and_then files_of) asked
-
--- neither files that weren't read nor texts that are no program end with the status of a write fault
-pub unread_status : (fault : LoadFault) → load_status fault ≢ WRITE_FAULT
-unread_status loads.TooMany h = absurd cc
-unread_status (loads.Absent file) h = absurd cc
-unread_status (loads.TooLong file) h = absurd cc
-unread_status (loads.Failed file) h = absurd cc
-
-pub refused_status : (fault : FrontFault) → front_status fault ≢ WRITE_FAULT
-refused_status (fronts.Faulty file at said) h = absurd cc
-refused_status fronts.TooNested h = absurd cc
-refused_status (fronts.Unlinked error) h = absurd cc
-refused_status (fronts.Mistyped error) h = absurd cc
-
-pub unscripted_status : (fault : ScriptFault) → script_status fault ≢ WRITE_FAULT
-unscripted_status (scripts.Absent file) h = absurd cc
-unscripted_status (scripts.TooLong file) h = absurd cc
-unscripted_status (scripts.Failed file) h = absurd cc
-unscripted_status (scripts.Bad error) h = absurd cc
-
-pub unreadable_status : (fault : ScriptFault) → IsUnreadable fault → script_status fault ≡ READ_FAULT
-unreadable_status (scripts.Absent file) h = absurd h
-unreadable_status (scripts.TooLong file) h = absurd h
-unreadable_status (scripts.Failed file) h = refl
-unreadable_status (scripts.Bad error) h = absurd h
-
-pub failed_status : (fault : LoadFault) → IsFailed fault → load_status fault ≡ READ_FAULT
-failed_status loads.TooMany h = absurd h
-failed_status (loads.Absent file) h = absurd h
-failed_status (loads.TooLong file) h = absurd h
-failed_status (loads.Failed file) h = refl
 
 pub script_run : (words files : List Word) (options : RunOptions) (script : Option Word) → deed_in words ≡ Some (runs options script files) → script_in words ≡ script
 script_run words files options script asked = ap (option_and_then script_of) asked

@@ -22,12 +22,12 @@ use Rattle.run_loop.specs.Asked.{HaveToldOn, WereUsedSo, asked_since}
 use Rattle.run_loop.specs.Left.{HasRun, run_of}
 use Rattle.orca_meaning.specs.Program.{computes_of, performs_of}
 use Rattle.orca_cli.specs.declared.kept.Kept.{Kept}
-use Rattle.orca_cli.specs.declared.statuses.TheConstants.{NO_MEMORY}
+use Rattle.command_output.specs.declared.statuses.TheConstants.{NO_MEMORY}
 use Rattle.orca_cli.specs.Headline.{AreLoaded, IsNamed, IsRun, IsRunOf, Wires, settings_of, wires_of}
-use Rattle.orca_cli.specs.Job.{Word}
+use Rattle.command_files.specs.Sources.{Word}
 use Rattle.orca_cli.specs.Kept.{IsEndOf}
 use Rattle.orca_cli.specs.Laws.{RunLaws}
-use Rattle.orca_cli.specs.Printed.{Ends, EndsAs, Grew}
+use Rattle.command_output.specs.Printed.{Ends, EndsAs, Grew}
 use Rattle.orca_cli.specs.Small.{awaited_name}
 use Rattle.orca_cli.specs.Standings.{ending_line, standing_status}
 use Rattle.orca_cli.proofs.KeptLemmas.{history_kept}

@@ -8,10 +8,10 @@ use Rattle.orca_io.specs.Sinks.{Puts}
 use Rattle.world_rules.specs.declared.standing.Standing.{Standing}
 use Rattle.world_rules.specs.declared.standing.Standing.TheVariants.{Limit, OutOfTurns, OutOfEvents, NoGroup, Faulted, Blocked, Finished, Going}
 use Rattle.world_core.specs.declared.ends.ProcessEnd.{ProcessEnd}
-use Rattle.orca_cli.specs.declared.statuses.TheConstants.{NO_MEMORY, WRITE_FAULT}
-use Rattle.orca_cli.specs.Printed.{Ends, EndsAs, Grew, HasStopped, WroteOf}
+use Rattle.command_output.specs.declared.statuses.TheConstants.{NO_MEMORY, WRITE_FAULT}
+use Rattle.command_output.specs.Printed.{Ends, EndsAs, Grew, HasStopped, WroteOf}
 use Rattle.orca_cli.specs.Standings.{first_of, or_later, run_status, spent_of, standing_status, write_status}
-use Rattle.orca_cli.proofs.CliLemmas.{GrewUpTo, grew_all, grew_fault, grew_front, grew_put}
+use Rattle.command_output.proofs.Putting.{GrewUpTo, grew_all, grew_fault, grew_front, grew_put}
 
 -- ---- of a status that is wanted
 

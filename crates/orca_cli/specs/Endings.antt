@@ -6,16 +6,17 @@ use Rattle.link_rules.specs.Units.{Source}
 use Rattle.orca_front.specs.declared.fault.FrontFault.{FrontFault}
 use Rattle.orca_front.specs.Lines.{fault_line}
 use Rattle.orca_front.specs.Sources.{IsFault}
-use Rattle.orca_cli.specs.declared.load_fault.LoadFault.{LoadFault}
-use Rattle.orca_cli.specs.declared.statuses.TheConstants.{FINISHED, NOT_YET, NO_MEMORY, USAGE}
+use Rattle.command_files.specs.declared.load_fault.LoadFault.{LoadFault}
+use Rattle.command_output.specs.declared.statuses.TheConstants.{FINISHED, NOT_YET, NO_MEMORY, USAGE}
 use Rattle.orca_cli.specs.declared.script.ScriptFault.{ScriptFault}
-use Rattle.orca_cli.specs.Job.{Word, checks, deed_in, files_in, runs, says, script_in}
+use Rattle.command_files.specs.Sources.{Word}
+use Rattle.orca_cli.specs.Job.{checks, deed_in, files_in, runs, says, script_in}
 use Rattle.orca_cli.specs.Lines.{usage_line, ok_line, not_yet_line}
-use Rattle.orca_cli.specs.Loaded.{IsLoadFault, IsLoaded, front_status, load_line, load_status}
-use Rattle.orca_cli.specs.Printed.{Grew, Ends, EndsAs}
+use Rattle.command_files.specs.Loaded.{IsLoadFault, IsLoaded, front_status, load_line, load_status}
+use Rattle.command_output.specs.Printed.{Grew, Ends, EndsAs}
 use Rattle.orca_cli.specs.Scripts.{HasScript, IsScriptFault, script_fault_line, script_status}
 use Rattle.orca_cli.specs.Small.{IsNotSmall}
-use Rattle.orca_cli.specs.Sources.{AreRead}
+use Rattle.command_files.specs.Sources.{AreRead}
 
 -- The words ask for help or for the version; they are no command, or ask for what isn't built. They ask for something of the program in
 -- files, and these weren't read; or they were, and the script of the run wasn't, or is none; or that is one, and their texts are no program

@@ -18,11 +18,12 @@ use Rattle.run_loop.specs.Asked.{HaveToldOn, NoneAskedBehind, WereUsedSo, asked_
 use Rattle.orca_meaning.specs.Program.{computes_of, performs_of}
 use Rattle.run_loop.specs.Left.{run_of}
 use Rattle.orca_cli.specs.declared.kept.Kept.{Kept}
-use Rattle.orca_cli.specs.declared.statuses.TheConstants.{NO_MEMORY}
-use Rattle.orca_cli.specs.Job.{Word, deed_in, runs}
+use Rattle.command_output.specs.declared.statuses.TheConstants.{NO_MEMORY}
+use Rattle.command_files.specs.Sources.{Word}
+use Rattle.orca_cli.specs.Job.{deed_in, runs}
 use Rattle.orca_cli.specs.Kept.{IsEndOf, IsHistory}
-use Rattle.orca_cli.specs.Loaded.{IsLoaded}
-use Rattle.orca_cli.specs.Printed.{Ends, EndsAs, Grew}
+use Rattle.command_files.specs.Loaded.{IsLoaded}
+use Rattle.command_output.specs.Printed.{Ends, EndsAs, Grew}
 use Rattle.orca_cli.specs.Rows.{KeptRow, ShownRows}
 use Rattle.orca_cli.specs.Scripts.{IsScriptOf}
 use Rattle.orca_cli.specs.Small.{AreSmall, awaited_name}

@@ -5,12 +5,9 @@ use Rattle.command_line.specs.Asked.{Asked, IsRunWithin}
 use Rattle.command_line.specs.Asked as ask
 use Rattle.command_line.specs.Command.{Command}
 use Rattle.command_line.specs.Help.{help_of, version_line}
+use Rattle.command_files.specs.Sources.{Word}
 use Rattle.orca_cli.specs.declared.job.Job.{Job}
 use Rattle.orca_cli.specs.declared.job.Job.TheVariants as jobs
-
--- a word, or the name of a file
-abbrev pub Word : Type 0
-Word = List ℕ
 
 -- it says a text, checks the program in files, or runs the program in files, with these options and this file of a script
 pub data Deed : Type 0 where

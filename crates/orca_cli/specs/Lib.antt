@@ -1,9 +1,6 @@
 pub mod Job
 pub mod Lines
-pub mod Printed
 pub mod Small
-pub mod Sources
-pub mod Loaded
 pub mod Scripts
 pub mod Endings
 pub mod Standings

@@ -14,12 +14,6 @@ abbrev pub usage_line : List ℕ
 usage_line =
     codes "usage: orca check FILE... | run [OPTIONS] FILE... | code FILE... | choice [--nodes N] FILE... | replay HISTORY FILE... | make [OPTIONS] NUMBER" ++ 10 ∷ []
 
-abbrev pub absent_line : List ℕ → List ℕ
-absent_line file = codes "orca: no file " ++ file ++ 10 ∷ []
-
-abbrev pub unread_line : List ℕ → List ℕ
-unread_line file = codes "orca: cannot read " ++ file ++ 10 ∷ []
-
 -- the program in the files is accepted
 abbrev pub ok_line : List ℕ
 ok_line = codes "ok" ++ 10 ∷ []

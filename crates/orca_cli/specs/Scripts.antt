@@ -9,11 +9,13 @@ use Rattle.orca_io.specs.Files.{File}
 use Rattle.orca_front.specs.Lines.{limit_line}
 use Rattle.orca_cli.specs.declared.script.ScriptFault.{ScriptFault}
 use Rattle.orca_cli.specs.declared.script.ScriptFault.TheVariants.{Absent, Bad, Failed, TooLong}
-use Rattle.orca_cli.specs.declared.statuses.TheConstants.{ABSENT, BAD_SCRIPT, LIMIT, READ_FAULT}
-use Rattle.orca_cli.specs.Job.{Word, script_in}
-use Rattle.orca_cli.specs.Lines.{absent_line, script_line, unread_line}
-use Rattle.orca_cli.specs.Loaded.{IsAbsent, IsThere, IsTooLong}
-use Rattle.orca_cli.specs.Sources.{IsRead}
+use Rattle.command_output.specs.declared.statuses.TheConstants.{ABSENT, BAD_SCRIPT, LIMIT, READ_FAULT}
+use Rattle.command_files.specs.Sources.{Word}
+use Rattle.orca_cli.specs.Job.{script_in}
+use Rattle.command_files.specs.Lines.{absent_line, unread_line}
+use Rattle.orca_cli.specs.Lines.{script_line}
+use Rattle.command_files.specs.Loaded.{IsAbsent, IsThere, IsTooLong}
+use Rattle.command_files.specs.Sources.{IsRead}
 
 -- the text in this file was read, and says these lines; without a file there are none
 abbrev pub IsScriptOf : Option (List File) → Option Word → List ScriptLine → Type 0

@@ -10,7 +10,7 @@ use Rattle.world_rules.specs.declared.standing.Standing.TheVariants.{Limit, OutO
 use Rattle.world_core.specs.declared.ends.ProcessEnd.{ProcessEnd}
 use Rattle.world_core.specs.declared.ends.ProcessStanding.{ProcessStanding}
 use Rattle.world_core.specs.declared.ends.ProcessStanding.TheVariants as process
-use Rattle.orca_cli.specs.declared.statuses.TheConstants.{BLOCKED, FAULTED, FINISHED, LIMIT, NO_GROUP, NO_MEMORY, OUT_OF_EVENTS, OUT_OF_TURNS, WRITE_FAULT}
+use Rattle.command_output.specs.declared.statuses.TheConstants.{BLOCKED, FAULTED, FINISHED, LIMIT, NO_GROUP, NO_MEMORY, OUT_OF_EVENTS, OUT_OF_TURNS, WRITE_FAULT}
 use Rattle.orca_cli.specs.Lines.{blocked_line, events_line, faulted_line, no_group_line, turns_line, what_name}
 
 -- a run that is still going stopped for want of memory

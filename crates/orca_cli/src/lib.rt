@@ -10,17 +10,14 @@ mod ending;
 mod job;
 mod kept;
 mod lines;
-mod load_fault;
 mod report;
 mod script;
 mod small;
-mod sources;
-mod statuses;
 mod top;
 
 pub use kept::{Ended, Kept};
 pub use run_loop::{NodeEnd, ProcessEnd, ProcessStanding, Step};
-pub use statuses::{
+pub use command_output::{
     ABSENT, BAD_SCRIPT, BLOCKED, FAULTED, FINISHED, LIMIT, NO_GROUP, NO_MEMORY, NOT_YET,
     OUT_OF_EVENTS, OUT_OF_TURNS, READ_FAULT, REFUSED, USAGE, WRITE_FAULT,
 };

@@ -25,22 +25,6 @@ pub fn usage_line(alloc: Global) -> Result<Vec<u8>, NoMemory>
     Ok(line.into_bytes())
 }
 
-/// There is no such file.
-pub fn absent_line(alloc: Global, file: &str) -> Result<Vec<u8>, NoMemory>
-    ensures { IfOk result (λ line. line.items ≡ lines.absent_line file.now) }
-{
-    let line = format!(in alloc; "orca: no file {file}\n")?;
-    Ok(line.into_bytes())
-}
-
-/// The file can't be read.
-pub fn unread_line(alloc: Global, file: &str) -> Result<Vec<u8>, NoMemory>
-    ensures { IfOk result (λ line. line.items ≡ lines.unread_line file.now) }
-{
-    let line = format!(in alloc; "orca: cannot read {file}\n")?;
-    Ok(line.into_bytes())
-}
-
 /// The program in the files is accepted.
 pub fn ok_line(alloc: Global) -> Result<Vec<u8>, NoMemory>
     ensures { IfOk result (λ line. line.items ≡ lines.ok_line) }

@@ -6,7 +6,7 @@ ghost use Rattle.orca_io.specs.Sinks.{Puts};
 ghost use Rattle.value_core.specs.History.{output_by, output_of};
 ghost use Rattle.world_rules.specs.declared.standing.Standing.TheVariants.{Going};
 ghost use Rattle.orca_cli.specs.Lines.{line_with};
-ghost use Rattle.orca_cli.specs.Printed.{Ends, EndsAs, Grew, HasStopped, WroteOf};
+ghost use Rattle.command_output.specs.Printed.{Ends, EndsAs, Grew, HasStopped, WroteOf};
 ghost use Rattle.orca_cli.specs.Small.{awaited_name};
 ghost use Rattle.orca_cli.specs.Standings.{awaited_of, ending_line, fault_of, fault_said, first_faulted, first_spent, first_waiting, run_status, spent_said, standing_status, wait_said};
 
@@ -14,7 +14,7 @@ use crate::lines::{
     blocked_line, events_line, faulted_line, no_group_line, run_limit_line, turns_line,
 };
 use crate::small::awaited_name;
-use crate::statuses::{
+use command_output::{
     BLOCKED, FAULTED, FINISHED, LIMIT, NO_GROUP, NO_MEMORY, OUT_OF_EVENTS, OUT_OF_TURNS,
     WRITE_FAULT,
 };

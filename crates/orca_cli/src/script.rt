@@ -6,8 +6,9 @@ ghost use Rattle.orca_base.specs.Refusal.{IfBecause, MatchRefusal};
 ghost use Rattle.orca_io.specs.Causes.{Rose};
 ghost use Rattle.orca_cli.specs.Scripts.{IsScriptFault, IsScriptOf, IsUnreadable, IsWrong, script_fault_line, script_status};
 
-use crate::lines::{absent_line, script_line, unread_line};
-use crate::statuses::{ABSENT, BAD_SCRIPT, LIMIT, READ_FAULT};
+use crate::lines::script_line;
+use command_files::{absent_line, unread_line};
+use command_output::{ABSENT, BAD_SCRIPT, LIMIT, READ_FAULT};
 use fault_scripts::{Script, ScriptError, read_script};
 use orca_base::{NoMemory, Refusal, SCRIPT_BYTES, refuse};
 use orca_front::limit_line;

@@ -13,24 +13,24 @@ ghost use Rattle.run_loop.specs.Asked.{HaveToldOn};
 ghost use Rattle.run_loop.specs.Left.{run_of};
 ghost use Rattle.orca_cli.specs.Endings.{IsAnswer};
 ghost use Rattle.orca_cli.specs.Headline.{AreLoaded, AreUntouched, IsRun, IsRunOf, settings_of, wires_of};
-ghost use Rattle.orca_cli.specs.Job.{Word, checks, deed_in, files_in, runs, script_in};
+ghost use Rattle.command_files.specs.Sources.{Word};
+ghost use Rattle.orca_cli.specs.Job.{checks, deed_in, files_in, runs, script_in};
 ghost use Rattle.orca_cli.specs.Laws.{RunLaws};
-ghost use Rattle.orca_cli.specs.Loaded.{IsFailed, IsLoadFault, front_status};
-ghost use Rattle.orca_cli.specs.Printed.{HasStopped};
+ghost use Rattle.command_files.specs.Loaded.{IsFailed, IsLoadFault, front_status};
+ghost use Rattle.command_output.specs.Printed.{HasStopped};
 ghost use Rattle.orca_cli.specs.Scripts.{HasScript, IsScriptFault, IsUnreadable};
 ghost use Rattle.orca_cli.specs.Small.{awaited_name};
-ghost use Rattle.orca_cli.specs.Sources.{AreRead};
+ghost use Rattle.command_files.specs.Sources.{AreRead};
 
 use crate::ending::{nothing, said};
 use crate::job::{Job, job_of};
 use crate::kept::{Ended, Kept};
 use crate::lines::{not_yet_line, ok_line, usage_line, whole};
-use crate::load_fault::LoadFault;
 use crate::report::report;
 use crate::script::{ScriptFault, script_of};
 use crate::small::small_of;
-use crate::sources::sources;
-use crate::statuses::{
+use command_files::{LoadFault, front_status, sources};
+use command_output::{
     FINISHED, LIMIT, NO_MEMORY, NOT_YET, READ_FAULT, REFUSED, USAGE, WRITE_FAULT,
 };
 use command_line::RunOptions;
@@ -59,18 +59,6 @@ fn said_unread<K: Sink>(alloc: Global, out: &mut K, fault: LoadFault<'_>) -> End
     ensures stopped { K.faults out.old < K.faults out.new → HasStopped result.status }
 {
     said(out, fault.line(alloc), fault.status())
-}
-
-// The status for texts that are no program.
-fn front_status(fault: &FrontFault) -> u8
-    ensures { result ≡ front_status fault.now }
-{
-    match fault {
-        FrontFault::TooNested => LIMIT,
-        FrontFault::Faulty { .. } | FrontFault::Unlinked { .. } | FrontFault::Mistyped { .. } => {
-            REFUSED
-        }
-    }
 }
 
 // Prints why texts are no program.

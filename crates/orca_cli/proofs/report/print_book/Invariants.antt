@@ -1,6 +1,6 @@
 use Rattle.std.proofs.Common.{◌≡◌, drop}
 use Rattle.value_core.specs.History.{output_of}
-use Rattle.orca_cli.proofs.CliLemmas.{GrewUpTo}
+use Rattle.command_output.proofs.Putting.{GrewUpTo}
 use Rattle.orca_cli.proofs.report.print_book.Given as goal
 
 abbrev pub invariant-lines : goal.invariant-lines

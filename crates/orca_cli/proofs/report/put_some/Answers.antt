@@ -1,4 +1,4 @@
-use Rattle.orca_cli.proofs.CliLemmas.{puts_none}
+use Rattle.command_output.proofs.Putting.{puts_none}
 use Rattle.orca_cli.proofs.report.put_some.Goals as goal
 
 pub returns-then-is_empty-clause-puts : goal.returns-then-is_empty-clause-puts

@@ -5,7 +5,8 @@ use Rattle.orca_front.specs.Sources.{file_of}
 use Rattle.orca_io.specs.Causes.{Rose}
 use Rattle.orca_cli.specs.Endings as because
 use Rattle.orca_cli.specs.Lines as lines
-use Rattle.orca_cli.proofs.CliLemmas.{answer_of, few_enough, files_run, has_script, if_none, only_left, run_named, unscripted_run}
+use Rattle.command_files.proofs.ReadFiles.{only_left}
+use Rattle.orca_cli.proofs.CliLemmas.{answer_of, few_enough, files_run, has_script, if_none, run_named, unscripted_run}
 use Rattle.orca_cli.proofs.HeadlineLemmas.{none_as, run_of_words}
 use Rattle.orca_cli.proofs.top.run_files.Goals as goal
 

@@ -1,7 +1,8 @@
 use Rattle.orca_front.specs.Lines.{fault_line}
 use Rattle.orca_cli.specs.Endings as because
-use Rattle.orca_cli.specs.Loaded.{front_status}
-use Rattle.orca_cli.proofs.CliLemmas.{answer_of, refused_status}
+use Rattle.command_files.specs.Loaded.{front_status}
+use Rattle.command_files.proofs.ReadFiles.{refused_status}
+use Rattle.orca_cli.proofs.CliLemmas.{answer_of}
 use Rattle.orca_cli.proofs.top.said_refused.Goals as goal
 
 pub said-requires : goal.said-requires
