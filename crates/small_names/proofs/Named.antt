@@ -1,6 +1,6 @@
 -- Each line of each history of a small program has its names: it makes an object of its type, and calls that type's operations and writes.
-use Rattle.std.proofs.Common.{◌<◌, refl, sym, ap, ◌∙◌, subst, arith}
-use Rattle.std.specs.Prelude.{◌≡◌, ℕ, zero, suc, true, List, [], ◌∷◌, codes, length, map, slice_get, Option, Some, None}
+use Rattle.std.proofs.Common.{◌<◌, refl, ap, ◌∙◌, subst, arith}
+use Rattle.std.specs.Prelude.{◌≡◌, ℕ, zero, suc, true, List, [], ◌∷◌, length, slice_get, Option, Some, None}
 use Rattle.std.specs.List.{All, AllByRecursion}
 use Rattle.std.proofs.lemmas.List.{length-map}
 use Rattle.std.proofs.lemmas.List.Elements.{All-from_recursion}
@@ -16,7 +16,7 @@ use Rattle.small_program.specs.declared.tree.SmallProgram.{SmallProgram}
 use Rattle.small_program.specs.Scope.{IsScoped}
 use Rattle.value_core.specs.Datum.{Datum, Data}
 use Rattle.value_core.specs.Datum as datum
-use Rattle.value_core.specs.History.{Configuration, IsStep, Legal, LegalFrom, after_line, opening}
+use Rattle.value_core.specs.History.{Configuration, IsStep, LegalFrom, after_line, opening}
 use Rattle.value_core.specs.View.{datum_of}
 use Rattle.value_core.specs.declared.action.Action.{Action}
 use Rattle.value_core.specs.declared.action.Action.TheVariants as action
@@ -29,7 +29,7 @@ use Rattle.history_text.specs.Sound.{HasNames}
 use Rattle.history_text.specs.Spelling.{operation_names}
 use Rattle.history_text.specs.declared.names.Names.{Names}
 use Rattle.orca_meaning.specs.Fitting.{has_result}
-use Rattle.orca_meaning.specs.HeadLaws.{ArgumentFits, CallFits, CallsFit, calls_fit, head_passes, is_plain, passes, takes}
+use Rattle.orca_meaning.specs.HeadLaws.{ArgumentFits, CallFits, calls_fit, head_passes, is_plain, passes, takes}
 use Rattle.orca_meaning.specs.Operations.{small_kind}
 use Rattle.orca_meaning.specs.Processes.{acting, all_stating, arguing, asking, doing_of, first_object, invocation, number_in, stating, text_of, writing}
 use Rattle.orca_meaning.specs.Program.{computes_of, performs_of}

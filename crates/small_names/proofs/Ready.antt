@@ -1,9 +1,8 @@
 -- A small program whose text is short is ready: its operations and fields are few, and its names are words.
-use Rattle.std.proofs.Common.{◌≡◌, ◌≤◌, ◌*◌, ◌∙◌, ℕ, List, [], ◌∷◌, ◌++◌, length, map, Option, Some, None, ap, sym, subst, arith}
-use Rattle.std.specs.Prelude.{IfSome}
+use Rattle.std.proofs.Common.{◌≡◌, ◌≤◌, ◌<◌, ◌*◌, ℕ, List, [], ◌∷◌, ◌++◌, get_or, length, map, Option, Some, None, ap, sym, subst, arith}
+use Rattle.std.specs.Prelude.{IfOk, IfSome, Result, Ok, Err}
 use Rattle.std.specs.List.{AllByRecursion, flat_map}
 use Rattle.orca_lexer.specs.declared.token.Token.{Token}
-use Rattle.orca_lexer.specs.declared.token.TokenKind.{TokenKind}
 use Rattle.orca_lexer.specs.declared.token.TokenKind.TheVariants.{Name}
 use Rattle.orca_lexer.specs.Spelling.{IsSound}
 use Rattle.orca_grammar.specs.Forms.{spelled}
@@ -15,6 +14,8 @@ use Rattle.orca_syntax.specs.Shown.{syntax_of}
 use Rattle.orca_syntax.specs.TextSyntax.{HasSyntax}
 use Rattle.orca_syntax.proofs.MarksOfDeclarations.{unit_shown}
 use Rattle.orca_syntax.proofs.PrintedOnce.{syntax_sound}
+use Rattle.link_rules.specs.Units.{source}
+use Rattle.link_rules.specs.declared.named_unit.NamedUnit.{NamedUnit}
 use Rattle.small_program.specs.declared.tree.Operation.{Operation}
 use Rattle.small_program.specs.declared.tree.SmallProgram.{SmallProgram}
 use Rattle.small_program.specs.Least.{least_bytes}
@@ -22,7 +23,7 @@ use Rattle.small_program.specs.Scope.{IsSmall}
 use Rattle.small_program.specs.Small.{field_tokens, implementation_tokens, opening_tokens, operation_tokens, process_tokens, program_tokens, specification_tokens}
 use Rattle.small_program.proofs.Lengths.{fields_long, operations_long}
 use Rattle.small_program.proofs.Sizes.{tokens_long}
-use Rattle.small_names.specs.Small.{IsOfShortText, IsReady}
+use Rattle.small_names.specs.Small.{AreSmall, IsOfShortText, IsReady}
 
 -- ---- words
 
@@ -86,3 +87,18 @@ is_ready u p small short =
 pub some_ready : (u : UnitTree) (r : Option SmallProgram) → IfSome r (IsSmall u) → IsOfShortText (syntax_of u) → IfSome r IsReady
 some_ready u None small short = tt
 some_ready u (Some p) small short = is_ready u p small short
+
+-- ---- one unit
+
+pub alone : (us : List NamedUnit) (u : NamedUnit) → 1 ≤ length us → length us < 2 → u ≡ get_or us 0 u → us ≡ u ∷ []
+alone [] u some few is = absurd (omega (arith, some))
+alone (v ∷ []) u some few is = ap (λ (w : NamedUnit). w ∷ []) (sym is)
+alone (v ∷ w ∷ us) u some few is = absurd (omega (arith, few))
+
+some_small : (us : List NamedUnit) (u : NamedUnit) (r : Option SmallProgram) → us ≡ u ∷ [] → IfSome r (IsSmall u.unit) → IfSome r (AreSmall (map source us))
+some_small us u None is small = tt
+some_small us u (Some p) is small = record { unit = source u; alone = ap (map source) is; small = small }
+
+pub ok_small : {E : Type 0} (us : List NamedUnit) (u : NamedUnit) (r : Result (Option SmallProgram) E) → us ≡ u ∷ [] → IfOk r (λ o. IfSome o (IsSmall u.unit)) → IfOk r (λ o. IfSome o (AreSmall (map source us)))
+ok_small us u (Ok o) is small = some_small us u o is small
+ok_small us u (Err e) is small = tt
