@@ -45,16 +45,16 @@ use Rattle.command_files.specs.declared.load_fault.LoadFault.TheVariants as load
 use Rattle.orca_cli.specs.declared.script.ScriptFault.{ScriptFault}
 use Rattle.orca_cli.specs.declared.script.ScriptFault.TheVariants as scripts
 use Rattle.command_output.specs.declared.statuses.TheConstants.{NO_MEMORY, READ_FAULT, WRITE_FAULT}
+use Rattle.orca_cli.specs.Endings as because
 use Rattle.orca_cli.specs.Endings.{IsAnswer, IsEnding}
-use Rattle.orca_cli.specs.Headline.{IsNamed, settings_of}
 use Rattle.command_files.specs.Sources.{Word}
-use Rattle.orca_cli.specs.Job.{IsDeedWithin, checks, deed_in, deed_of, files_in, files_of, runs, script_in, script_of}
+use Rattle.orca_cli.specs.Job.{IsDeedWithin, checks, deed_in, deed_of, files_in, files_of, replays, runs, script_in, script_of}
 use Rattle.command_output.proofs.Putting.{GrewUpTo, grew_fault, grew_put}
 use Rattle.command_files.specs.Loaded.{IsAbsent, IsFailed, IsLoaded, IsLoadFault, IsThere, IsTooLong, Reads, front_status, load_status}
 use Rattle.command_output.specs.Printed.{Grew, WroteOf, Ends, EndsAs}
 use Rattle.orca_cli.specs.Scripts.{HasScript, IsScriptFault, IsScriptOf, IsUnreadable, script_status}
-use Rattle.orca_cli.specs.Small.{AreSmall, TakesRoom}
 use Rattle.command_files.specs.Sources.{AreRead, IsRead, StopsAt}
+use Rattle.orca_replay.specs.SoFar.{AnswersSoFar}
 
 -- ---- what was printed
 
@@ -130,30 +130,10 @@ pub unscripted_run : (words files : List Word) (options : RunOptions) (script : 
 unscripted_run words files options None told rose fault A asked is so = absurd is
 unscripted_run words files options (Some name) told rose fault A asked is so = so name (script_run words files options (Some name) asked) is
 
--- the run is the one that the words name
-pub run_named : (words : List Word) (told : Option (List File)) (wires : ℕ) (options : RunOptions) (script : Option Word) (files : List Word) (units : List Source) (p : SmallProgram) (lines : List ScriptLine) → deed_in words ≡ Some (runs options script files)
-    → IsLoaded told files units → AreSmall units p → IsScriptOf told script lines → IsNamed words told wires p (settings_of options wires) lines
-run_named words told wires options script files units p lines asked loaded small has =
-    record { options = options; script = script; files = files; units = units; asked = asked; loaded = loaded; small = small; settings_are = refl; script_has = has }
+-- ---- what is said of a history
 
--- ---- how much room small programs take
-
--- a text is as long as the words of its unit at least
-long_enough : (text : List ℕ) (u : UnitTree) (n : ℕ) → HasSyntax text (syntax_of u) → n ≤ least_bytes (spelled (unit_marks u)) → n ≤ length text
-long_enough text u n has long =
-    let parsed = subst (λ ms. IsText ms has.tokens) (sym (unit_shown u)) has.derived in
-    let words : least_bytes (map (λ (t : Token). t.kind) has.tokens) ≡ least_bytes (spelled (unit_marks u)) = ap least_bytes (text_kinds (unit_marks u) has.tokens parsed) in
-    let room = tokens_long text has.tokens has.are in
-    omega arith
-
-room_of : (told : Option (List File)) (file : File) (u : NamedUnit) (p : SmallProgram) → IsUnit file (source u) → IsRead told SOURCE_BYTES file → TakesRoom (u ∷ []) p → (length p.operations < 2 ^ 16) × (length p.fields < 2 ^ 32)
-room_of told file u p unit read room =
-    let operations = long_enough file.1 u.unit (35 * length p.operations) unit.has room.0 in
-    let fields = long_enough file.1 u.unit (4 * length p.fields) unit.has room.1 in
-    (omega (arith, read.bytes, operations), omega (arith, read.bytes, fields))
-
--- so its operations and fields are few
-pub few_enough : (told : Option (List File)) (sources : List File) (units : List NamedUnit) (p : SmallProgram) → AreUnits sources (map source units) → All (IsRead told SOURCE_BYTES) sources → TakesRoom units p →
-    (length p.operations < 2 ^ 16) × (length p.fields < 2 ^ 32)
-few_enough told sources [] p are read room = absurd room
-few_enough told _ (u ∷ units) p (units_of.one file files v vs unit more) read room = room_of told file u p unit (All-head (IsRead told SOURCE_BYTES) file files read) room
+-- an ending of `replay` is one of the program
+pub replayed_so : (words : List Word) (told : Option (List File)) (rose : Type 0) (old new : Option (List ℕ)) (status : ℕ) (history : Word) (files : List Word) → deed_in words ≡ Some (replays history files) → AnswersSoFar told rose history files old new status
+    → IsAnswer words told rose old new status
+replayed_so words told rose old new status history files asked (inl (wanted, line, ending, ends, grew)) = inl (wanted, line, because.replayed history files wanted line asked ending, ends, grew)
+replayed_so words told rose old new status history files asked (inr silent) = inr silent

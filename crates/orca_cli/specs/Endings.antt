@@ -10,17 +10,20 @@ use Rattle.command_files.specs.declared.load_fault.LoadFault.{LoadFault}
 use Rattle.command_output.specs.declared.statuses.TheConstants.{FINISHED, NOT_YET, NO_MEMORY, USAGE}
 use Rattle.orca_cli.specs.declared.script.ScriptFault.{ScriptFault}
 use Rattle.command_files.specs.Sources.{Word}
-use Rattle.orca_cli.specs.Job.{checks, deed_in, files_in, runs, says, script_in}
-use Rattle.orca_cli.specs.Lines.{usage_line, ok_line, not_yet_line}
+use Rattle.orca_cli.specs.Job.{checks, deed_in, files_in, replays, runs, says, script_in}
+use Rattle.orca_cli.specs.Lines.{usage_line, ok_line}
+use Rattle.orca_replay.specs.Lines.{not_yet_line}
+use Rattle.orca_replay.specs.SoFar.{EndsSoFar}
 use Rattle.command_files.specs.Loaded.{IsLoadFault, IsLoaded, front_status, load_line, load_status}
 use Rattle.command_output.specs.Printed.{Grew, Ends, EndsAs}
 use Rattle.orca_cli.specs.Scripts.{HasScript, IsScriptFault, script_fault_line, script_status}
-use Rattle.orca_cli.specs.Small.{IsNotSmall}
+use Rattle.small_names.specs.Small.{IsNotSmall}
 use Rattle.command_files.specs.Sources.{AreRead}
 
 -- The words ask for help or for the version; they are no command, or ask for what isn't built. They ask for something of the program in
 -- files, and these weren't read; or they were, and the script of the run wasn't, or is none; or that is one, and their texts are no program
--- that is accepted. They ask for a check of one that is. They ask for a run of one that can't be run yet, whose first file is named
+-- that is accepted. They ask for a check of one that is. They ask for a run of one that can't be run yet, whose first file is named. They ask
+-- whether a history is one of a program, and `replay` ends so
 pub data IsEnding (words : List Word) (told : Option (List File)) (rose : Type 0) : ℕ → List ℕ → Type 0 where
   said : (text : List ℕ) → deed_in words ≡ Some (says text) → IsEnding words told rose FINISHED text
   usage : deed_in words ≡ None → IsEnding words told rose USAGE usage_line
@@ -36,6 +39,8 @@ pub data IsEnding (words : List Word) (told : Option (List File)) (rose : Type 0
   not_yet : (options : RunOptions) (script : Option Word) (files : List Word) (units : List Source) →
       deed_in words ≡ Some (runs options script files) → HasScript told words → IsLoaded told files units → IsNotSmall units →
       IsEnding words told rose NOT_YET (not_yet_line (slice_index_or files 0 []))
+  replayed : (history : Word) (files : List Word) (wanted : ℕ) (line : List ℕ) → deed_in words ≡ Some (replays history files) →
+      EndsSoFar told rose history files wanted line → IsEnding words told rose wanted line
 
 -- the answer where nothing was run: an ending whose line was printed, or a front of the line where the write failed or
 -- memory lacked; or nothing at all, for want of memory

@@ -8,6 +8,9 @@ use Rattle.link_rules.specs.Units.{Source}
 use Rattle.small_program.specs.declared.tree.SmallProgram.{SmallProgram}
 use Rattle.value_core.specs.History.{output_of}
 use Rattle.value_core.specs.declared.action.Action.{Action}
+use Rattle.value_core.specs.declared.action.Line.{Line}
+use Rattle.history_commands.specs.ReadBack.{ReadsBack}
+use Rattle.history_text.specs.declared.names.Names.{Names}
 use Rattle.world_rules.specs.declared.settings.Settings.{Settings}
 use Rattle.world_rules.specs.declared.standing.Standing.TheVariants.{Going}
 use Rattle.world_rules.specs.Frame.{Frame}
@@ -26,8 +29,10 @@ use Rattle.command_files.specs.Loaded.{IsLoaded}
 use Rattle.command_output.specs.Printed.{Ends, EndsAs, Grew}
 use Rattle.orca_cli.specs.Rows.{KeptRow, ShownRows}
 use Rattle.orca_cli.specs.Scripts.{IsScriptOf}
-use Rattle.orca_cli.specs.Small.{AreSmall, awaited_name}
-use Rattle.orca_cli.specs.Standings.{ending_line, standing_status}
+use Rattle.orca_cli.specs.Small.{awaited_name}
+use Rattle.orca_cli.specs.Standings.{ending_line, history_said, standing_status}
+use Rattle.small_names.specs.Naming.{AreSmallNames}
+use Rattle.small_names.specs.Small.{AreSmall}
 
 -- ---- which run it is
 
@@ -42,10 +47,9 @@ settings_of options wires = record {
   choices = [];
 }
 
--- the words ask for the run of the program in files, all of which were read, and this is the program in them; by these settings; and the
--- script in the file that they name, where they name one, has these lines
-pub record IsNamed (words : List Word) (told : Option (List File)) (wires : ℕ) (p : SmallProgram) (settings : Settings)
-    (lines : List ScriptLine) : Type 0 where
+-- the words ask for the run of the program in files, by these options; all files were read, and this is the program in them; and the script in
+-- the file that they name, where they name one, has these lines
+pub record IsNamed (words : List Word) (told : Option (List File)) (p : SmallProgram) (lines : List ScriptLine) : Type 0 where
   pub options : RunOptions
   pub script : Option Word
   pub files : List Word
@@ -53,7 +57,6 @@ pub record IsNamed (words : List Word) (told : Option (List File)) (wires : ℕ)
   pub asked : deed_in words ≡ Some (runs options script files)
   pub loaded : IsLoaded told files units
   pub small : AreSmall units p
-  pub settings_are : settings ≡ settings_of options wires
   pub script_has : IsScriptOf told script lines
 
 -- ---- its wires
@@ -81,11 +84,11 @@ AreUntouched status old new = (new ≡ old) ⊎ ((status ≡ NO_MEMORY) × HaveT
 -- ---- the run
 
 -- What is kept is the end of the run to which its events lead, and a history with its processes and copies. How that run stands is read off
--- what is kept (`row`, `only`), in both directions off its world (`reads`), and gives the status. What the history writes was printed, and behind it
--- the line of the standing; where a write failed or memory lacked, a front of both was. And the wires, which told `before` and tell `after`,
--- were used in the run; one that was never in use was asked nothing
-pub record IsRun (f : Frame) (name : Action → List ℕ) (k : Kept) (status : ℕ) (old new : Option (List ℕ)) (before after : List (List Asked)) :
-    Type 0 where
+-- what is kept (`row`, `only`), in both directions off its world (`reads`), and gives the status. What the history writes was printed, and behind
+-- it what is said of the history and the line of the standing; where a write failed or memory lacked, a front of these was. And the wires, which
+-- told `before` and tell `after`, were used in the run; one that was never in use was asked nothing
+pub record IsRun (f : Frame) (name : Action → List ℕ) (says : List Line → List ℕ) (k : Kept) (status : ℕ) (old new : Option (List ℕ))
+    (before after : List (List Asked)) : Type 0 where
   pub world : World
   pub end : IsEndOf f world k
   pub history : IsHistory f world k
@@ -96,17 +99,26 @@ pub record IsRun (f : Frame) (name : Action → List ℕ) (k : Kept) (status : �
   pub lacked : standing f world ≡ Going → status ≡ NO_MEMORY
   pub printed :
       Grew old new (Ends (standing_status (standing f world)) status
-      (output_of k.book.items ++ ending_line name f.settings.turns (standing f world) k.processes.items))
+      (output_of k.book.items ++ (says k.book.items ++ ending_line name f.settings.turns (standing f world) k.processes.items)))
   pub told : HaveToldOn before after
   pub used : WereUsedSo (standing f world) f k.events.items world (asked_since before after)
   pub unused : NoneAskedBehind world.swaps (asked_since before after)
 
--- it is the run that the words ask for, of the program in files, in the source's meaning
+-- it is a run of this small program, in the source's meaning, by these options; its history is said where that is asked for, by the
+-- program's names; and that text, printed or not, is read back as the history, and is legal
+pub record IsSmallRun (p : SmallProgram) (options : RunOptions) (wires : ℕ) (k : Kept) (status : ℕ) (old new : Option (List ℕ))
+    (before after : List (List Asked)) : Type 0 where
+  pub names : Names
+  pub are : AreSmallNames p names
+  pub run : IsRun (run_of (performs_of p) (computes_of p) (settings_of options wires)) (awaited_name p) (history_said options.history names)
+      k status old new before after
+  pub back : ReadsBack (performs_of p) (computes_of p) names k.book.items
+
+-- it is the run that the words ask for, of the program in files
 pub record IsRunOf (words : List Word) (files : Option (List File)) (k : Kept) (status : ℕ) (old new : Option (List ℕ))
     (before after : Wires) : Type 0 where
   pub program : SmallProgram
-  pub settings : Settings
   pub lines : List ScriptLine
-  pub named : IsNamed words files (length before.told) program settings lines
-  pub run : IsRun (run_of (performs_of program) (computes_of program) settings) (awaited_name program) k status old new before.told after.told
+  pub named : IsNamed words files program lines
+  pub run : IsSmallRun program named.options (length before.told) k status old new before.told after.told
   pub loaded : AreLoaded lines before after

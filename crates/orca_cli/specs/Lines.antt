@@ -18,9 +18,6 @@ usage_line =
 abbrev pub ok_line : List ℕ
 ok_line = codes "ok" ++ 10 ∷ []
 
-abbrev pub not_yet_line : List ℕ → List ℕ
-not_yet_line file = codes "orca: " ++ file ++ (codes ": not yet" ++ 10 ∷ [])
-
 -- the string that is the first argument, and a line feed
 abbrev pub line_with : Data → List ℕ
 line_with args = string_first args ++ 10 ∷ []

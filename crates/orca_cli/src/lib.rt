@@ -10,6 +10,7 @@ mod ending;
 mod job;
 mod kept;
 mod lines;
+mod replay;
 mod report;
 mod script;
 mod small;

@@ -32,14 +32,6 @@ pub fn ok_line(alloc: Global) -> Result<Vec<u8>, NoMemory>
     Ok(Vec::from_slice(alloc, b"ok\n")?)
 }
 
-/// The program in files, of which this is the first, can't be run yet.
-pub fn not_yet_line(alloc: Global, file: &str) -> Result<Vec<u8>, NoMemory>
-    ensures { IfOk result (λ line. line.items ≡ lines.not_yet_line file.now) }
-{
-    let line = format!(in alloc; "orca: {file}: not yet\n")?;
-    Ok(line.into_bytes())
-}
-
 /// The line of a script is none.
 pub fn script_line(alloc: Global, error: ScriptError) -> Result<Vec<u8>, NoMemory>
     ensures { IfOk result (λ line. line.items ≡ lines.script_line error) }

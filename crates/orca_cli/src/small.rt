@@ -1,29 +1,12 @@
-//! Programs that can be run so far, and their names.
+//! The names of a small program's operations.
 
-ghost use Rattle.std.specs.Prelude.{◌≡◌, ◌≤◌, ◌*◌, ◌∷◌, [], length, map, slice_get, string_bytes, IfNone, IfOk, IfSome};
-ghost use Rattle.orca_grammar.specs.Forms.{spelled};
-ghost use Rattle.orca_tree.specs.Marks.{unit as unit_marks};
-ghost use Rattle.link_rules.specs.Units.{source};
-ghost use Rattle.small_program.specs.Least.{least_bytes};
-ghost use Rattle.orca_cli.specs.Small.{AreSmall, IsNotSmall, TakesRoom, awaited_name, called_name, name_or_none};
+ghost use Rattle.std.specs.Prelude.{◌≡◌, slice_get, string_bytes, IfOk};
+ghost use Rattle.orca_cli.specs.Small.{awaited_name, called_name, name_or_none};
 
-use link_rules::NamedUnit;
 use orca_base::{KindNo, NoMemory, OpNo};
-use small_program::{Operation, SmallProgram, small};
+use small_program::{Operation, SmallProgram};
 use std::alloc::Global;
 use value_core::Action;
-
-/// The small program that these units are: exactly where there is one, which is one.
-pub fn small_of(alloc: Global, units: &[NamedUnit]) -> Result<Option<SmallProgram>, NoMemory>
-    ensures small { IfOk result (λ r. IfSome r (AreSmall (map source units.now))) }
-    ensures none { IfOk result (λ r. IfNone r (IsNotSmall (map source units.now))) }
-    ensures room { IfOk result (λ r. IfSome r (TakesRoom units.now)) }
-{
-    match units {
-        [unit] => small(alloc, &unit.unit),
-        _ => Ok(None),
-    }
-}
 
 /// The name of the operation for which a process waits that is at this action.
 pub fn awaited_name(

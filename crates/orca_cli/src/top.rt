@@ -7,12 +7,15 @@ ghost use Rattle.orca_io.specs.Causes.{Rose};
 ghost use Rattle.orca_io.specs.Files.{File};
 ghost use Rattle.link_rules.specs.Units.{source};
 ghost use Rattle.orca_front.specs.Sources.{IsAccepted, IsFault, file_of};
-ghost use Rattle.small_program.specs.Scope.{IsScoped};
+ghost use Rattle.history_commands.specs.ReadBack.{ReadsBack};
+ghost use Rattle.history_text.specs.Sound.{AreTables};
+ghost use Rattle.small_names.specs.Naming.{HistoriesNamed};
+ghost use Rattle.small_names.specs.Small.{IsReady};
 ghost use Rattle.orca_meaning.specs.Program.{computes_of, performs_of};
 ghost use Rattle.run_loop.specs.Asked.{HaveToldOn};
 ghost use Rattle.run_loop.specs.Left.{run_of};
 ghost use Rattle.orca_cli.specs.Endings.{IsAnswer};
-ghost use Rattle.orca_cli.specs.Headline.{AreLoaded, AreUntouched, IsRun, IsRunOf, settings_of, wires_of};
+ghost use Rattle.orca_cli.specs.Headline.{AreLoaded, AreUntouched, IsRun, IsRunOf, IsSmallRun, settings_of, wires_of};
 ghost use Rattle.command_files.specs.Sources.{Word};
 ghost use Rattle.orca_cli.specs.Job.{checks, deed_in, files_in, runs, script_in};
 ghost use Rattle.orca_cli.specs.Laws.{RunLaws};
@@ -20,31 +23,36 @@ ghost use Rattle.command_files.specs.Loaded.{IsFailed, IsLoadFault, front_status
 ghost use Rattle.command_output.specs.Printed.{HasStopped};
 ghost use Rattle.orca_cli.specs.Scripts.{HasScript, IsScriptFault, IsUnreadable};
 ghost use Rattle.orca_cli.specs.Small.{awaited_name};
+ghost use Rattle.orca_cli.specs.Standings.{history_said};
 ghost use Rattle.command_files.specs.Sources.{AreRead};
 
 use crate::ending::{nothing, said};
 use crate::job::{Job, job_of};
 use crate::kept::{Ended, Kept};
-use crate::lines::{not_yet_line, ok_line, usage_line, whole};
+use crate::lines::{ok_line, usage_line, whole};
+use crate::replay::replay;
 use crate::report::report;
 use crate::script::{ScriptFault, script_of};
-use crate::small::small_of;
 use command_files::{LoadFault, front_status, sources};
 use command_output::{
     FINISHED, LIMIT, NO_MEMORY, NOT_YET, READ_FAULT, REFUSED, USAGE, WRITE_FAULT,
 };
 use command_line::RunOptions;
 use fault_scripts::Script;
+use history_text::{Names, lines_fit};
 use orca_base::{Items, NoMemory, Refusal};
 use orca_front::{FrontFault, SourceFile, accepted, fault_line, linked};
 use orca_io::{Shelf, Sink};
 use orca_meaning::TreeMachine;
 use orca_modules::Program;
+use orca_replay::not_yet_line;
 use run_law::run_law;
 use run_loop::{Ran, Settings, run};
+use small_names::{small_names, small_of};
 use small_program::SmallProgram;
 use std::alloc::Global;
 use wires::Wire;
+use world_book::legal_book;
 use world_facts::{book_by_places, ends_stand, processes_stand, standings_mean, worlds_count};
 
 // Prints why files weren't read.
@@ -166,27 +174,33 @@ fn laws_of_runs(machine: &TreeMachine)
 {
     book_by_places();
     ends_stand();
+    legal_book(machine);
     processes_stand();
     run_law(machine);
     standings_mean();
     worlds_count();
 }
 
-// Runs a small program over wires as they are loaded, and tells what came of it.
+// Runs a small program over wires as they are loaded, and tells what came of it, the history by these names.
 fn run_loaded<K: Sink, W: Wire>(
     alloc: Global,
     machine: &TreeMachine,
+    names: &Names,
     options: RunOptions,
     out: &mut K,
     wires: &mut [W],
 ) -> Ended
+    requires tables { AreTables names.now }
+    requires named { HistoriesNamed machine.now.program names.now }
     requires options { IsRunWithin options }
     requires wires { (1 ≤ length wires.old) × (length wires.old ≤ 1000) }
     ensures none { IfNone result.kept ((result.status ≡ NO_MEMORY) × (K.told out.new ≡ K.told out.old)) }
     ensures kept { IfSome result.kept (λ k. IsRun
         (run_of (performs_of machine.now.program) (computes_of machine.now.program) (settings_of options (length wires.old)))
-        (awaited_name machine.now.program) k result.status (K.told out.old) (K.told out.new)
+        (awaited_name machine.now.program) (history_said options.history names.now) k result.status (K.told out.old) (K.told out.new)
         (map W.told wires.old) (map W.told wires.new)) }
+    ensures back { IfSome result.kept (λ k.
+        ReadsBack (performs_of machine.now.program) (computes_of machine.now.program) names.now k.book.items) }
     ensures told { HaveToldOn (map W.told wires.old) (map W.told wires.new) }
     ensures scripts { map W.told_script wires.new ≡ map W.told_script wires.old }
     ensures loaded { map W.loaded wires.new ≡ map W.loaded wires.old }
@@ -201,7 +215,8 @@ fn run_loaded<K: Sink, W: Wire>(
     let Some(end) = end else {
         return nothing();
     };
-    let status = report(alloc, out, &machine.program, options.turns, standing, &end);
+    lines_fit(names, &end.book);
+    let status = report(alloc, out, &machine.program, names, options, standing, &end);
     Ended {
         status,
         kept: Some(Kept {
@@ -210,6 +225,33 @@ fn run_loaded<K: Sink, W: Wire>(
             nodes: end.nodes,
             processes: end.processes,
         }),
+    }
+}
+
+// Runs a small program over wires as they are loaded, and tells what came of it, the history by the program's names.
+fn run_named<K: Sink, W: Wire>(
+    alloc: Global,
+    machine: &TreeMachine,
+    options: RunOptions,
+    out: &mut K,
+    wires: &mut [W],
+) -> Ended
+    requires ready { IsReady machine.now.program }
+    requires options { IsRunWithin options }
+    requires wires { (1 ≤ length wires.old) × (length wires.old ≤ 1000) }
+    ensures none { IfNone result.kept ((result.status ≡ NO_MEMORY) × (K.told out.new ≡ K.told out.old)) }
+    ensures kept { IfSome result.kept (λ k. IsSmallRun machine.now.program options (length wires.old) k result.status
+        (K.told out.old) (K.told out.new) (map W.told wires.old) (map W.told wires.new)) }
+    ensures told { HaveToldOn (map W.told wires.old) (map W.told wires.new) }
+    ensures scripts { map W.told_script wires.new ≡ map W.told_script wires.old }
+    ensures loaded { map W.loaded wires.new ≡ map W.loaded wires.old }
+    ensures later { K.faults out.old ≤ K.faults out.new }
+    ensures failed { result.status ≡ WRITE_FAULT → Rose (K.faults out.old) (K.faults out.new) }
+    ensures stopped { K.faults out.old < K.faults out.new → HasStopped result.status }
+{
+    match small_names(alloc, machine) {
+        Ok(names) => run_loaded(alloc, machine, &names, options, out, wires),
+        Err(_) => nothing(),
     }
 }
 
@@ -222,16 +264,12 @@ fn run_small<K: Sink, W: Wire>(
     out: &mut K,
     wires: &mut [W],
 ) -> Ended
-    requires scoped { IsScoped program }
-    requires numbered { length program.operations < 2 ^ 16 }
-    requires listed { length program.fields < 2 ^ 32 }
+    requires ready { IsReady program }
     requires options { IsRunWithin options }
     requires wires { (1 ≤ length wires.old) × (length wires.old ≤ 1000) }
     ensures none { IfNone result.kept ((result.status ≡ NO_MEMORY) × (K.told out.new ≡ K.told out.old)) }
-    ensures kept { IfSome result.kept (λ k. IsRun
-        (run_of (performs_of program) (computes_of program) (settings_of options (length wires.old)))
-        (awaited_name program) k result.status (K.told out.old) (K.told out.new)
-        (map W.told wires.old) (map W.told wires.new)) }
+    ensures kept { IfSome result.kept (λ k. IsSmallRun program options (length wires.old) k result.status
+        (K.told out.old) (K.told out.new) (map W.told wires.old) (map W.told wires.new)) }
     ensures loaded { IfSome result.kept (λ k. AreLoaded script.now
         (wires_of W.told W.told_script W.loaded wires.old) (wires_of W.told W.told_script W.loaded wires.new)) }
     ensures told { HaveToldOn (map W.told wires.old) (map W.told wires.new) }
@@ -240,7 +278,7 @@ fn run_small<K: Sink, W: Wire>(
     ensures stopped { K.faults out.old < K.faults out.new → HasStopped result.status }
 {
     match load_first(alloc, script, wires) {
-        Ok(()) => run_loaded(alloc, &TreeMachine::new(program), options, out, wires),
+        Ok(()) => run_named(alloc, &TreeMachine::new(program), options, out, wires),
         Err(_) => nothing(),
     }
 }
@@ -341,18 +379,21 @@ fn does<F: Shelf, K: Sink, W: Wire>(
                 },
             ),
         ) => run_files(alloc, options, script, &files, shelf, out, wires),
+        Ok(Some(Job::Replays { history, files })) => replay(alloc, history, &files, shelf, out),
         Ok(None) => said(out, usage_line(alloc), USAGE),
         Err(_) => nothing(),
     }
 }
 
 /// Does what the words ask for: `run` runs the small program in the files on as many members as they say, over the wires; `check` says whether
-/// the program in the files is accepted; `--help` and `--version` say what they name.
+/// the program in the files is accepted; `replay` says whether the history in a file is one of the small program in the others; `--help` and
+/// `--version` say what they name.
 ///
 /// `words` leaves out the program's name; of the wires, from 1 to 1,000, the first is in use at the beginning, and is loaded with the script of
 /// the words, or with the empty one. The status is that of docs/FORMATS.md. Nothing is kept where nothing was run: the words ask for no run, a
 /// file wasn't read, the script is none, the texts are no program that can be run, or memory lacked before the run, or for what is kept. Each
-/// refusal prints its line; a run prints what its history writes, once it is over, and behind that the line of how it ended.
+/// refusal prints its line; a run prints what its history writes, once it is over, behind that the history, where the words ask for it, and the
+/// line of how it ended.
 pub fn orca_main<F: Shelf, K: Sink>(
     alloc: Global,
     words: &[String],
@@ -370,7 +411,8 @@ pub fn orca_main<F: Shelf, K: Sink>(
         (wires_of (λ b. told b) (λ b. told_script b) (λ b. loaded b) wires.new.items)) }
 
     // A kept run is one of the program that the words name, by their numbers: a history of it in the source's meaning, whose replies and copies
-    // its members have, and what it writes was printed. Its network was really used, by the script that the words name.
+    // its members have; what it writes was printed, and its own text, where that is asked for, which is read back and is legal. Its network was
+    // really used, by the script that the words name.
     ensures headline { IfSome result.kept (λ k. IsRunOf (map string_bytes words.now) (F.told shelf.old) k result.status
         (K.told out.old) (K.told out.new)
         (wires_of (λ b. told b) (λ b. told_script b) (λ b. loaded b) wires.old.items)

@@ -1,12 +1,13 @@
-use Rattle.std.proofs.Common.{◌≡◌, ⊎_elim, [], inr, length, map, arith}
+use Rattle.std.proofs.Common.{◌≡◌, ⊎_elim, [], inr, map, refl, arith}
 use Rattle.std.specs.Prelude.{slice_index_or}
 use Rattle.link_rules.specs.Units.{source}
 use Rattle.orca_front.specs.Sources.{file_of}
 use Rattle.orca_io.specs.Causes.{Rose}
 use Rattle.orca_cli.specs.Endings as because
-use Rattle.orca_cli.specs.Lines as lines
+use Rattle.orca_replay.specs.Lines as lines
+use Rattle.orca_replay.proofs.Short.{are_short}
 use Rattle.command_files.proofs.ReadFiles.{only_left}
-use Rattle.orca_cli.proofs.CliLemmas.{answer_of, few_enough, files_run, has_script, if_none, run_named, unscripted_run}
+use Rattle.orca_cli.proofs.CliLemmas.{answer_of, files_run, has_script, if_none, unscripted_run}
 use Rattle.orca_cli.proofs.HeadlineLemmas.{none_as, run_of_words}
 use Rattle.orca_cli.proofs.top.run_files.Goals as goal
 
@@ -38,18 +39,10 @@ returns-in-Err-Because-program_of-clause-refused g c = λ words asked.
     (has_script words _ _ c.args.options _ c.in-Ok-script_of.script asked (rw c.sources.ensures.same at c.in-Ok-script_of.ensures.script))
     (rw (c.deref.ensures.value, c.in-Err-Because-program_of.field-0-is) at c.in-Err-Because-program_of.ensures.refused))
 
-pub run_small-requires-clause-scoped : goal.run_small-requires-clause-scoped
-run_small-requires-clause-scoped g c = (rw (c.deref-2.ensures.value, c.in-Ok-Some.field-0-is) at c.in-Ok-Some.ensures.small).small.scope
-
-pub run_small-requires-clause-numbered : goal.run_small-requires-clause-numbered
-run_small-requires-clause-numbered g c =
-    (few_enough (g.F.Shelf.told c.args.shelf.now) (map file_of c.in-Ok.sources.items) c.in-Ok-program_of.program.units.items c.in-Ok-Some.small (rw c.deref.ensures.value at c.in-Ok-program_of.ensures.accepted).are c.in-Ok.ensures.read.read
-    (rw (c.deref-2.ensures.value, c.in-Ok-Some.field-0-is) at c.in-Ok-Some.ensures.room)).0
-
-pub run_small-requires-clause-listed : goal.run_small-requires-clause-listed
-run_small-requires-clause-listed g c =
-    (few_enough (g.F.Shelf.told c.args.shelf.now) (map file_of c.in-Ok.sources.items) c.in-Ok-program_of.program.units.items c.in-Ok-Some.small (rw c.deref.ensures.value at c.in-Ok-program_of.ensures.accepted).are c.in-Ok.ensures.read.read
-    (rw (c.deref-2.ensures.value, c.in-Ok-Some.field-0-is) at c.in-Ok-Some.ensures.room)).1
+pub run_small-requires-clause-ready : goal.run_small-requires-clause-ready
+run_small-requires-clause-ready g c =
+    (rw (c.deref-2.ensures.value, c.in-Ok-Some.field-0-is) at c.in-Ok-Some.ensures.ready)
+    (are_short (g.F.Shelf.told c.args.shelf.now) (map file_of c.in-Ok.sources.items) (map source c.in-Ok-program_of.program.units.items) (rw c.deref.ensures.value at c.in-Ok-program_of.ensures.accepted).are c.in-Ok.ensures.read.read)
 
 pub returns-in-Ok-Some-clause-refused : goal.returns-in-Ok-Some-clause-refused
 returns-in-Ok-Some-clause-refused g c = λ words asked. none_as c.run_small.result.kept (λ lacked. inr lacked) c.run_small.ensures.none
@@ -58,11 +51,17 @@ pub returns-in-Ok-Some-clause-kept : goal.returns-in-Ok-Some-clause-kept
 returns-in-Ok-Some-clause-kept g c = λ words asked.
     let script = rw c.sources.ensures.same at c.in-Ok-script_of.ensures.script in
     run_of_words g.W.Wire.told g.W.Wire.told_script g.W.Wire.loaded c.args.wires.now c.run_small.new.wires words _ c.in-Ok-Some.small c.args.options c.in-Ok-script_of.script c.run_small.result.kept c.run_small.result.status _ _
-    (run_named words _ (length (map g.W.Wire.told c.args.wires.now)) c.args.options _ _ (map source c.in-Ok-program_of.program.units.items) c.in-Ok-Some.small c.in-Ok-script_of.script asked
-    (map file_of c.in-Ok.sources.items, c.in-Ok.ensures.read, rw c.deref.ensures.value at c.in-Ok-program_of.ensures.accepted)
-    (rw (c.deref-2.ensures.value, c.in-Ok-Some.field-0-is) at c.in-Ok-Some.ensures.small)
-    script)
-    c.run_small.ensures.kept c.run_small.ensures.loaded
+    (record {
+      options = c.args.options;
+      script = _;
+      files = _;
+      units = map source c.in-Ok-program_of.program.units.items;
+      asked = asked;
+      loaded = (map file_of c.in-Ok.sources.items, c.in-Ok.ensures.read, rw c.deref.ensures.value at c.in-Ok-program_of.ensures.accepted);
+      small = rw (c.deref-2.ensures.value, c.in-Ok-Some.field-0-is) at c.in-Ok-Some.ensures.small;
+      script_has = script;
+    })
+    refl c.run_small.ensures.kept c.run_small.ensures.loaded
 
 pub returns-in-Ok-Some-clause-untouched : goal.returns-in-Ok-Some-clause-untouched
 returns-in-Ok-Some-clause-untouched g c = none_as c.run_small.result.kept (λ lacked. inr (lacked.0, c.run_small.ensures.told)) c.run_small.ensures.none

@@ -1,0 +1,3 @@
+pub mod Ready
+mod Tables
+mod Named
