@@ -7,7 +7,7 @@ use Rattle.command_line.specs.declared.request.RunOptions.{RunOptions}
 use Rattle.net_rules.specs.declared.asked.Asked.{Asked}
 use Rattle.net_rules.specs.declared.line.ScriptLine.{ScriptLine}
 use Rattle.orca_io.specs.Files.{File}
-use Rattle.small_program.specs.declared.tree.SmallProgram.{SmallProgram}
+use Rattle.link_rules.specs.Units.{Source}
 use Rattle.value_core.specs.History.{output_of}
 use Rattle.value_core.specs.Meaning.{Computes, Performs}
 use Rattle.value_core.specs.declared.action.Action.{Action}
@@ -20,7 +20,7 @@ use Rattle.world_rules.specs.Worlds.{World}
 use Rattle.world_core.specs.declared.ends.RunEnd.{RunEnd}
 use Rattle.run_loop.specs.Asked.{HaveToldOn, WereUsedSo, asked_since}
 use Rattle.run_loop.specs.Left.{HasRun, run_of}
-use Rattle.orca_meaning.specs.Program.{computes_of, performs_of}
+use Rattle.meaning_rules.specs.Meanings.{computes_of, performs_of}
 use Rattle.orca_cli.specs.declared.kept.Kept.{Kept}
 use Rattle.command_output.specs.declared.statuses.TheConstants.{NO_MEMORY}
 use Rattle.orca_cli.specs.Headline.{AreLoaded, IsNamed, IsRun, IsRunOf, Wires, settings_of, wires_of}
@@ -28,8 +28,9 @@ use Rattle.command_files.specs.Sources.{Word}
 use Rattle.orca_cli.specs.Kept.{IsEndOf}
 use Rattle.orca_cli.specs.Laws.{RunLaws}
 use Rattle.command_output.specs.Printed.{Ends, EndsAs, Grew}
-use Rattle.orca_cli.specs.Small.{awaited_name}
-use Rattle.orca_cli.specs.Standings.{ending_line, standing_status}
+use Rattle.orca_cli.specs.Programs.{IsRunnable, units_of}
+use Rattle.orca_cli.specs.declared.program.Runnable.{Runnable}
+use Rattle.orca_cli.specs.Standings.{awaited_name, ending_line, standing_status}
 use Rattle.orca_cli.proofs.KeptLemmas.{history_kept}
 use Rattle.orca_cli.proofs.RowLemmas.{row_kept, rows_shown}
 
@@ -138,17 +139,22 @@ pub none_as : {T A B : Type 0} (o : Option T) → (A → B) → IfNone o A → I
 none_as None so a = so a
 none_as (Some x) so a = tt
 
-pub run_of_words : {W : Type 0} (told : W → List Asked) (script : W → List ScriptLine) (loaded : W → ℕ) (before after : List W) (words : List Word) (files : Option (List File)) (p : SmallProgram) (options : RunOptions) (lines : List ScriptLine)
-    (o : Option Kept) (status : ℕ) (old new : Option (List ℕ)) → IsNamed words files (length (map told before)) p (settings_of options (length (map told before))) lines
-    → IfSome o (λ k. IsRun (run_of (performs_of p) (computes_of p) (settings_of options (length before))) (awaited_name p) k status old new (map told before) (map told after))
+pub run_of_words : {W : Type 0} (told : W → List Asked) (script : W → List ScriptLine) (loaded : W → ℕ) (before after : List W) (words : List Word) (files : Option (List File)) (units : List Source) (program : Runnable) (options : RunOptions) (lines : List ScriptLine)
+    (o : Option Kept) (status : ℕ) (old new : Option (List ℕ)) → IsNamed words files (length (map told before)) units (settings_of options (length (map told before))) lines → IsRunnable units program
+    → IfSome o (λ k. IsRun (run_of (performs_of (units_of program)) (computes_of (units_of program)) (settings_of options (length before))) (awaited_name program.names) k status old new (map told before) (map told after))
     → IfSome o (λ k. AreLoaded lines (wires_of told script loaded before) (wires_of told script loaded after))
     → IfSome o (λ k. IsRunOf words files k status old new (wires_of told script loaded before) (wires_of told script loaded after))
-run_of_words told script loaded before after words files p options lines None status old new named run has = tt
-run_of_words told script loaded before after words files p options lines (Some k) status old new named run has = record {
-  program = p;
-  settings = settings_of options (length (map told before));
-  lines = lines;
-  named = named;
-  run = subst (λ (n : ℕ). IsRun (run_of (performs_of p) (computes_of p) (settings_of options n)) (awaited_name p) k status old new (map told before) (map told after)) (sym (length-map before told)) run;
-  loaded = has;
-}
+run_of_words told script loaded before after words files units program options lines None status old new named is run has = tt
+run_of_words told script loaded before after words files units program options lines (Some k) status old new named is run has =
+    let of_units = subst (λ (us : List Source). IsRun (run_of (performs_of us) (computes_of us) (settings_of options (length before))) (awaited_name program.names) k status old new (map told before) (map told after)) is.are run in
+    record {
+      units = units;
+      settings = settings_of options (length (map told before));
+      lines = lines;
+      named = named;
+      names = program.names;
+      names_are = is.names;
+      calls = is.calls;
+      run = subst (λ (n : ℕ). IsRun (run_of (performs_of units) (computes_of units) (settings_of options n)) (awaited_name program.names) k status old new (map told before) (map told after)) (sym (length-map before told)) of_units;
+      loaded = has;
+    }

@@ -5,7 +5,9 @@ use Rattle.net_rules.specs.declared.asked.Asked.{Asked}
 use Rattle.net_rules.specs.declared.line.ScriptLine.{ScriptLine}
 use Rattle.orca_io.specs.Files.{File}
 use Rattle.link_rules.specs.Units.{Source}
-use Rattle.small_program.specs.declared.tree.SmallProgram.{SmallProgram}
+use Rattle.history_text.specs.declared.names.Names.{Names}
+use Rattle.meaning_rules.specs.Meanings.{computes_of, performs_of}
+use Rattle.program_names.specs.Naming.{AreNamesOf, CallsNamed}
 use Rattle.value_core.specs.History.{output_of}
 use Rattle.value_core.specs.declared.action.Action.{Action}
 use Rattle.world_rules.specs.declared.settings.Settings.{Settings}
@@ -15,19 +17,17 @@ use Rattle.world_rules.specs.Standings.{standing}
 use Rattle.world_rules.specs.Worlds.{World}
 use Rattle.world_facts.specs.Rows.{ReadsStanding}
 use Rattle.run_loop.specs.Asked.{HaveToldOn, NoneAskedBehind, WereUsedSo, asked_since}
-use Rattle.orca_meaning.specs.Program.{computes_of, performs_of}
 use Rattle.run_loop.specs.Left.{run_of}
 use Rattle.orca_cli.specs.declared.kept.Kept.{Kept}
 use Rattle.command_output.specs.declared.statuses.TheConstants.{NO_MEMORY}
 use Rattle.command_files.specs.Sources.{Word}
 use Rattle.orca_cli.specs.Job.{deed_in, runs}
 use Rattle.orca_cli.specs.Kept.{IsEndOf, IsHistory}
-use Rattle.command_files.specs.Loaded.{IsLoaded}
 use Rattle.command_output.specs.Printed.{Ends, EndsAs, Grew}
+use Rattle.orca_cli.specs.Programs.{IsProgram}
 use Rattle.orca_cli.specs.Rows.{KeptRow, ShownRows}
 use Rattle.orca_cli.specs.Scripts.{IsScriptOf}
-use Rattle.orca_cli.specs.Small.{AreSmall, awaited_name}
-use Rattle.orca_cli.specs.Standings.{ending_line, standing_status}
+use Rattle.orca_cli.specs.Standings.{awaited_name, ending_line, standing_status}
 
 -- ---- which run it is
 
@@ -42,17 +42,15 @@ settings_of options wires = record {
   choices = [];
 }
 
--- the words ask for the run of the program in files, all of which were read, and this is the program in them; by these settings; and the
--- script in the file that they name, where they name one, has these lines
-pub record IsNamed (words : List Word) (told : Option (List File)) (wires : ℕ) (p : SmallProgram) (settings : Settings)
+-- the words ask for the run of the accepted program in files, whose units are these; by these settings; and the script in the file that they name,
+-- where they name one, has these lines
+pub record IsNamed (words : List Word) (told : Option (List File)) (wires : ℕ) (units : List Source) (settings : Settings)
     (lines : List ScriptLine) : Type 0 where
   pub options : RunOptions
   pub script : Option Word
   pub files : List Word
-  pub units : List Source
   pub asked : deed_in words ≡ Some (runs options script files)
-  pub loaded : IsLoaded told files units
-  pub small : AreSmall units p
+  pub program : IsProgram told files units
   pub settings_are : settings ≡ settings_of options wires
   pub script_has : IsScriptOf told script lines
 
@@ -101,12 +99,16 @@ pub record IsRun (f : Frame) (name : Action → List ℕ) (k : Kept) (status : �
   pub used : WereUsedSo (standing f world) f k.events.items world (asked_since before after)
   pub unused : NoneAskedBehind world.swaps (asked_since before after)
 
--- it is the run that the words ask for, of the program in files, in the source's meaning
+-- It is the run that the words ask for, of the accepted program in files, in the source's meaning. Its line of a process that is blocked names the
+-- operation as the source does: each call that a process comes to next behind a history has its names there
 pub record IsRunOf (words : List Word) (files : Option (List File)) (k : Kept) (status : ℕ) (old new : Option (List ℕ))
     (before after : Wires) : Type 0 where
-  pub program : SmallProgram
+  pub units : List Source
   pub settings : Settings
   pub lines : List ScriptLine
-  pub named : IsNamed words files (length before.told) program settings lines
-  pub run : IsRun (run_of (performs_of program) (computes_of program) settings) (awaited_name program) k status old new before.told after.told
+  pub named : IsNamed words files (length before.told) units settings lines
+  pub names : Names
+  pub names_are : AreNamesOf units names
+  pub calls : CallsNamed units names
+  pub run : IsRun (run_of (performs_of units) (computes_of units) settings) (awaited_name names) k status old new before.told after.told
   pub loaded : AreLoaded lines before after

@@ -4,7 +4,10 @@ use Rattle.orca_base.specs.declared.fault.FaultKind.{FaultKind}
 use Rattle.orca_io.specs.declared.sink.SinkFault.{SinkFault}
 use Rattle.orca_io.specs.declared.sink.SinkFault.TheVariants as faults
 use Rattle.orca_front.specs.Lines.{limit_line}
+use Rattle.history_text.specs.Spelling.{called_name}
+use Rattle.history_text.specs.declared.names.Names.{Names}
 use Rattle.value_core.specs.declared.action.Action.{Action}
+use Rattle.value_core.specs.declared.action.Action.TheVariants as action
 use Rattle.world_rules.specs.declared.standing.Standing.{Standing}
 use Rattle.world_rules.specs.declared.standing.Standing.TheVariants.{Limit, OutOfTurns, OutOfEvents, NoGroup, Faulted, Blocked, Finished, Going}
 use Rattle.world_core.specs.declared.ends.ProcessEnd.{ProcessEnd}
@@ -79,6 +82,14 @@ abbrev pub first_spent : ℕ → List ProcessEnd → Option (ℕ × Unit)
 first_spent turns ends = first_of (spent_of turns) 0 ends
 
 -- ---- the line
+
+-- `KIND$OP`, the operation for which a process waits that is at this action
+abbrev pub awaited_name : Names → Action → List ℕ
+awaited_name names (action.Call kind op object args) = called_name names kind op
+awaited_name names (action.Make kind object) = []
+awaited_name names (action.Fork text args place_on) = []
+awaited_name names action.Ended = []
+awaited_name names (action.Faulted fault) = []
 
 abbrev pub fault_said : Option (ℕ × FaultKind) → List ℕ
 fault_said None = []

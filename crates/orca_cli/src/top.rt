@@ -5,10 +5,10 @@ ghost use Rattle.command_line.specs.Asked.{IsRunWithin};
 ghost use Rattle.orca_base.specs.Refusal.{IfBecause};
 ghost use Rattle.orca_io.specs.Causes.{Rose};
 ghost use Rattle.orca_io.specs.Files.{File};
-ghost use Rattle.link_rules.specs.Units.{source};
-ghost use Rattle.orca_front.specs.Sources.{IsAccepted, IsFault, file_of};
-ghost use Rattle.small_program.specs.Scope.{IsScoped};
-ghost use Rattle.orca_meaning.specs.Program.{computes_of, performs_of};
+ghost use Rattle.link_rules.specs.Units.{Source, source};
+ghost use Rattle.accepted_law.specs.Limits.{IsWithinLimits};
+ghost use Rattle.meaning_rules.specs.Meanings.{computes_of, performs_of};
+ghost use Rattle.orca_front.specs.Sources.{IsAccepted, file_of};
 ghost use Rattle.run_loop.specs.Asked.{HaveToldOn};
 ghost use Rattle.run_loop.specs.Left.{run_of};
 ghost use Rattle.orca_cli.specs.Endings.{IsAnswer};
@@ -16,33 +16,29 @@ ghost use Rattle.orca_cli.specs.Headline.{AreLoaded, AreUntouched, IsRun, IsRunO
 ghost use Rattle.command_files.specs.Sources.{Word};
 ghost use Rattle.orca_cli.specs.Job.{checks, deed_in, files_in, runs, script_in};
 ghost use Rattle.orca_cli.specs.Laws.{RunLaws};
-ghost use Rattle.command_files.specs.Loaded.{IsFailed, IsLoadFault, front_status};
+ghost use Rattle.command_files.specs.Loaded.{IsFailed, IsLoadFault};
 ghost use Rattle.command_output.specs.Printed.{HasStopped};
 ghost use Rattle.orca_cli.specs.Scripts.{HasScript, IsScriptFault, IsUnreadable};
-ghost use Rattle.orca_cli.specs.Small.{awaited_name};
+ghost use Rattle.orca_cli.specs.Programs.{IsProgramFault, units_of};
+ghost use Rattle.orca_cli.specs.Standings.{awaited_name};
 ghost use Rattle.command_files.specs.Sources.{AreRead};
 
 use crate::ending::{nothing, said};
 use crate::job::{Job, job_of};
 use crate::kept::{Ended, Kept};
-use crate::lines::{not_yet_line, ok_line, usage_line, whole};
+use crate::lines::{ok_line, usage_line, whole};
+use crate::program::{ProgramFault, Runnable, judged, linked_program, runnable};
 use crate::report::report;
 use crate::script::{ScriptFault, script_of};
-use crate::small::small_of;
-use command_files::{LoadFault, front_status, sources};
-use command_output::{
-    FINISHED, LIMIT, NO_MEMORY, NOT_YET, READ_FAULT, REFUSED, USAGE, WRITE_FAULT,
-};
+use command_files::{LoadFault, sources};
+use command_output::{FINISHED, NO_MEMORY, READ_FAULT, USAGE, WRITE_FAULT};
 use command_line::RunOptions;
 use fault_scripts::Script;
 use orca_base::{Items, NoMemory, Refusal};
-use orca_front::{FrontFault, SourceFile, accepted, fault_line, linked};
+use orca_front::SourceFile;
 use orca_io::{Shelf, Sink};
-use orca_meaning::TreeMachine;
-use orca_modules::Program;
 use run_law::run_law;
 use run_loop::{Ran, Settings, run};
-use small_program::SmallProgram;
 use std::alloc::Global;
 use wires::Wire;
 use world_facts::{book_by_places, ends_stand, processes_stand, standings_mean, worlds_count};
@@ -61,33 +57,26 @@ fn said_unread<K: Sink>(alloc: Global, out: &mut K, fault: LoadFault<'_>) -> End
     said(out, fault.line(alloc), fault.status())
 }
 
-// Prints why texts are no program.
-fn said_refused<K: Sink>(alloc: Global, out: &mut K, fault: &FrontFault) -> Ended
+// Prints why texts are no accepted program.
+fn said_refused<K: Sink>(alloc: Global, out: &mut K, fault: &ProgramFault) -> Ended
     ensures none { result.kept ≡ None }
     ensures said { (words : List Word) (told : Option (List File)) (before now : ℕ) (files : List Word) (sources : List File) →
-        files_in words ≡ Some files → AreRead told files sources → HasScript told words → IsFault sources fault.now →
+        files_in words ≡ Some files → AreRead told files sources → HasScript told words → IsProgramFault sources fault.now →
         IsAnswer words told (Rose before now) (K.told out.old) (K.told out.new) result.status }
     ensures later { K.faults out.old ≤ K.faults out.new }
     ensures failed { result.status ≡ WRITE_FAULT → Rose (K.faults out.old) (K.faults out.new) }
     ensures stopped { K.faults out.old < K.faults out.new → HasStopped result.status }
 {
-    said(out, fault_line(alloc, fault), front_status(fault))
+    said(out, fault.line(alloc), fault.status())
 }
 
-// The program that sources are, where it is accepted.
-fn program_of(alloc: Global, files: &[SourceFile<'_>]) -> Result<Program, Refusal<FrontFault>>
-    ensures accepted { IfOk result (λ p. IsAccepted (map file_of files.now) (map source p.units.items)) }
-    ensures refused { IfBecause result (IsFault (map file_of files.now)) }
+// Whether sources are an accepted program, or why not.
+fn judged_sources(alloc: Global, files: &[SourceFile<'_>]) -> Result<(), Refusal<ProgramFault>>
+    ensures accepted { OnOk result ((units : List Source) × IsAccepted (map file_of files.now) units × IsWithinLimits units) }
+    ensures refused { IfBecause result (IsProgramFault (map file_of files.now)) }
 {
-    let program = linked(alloc, files)?;
-    let fault = match accepted(alloc, &program) {
-        Ok(_) => None,
-        Err(refusal) => Some(refusal),
-    };
-    match fault {
-        None => Ok(program),
-        Some(refusal) => Err(refusal),
-    }
+    let program = linked_program(alloc, files)?;
+    judged(alloc, &program)
 }
 
 // Says whether the program in the files is accepted, or why not.
@@ -112,8 +101,8 @@ fn check_files<F: Shelf, K: Sink>(
         Err(Refusal::Because { cause }) => return said_unread(alloc, out, cause),
         Err(Refusal::NoMemory) => return nothing(),
     };
-    match program_of(alloc, &sources) {
-        Ok(_program) => said(out, ok_line(alloc), FINISHED),
+    match judged_sources(alloc, &sources) {
+        Ok(()) => said(out, ok_line(alloc), FINISHED),
         Err(Refusal::Because { cause }) => said_refused(alloc, out, &cause),
         Err(Refusal::NoMemory) => nothing(),
     }
@@ -161,21 +150,21 @@ fn load_first<W: Wire>(alloc: Global, script: &Script, wires: &mut [W]) -> Resul
 }
 
 // What is so of each run of the program. A call of this function does nothing.
-fn laws_of_runs(machine: &TreeMachine)
-    ensures { RunLaws (performs_of machine.now.program) (computes_of machine.now.program) }
+fn laws_of_runs(program: &Runnable<'_>)
+    ensures { RunLaws (performs_of (units_of program.now)) (computes_of (units_of program.now)) }
 {
     book_by_places();
     ends_stand();
     processes_stand();
-    run_law(machine);
+    run_law(&program.machine);
     standings_mean();
     worlds_count();
 }
 
-// Runs a small program over wires as they are loaded, and tells what came of it.
+// Runs a program over wires as they are loaded, and tells what came of it.
 fn run_loaded<K: Sink, W: Wire>(
     alloc: Global,
-    machine: &TreeMachine,
+    program: &Runnable<'_>,
     options: RunOptions,
     out: &mut K,
     wires: &mut [W],
@@ -184,8 +173,8 @@ fn run_loaded<K: Sink, W: Wire>(
     requires wires { (1 ≤ length wires.old) × (length wires.old ≤ 1000) }
     ensures none { IfNone result.kept ((result.status ≡ NO_MEMORY) × (K.told out.new ≡ K.told out.old)) }
     ensures kept { IfSome result.kept (λ k. IsRun
-        (run_of (performs_of machine.now.program) (computes_of machine.now.program) (settings_of options (length wires.old)))
-        (awaited_name machine.now.program) k result.status (K.told out.old) (K.told out.new)
+        (run_of (performs_of (units_of program.now)) (computes_of (units_of program.now)) (settings_of options (length wires.old)))
+        (awaited_name program.now.names) k result.status (K.told out.old) (K.told out.new)
         (map W.told wires.old) (map W.told wires.new)) }
     ensures told { HaveToldOn (map W.told wires.old) (map W.told wires.new) }
     ensures scripts { map W.told_script wires.new ≡ map W.told_script wires.old }
@@ -194,14 +183,14 @@ fn run_loaded<K: Sink, W: Wire>(
     ensures failed { result.status ≡ WRITE_FAULT → Rose (K.faults out.old) (K.faults out.new) }
     ensures stopped { K.faults out.old < K.faults out.new → HasStopped result.status }
 {
-    laws_of_runs(machine);
+    laws_of_runs(program);
     let settings = settings_of(alloc, options, wires);
-    let ran = run(alloc, machine, settings, wires);
+    let ran = run(alloc, &program.machine, settings, wires);
     let Ran { standing, end } = ran;
     let Some(end) = end else {
         return nothing();
     };
-    let status = report(alloc, out, &machine.program, options.turns, standing, &end);
+    let status = report(alloc, out, &program.names, options.turns, standing, &end);
     Ended {
         status,
         kept: Some(Kept {
@@ -213,24 +202,21 @@ fn run_loaded<K: Sink, W: Wire>(
     }
 }
 
-// Runs a small program with this script, and tells what came of it. Where memory lacks before the run begins, nothing was asked.
-fn run_small<K: Sink, W: Wire>(
+// Runs a program with this script, and tells what came of it. Where memory lacks before the run begins, nothing was asked.
+fn run_program<K: Sink, W: Wire>(
     alloc: Global,
-    program: SmallProgram,
+    program: &Runnable<'_>,
     options: RunOptions,
     script: &Script,
     out: &mut K,
     wires: &mut [W],
 ) -> Ended
-    requires scoped { IsScoped program }
-    requires numbered { length program.operations < 2 ^ 16 }
-    requires listed { length program.fields < 2 ^ 32 }
     requires options { IsRunWithin options }
     requires wires { (1 ≤ length wires.old) × (length wires.old ≤ 1000) }
     ensures none { IfNone result.kept ((result.status ≡ NO_MEMORY) × (K.told out.new ≡ K.told out.old)) }
     ensures kept { IfSome result.kept (λ k. IsRun
-        (run_of (performs_of program) (computes_of program) (settings_of options (length wires.old)))
-        (awaited_name program) k result.status (K.told out.old) (K.told out.new)
+        (run_of (performs_of (units_of program.now)) (computes_of (units_of program.now)) (settings_of options (length wires.old)))
+        (awaited_name program.now.names) k result.status (K.told out.old) (K.told out.new)
         (map W.told wires.old) (map W.told wires.new)) }
     ensures loaded { IfSome result.kept (λ k. AreLoaded script.now
         (wires_of W.told W.told_script W.loaded wires.old) (wires_of W.told W.told_script W.loaded wires.new)) }
@@ -240,7 +226,7 @@ fn run_small<K: Sink, W: Wire>(
     ensures stopped { K.faults out.old < K.faults out.new → HasStopped result.status }
 {
     match load_first(alloc, script, wires) {
-        Ok(()) => run_loaded(alloc, &TreeMachine::new(program), options, out, wires),
+        Ok(()) => run_loaded(alloc, program, options, out, wires),
         Err(_) => nothing(),
     }
 }
@@ -284,26 +270,17 @@ fn run_files<F: Shelf, K: Sink, W: Wire>(
         Err(Refusal::Because { cause }) => return said_unscripted(alloc, out, cause),
         Err(Refusal::NoMemory) => return nothing(),
     };
-    let program = match program_of(alloc, &sources) {
+    let program = match linked_program(alloc, &sources) {
         Ok(program) => program,
         Err(Refusal::Because { cause }) => return said_refused(alloc, out, &cause),
         Err(Refusal::NoMemory) => return nothing(),
     };
-    match small_of(alloc, &program.units) {
-        Ok(Some(small)) => run_small(alloc, small, options, &script, out, wires),
-        Ok(None) => said(out, not_yet_line(alloc, first_of(files)), NOT_YET),
-        Err(_) => nothing(),
-    }
-}
-
-// The name of the first file.
-fn first_of<'a>(files: &[&'a str]) -> &'a str
-    ensures { result.now ≡ slice_index_or (map (λ f. f.now) files.now) 0 [] }
-{
-    match files {
-        [first, ..] => first,
-        [] => "",
-    }
+    let ready = match runnable(alloc, &program) {
+        Ok(ready) => ready,
+        Err(Refusal::Because { cause }) => return said_refused(alloc, out, &cause),
+        Err(Refusal::NoMemory) => return nothing(),
+    };
+    run_program(alloc, &ready, options, &script, out, wires)
 }
 
 // Does what the words ask for, over wires of any kind.
@@ -346,12 +323,12 @@ fn does<F: Shelf, K: Sink, W: Wire>(
     }
 }
 
-/// Does what the words ask for: `run` runs the small program in the files on as many members as they say, over the wires; `check` says whether
+/// Does what the words ask for: `run` runs the accepted program in the files on as many members as they say, over the wires; `check` says whether
 /// the program in the files is accepted; `--help` and `--version` say what they name.
 ///
 /// `words` leaves out the program's name; of the wires, from 1 to 1,000, the first is in use at the beginning, and is loaded with the script of
 /// the words, or with the empty one. The status is that of docs/FORMATS.md. Nothing is kept where nothing was run: the words ask for no run, a
-/// file wasn't read, the script is none, the texts are no program that can be run, or memory lacked before the run, or for what is kept. Each
+/// file wasn't read, the script is none, the texts are no accepted program, or memory lacked before the run, or for what is kept. Each
 /// refusal prints its line; a run prints what its history writes, once it is over, and behind that the line of how it ended.
 pub fn orca_main<F: Shelf, K: Sink>(
     alloc: Global,

@@ -1,7 +1,8 @@
 use Rattle.std.proofs.Common.{ap, length, map}
-use Rattle.orca_meaning.specs.Program.{computes_of, performs_of}
+use Rattle.meaning_rules.specs.Meanings.{computes_of, performs_of}
 use Rattle.world_rules.specs.declared.settings.Settings.{Settings}
-use Rattle.orca_cli.specs.Small.{awaited_name}
+use Rattle.orca_cli.specs.Programs.{units_of}
+use Rattle.orca_cli.specs.Standings.{awaited_name}
 use Rattle.orca_cli.proofs.HeadlineLemmas.{is_run_by, ranges_as, some_is}
 use Rattle.orca_cli.proofs.top.run_loaded.Goals as goal
 
@@ -13,11 +14,11 @@ run-ran-requires-clause-wires g c = ap (λ (s : Settings). s.wires) c.settings_o
 
 pub returns-clause-kept : goal.returns-clause-kept
 returns-clause-kept g c =
-    let program = c.args.machine.now.program in
+    let units = units_of c.args.program.now in
     let before = map g.W.Wire.told c.args.wires.now in
     let after = map g.W.Wire.told c.run-ran.new.wires in
     let says = c.report-status.ensures in
-    is_run_by (performs_of program) (computes_of program) c.args.options (length c.args.wires.now) c.settings_of-settings.result (awaited_name program) c.in-Some.end c.run-ran.result.standing c.report-status.result
+    is_run_by (performs_of units) (computes_of units) c.args.options (length c.args.wires.now) c.settings_of-settings.result (awaited_name c.args.program.now.names) c.in-Some.end c.run-ran.result.standing c.report-status.result
     (g.K.Sink.told c.args.out.now) (g.K.Sink.told c.report-status.new.out) before after
     c.laws_of_runs.ensures c.settings_of-settings.ensures
     (ranges_as c.args.options (length c.args.wires.now) c.settings_of-settings.result c.settings_of-settings.ensures c.requires.options c.requires.wires)

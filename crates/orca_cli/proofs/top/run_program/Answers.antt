@@ -2,13 +2,13 @@ use Rattle.std.proofs.Common.{map}
 use Rattle.run_loop.proofs.Telling.{tells_itself}
 use Rattle.orca_cli.specs.Headline.{AreLoaded, wires_of}
 use Rattle.orca_cli.proofs.HeadlineLemmas.{if_some, still_loaded}
-use Rattle.orca_cli.proofs.top.run_small.Goals as goal
+use Rattle.orca_cli.proofs.top.run_program.Goals as goal
 
 pub run_loaded-requires-clause-wires : goal.run_loaded-requires-clause-wires
 run_loaded-requires-clause-wires g c = rw c.load_first.ensures.count c.requires.wires
 
 pub returns-in-Ok-clause-kept : goal.returns-in-Ok-clause-kept
-returns-in-Ok-clause-kept g c = rw (c.new.ensures, c.load_first.ensures.told, c.load_first.ensures.count) at c.run_loaded.ensures.kept
+returns-in-Ok-clause-kept g c = rw (c.load_first.ensures.told, c.load_first.ensures.count) at c.run_loaded.ensures.kept
 
 pub returns-in-Ok-clause-loaded : goal.returns-in-Ok-clause-loaded
 returns-in-Ok-clause-loaded g c =
