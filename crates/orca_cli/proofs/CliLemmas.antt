@@ -130,6 +130,19 @@ pub unscripted_run : (words files : List Word) (options : RunOptions) (script : 
 unscripted_run words files options None told rose fault A asked is so = absurd is
 unscripted_run words files options (Some name) told rose fault A asked is so = so name (script_run words files options (Some name) asked) is
 
+-- a run whose script wasn't had ends with no status of a write fault, and with that of a read fault where its file can't be read
+pub unscripted_status : (fault : ScriptFault) → script_status fault ≢ WRITE_FAULT
+unscripted_status (scripts.Absent file) h = absurd cc
+unscripted_status (scripts.TooLong file) h = absurd cc
+unscripted_status (scripts.Failed file) h = absurd cc
+unscripted_status (scripts.Bad error) h = absurd cc
+
+pub unreadable_status : (fault : ScriptFault) → IsUnreadable fault → script_status fault ≡ READ_FAULT
+unreadable_status (scripts.Absent file) h = absurd h
+unreadable_status (scripts.TooLong file) h = absurd h
+unreadable_status (scripts.Failed file) h = refl
+unreadable_status (scripts.Bad error) h = absurd h
+
 -- the run is the one that the words name
 pub run_named : (words : List Word) (told : Option (List File)) (wires : ℕ) (options : RunOptions) (script : Option Word) (files : List Word) (units : List Source) (p : SmallProgram) (lines : List ScriptLine) → deed_in words ≡ Some (runs options script files)
     → IsLoaded told files units → AreSmall units p → IsScriptOf told script lines → IsNamed words told wires p (settings_of options wires) lines
