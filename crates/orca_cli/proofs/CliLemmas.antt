@@ -123,6 +123,19 @@ pub unscripted_run : (words files : List Word) (options : RunOptions) (script : 
 unscripted_run words files options None told rose fault A asked is so = absurd is
 unscripted_run words files options (Some name) told rose fault A asked is so = so name (script_run words files options (Some name) asked) is
 
+-- a run whose script wasn't had ends with no status of a write fault, and with that of a read fault where its file can't be read
+pub unscripted_status : (fault : ScriptFault) → script_status fault ≢ WRITE_FAULT
+unscripted_status (scripts.Absent file) h = absurd cc
+unscripted_status (scripts.TooLong file) h = absurd cc
+unscripted_status (scripts.Failed file) h = absurd cc
+unscripted_status (scripts.Bad error) h = absurd cc
+
+pub unreadable_status : (fault : ScriptFault) → IsUnreadable fault → script_status fault ≡ READ_FAULT
+unreadable_status (scripts.Absent file) h = absurd h
+unreadable_status (scripts.TooLong file) h = absurd h
+unreadable_status (scripts.Failed file) h = refl
+unreadable_status (scripts.Bad error) h = absurd h
+
 -- ---- the program
 
 -- texts that don't link are no accepted program
@@ -135,7 +148,7 @@ link_fault_is sources (fronts.Mistyped error) h = absurd h
 -- no program ends as a write that failed
 pub program_apart : (fault : ProgramFault) → program_status fault ≢ WRITE_FAULT
 program_apart (Refused fault) = refused_status fault
-program_apart (Limited passed) = λ e. cc e
+program_apart (Limited passed) h = absurd cc
 
 pub is_program : (told : Option (List File)) (files : List Word) (sources : List File) (units : List Source) → AreRead told files sources → IsAccepted sources units → IsWithinLimits units → IsProgram told files units
 is_program told files sources units read accepted within = record { loaded = (sources, read, accepted); within = within }
