@@ -80,9 +80,13 @@ pub if_none : {T : Type 0} (o : Option T) (P : Type 0) → P → IfNone o P
 if_none None P p = p
 if_none (Some x) P p = tt
 
-pub if_ok : {T E : Type 0} (r : Result T E) (P : Type 0) → P → OnOk r P
-if_ok (Ok x) P p = p
-if_ok (Err e) P p = tt
+pub on_any : {T E : Type 0} (r : Result T E) (P : Type 0) → P → OnOk r P
+on_any (Ok x) P p = p
+on_any (Err e) P p = tt
+
+pub if_any : {T E : Type 0} (r : Result T E) (P : Type 0) → P → IfOk r (λ _. P)
+if_any (Ok x) P p = p
+if_any (Err e) P p = tt
 
 -- ---- the words
 

@@ -105,16 +105,30 @@ fn fits(alloc: Global, program: &Program) -> Result<(), Refusal<ProgramFault>>
     }
 }
 
-// What runs a checked program that keeps within the limits.
-fn machine_of<'p>(
+// What runs a checked program, beside its names.
+fn named<'p>(
+    alloc: Global,
+    machine: TreeMachine<'p>,
+) -> Result<Runnable<'p>, Refusal<ProgramFault>>
+    ensures is { IfOk result (IsRunnable (sources machine.entry.code.checked)) }
+    ensures refused { (files : List File) → IfBecause result (IsProgramFault files) }
+{
+    match names(alloc, machine.code.checked()) {
+        Ok(names) => Ok(Runnable { machine, names }),
+        Err(_) => Err(Refusal::NoMemory),
+    }
+}
+
+// What runs a checked program, where it keeps within the limits.
+fn runnable_program<'p>(
     alloc: Global,
     checked: Checked<'p>,
-) -> Result<TreeMachine<'p>, Refusal<ProgramFault>>
-    ensures of { IfOk result (λ m. m.code.checked ≡ checked.entry) }
+) -> Result<Runnable<'p>, Refusal<ProgramFault>>
+    ensures is { IfOk result (IsRunnable (sources checked.entry)) }
     ensures refused { (files : List File) → IsAccepted files (sources checked.entry) → IfBecause result (IsProgramFault files) }
 {
     match TreeMachine::new(alloc, checked) {
-        Ok(machine) => Ok(machine),
+        Ok(machine) => named(alloc, machine),
         Err(Refusal::Because { cause }) => refuse(ProgramFault::Limited { passed: cause }),
         Err(Refusal::NoMemory) => Err(Refusal::NoMemory),
     }
@@ -134,7 +148,7 @@ pub fn judged(alloc: Global, program: &Program) -> Result<(), Refusal<ProgramFau
 }
 
 /// What runs the program that sources link to, where it is accepted, or why it isn't.
-pub fn runnable<'p>(
+pub fn prepared<'p>(
     alloc: Global,
     program: &'p Program,
 ) -> Result<Runnable<'p>, Refusal<ProgramFault>>
@@ -143,8 +157,8 @@ pub fn runnable<'p>(
         IfOk result (λ _. IsAccepted files (map source program.now.units.items)) }
     ensures refused { (files : List File) → AreUnits files (map source program.now.units.items) → IfBecause result (IsProgramFault files) }
 {
-    let checked = typed(alloc, program)?;
-    let machine = machine_of(alloc, checked)?;
-    let names = names(alloc, machine.code.checked())?;
-    Ok(Runnable { machine, names })
+    match typed(alloc, program) {
+        Ok(checked) => runnable_program(alloc, checked),
+        Err(refusal) => Err(refusal),
+    }
 }

@@ -27,7 +27,7 @@ use crate::ending::{nothing, said};
 use crate::job::{Job, job_of};
 use crate::kept::{Ended, Kept};
 use crate::lines::{ok_line, usage_line, whole};
-use crate::program::{ProgramFault, Runnable, judged, linked_program, runnable};
+use crate::program::{ProgramFault, Runnable, judged, linked_program, prepared};
 use crate::report::report;
 use crate::script::{ScriptFault, script_of};
 use command_files::{LoadFault, sources};
@@ -75,8 +75,10 @@ fn judged_sources(alloc: Global, files: &[SourceFile<'_>]) -> Result<(), Refusal
     ensures accepted { OnOk result ((units : List Source) × IsAccepted (map file_of files.now) units × IsWithinLimits units) }
     ensures refused { IfBecause result (IsProgramFault (map file_of files.now)) }
 {
-    let program = linked_program(alloc, files)?;
-    judged(alloc, &program)
+    match linked_program(alloc, files) {
+        Ok(program) => judged(alloc, &program),
+        Err(refusal) => Err(refusal),
+    }
 }
 
 // Says whether the program in the files is accepted, or why not.
@@ -275,7 +277,7 @@ fn run_files<F: Shelf, K: Sink, W: Wire>(
         Err(Refusal::Because { cause }) => return said_refused(alloc, out, &cause),
         Err(Refusal::NoMemory) => return nothing(),
     };
-    let ready = match runnable(alloc, &program) {
+    let ready = match prepared(alloc, &program) {
         Ok(ready) => ready,
         Err(Refusal::Because { cause }) => return said_refused(alloc, out, &cause),
         Err(Refusal::NoMemory) => return nothing(),

@@ -35,11 +35,11 @@ returns-in-Err-Because-linked_program-clause-refused g c = λ words asked.
     (has_script words _ _ c.args.options _ c.in-Ok-script_of.script asked (rw c.sources.ensures.same at c.in-Ok-script_of.ensures.script))
     (rw (c.deref.ensures.value, c.in-Err-Because-linked_program.field-0-is) at c.in-Err-Because-linked_program.ensures.refused))
 
-pub returns-in-Err-Because-runnable-clause-refused : goal.returns-in-Err-Because-runnable-clause-refused
-returns-in-Err-Because-runnable-clause-refused g c = λ words asked.
-    if_none _ _ (c.said_refused-in-Err-Because-runnable.ensures.said words _ _ _ _ (map file_of c.in-Ok.sources.items) (files_run words _ c.args.options _ asked) c.in-Ok.ensures.read
+pub returns-in-Err-Because-prepared-clause-refused : goal.returns-in-Err-Because-prepared-clause-refused
+returns-in-Err-Because-prepared-clause-refused g c = λ words asked.
+    if_none _ _ (c.said_refused-in-Err-Because-prepared.ensures.said words _ _ _ _ (map file_of c.in-Ok.sources.items) (files_run words _ c.args.options _ asked) c.in-Ok.ensures.read
     (has_script words _ _ c.args.options _ c.in-Ok-script_of.script asked (rw c.sources.ensures.same at c.in-Ok-script_of.ensures.script))
-    (rw c.in-Err-Because-runnable.field-0-is at c.in-Err-Because-runnable.ensures.refused (map file_of c.in-Ok.sources.items) (rw c.deref.ensures.value at c.in-Ok-linked_program.ensures.program)))
+    (rw c.in-Err-Because-prepared.field-0-is at c.in-Err-Because-prepared.ensures.refused (map file_of c.in-Ok.sources.items) (rw c.deref.ensures.value at c.in-Ok-linked_program.ensures.program)))
 
 pub returns-clause-refused : goal.returns-clause-refused
 returns-clause-refused g c = λ words asked. none_as c.run_program.result.kept (λ lacked. inr lacked) c.run_program.ensures.none
@@ -49,10 +49,10 @@ returns-clause-kept g c = λ words asked.
     let units = map source c.in-Ok-linked_program.program.units.items in
     let are = rw c.deref.ensures.value at c.in-Ok-linked_program.ensures.program in
     let script = rw c.sources.ensures.same at c.in-Ok-script_of.ensures.script in
-    let is = c.in-Ok-runnable.ensures.is in
-    run_of_words g.W.Wire.told g.W.Wire.told_script g.W.Wire.loaded c.args.wires.now c.run_program.new.wires words _ units c.in-Ok-runnable.ready c.args.options c.in-Ok-script_of.script c.run_program.result.kept c.run_program.result.status _ _
+    let is = c.in-Ok-prepared.ensures.is in
+    run_of_words g.W.Wire.told g.W.Wire.told_script g.W.Wire.loaded c.args.wires.now c.run_program.new.wires words _ units c.in-Ok-prepared.ready c.args.options c.in-Ok-script_of.script c.run_program.result.kept c.run_program.result.status _ _
     (run_named words _ (length (map g.W.Wire.told c.args.wires.now)) c.args.options _ _ units c.in-Ok-script_of.script asked
-    (is_program _ _ (map file_of c.in-Ok.sources.items) units c.in-Ok.ensures.read (c.in-Ok-runnable.ensures.accepted (map file_of c.in-Ok.sources.items) are) is.within)
+    (is_program _ _ (map file_of c.in-Ok.sources.items) units c.in-Ok.ensures.read (c.in-Ok-prepared.ensures.accepted (map file_of c.in-Ok.sources.items) are) is.within)
     script)
     is c.run_program.ensures.kept c.run_program.ensures.loaded
 
