@@ -15,6 +15,9 @@ use Rattle.orca_base.specs.Refusal.{IfBecause}
 use Rattle.net_rules.specs.declared.line.ScriptLine.{ScriptLine}
 use Rattle.link_rules.specs.Units.{Source}
 use Rattle.accepted_law.specs.Limits.{IsWithinLimits}
+use Rattle.eval_bodies.specs.Codes.{sources as sources_of}
+use Rattle.eval_machine.specs.declared.machine.TreeMachine.{TreeMachine}
+use Rattle.type_decls.specs.declared.checked.Checked.{Checked}
 use Rattle.orca_front.specs.declared.fault.FrontFault.{FrontFault}
 use Rattle.orca_front.specs.declared.fault.FrontFault.TheVariants as fronts
 use Rattle.orca_front.specs.Sources.{IsAccepted, IsFault, IsLinkFault}
@@ -33,17 +36,18 @@ use Rattle.orca_cli.specs.declared.program.ProgramFault.TheVariants.{Limited, Re
 use Rattle.orca_cli.specs.declared.script.ScriptFault.{ScriptFault}
 use Rattle.orca_cli.specs.declared.script.ScriptFault.TheVariants as scripts
 use Rattle.command_output.specs.declared.statuses.TheConstants.{NO_MEMORY, READ_FAULT, WRITE_FAULT}
+use Rattle.orca_cli.specs.Endings as because
 use Rattle.orca_cli.specs.Endings.{IsAnswer, IsEnding}
-use Rattle.orca_cli.specs.Headline.{IsNamed, settings_of}
 use Rattle.command_files.specs.Sources.{Word}
-use Rattle.orca_cli.specs.Job.{IsDeedWithin, checks, deed_in, deed_of, files_in, files_of, runs, script_in, script_of}
+use Rattle.orca_cli.specs.Job.{IsDeedWithin, checks, deed_in, deed_of, files_in, files_of, replays, runs, script_in, script_of}
 use Rattle.command_output.proofs.Putting.{GrewUpTo, grew_fault, grew_put}
 use Rattle.command_files.specs.Loaded.{IsAbsent, IsFailed, IsLoaded, IsLoadFault, IsThere, IsTooLong, Reads, front_status, load_status}
 use Rattle.command_output.specs.Printed.{Grew, WroteOf, Ends, EndsAs}
 use Rattle.orca_cli.specs.Scripts.{HasScript, IsScriptFault, IsScriptOf, IsUnreadable, script_status}
-use Rattle.orca_cli.specs.Programs.{IsProgram, program_status}
-use Rattle.command_files.proofs.ReadFiles.{refused_status}
 use Rattle.command_files.specs.Sources.{AreRead, IsRead, StopsAt}
+use Rattle.orca_cli.specs.Programs.{IsProgram, program_status, units_of}
+use Rattle.command_files.proofs.ReadFiles.{refused_status}
+use Rattle.replay_command.specs.Endings.{IsReplayAnswer}
 
 -- ---- what was printed
 
@@ -149,7 +153,7 @@ link_fault_is sources fronts.TooNested h = h
 link_fault_is sources (fronts.Unlinked error) h = h
 link_fault_is sources (fronts.Mistyped error) h = absurd h
 
--- no program ends as a write that failed
+-- why it is none ends with no status of a write fault
 pub program_apart : (fault : ProgramFault) → program_status fault ≢ WRITE_FAULT
 program_apart (Refused fault) = refused_status fault
 program_apart (Limited passed) h = absurd cc
@@ -157,8 +161,15 @@ program_apart (Limited passed) h = absurd cc
 pub is_program : (told : Option (List File)) (files : List Word) (sources : List File) (units : List Source) → AreRead told files sources → IsAccepted sources units → IsWithinLimits units → IsProgram told files units
 is_program told files sources units read accepted within = record { loaded = (sources, read, accepted); within = within }
 
--- the run is the one that the words name
-pub run_named : (words : List Word) (told : Option (List File)) (wires : ℕ) (options : RunOptions) (script : Option Word) (files : List Word) (units : List Source) (lines : List ScriptLine) → deed_in words ≡ Some (runs options script files)
-    → IsProgram told files units → IsScriptOf told script lines → IsNamed words told wires units (settings_of options wires) lines
-run_named words told wires options script files units lines asked program has =
-    record { options = options; script = script; files = files; asked = asked; program = program; settings_are = refl; script_has = has }
+-- the machine of a checked program has its units
+pub machine_units : {E : Type 0} (r : Result TreeMachine E) (checked : Checked) (units : List Source) → sources_of checked ≡ units → IfOk r (λ m. m.code.checked ≡ checked) → IfOk r (λ m. units_of m ≡ units)
+machine_units (Ok m) checked units are of = ap sources_of of ∙ are
+machine_units (Err e) checked units are of = tt
+
+-- ---- what is said of a history
+
+-- an ending of `replay` is one of the program
+pub replayed_so : (words : List Word) (told : Option (List File)) (rose : Type 0) (old new : Option (List ℕ)) (status : ℕ) (history : Word) (files : List Word) → deed_in words ≡ Some (replays history files) → IsReplayAnswer told rose history files old new status
+    → IsAnswer words told rose old new status
+replayed_so words told rose old new status history files asked (inl (wanted, line, ending, ends, grew)) = inl (wanted, line, because.replayed history files wanted line asked ending, ends, grew)
+replayed_so words told rose old new status history files asked (inr silent) = inr silent

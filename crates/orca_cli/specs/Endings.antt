@@ -7,17 +7,18 @@ use Rattle.command_output.specs.declared.statuses.TheConstants.{FINISHED, NO_MEM
 use Rattle.orca_cli.specs.declared.program.ProgramFault.{ProgramFault}
 use Rattle.orca_cli.specs.declared.script.ScriptFault.{ScriptFault}
 use Rattle.command_files.specs.Sources.{Word}
-use Rattle.orca_cli.specs.Job.{checks, deed_in, files_in, says, script_in}
+use Rattle.orca_cli.specs.Job.{checks, deed_in, files_in, replays, says, script_in}
 use Rattle.orca_cli.specs.Lines.{usage_line, ok_line}
+use Rattle.replay_command.specs.Endings.{IsReplayEnding}
 use Rattle.command_files.specs.Loaded.{IsLoadFault, load_line, load_status}
 use Rattle.command_output.specs.Printed.{Grew, Ends, EndsAs}
 use Rattle.orca_cli.specs.Programs.{IsProgram, IsProgramFault, program_line, program_status}
 use Rattle.orca_cli.specs.Scripts.{HasScript, IsScriptFault, script_fault_line, script_status}
 use Rattle.command_files.specs.Sources.{AreRead}
 
--- The words ask for help or for the version; they are no command, or ask for what isn't built. They ask for something of the program in
--- files, and these weren't read; or they were, and the script of the run wasn't, or is none; or that is one, and their texts are no accepted
--- program. They ask for a check of one that is
+-- The words ask for help or for the version; they are no command, or ask for what isn't built. They ask for a check or a run of the program
+-- in files, and these weren't read; or they were, and the script of the run wasn't, or is none; or that is one, and their texts are no accepted
+-- program. They ask for a check of one that is. They ask whether a history is one of a program, and `replay` ends so
 pub data IsEnding (words : List Word) (told : Option (List File)) (rose : Type 0) : ℕ → List ℕ → Type 0 where
   said : (text : List ℕ) → deed_in words ≡ Some (says text) → IsEnding words told rose FINISHED text
   usage : deed_in words ≡ None → IsEnding words told rose USAGE usage_line
@@ -30,6 +31,8 @@ pub data IsEnding (words : List Word) (told : Option (List File)) (rose : Type 0
       HasScript told words → IsProgramFault sources fault → IsEnding words told rose (program_status fault) (program_line fault)
   accepted : (files : List Word) (units : List Source) → deed_in words ≡ Some (checks files) → IsProgram told files units →
       IsEnding words told rose FINISHED ok_line
+  replayed : (history : Word) (files : List Word) (wanted : ℕ) (line : List ℕ) → deed_in words ≡ Some (replays history files) →
+      IsReplayEnding told rose history files wanted line → IsEnding words told rose wanted line
 
 -- the answer where nothing was run: an ending whose line was printed, or a front of the line where the write failed or
 -- memory lacked; or nothing at all, for want of memory

@@ -1,5 +1,5 @@
--- Accepted programs: which texts are one, why others aren't, and what is at hand of one that is run (docs/FORMATS.md, Statuses).
-use Rattle.std.specs.Prelude.{◌≡◌, ℕ, List, Option}
+-- Accepted programs: which texts are one, and why others aren't (docs/FORMATS.md, Statuses).
+use Rattle.std.specs.Prelude.{ℕ, List, Option}
 use Rattle.orca_io.specs.Files.{File}
 use Rattle.link_rules.specs.Units.{Source}
 use Rattle.accepted_law.specs.Limits.{IsWithinLimits}
@@ -10,11 +10,10 @@ use Rattle.command_files.specs.Loaded.{IsLoaded, front_status}
 use Rattle.command_files.specs.Sources.{Word}
 use Rattle.command_output.specs.declared.statuses.TheConstants.{LIMIT}
 use Rattle.eval_bodies.specs.Codes.{sources}
-use Rattle.program_names.specs.Naming.{AreNamesOf, CallsNamed}
+use Rattle.eval_machine.specs.declared.machine.TreeMachine.{TreeMachine}
 use Rattle.replay_command.specs.Endings.{passed_line}
 use Rattle.orca_cli.specs.declared.program.ProgramFault.{ProgramFault}
 use Rattle.orca_cli.specs.declared.program.ProgramFault.TheVariants.{Limited, Refused}
-use Rattle.orca_cli.specs.declared.program.Runnable.{Runnable}
 
 -- all files were read; their texts are these units, which link and break no rule of typing; and these keep within the limits on parameters, and on
 -- tokens and declared names together
@@ -36,15 +35,6 @@ abbrev pub program_line : ProgramFault → List ℕ
 program_line (Refused fault) = fault_line fault
 program_line (Limited passed) = passed_line passed
 
--- ---- ready to run
-
--- the units of a program that is ready to run
-abbrev pub units_of : Runnable → List Source
-units_of r = sources r.machine.code.checked
-
--- these are its units, and the names of what it does are theirs
-pub record IsRunnable (units : List Source) (r : Runnable) : Type 0 where
-  pub are : units_of r ≡ units
-  pub within : IsWithinLimits units
-  pub names : AreNamesOf units r.names
-  pub calls : CallsNamed units r.names
+-- the units of the program that a machine runs
+abbrev pub units_of : TreeMachine → List Source
+units_of m = sources m.code.checked

@@ -7,17 +7,15 @@ ghost use Rattle.link_rules.specs.Units.{source};
 ghost use Rattle.orca_base.specs.Refusal.{IfBecause};
 ghost use Rattle.orca_front.specs.Sources.{AreUnits, IsAccepted, file_of};
 ghost use Rattle.orca_io.specs.Files.{File};
-ghost use Rattle.orca_cli.specs.Programs.{IsProgramFault, IsRunnable, program_line, program_status};
+ghost use Rattle.orca_cli.specs.Programs.{IsProgramFault, program_line, program_status, units_of};
 
 use command_files::front_status;
 use command_output::LIMIT;
 use eval_machine::TreeMachine;
-use history_text::Names;
 use orca_base::{NoMemory, Refusal, refuse};
 use orca_front::{FrontFault, SourceFile, accepted, fault_line, linked};
 use orca_modules::Program;
 use program_limits::{PassedLimit, within_limits};
-use program_names::names;
 use replay_command::passed_line;
 use std::alloc::Global;
 use type_decls::Checked;
@@ -55,13 +53,6 @@ impl ProgramFault {
             ProgramFault::Limited { passed } => passed_line(alloc, *passed),
         }
     }
-}
-
-/// An accepted program that is ready to run: what runs it, and the names of what it does.
-#[derive(Drop)]
-pub struct Runnable<'p> {
-    pub machine: TreeMachine<'p>,
-    pub names: Names,
 }
 
 /// The program that sources are, where they link.
@@ -105,30 +96,16 @@ fn fits(alloc: Global, program: &Program) -> Result<(), Refusal<ProgramFault>>
     }
 }
 
-// What runs a checked program, beside its names.
-fn named<'p>(
-    alloc: Global,
-    machine: TreeMachine<'p>,
-) -> Result<Runnable<'p>, Refusal<ProgramFault>>
-    ensures is { IfOk result (IsRunnable (sources machine.entry.code.checked)) }
-    ensures refused { (files : List File) → IfBecause result (IsProgramFault files) }
-{
-    match names(alloc, machine.code.checked()) {
-        Ok(names) => Ok(Runnable { machine, names }),
-        Err(_) => Err(Refusal::NoMemory),
-    }
-}
-
 // What runs a checked program, where it keeps within the limits.
-fn runnable_program<'p>(
+fn checked_machine<'p>(
     alloc: Global,
     checked: Checked<'p>,
-) -> Result<Runnable<'p>, Refusal<ProgramFault>>
-    ensures is { IfOk result (IsRunnable (sources checked.entry)) }
+) -> Result<TreeMachine<'p>, Refusal<ProgramFault>>
+    ensures of { IfOk result (λ m. m.code.checked ≡ checked.entry) }
     ensures refused { (files : List File) → IsAccepted files (sources checked.entry) → IfBecause result (IsProgramFault files) }
 {
     match TreeMachine::new(alloc, checked) {
-        Ok(machine) => named(alloc, machine),
+        Ok(machine) => Ok(machine),
         Err(Refusal::Because { cause }) => refuse(ProgramFault::Limited { passed: cause }),
         Err(Refusal::NoMemory) => Err(Refusal::NoMemory),
     }
@@ -148,17 +125,17 @@ pub fn judged(alloc: Global, program: &Program) -> Result<(), Refusal<ProgramFau
 }
 
 /// What runs the program that sources link to, where it is accepted, or why it isn't.
-pub fn prepared<'p>(
+pub fn machine_of<'p>(
     alloc: Global,
     program: &'p Program,
-) -> Result<Runnable<'p>, Refusal<ProgramFault>>
-    ensures is { IfOk result (IsRunnable (map source program.now.units.items)) }
+) -> Result<TreeMachine<'p>, Refusal<ProgramFault>>
+    ensures of { IfOk result (λ m. units_of m ≡ map source program.now.units.items) }
     ensures accepted { (files : List File) → AreUnits files (map source program.now.units.items) →
         IfOk result (λ _. IsAccepted files (map source program.now.units.items)) }
     ensures refused { (files : List File) → AreUnits files (map source program.now.units.items) → IfBecause result (IsProgramFault files) }
 {
     match typed(alloc, program) {
-        Ok(checked) => runnable_program(alloc, checked),
+        Ok(checked) => checked_machine(alloc, checked),
         Err(refusal) => Err(refusal),
     }
 }

@@ -5,14 +5,17 @@ ghost use Rattle.command_line.specs.Asked.{IsRunWithin};
 ghost use Rattle.orca_base.specs.Refusal.{IfBecause};
 ghost use Rattle.orca_io.specs.Causes.{Rose};
 ghost use Rattle.orca_io.specs.Files.{File};
-ghost use Rattle.link_rules.specs.Units.{Source, source};
+ghost use Rattle.link_rules.specs.Units.{Source};
 ghost use Rattle.accepted_law.specs.Limits.{IsWithinLimits};
 ghost use Rattle.meaning_rules.specs.Meanings.{computes_of, performs_of};
 ghost use Rattle.orca_front.specs.Sources.{IsAccepted, file_of};
+ghost use Rattle.program_names.specs.Naming.{HistoriesNamed};
+ghost use Rattle.history_commands.specs.ReadBack.{ReadsBack};
+ghost use Rattle.history_text.specs.Sound.{AreTables};
 ghost use Rattle.run_loop.specs.Asked.{HaveToldOn};
 ghost use Rattle.run_loop.specs.Left.{run_of};
 ghost use Rattle.orca_cli.specs.Endings.{IsAnswer};
-ghost use Rattle.orca_cli.specs.Headline.{AreLoaded, AreUntouched, IsRun, IsRunOf, settings_of, wires_of};
+ghost use Rattle.orca_cli.specs.Headline.{AreLoaded, AreUntouched, IsProgramRun, IsRun, IsRunOf, settings_of, wires_of};
 ghost use Rattle.command_files.specs.Sources.{Word};
 ghost use Rattle.orca_cli.specs.Job.{checks, deed_in, files_in, runs, script_in};
 ghost use Rattle.orca_cli.specs.Laws.{RunLaws};
@@ -20,27 +23,32 @@ ghost use Rattle.command_files.specs.Loaded.{IsFailed, IsLoadFault};
 ghost use Rattle.command_output.specs.Printed.{HasStopped};
 ghost use Rattle.orca_cli.specs.Scripts.{HasScript, IsScriptFault, IsUnreadable};
 ghost use Rattle.orca_cli.specs.Programs.{IsProgramFault, units_of};
-ghost use Rattle.orca_cli.specs.Standings.{awaited_name};
+ghost use Rattle.orca_cli.specs.Standings.{awaited_name, history_said};
 ghost use Rattle.command_files.specs.Sources.{AreRead};
 
 use crate::ending::{nothing, said};
 use crate::job::{Job, job_of};
 use crate::kept::{Ended, Kept};
 use crate::lines::{ok_line, usage_line, whole};
-use crate::program::{ProgramFault, Runnable, judged, linked_program, prepared};
+use crate::program::{ProgramFault, judged, linked_program, machine_of};
+use crate::replay::replay;
 use crate::report::report;
 use crate::script::{ScriptFault, script_of};
 use command_files::{LoadFault, sources};
 use command_output::{FINISHED, NO_MEMORY, READ_FAULT, USAGE, WRITE_FAULT};
 use command_line::RunOptions;
+use eval_machine::TreeMachine;
 use fault_scripts::Script;
+use history_text::{Names, lines_fit};
 use orca_base::{Items, NoMemory, Refusal};
 use orca_front::SourceFile;
 use orca_io::{Shelf, Sink};
+use program_names::names;
 use run_law::run_law;
 use run_loop::{Ran, Settings, run};
 use std::alloc::Global;
 use wires::Wire;
+use world_book::legal_book;
 use world_facts::{book_by_places, ends_stand, processes_stand, standings_mean, worlds_count};
 
 // Prints why files weren't read.
@@ -152,32 +160,38 @@ fn load_first<W: Wire>(alloc: Global, script: &Script, wires: &mut [W]) -> Resul
 }
 
 // What is so of each run of the program. A call of this function does nothing.
-fn laws_of_runs(program: &Runnable<'_>)
-    ensures { RunLaws (performs_of (units_of program.now)) (computes_of (units_of program.now)) }
+fn laws_of_runs(machine: &TreeMachine<'_>)
+    ensures { RunLaws (performs_of (units_of machine.now)) (computes_of (units_of machine.now)) }
 {
     book_by_places();
     ends_stand();
+    legal_book(machine);
     processes_stand();
-    run_law(&program.machine);
+    run_law(machine);
     standings_mean();
     worlds_count();
 }
 
-// Runs a program over wires as they are loaded, and tells what came of it.
+// Runs a program over wires as they are loaded, and tells what came of it, the history by these names.
 fn run_loaded<K: Sink, W: Wire>(
     alloc: Global,
-    program: &Runnable<'_>,
+    machine: &TreeMachine<'_>,
+    names: &Names,
     options: RunOptions,
     out: &mut K,
     wires: &mut [W],
 ) -> Ended
+    requires tables { AreTables names.now }
+    requires named { HistoriesNamed (units_of machine.now) names.now }
     requires options { IsRunWithin options }
     requires wires { (1 ≤ length wires.old) × (length wires.old ≤ 1000) }
     ensures none { IfNone result.kept ((result.status ≡ NO_MEMORY) × (K.told out.new ≡ K.told out.old)) }
     ensures kept { IfSome result.kept (λ k. IsRun
-        (run_of (performs_of (units_of program.now)) (computes_of (units_of program.now)) (settings_of options (length wires.old)))
-        (awaited_name program.now.names) k result.status (K.told out.old) (K.told out.new)
+        (run_of (performs_of (units_of machine.now)) (computes_of (units_of machine.now)) (settings_of options (length wires.old)))
+        (awaited_name names.now) (history_said options.history names.now) k result.status (K.told out.old) (K.told out.new)
         (map W.told wires.old) (map W.told wires.new)) }
+    ensures back { IfSome result.kept (λ k.
+        ReadsBack (performs_of (units_of machine.now)) (computes_of (units_of machine.now)) names.now k.book.items) }
     ensures told { HaveToldOn (map W.told wires.old) (map W.told wires.new) }
     ensures scripts { map W.told_script wires.new ≡ map W.told_script wires.old }
     ensures loaded { map W.loaded wires.new ≡ map W.loaded wires.old }
@@ -185,14 +199,15 @@ fn run_loaded<K: Sink, W: Wire>(
     ensures failed { result.status ≡ WRITE_FAULT → Rose (K.faults out.old) (K.faults out.new) }
     ensures stopped { K.faults out.old < K.faults out.new → HasStopped result.status }
 {
-    laws_of_runs(program);
+    laws_of_runs(machine);
     let settings = settings_of(alloc, options, wires);
-    let ran = run(alloc, &program.machine, settings, wires);
+    let ran = run(alloc, machine, settings, wires);
     let Ran { standing, end } = ran;
     let Some(end) = end else {
         return nothing();
     };
-    let status = report(alloc, out, &program.names, options.turns, standing, &end);
+    lines_fit(names, &end.book);
+    let status = report(alloc, out, names, options, standing, &end);
     Ended {
         status,
         kept: Some(Kept {
@@ -204,10 +219,36 @@ fn run_loaded<K: Sink, W: Wire>(
     }
 }
 
+// Runs a program over wires as they are loaded, and tells what came of it, the history by the program's names.
+fn run_named<K: Sink, W: Wire>(
+    alloc: Global,
+    machine: &TreeMachine<'_>,
+    options: RunOptions,
+    out: &mut K,
+    wires: &mut [W],
+) -> Ended
+    requires options { IsRunWithin options }
+    requires wires { (1 ≤ length wires.old) × (length wires.old ≤ 1000) }
+    ensures none { IfNone result.kept ((result.status ≡ NO_MEMORY) × (K.told out.new ≡ K.told out.old)) }
+    ensures kept { IfSome result.kept (λ k. IsProgramRun (units_of machine.now) options (length wires.old) k result.status
+        (K.told out.old) (K.told out.new) (map W.told wires.old) (map W.told wires.new)) }
+    ensures told { HaveToldOn (map W.told wires.old) (map W.told wires.new) }
+    ensures scripts { map W.told_script wires.new ≡ map W.told_script wires.old }
+    ensures loaded { map W.loaded wires.new ≡ map W.loaded wires.old }
+    ensures later { K.faults out.old ≤ K.faults out.new }
+    ensures failed { result.status ≡ WRITE_FAULT → Rose (K.faults out.old) (K.faults out.new) }
+    ensures stopped { K.faults out.old < K.faults out.new → HasStopped result.status }
+{
+    match names(alloc, machine.code.checked()) {
+        Ok(names) => run_loaded(alloc, machine, &names, options, out, wires),
+        Err(_) => nothing(),
+    }
+}
+
 // Runs a program with this script, and tells what came of it. Where memory lacks before the run begins, nothing was asked.
 fn run_program<K: Sink, W: Wire>(
     alloc: Global,
-    program: &Runnable<'_>,
+    machine: &TreeMachine<'_>,
     options: RunOptions,
     script: &Script,
     out: &mut K,
@@ -216,10 +257,8 @@ fn run_program<K: Sink, W: Wire>(
     requires options { IsRunWithin options }
     requires wires { (1 ≤ length wires.old) × (length wires.old ≤ 1000) }
     ensures none { IfNone result.kept ((result.status ≡ NO_MEMORY) × (K.told out.new ≡ K.told out.old)) }
-    ensures kept { IfSome result.kept (λ k. IsRun
-        (run_of (performs_of (units_of program.now)) (computes_of (units_of program.now)) (settings_of options (length wires.old)))
-        (awaited_name program.now.names) k result.status (K.told out.old) (K.told out.new)
-        (map W.told wires.old) (map W.told wires.new)) }
+    ensures kept { IfSome result.kept (λ k. IsProgramRun (units_of machine.now) options (length wires.old) k result.status
+        (K.told out.old) (K.told out.new) (map W.told wires.old) (map W.told wires.new)) }
     ensures loaded { IfSome result.kept (λ k. AreLoaded script.now
         (wires_of W.told W.told_script W.loaded wires.old) (wires_of W.told W.told_script W.loaded wires.new)) }
     ensures told { HaveToldOn (map W.told wires.old) (map W.told wires.new) }
@@ -228,7 +267,7 @@ fn run_program<K: Sink, W: Wire>(
     ensures stopped { K.faults out.old < K.faults out.new → HasStopped result.status }
 {
     match load_first(alloc, script, wires) {
-        Ok(()) => run_loaded(alloc, program, options, out, wires),
+        Ok(()) => run_named(alloc, machine, options, out, wires),
         Err(_) => nothing(),
     }
 }
@@ -277,12 +316,12 @@ fn run_files<F: Shelf, K: Sink, W: Wire>(
         Err(Refusal::Because { cause }) => return said_refused(alloc, out, &cause),
         Err(Refusal::NoMemory) => return nothing(),
     };
-    let ready = match prepared(alloc, &program) {
-        Ok(ready) => ready,
+    let machine = match machine_of(alloc, &program) {
+        Ok(machine) => machine,
         Err(Refusal::Because { cause }) => return said_refused(alloc, out, &cause),
         Err(Refusal::NoMemory) => return nothing(),
     };
-    run_program(alloc, &ready, options, &script, out, wires)
+    run_program(alloc, &machine, options, &script, out, wires)
 }
 
 // Does what the words ask for, over wires of any kind.
@@ -320,18 +359,21 @@ fn does<F: Shelf, K: Sink, W: Wire>(
                 },
             ),
         ) => run_files(alloc, options, script, &files, shelf, out, wires),
+        Ok(Some(Job::Replays { history, files })) => replay(alloc, history, &files, shelf, out),
         Ok(None) => said(out, usage_line(alloc), USAGE),
         Err(_) => nothing(),
     }
 }
 
 /// Does what the words ask for: `run` runs the accepted program in the files on as many members as they say, over the wires; `check` says whether
-/// the program in the files is accepted; `--help` and `--version` say what they name.
+/// the program in the files is accepted; `replay` says whether the history in a file is one of the accepted program in the others; `--help` and
+/// `--version` say what they name.
 ///
 /// `words` leaves out the program's name; of the wires, from 1 to 1,000, the first is in use at the beginning, and is loaded with the script of
 /// the words, or with the empty one. The status is that of docs/FORMATS.md. Nothing is kept where nothing was run: the words ask for no run, a
 /// file wasn't read, the script is none, the texts are no accepted program, or memory lacked before the run, or for what is kept. Each
-/// refusal prints its line; a run prints what its history writes, once it is over, and behind that the line of how it ended.
+/// refusal prints its line; a run prints what its history writes, once it is over, behind that the history, where the words ask for it, and the
+/// line of how it ended.
 pub fn orca_main<F: Shelf, K: Sink>(
     alloc: Global,
     words: &[String],
@@ -349,7 +391,8 @@ pub fn orca_main<F: Shelf, K: Sink>(
         (wires_of (λ b. told b) (λ b. told_script b) (λ b. loaded b) wires.new.items)) }
 
     // A kept run is one of the program that the words name, by their numbers: a history of it in the source's meaning, whose replies and copies
-    // its members have, and what it writes was printed. Its network was really used, by the script that the words name.
+    // its members have; what it writes was printed, and its own text, where that is asked for, which is read back and is legal. Its network was
+    // really used, by the script that the words name.
     ensures headline { IfSome result.kept (λ k. IsRunOf (map string_bytes words.now) (F.told shelf.old) k result.status
         (K.told out.old) (K.told out.new)
         (wires_of (λ b. told b) (λ b. told_script b) (λ b. loaded b) wires.old.items)

@@ -1,9 +1,9 @@
-use Rattle.std.proofs.Common.{◌≡◌, ⊎_elim, inr, length, map, arith}
-use Rattle.link_rules.specs.Units.{source}
-use Rattle.orca_front.specs.Sources.{file_of}
+use Rattle.std.proofs.Common.{◌≡◌, ⊎_elim, inr, map, arith, refl, subst, sym}
+use Rattle.orca_front.specs.Sources.{IsAccepted, file_of}
 use Rattle.orca_io.specs.Causes.{Rose}
 use Rattle.command_files.proofs.ReadFiles.{only_left}
-use Rattle.orca_cli.proofs.CliLemmas.{files_run, has_script, if_none, is_program, run_named, unscripted_run}
+use Rattle.orca_cli.specs.Programs.{units_of}
+use Rattle.orca_cli.proofs.CliLemmas.{files_run, has_script, if_none, is_program, unscripted_run}
 use Rattle.orca_cli.proofs.HeadlineLemmas.{none_as, run_of_words}
 use Rattle.orca_cli.proofs.top.run_files.Goals as goal
 
@@ -35,26 +35,32 @@ returns-in-Err-Because-linked_program-clause-refused g c = λ words asked.
     (has_script words _ _ c.args.options _ c.in-Ok-script_of.script asked (rw c.sources.ensures.same at c.in-Ok-script_of.ensures.script))
     (rw (c.deref.ensures.value, c.in-Err-Because-linked_program.field-0-is) at c.in-Err-Because-linked_program.ensures.refused))
 
-pub returns-in-Err-Because-prepared-clause-refused : goal.returns-in-Err-Because-prepared-clause-refused
-returns-in-Err-Because-prepared-clause-refused g c = λ words asked.
-    if_none _ _ (c.said_refused-in-Err-Because-prepared.ensures.said words _ _ _ _ (map file_of c.in-Ok.sources.items) (files_run words _ c.args.options _ asked) c.in-Ok.ensures.read
+pub returns-in-Err-Because-machine_of-clause-refused : goal.returns-in-Err-Because-machine_of-clause-refused
+returns-in-Err-Because-machine_of-clause-refused g c = λ words asked.
+    if_none _ _ (c.said_refused-in-Err-Because-machine_of.ensures.said words _ _ _ _ (map file_of c.in-Ok.sources.items) (files_run words _ c.args.options _ asked) c.in-Ok.ensures.read
     (has_script words _ _ c.args.options _ c.in-Ok-script_of.script asked (rw c.sources.ensures.same at c.in-Ok-script_of.ensures.script))
-    (rw c.in-Err-Because-prepared.field-0-is at c.in-Err-Because-prepared.ensures.refused (map file_of c.in-Ok.sources.items) (rw c.deref.ensures.value at c.in-Ok-linked_program.ensures.program)))
+    (rw c.in-Err-Because-machine_of.field-0-is at c.in-Err-Because-machine_of.ensures.refused (map file_of c.in-Ok.sources.items) (rw c.deref.ensures.value at c.in-Ok-linked_program.ensures.program)))
 
 pub returns-clause-refused : goal.returns-clause-refused
 returns-clause-refused g c = λ words asked. none_as c.run_program.result.kept (λ lacked. inr lacked) c.run_program.ensures.none
 
 pub returns-clause-kept : goal.returns-clause-kept
 returns-clause-kept g c = λ words asked.
-    let units = map source c.in-Ok-linked_program.program.units.items in
+    let sources = map file_of c.in-Ok.sources.items in
+    let machine = c.in-Ok-machine_of.machine in
+    let of = c.in-Ok-machine_of.ensures.of in
     let are = rw c.deref.ensures.value at c.in-Ok-linked_program.ensures.program in
-    let script = rw c.sources.ensures.same at c.in-Ok-script_of.ensures.script in
-    let is = c.in-Ok-prepared.ensures.is in
-    run_of_words g.W.Wire.told g.W.Wire.told_script g.W.Wire.loaded c.args.wires.now c.run_program.new.wires words _ units c.in-Ok-prepared.ready c.args.options c.in-Ok-script_of.script c.run_program.result.kept c.run_program.result.status _ _
-    (run_named words _ (length (map g.W.Wire.told c.args.wires.now)) c.args.options _ _ units c.in-Ok-script_of.script asked
-    (is_program _ _ (map file_of c.in-Ok.sources.items) units c.in-Ok.ensures.read (c.in-Ok-prepared.ensures.accepted (map file_of c.in-Ok.sources.items) are) is.within)
-    script)
-    is c.run_program.ensures.kept c.run_program.ensures.loaded
+    let accepted = subst (IsAccepted sources) (sym of) (c.in-Ok-machine_of.ensures.accepted sources are) in
+    run_of_words g.W.Wire.told g.W.Wire.told_script g.W.Wire.loaded c.args.wires.now c.run_program.new.wires words _ (units_of machine) c.args.options c.in-Ok-script_of.script c.run_program.result.kept c.run_program.result.status _ _
+    (record {
+      options = c.args.options;
+      script = _;
+      files = _;
+      asked = asked;
+      program = is_program _ _ sources (units_of machine) c.in-Ok.ensures.read accepted machine.within;
+      script_has = rw c.sources.ensures.same at c.in-Ok-script_of.ensures.script;
+    })
+    refl c.run_program.ensures.kept c.run_program.ensures.loaded
 
 pub returns-clause-untouched : goal.returns-clause-untouched
 returns-clause-untouched g c = none_as c.run_program.result.kept (λ lacked. inr (lacked.0, c.run_program.ensures.told)) c.run_program.ensures.none
