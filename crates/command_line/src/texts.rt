@@ -24,7 +24,8 @@ usage: orca COMMAND
   -h, --help                  prints this; behind a command's name, more about it
   -V, --version               prints the version
 
-So far `check` is built, and `run` for small programs, of one object type and one process.
+So far `check` is built, and `run` and `replay` for small programs, of one object type and one
+process.
 ";
 
 /// The command `check`.
@@ -47,8 +48,8 @@ usage: orca run [OPTIONS] FILE...
   --history       prints the history of the run, too
   --explain       prints where each line of the history took place, too
 
-So far programs that are run are small, of one object type and one process, and `--workers`,
-`--history` and `--explain` aren't built.
+So far programs that are run are small, of one object type and one process, and `--workers` and
+`--explain` aren't built.
 ";
 
 /// The command `code`.
@@ -76,7 +77,7 @@ pub const REPLAY_HELP: &str =
 
 usage: orca replay HISTORY FILE...
 
-Not built yet.
+So far for small programs, of one object type and one process.
 ";
 
 /// The command `make`.
