@@ -93,6 +93,7 @@ is_run f name says end standing status old new before after laws settings none h
       row = row_kept f w k laws.count laws.read is stand (laws.finished f end.steps.items w left.replays) processes left.kept left.stuck
           (laws.spent f refl refl settings end.steps.items w left.replays) (rules.standing f w) refl;
       only = rows_shown f w k laws.count laws.read is stand processes settings.a_turn;
+      limited = λ what number passed. ap (rules.after_limit f w) passed;
       ends = said.ends;
       lacked = said.lacked;
       printed = said.printed;

@@ -13,9 +13,10 @@ use Rattle.value_core.specs.declared.action.Line.{Line}
 use Rattle.history_commands.specs.ReadBack.{ReadsBack}
 use Rattle.history_text.specs.declared.names.Names.{Names}
 use Rattle.world_rules.specs.declared.settings.Settings.{Settings}
-use Rattle.world_rules.specs.declared.standing.Standing.TheVariants.{Going}
+use Rattle.orca_base.specs.declared.what.What.{What}
+use Rattle.world_rules.specs.declared.standing.Standing.TheVariants.{Going, Limit}
 use Rattle.world_rules.specs.Frame.{Frame}
-use Rattle.world_rules.specs.Standings.{standing}
+use Rattle.world_rules.specs.Standings.{limit, standing}
 use Rattle.world_rules.specs.Worlds.{World}
 use Rattle.world_facts.specs.Rows.{ReadsStanding}
 use Rattle.run_loop.specs.Asked.{HaveToldOn, NoneAskedBehind, WereUsedSo, asked_since}
@@ -90,6 +91,8 @@ pub record IsRun (f : Frame) (name : Action → List ℕ) (says : List Line → 
   pub reads : ReadsStanding f world
   pub row : KeptRow f world k (standing f world)
   pub only : ShownRows f world k
+  -- of several limits that are passed it is the first: that before which the lowest member stops, and that of lines behind it
+  pub limited : (what : What) (number : ℕ) → limit f world ≡ Some (what, number) → standing f world ≡ Limit what number
   pub ends : EndsAs (standing_status (standing f world)) status
   pub lacked : standing f world ≡ Going → status ≡ NO_MEMORY
   pub printed :

@@ -15,7 +15,7 @@ fn listed(
     between: &str,
 ) -> Result<String, AllocError> {
     let mut text = String::new(alloc);
-    for number in 1..=count {
+    for number in 1..count.saturating_add(1) {
         if number > 1 {
             text.push_str(between)?;
         }
@@ -56,10 +56,12 @@ object implementation T; x: integer; operation O({parameters}); begin x := 1; en
 #[test]
 fn parameters(rt: HostRuntime) -> Result<(), Fail> {
     let alloc = rt.alloc();
-    for text in &with_parameters(alloc, 255)? {
+    let most = with_parameters(alloc, 255)?;
+    for text in &most {
         assert!(rt; both_say(alloc, text.as_str(), FINISHED, "")?);
     }
-    for text in &with_parameters(alloc, 256)? {
+    let more = with_parameters(alloc, 256)?;
+    for text in &more {
         assert!(rt; both_say(alloc, text.as_str(), LIMIT, "orca: limit of nesting: 255\n")?);
     }
     Ok(())
