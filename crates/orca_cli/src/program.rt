@@ -120,7 +120,7 @@ pub fn judged(alloc: Global, program: &Program) -> Result<(), Refusal<ProgramFau
 {
     match typed(alloc, program) {
         Ok(_checked) => fits(alloc, program),
-        Err(refusal) => Err(refusal),
+        Err(refused) => Err(refused),
     }
 }
 
