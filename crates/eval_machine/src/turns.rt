@@ -33,7 +33,7 @@ fn next(
         text,
         number,
         args,
-        &process.replies,
+        process.replies.as_slice(),
         turns,
     )
 }

@@ -18,5 +18,5 @@ returns-clause-doing c =
     let r = c.next_doing.result in
     ∥∥₁_elim m.coded (doing_once r (λ (n : Next). n.doing) (doing_by us (kept p) c.args.turns))
     (λ is.
-    subst (λ (l : List Reply). IfOk r (λ n. n.doing ≡ next_doing us p.text p.number p.args l c.args.turns)) c.deref.ensures.value
+    subst (λ (l : List Reply). IfOk r (λ n. n.doing ≡ next_doing us p.text p.number p.args l c.args.turns)) c.as_slice.ensures
     (c.next_doing.ensures.doing us is (numbers_of m.code.checked m.within)))
