@@ -1,12 +1,9 @@
 -- The turns that a process took, and what its state stands for when it has gone on or has received a reply.
-use Rattle.std.proofs.Common.{◌≡◌, ◌⊎◌, inl, inr, ℕ, ◌+◌, ◌-◌, ◌≤◌, ◌<◌, List, [], ◌∷◌, ◌++◌, Option, Some, None, Result, Ok, Err, refl, sym, ap, ◌∙◌, subst, arith}
+use Rattle.std.proofs.Common.{◌≡◌, ◌⊎◌, inl, inr, ℕ, ◌+◌, ◌-◌, ◌≤◌, List, [], ◌∷◌, ◌++◌, Option, Some, None, Result, Ok, Err, sym, ap, ◌∙◌, subst, arith}
 use Rattle.std.specs.Prelude.{IfOk}
 use Rattle.orca_base.specs.declared.refusal.NoMemory.{NoMemory}
-use Rattle.orca_base.specs.declared.ids.ProcessNo.{ProcessNo}
-use Rattle.orca_base.specs.declared.ids.TextNo.{TextNo}
 use Rattle.link_rules.specs.Units.{Source}
-use Rattle.value_core.specs.Datum.{Data}
-use Rattle.value_core.specs.Goes.{ForEach, Goes, Reaches}
+use Rattle.value_core.specs.Goes.{ForEach, Goes}
 use Rattle.value_core.specs.History.{most_turns}
 use Rattle.value_core.specs.declared.action.Action.{Action}
 use Rattle.value_core.specs.declared.action.Reply.{Reply}

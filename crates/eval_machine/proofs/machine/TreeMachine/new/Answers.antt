@@ -17,7 +17,7 @@ invariant_of-result c =
     record {
       within = subst (λ (q : Checked). IsWithinLimits (sources q)) kept within;
       coded = subst (λ (q : Checked). ∥ IsCode (sources q) code ∥₁) kept
-      (∥∥₁_map p.tables (λ symbols. (c.in_ok-code.ensures {u = tt}).code symbols (coded p within) (few p within)));
+          (∥∥₁_map p.tables (λ symbols. (c.in_ok-code.ensures {u = tt}).code symbols (coded p within) (few p within)));
       laws = record {
         inserted_in_order = elements.inserted_in_order;
         deleted_in_order = elements.deleted_in_order;
