@@ -6,6 +6,7 @@ use orca_io::{MemoryShelf, MemorySink, Shelf, Sink, SureShelf, SureSink};
 use std::alloc::{AllocError, Global};
 use std::test::Fail;
 use value_core::{Action, Line, Parts, Reply, TextValue, Value};
+use wires::{PlainWire, Wire};
 
 const ONE: &str = "object specification Cell;
   operation Value(): integer;
@@ -43,11 +44,26 @@ fn files(alloc: Global, name: &str, text: &[u8]) -> Result<Vec<(String, Vec<u8>)
     Ok(files)
 }
 
+// The top call over one wire on which nothing happens.
+fn called<F: Shelf, K: Sink>(
+    alloc: Global,
+    words: &[String],
+    shelf: &mut F,
+    out: &mut K,
+) -> Result<Ended, AllocError> {
+    let mut wires: Vec<Box<dyn Wire + Send>> = Vec::new(alloc);
+    wires.push(Box::new(alloc, PlainWire::new(alloc))?)?;
+    if wires.len() != 1 {
+        return Err(AllocError);
+    }
+    Ok(orca_main(alloc, words, shelf, out, &mut wires))
+}
+
 // What was printed, and how the call ended, for one file in memory.
 fn outcome(alloc: Global, line: &[&str], name: &str, text: &[u8]) -> Result<(u8, String), Fail> {
     let mut shelf = MemoryShelf::new(files(alloc, name, text)?, Vec::new(alloc));
     let mut out = MemorySink::new(alloc, Vec::new(alloc));
-    let ended = orca_main(alloc, &words(alloc, line)?, &mut shelf, &mut out);
+    let ended = called(alloc, &words(alloc, line)?, &mut shelf, &mut out)?;
     let printed = String::from_utf8(Vec::from_slice(alloc, out.bytes())?)
         .ok()
         .ok_or("no text")?;
@@ -132,6 +148,7 @@ fn has_lines(kept: &Kept, lines: &[Line]) -> bool {
                 && main.replies.len() == lines.len()
                 && main
                     .replies
+                    .as_slice()
                     .iter()
                     .zip(lines)
                     .all(|(reply, line)| reply.is(&line.reply))
@@ -164,7 +181,7 @@ fn run_over<F: Shelf, K: Sink>(
     shelf: &mut F,
     out: &mut K,
 ) -> Result<Ended, AllocError> {
-    Ok(orca_main(alloc, &words(alloc, &["run", "one.orca"])?, shelf, out))
+    called(alloc, &words(alloc, &["run", "one.orca"])?, shelf, out)
 }
 
 #[test]
@@ -231,7 +248,7 @@ fn the_file_that_stops_the_reading_is_named(rt: HostRuntime) -> Result<(), Fail>
         ))?;
         let mut shelf = MemoryShelf::new(both, [1].to_vec(alloc)?);
         let mut out = MemorySink::new(alloc, Vec::new(alloc));
-        let ended = orca_main(alloc, &words(alloc, &["run", name])?, &mut shelf, &mut out);
+        let ended = called(alloc, &words(alloc, &["run", name])?, &mut shelf, &mut out)?;
         assert_eq!(rt; ended.status, status);
         assert_eq!(rt; out.bytes(), line.as_bytes());
     }
@@ -279,7 +296,7 @@ fn refusals(rt: HostRuntime) -> Result<(), Fail> {
         (&["run", "gone.orca"], 9, "orca: no file gone.orca\n"),
         (&["run", "--nodes"], 2, USAGE),
         (&["run", ""], 9, "orca: no file \n"),
-        (&["run", "e.orca"], 15, "orca: e.orca: not yet\n"),
+        (&["run", "e.orca"], 0, ""),
     ];
     for (line, status, text) in lines {
         let (got, printed) = outcome(alloc, line, "e.orca", empty_main)?;
@@ -391,7 +408,7 @@ fn nested(alloc: Global, pairs: usize) -> Result<String, AllocError> {
 fn nesting_ends_at_64_levels(rt: HostRuntime) -> Result<(), Fail> {
     let alloc = rt.alloc();
     for (pairs, status, line) in [
-        (30, 15, "orca: n.orca: not yet\n"),
+        (30, 0, ""),
         (31, 11, "orca: limit of nesting: 64\n"),
         (64, 11, "orca: limit of nesting: 64\n"),
     ] {
@@ -454,7 +471,7 @@ fn checked(alloc: Global, files: &[(&str, &str)]) -> Result<(u8, String), Fail> 
     }
     let mut shelf = MemoryShelf::new(told, Vec::new(alloc));
     let mut out = MemorySink::new(alloc, Vec::new(alloc));
-    let ended = orca_main(alloc, &words, &mut shelf, &mut out);
+    let ended = called(alloc, &words, &mut shelf, &mut out)?;
     let printed = String::from_utf8(Vec::from_slice(alloc, out.bytes())?)
         .ok()
         .ok_or("no text")?;
@@ -515,7 +532,7 @@ fn the_first_file_that_fails_is_told(rt: HostRuntime) -> Result<(), Fail> {
         [1].to_vec(alloc)?,
     );
     let mut out = MemorySink::new(alloc, Vec::new(alloc));
-    let ended = orca_main(alloc, &words, &mut shelf, &mut out);
+    let ended = called(alloc, &words, &mut shelf, &mut out)?;
     assert_eq!(rt; ended.status, 8);
     assert_eq!(rt; out.bytes(), b"orca: cannot read one.orca\n".as_slice());
     Ok(())

@@ -1,2 +1,2 @@
-pub mod ProgramNames
 pub mod Replays
+pub mod ReadBack

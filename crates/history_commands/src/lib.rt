@@ -1,12 +1,15 @@
-//! What `replay` says of a history's text, over whatever performs and computes the program.
+//! What the commands over histories say and print: `replay`, and a run under `--history`.
 //!
-//! `replay_text` reads the text and judges its lines: it is a history, or the first line that isn't of the form or no step is told
-//! (specs/Replays.antt); a text has one answer, and that of a history is legal (`answer_law`). Which names a program's lines have
-//! is `AreNamesOf` of specs/ProgramNames.antt (`names_law`). Files and output aren't its matter.
+//! The floor above uses `replay_text`, which reads a text and judges its lines, over whatever performs and computes the program: it is a history,
+//! or the first line that isn't of the form or no step is told (`IsToldOf` of specs/Replays.antt), with `Answer`'s status and line;
+//! `say_answer`, which prints that; and `print_lines`, which prints the text of a run's book. A text has one answer, and that of a book is legal once it is read back
+//! (`answer_law`; `ReadsBack` of specs/ReadBack.antt). The names of lines are handed in; files and programs aren't its matter.
 #![tactic(auto)]
 
 mod answer;
 mod laws;
+mod printing;
 
-pub use answer::{Answer, replay_text};
-pub use laws::{answer_law, names_law};
+pub use answer::{Answer, replay_text, say_answer};
+pub use laws::answer_law;
+pub use printing::print_lines;

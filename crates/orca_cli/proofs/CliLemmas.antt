@@ -3,7 +3,7 @@ use Rattle.std.proofs.Common.{◌≡◌, ◌≢◌, ◌⊎◌, ℕ, suc, ◌+◌
 use Rattle.std.specs.List.{All}
 use Rattle.std.proofs.Math.Seq.{take-suc}
 use Rattle.std.specs.Borrow.{Bor}
-use Rattle.std.specs.Prelude.{◌==◌, Result, Ok, Err, IfNone, IfOk, IfSome, MatchOption, OnErr, map, option_and_then, option_map}
+use Rattle.std.specs.Prelude.{◌==◌, Result, Ok, Err, IfNone, IfOk, IfSome, MatchOption, OnErr, OnOk, map, option_and_then, option_map}
 use Rattle.std.proofs.lemmas.Bool.Decides.{nat_tests}
 use Rattle.std.proofs.lemmas.List.{append-nil, length-map, map-append, take_all}
 use Rattle.std.proofs.lemmas.List.Elements.{All-head, All-nil, All-push}
@@ -12,92 +12,44 @@ use Rattle.orca_base.specs.declared.limits.TheConstants.{MODULES, SOURCE_BYTES}
 use Rattle.orca_base.specs.declared.refusal.Refusal.{Refusal}
 use Rattle.orca_base.specs.declared.refusal.Refusal.TheVariants.{Because, NoMemory}
 use Rattle.orca_base.specs.Refusal.{IfBecause}
-use Rattle.orca_lexer.specs.declared.token.Token.{Token}
-use Rattle.orca_grammar.specs.Forms.{spelled}
-use Rattle.orca_grammar.specs.Grammar.{IsText}
-use Rattle.orca_grammar.proofs.Placed.{text_kinds}
-use Rattle.orca_tree.specs.declared.tree.Unit.{Unit as UnitTree}
-use Rattle.orca_tree.specs.Marks.{unit as unit_marks}
-use Rattle.orca_syntax.specs.Shown.{syntax_of}
-use Rattle.orca_syntax.specs.TextSyntax.{HasSyntax}
-use Rattle.orca_syntax.proofs.MarksOfDeclarations.{unit_shown}
-use Rattle.link_rules.specs.declared.named_unit.NamedUnit.{NamedUnit}
-use Rattle.link_rules.specs.Units.{Source, source}
+use Rattle.net_rules.specs.declared.line.ScriptLine.{ScriptLine}
+use Rattle.link_rules.specs.Units.{Source}
+use Rattle.accepted_law.specs.Limits.{IsWithinLimits}
+use Rattle.eval_bodies.specs.Codes.{sources as sources_of}
+use Rattle.eval_machine.specs.declared.machine.TreeMachine.{TreeMachine}
+use Rattle.type_decls.specs.declared.checked.Checked.{Checked}
 use Rattle.orca_front.specs.declared.fault.FrontFault.{FrontFault}
 use Rattle.orca_front.specs.declared.fault.FrontFault.TheVariants as fronts
-use Rattle.orca_front.specs.declared.source.SourceFile.{SourceFile}
-use Rattle.orca_front.specs.Sources.{AreUnits, IsUnit, file_of}
-use Rattle.orca_front.specs.Sources as units_of
+use Rattle.orca_front.specs.Sources.{IsAccepted, IsFault, IsLinkFault}
 use Rattle.orca_io.specs.declared.sink.SinkFault.{SinkFault}
 use Rattle.orca_io.specs.declared.sink.SinkFault.TheVariants as faults
 use Rattle.orca_io.specs.Causes.{Rose}
 use Rattle.orca_io.specs.Files.{File, content_of}
 use Rattle.orca_io.specs.Sinks.{Puts}
-use Rattle.small_program.specs.declared.tree.SmallProgram.{SmallProgram}
-use Rattle.small_program.specs.Least.{least_bytes}
-use Rattle.small_program.proofs.Sizes.{tokens_long}
 use Rattle.value_core.specs.History.{output_by, output_of}
 use Rattle.value_core.specs.declared.action.Line.{Line}
 use Rattle.orca_cli.specs.declared.job.Job.{Job}
-use Rattle.orca_cli.specs.declared.kept.Kept.{Kept}
-use Rattle.orca_cli.specs.declared.load_fault.LoadFault.{LoadFault}
-use Rattle.orca_cli.specs.declared.load_fault.LoadFault.TheVariants as loads
-use Rattle.orca_cli.specs.declared.statuses.TheConstants.{NO_MEMORY, READ_FAULT, WRITE_FAULT}
+use Rattle.command_files.specs.declared.load_fault.LoadFault.{LoadFault}
+use Rattle.command_files.specs.declared.load_fault.LoadFault.TheVariants as loads
+use Rattle.orca_cli.specs.declared.program.ProgramFault.{ProgramFault}
+use Rattle.orca_cli.specs.declared.program.ProgramFault.TheVariants.{Limited, Refused}
+use Rattle.orca_cli.specs.declared.script.ScriptFault.{ScriptFault}
+use Rattle.orca_cli.specs.declared.script.ScriptFault.TheVariants as scripts
+use Rattle.command_output.specs.declared.statuses.TheConstants.{NO_MEMORY, READ_FAULT, WRITE_FAULT}
+use Rattle.orca_cli.specs.Endings as because
 use Rattle.orca_cli.specs.Endings.{IsAnswer, IsEnding}
-use Rattle.orca_cli.specs.Headline.{IsNamed}
-use Rattle.orca_cli.specs.Job.{Word, checks, deed_in, deed_of, files_in, files_of, runs}
-use Rattle.orca_cli.specs.Loaded.{IsAbsent, IsFailed, IsLoaded, IsLoadFault, IsThere, IsTooLong, Reads, front_status, load_status}
-use Rattle.orca_cli.specs.Printed.{Grew, WroteOf, Ends, EndsAs}
-use Rattle.orca_cli.specs.Small.{AreSmall, TakesRoom}
-use Rattle.orca_cli.specs.Sources.{AreRead, IsRead, StopsAt}
+use Rattle.command_files.specs.Sources.{Word}
+use Rattle.orca_cli.specs.Job.{IsDeedWithin, checks, deed_in, deed_of, files_in, files_of, replays, runs, script_in, script_of}
+use Rattle.command_output.proofs.Putting.{GrewUpTo, grew_fault, grew_put}
+use Rattle.command_files.specs.Loaded.{IsAbsent, IsFailed, IsLoaded, IsLoadFault, IsThere, IsTooLong, Reads, front_status, load_status}
+use Rattle.command_output.specs.Printed.{Grew, WroteOf, Ends, EndsAs}
+use Rattle.orca_cli.specs.Scripts.{HasScript, IsScriptFault, IsScriptOf, IsUnreadable, script_status}
+use Rattle.command_files.specs.Sources.{AreRead, IsRead, StopsAt}
+use Rattle.orca_cli.specs.Programs.{IsProgram, program_status, units_of}
+use Rattle.command_files.proofs.ReadFiles.{refused_status}
+use Rattle.replay_command.specs.Endings.{IsReplayAnswer}
 
 -- ---- what was printed
-
--- the told bytes grew by the front of a text in front of this rest
-abbrev pub GrewUpTo : Option (List ℕ) → Option (List ℕ) → List ℕ → List ℕ → Type 0
-GrewUpTo old new whole rest = Grew old new (λ t. whole ≡ t ++ rest)
-
-pub grew_none : (told : Option (List ℕ)) (whole : List ℕ) → GrewUpTo told told whole whole
-grew_none None whole = refl
-grew_none (Some old) whole = ([], sym (append-nil old), refl)
-
--- one piece more
-pub grew_put : (first old new : Option (List ℕ)) (whole piece rest : List ℕ) → GrewUpTo first old whole (piece ++ rest) → Puts old new piece (Ok tt) → GrewUpTo first new whole rest
-grew_put None None new whole piece rest h p = p
-grew_put None (Some old) new whole piece rest h p = absurd cc
-grew_put (Some first) None new whole piece rest h p = absurd h
-grew_put (Some first) (Some old) None whole piece rest h p = absurd p
-grew_put (Some first) (Some old) (Some new) whole piece rest h p =
-    (h.0 ++ piece, p ∙ ap (λ (l : List ℕ). l ++ piece) h.1 ∙ append_assoc first h.0 piece, h.2 ∙ sym (append_assoc h.0 piece rest))
-
--- a piece that was not put whole: a front of the text was
-pub grew_fault : (first old new : Option (List ℕ)) (whole piece rest : List ℕ) (fault : SinkFault) → GrewUpTo first old whole (piece ++ rest) → Puts old new piece (Err fault) → Grew first new (WroteOf (Err fault) whole)
-grew_fault None None new whole piece rest fault h p = p
-grew_fault None (Some old) new whole piece rest fault h p = absurd cc
-grew_fault (Some first) None new whole piece rest fault h p = absurd h
-grew_fault (Some first) (Some old) None whole piece rest fault h p = absurd p
-grew_fault (Some first) (Some old) (Some new) whole piece rest faults.Failed h p = (
-  h.0 ++ take p.0 piece,
-  p.1 ∙ ap (λ (l : List ℕ). l ++ take p.0 piece) h.1 ∙ append_assoc first h.0 (take p.0 piece),
-  (
-    drop p.0 piece ++ rest,
-    h.2 ∙ ap (λ (l : List ℕ). h.0 ++ (l ++ rest)) (sym (take-append-drop p.0 piece))
-        ∙ ap (λ (l : List ℕ). h.0 ++ l) (append_assoc (take p.0 piece) (drop p.0 piece) rest) ∙ sym (append_assoc h.0 (take p.0 piece) (drop p.0 piece ++ rest)),
-  ),
-)
-grew_fault (Some first) (Some old) (Some new) whole piece rest faults.NoMemory h p = (h.0, p ∙ h.1, (piece ++ rest, h.2))
-
--- where nothing more is put, a front of the text was
-pub grew_front : (first old : Option (List ℕ)) (whole rest : List ℕ) (fault : SinkFault) → GrewUpTo first old whole rest → Grew first old (WroteOf (Err fault) whole)
-grew_front None old whole rest fault h = h
-grew_front (Some first) None whole rest fault h = h
-grew_front (Some first) (Some old) whole rest fault h = (h.0, h.1, (rest, h.2))
-
--- and where nothing is left, all of it
-pub grew_all : (first old : Option (List ℕ)) (whole rest : List ℕ) → rest ≡ [] → GrewUpTo first old whole rest → Grew first old (WroteOf (Ok tt) whole)
-grew_all None old whole rest e h = h
-grew_all (Some first) None whole rest e h = h
-grew_all (Some first) (Some old) whole rest e h = (h.0, h.1, sym (h.2 ∙ ap (λ (l : List ℕ). h.0 ++ l) e ∙ append-nil h.0))
 
 -- what a line and those behind it write
 output_drop : (book : List Line) (i : ℕ) (line : Line) → i < length book → line ≡ get_or book i line → output_of (drop i book) ≡ output_by line.action ++ output_of (drop (suc i) book)
@@ -120,19 +72,6 @@ pub grew_line_fault : (first old new : Option (List ℕ)) (book : List Line) (i 
 grew_line_fault first old new book i line piece fault less is says told puts =
     grew_fault first old new (output_of book) piece (output_of (drop (suc i) book)) fault (line_left first old book i line piece less is says told) puts
 
-pub empty_is : {A : Type 0} → (l : List A) → true ≡ (length l == 0) → l ≡ []
-empty_is [] h = refl
-empty_is (x ∷ l) h = absurd (grind (arith, nat_tests))
-
-pub puts_none : (told : Option (List ℕ)) (piece : List ℕ) → true ≡ (length piece == 0) → Puts told told piece (Ok tt)
-puts_none None piece e = refl
-puts_none (Some old) piece e = sym (ap (λ (l : List ℕ). old ++ l) (empty_is piece e) ∙ append-nil old)
-
-pub put_failed : (old new : Option (List ℕ)) (piece : List ℕ) (status : ℕ) → Puts old new piece (Err faults.Failed) → Grew old new (Ends status WRITE_FAULT piece)
-put_failed None new piece status h = h
-put_failed (Some old) None piece status h = h
-put_failed (Some old) (Some new) piece status h = (take h.0 piece, h.1, inr (inl refl, (drop h.0 piece, sym (take-append-drop h.0 piece))))
-
 -- ---- how the program ends where it runs nothing
 
 -- a refusal's line was printed, or there was no memory for it
@@ -145,6 +84,14 @@ pub if_none : {T : Type 0} (o : Option T) (P : Type 0) → P → IfNone o P
 if_none None P p = p
 if_none (Some x) P p = tt
 
+pub on_any : {T E : Type 0} (r : Result T E) (P : Type 0) → P → OnOk r P
+on_any (Ok x) P p = p
+on_any (Err e) P p = tt
+
+pub if_any : {T E : Type 0} (r : Result T E) (P : Type 0) → P → IfOk r (λ _. P)
+if_any (Ok x) P p = p
+if_any (Err e) P p = tt
+
 -- ---- the words
 
 pub deed_is : (words : List Word) (found : Option Job) (job is : Job) → option_map deed_of found ≡ deed_in words → found ≡ Some job → job ≡ is → deed_in words ≡ Some (deed_of is)
@@ -153,78 +100,9 @@ deed_is words found job is says some same = sym says ∙ ap (option_map deed_of)
 pub deed_none : (words : List Word) (found : Option Job) → option_map deed_of found ≡ deed_in words → found ≡ None → deed_in words ≡ None
 deed_none words found says none = sym says ∙ ap (option_map deed_of) none
 
--- ---- files
-
--- a file that was read
-pub read_is : (told : Option (List File)) (file text : List ℕ) → IfSome told (λ files. (content_of files file ≡ Some text) × (length text ≤ SOURCE_BYTES)) → length text ≤ SOURCE_BYTES → IsRead told SOURCE_BYTES (file, text)
-read_is None file text h bytes = record { content = tt; bytes = bytes }
-read_is (Some files) file text h bytes = record { content = h.0; bytes = bytes }
-
--- the names of the first files, and what was read of them
-pub record ReadSoFar (told : Option (List File)) (files : List (Bor Word)) (i : ℕ) (sources : List SourceFile) : Type 0 where
-  pub names : map (λ (f : Bor Word). f.now) (take i files) ≡ map (λ (s : File). s.0) (map file_of sources)
-  pub read : All (IsRead told SOURCE_BYTES) (map file_of sources)
-
-pub none_read : (told : Option (List File)) (files : List (Bor Word)) → ReadSoFar told files 0 []
-none_read told files = record { names = refl; read = All-nil (IsRead told SOURCE_BYTES) }
-
-one_more : (xs : List (Bor Word)) (i : ℕ) (x d : Bor Word) → i < length xs → x ≡ get_or xs i d → take (i + 1) xs ≡ take i xs ++ x ∷ []
-one_more xs i x d lt is =
-    let next : i + 1 ≡ suc i = omega arith in
-    ap (λ (k : ℕ). take k xs) next ∙ take-suc xs i d lt ∙ ap (λ (y : Bor Word). take i xs ++ y ∷ []) (sym is)
-
--- one file more
-pub reads_more : (told : Option (List File)) (files : List (Bor Word)) (i : ℕ) (file d : Bor Word) (sources new : List SourceFile) (s : SourceFile) → i < length files → file ≡ get_or files i d → new ≡ sources ++ s ∷ [] → ReadSoFar told files i sources →
-    s.name.now ≡ file.now → IsRead told SOURCE_BYTES (file_of s) → ReadSoFar told files (i + 1) new
-reads_more told files i file d sources new s lt is pushed so_far named read =
-    let news = ap (map file_of) pushed ∙ map-append file_of sources (s ∷ []) in
-    record {
-      names =
-          ap (map (λ (f : Bor Word). f.now)) (one_more files i file d lt is) ∙ map-append (λ (f : Bor Word). f.now) (take i files) (file ∷ [])
-          ∙ ap (λ (l : List Word). l ++ file.now ∷ []) so_far.names ∙ ap (λ (w : Word). map (λ (s : File). s.0) (map file_of sources) ++ w ∷ []) (sym named)
-          ∙ sym (ap (map (λ (s : File). s.0)) news ∙ map-append (λ (s : File). s.0) (map file_of sources) (file_of s ∷ []));
-      read = subst (All (IsRead told SOURCE_BYTES)) (sym news) (All-push (IsRead told SOURCE_BYTES) (map file_of sources) (file_of s) so_far.read read);
-    }
-
--- where reading stops at the next file
-pub stops_next : (told : Option (List File)) (files : List (Bor Word)) (i : ℕ) (file d : Bor Word) (sources : List SourceFile) → length files ≤ MODULES → i < length files → file ≡ get_or files i d → ReadSoFar told files i sources →
-    StopsAt told (map (λ (f : Bor Word). f.now) files) file.now
-stops_next told files i file d sources few lt is so_far = record {
-  few = subst (λ (n : ℕ). n ≤ MODULES) (sym (length-map files (λ (f : Bor Word). f.now))) few;
-  before = map file_of sources;
-  after = map (λ (f : Bor Word). f.now) (drop (suc i) files);
-  splits =
-      ap (map (λ (f : Bor Word). f.now)) (sym (take-append-drop i files) ∙ ap (λ (r : List (Bor Word)). take i files ++ r) (drop-cons files i d lt ∙ ap (λ (y : Bor Word). y ∷ drop (suc i) files) (sym is)))
-      ∙ map-append (λ (f : Bor Word). f.now) (take i files) (file ∷ drop (suc i) files)
-      ∙ ap (λ (l : List Word). l ++ file.now ∷ map (λ (f : Bor Word). f.now) (drop (suc i) files)) so_far.names;
-  read = so_far.read;
-}
-
-pub only_left : {A : Type 0} → A ⊎ ⊥ → A
-only_left (inl a) = a
-only_left (inr h) = absurd h
-
--- what was read of a file, over what was so before any was read
-pub reads_since : (told old : Option (List File)) (faults before new : ℕ) (name : Word) (x y : Result SourceFile (Refusal LoadFault)) → told ≡ old → faults ≡ before → x ≡ y → Reads told (Rose faults new) name x → Reads old (Rose before new) name y
-reads_since told old faults before new name x y same quiet is h =
-    subst (λ (r : Result SourceFile (Refusal LoadFault)). Reads old (Rose before new) name r) is
-    (subst (λ (t : Option (List File)). Reads t (Rose before new) name x) same (subst (λ (f : ℕ). Reads told (Rose f new) name x) quiet h))
-
--- why reading stopped there
-pub fault_next : (T : Type 0) (told : Option (List File)) (rose : Type 0) (files : List Word) (name : Word) (r : Refusal LoadFault) → StopsAt told files name → Reads told rose name (Err r) → IfBecause {T = T} (Err r) (IsLoadFault told rose files)
-fault_next T told rose files name (Because (loads.Absent file)) stops h = (subst (StopsAt told files) (sym h.0) stops, subst (IsAbsent told) (sym h.0) h.1)
-fault_next T told rose files name (Because (loads.TooLong file)) stops h = (subst (StopsAt told files) (sym h.0) stops, subst (IsTooLong told SOURCE_BYTES) (sym h.0) h.1)
-fault_next T told rose files name (Because (loads.Failed file)) stops h = (subst (StopsAt told files) (sym h.0) stops, subst (IsThere told) (sym h.0) h.1, h.2)
-fault_next T told rose files name (Because loads.TooMany) stops h = absurd h
-fault_next T told rose files name NoMemory stops h = tt
-
--- all files were read
-pub all_read : (told : Option (List File)) (files : List (Bor Word)) (i : ℕ) (sources : List SourceFile) → length files ≤ MODULES → length files ≤ i → ReadSoFar told files i sources → AreRead told (map (λ (f : Bor Word). f.now) files) (map file_of sources)
-all_read told files i sources few end so_far = record {
-  few = subst (λ (n : ℕ). n ≤ MODULES) (sym (length-map files (λ (f : Bor Word). f.now))) few;
-  names = ap (map (λ (f : Bor Word). f.now)) (sym (take_all i files end)) ∙ so_far.names;
-  read = so_far.read;
-}
+-- the options of a run are in their ranges
+pub within_is : (found : Option Job) (job is : Job) → IfSome found (λ j. IsDeedWithin (deed_of j)) → found ≡ Some job → job ≡ is → IsDeedWithin (deed_of is)
+within_is found job is within some same = subst (λ (j : Job). IsDeedWithin (deed_of j)) same (subst (λ (o : Option Job). IfSome o (λ j. IsDeedWithin (deed_of j))) some within)
 
 -- ---- what the words ask for
 
@@ -234,52 +112,64 @@ files_checked words files asked = ap (option_and_then files_of) asked
 pub files_run : (words files : List Word) (options : RunOptions) (script : Option Word) → deed_in words ≡ Some (runs options script files) → files_in words ≡ Some files
 files_run words files options script asked = ap (option_and_then files_of) asked
 
--- neither files that weren't read nor texts that are no program end with the status of a write fault
-pub unread_status : (fault : LoadFault) → load_status fault ≢ WRITE_FAULT
-unread_status loads.TooMany h = absurd cc
-unread_status (loads.Absent file) h = absurd cc
-unread_status (loads.TooLong file) h = absurd cc
-unread_status (loads.Failed file) h = absurd cc
+pub script_run : (words files : List Word) (options : RunOptions) (script : Option Word) → deed_in words ≡ Some (runs options script files) → script_in words ≡ script
+script_run words files options script asked = ap (option_and_then script_of) asked
 
-pub refused_status : (fault : FrontFault) → front_status fault ≢ WRITE_FAULT
-refused_status (fronts.Faulty file at said) h = absurd cc
-refused_status fronts.TooNested h = absurd cc
-refused_status (fronts.Unlinked error) h = absurd cc
-refused_status (fronts.Mistyped error) h = absurd cc
+pub script_checked : (words files : List Word) → deed_in words ≡ Some (checks files) → script_in words ≡ None
+script_checked words files asked = ap (option_and_then script_of) asked
 
-pub failed_status : (fault : LoadFault) → IsFailed fault → load_status fault ≡ READ_FAULT
-failed_status loads.TooMany h = absurd h
-failed_status (loads.Absent file) h = absurd h
-failed_status (loads.TooLong file) h = absurd h
-failed_status (loads.Failed file) h = refl
+-- a check has no script; a run has the one that was read
+pub has_none : (words : List Word) (told : Option (List File)) (files : List Word) → deed_in words ≡ Some (checks files) → HasScript told words
+has_none words told files asked = ([], subst (λ (o : Option Word). IsScriptOf told o []) (sym (script_checked words files asked)) refl)
 
--- the program in files is the named one
-pub named : (words : List Word) (told : Option (List File)) (options : RunOptions) (script : Option Word) (files : List Word) (units : List Source) (p : SmallProgram) → deed_in words ≡ Some (runs options script files) → IsLoaded told files units → AreSmall units p →
-    IsNamed words told p
-named words told options script files units p asked loaded small = record { options = options; script = script; files = files; units = units; asked = asked; loaded = loaded; small = small }
+pub has_script : (words : List Word) (told : Option (List File)) (files : List Word) (options : RunOptions) (script : Option Word) (lines : List ScriptLine) → deed_in words ≡ Some (runs options script files) → IsScriptOf told script lines → HasScript told words
+has_script words told files options script lines asked is = (lines, subst (λ (o : Option Word). IsScriptOf told o lines) (sym (script_run words files options script asked)) is)
 
-pub kept_named : (words : List Word) (told : Option (List File)) (p q : SmallProgram) (kept : Option Kept) (Q : Type 0) (R S : SmallProgram → Kept → Type 0) → IsNamed words told p → q ≡ p → MatchOption kept Q (λ k. R q k × S q k) → IfSome kept (λ k. (x : SmallProgram) × IsNamed words told x × R x k × S x k)
-kept_named words told p q None Q R S is same h = tt
-kept_named words told p q (Some k) Q R S is same h = (q, subst (IsNamed words told) (sym same) is, h.0, h.1)
+-- where a run has no script though its files were read, it is that of the file that the words name
+pub unscripted_run : (words files : List Word) (options : RunOptions) (script : Option Word) (told : Option (List File)) (rose : Type 0) (fault : ScriptFault) (A : Type 0) → deed_in words ≡ Some (runs options script files)
+    → MatchOption script ⊥ (λ name. IsScriptFault told rose name fault) → ((name : Word) → script_in words ≡ Some name → IsScriptFault told rose name fault → A) → A
+unscripted_run words files options None told rose fault A asked is so = absurd is
+unscripted_run words files options (Some name) told rose fault A asked is so = so name (script_run words files options (Some name) asked) is
 
--- ---- how much room small programs take
+-- a run whose script wasn't had ends with no status of a write fault, and with that of a read fault where its file can't be read
+pub unscripted_status : (fault : ScriptFault) → script_status fault ≢ WRITE_FAULT
+unscripted_status (scripts.Absent file) h = absurd cc
+unscripted_status (scripts.TooLong file) h = absurd cc
+unscripted_status (scripts.Failed file) h = absurd cc
+unscripted_status (scripts.Bad error) h = absurd cc
 
--- a text is as long as the words of its unit at least
-long_enough : (text : List ℕ) (u : UnitTree) (n : ℕ) → HasSyntax text (syntax_of u) → n ≤ least_bytes (spelled (unit_marks u)) → n ≤ length text
-long_enough text u n has long =
-    let parsed = subst (λ ms. IsText ms has.tokens) (sym (unit_shown u)) has.derived in
-    let words : least_bytes (map (λ (t : Token). t.kind) has.tokens) ≡ least_bytes (spelled (unit_marks u)) = ap least_bytes (text_kinds (unit_marks u) has.tokens parsed) in
-    let room = tokens_long text has.tokens has.are in
-    omega arith
+pub unreadable_status : (fault : ScriptFault) → IsUnreadable fault → script_status fault ≡ READ_FAULT
+unreadable_status (scripts.Absent file) h = absurd h
+unreadable_status (scripts.TooLong file) h = absurd h
+unreadable_status (scripts.Failed file) h = refl
+unreadable_status (scripts.Bad error) h = absurd h
 
-room_of : (told : Option (List File)) (file : File) (u : NamedUnit) (p : SmallProgram) → IsUnit file (source u) → IsRead told SOURCE_BYTES file → TakesRoom (u ∷ []) p → (length p.operations < 2 ^ 16) × (length p.fields < 2 ^ 32)
-room_of told file u p unit read room =
-    let operations = long_enough file.1 u.unit (35 * length p.operations) unit.has room.0 in
-    let fields = long_enough file.1 u.unit (4 * length p.fields) unit.has room.1 in
-    (omega (arith, read.bytes, operations), omega (arith, read.bytes, fields))
+-- ---- the program
 
--- so its operations and fields are few
-pub few_enough : (told : Option (List File)) (sources : List File) (units : List NamedUnit) (p : SmallProgram) → AreUnits sources (map source units) → All (IsRead told SOURCE_BYTES) sources → TakesRoom units p →
-    (length p.operations < 2 ^ 16) × (length p.fields < 2 ^ 32)
-few_enough told sources [] p are read room = absurd room
-few_enough told _ (u ∷ units) p (units_of.one file files v vs unit more) read room = room_of told file u p unit (All-head (IsRead told SOURCE_BYTES) file files read) room
+-- texts that don't link are no accepted program
+pub link_fault_is : (sources : List File) (fault : FrontFault) → IsLinkFault sources fault → IsFault sources fault
+link_fault_is sources (fronts.Faulty file at said) h = h
+link_fault_is sources fronts.TooNested h = h
+link_fault_is sources (fronts.Unlinked error) h = h
+link_fault_is sources (fronts.Mistyped error) h = absurd h
+
+-- why it is none ends with no status of a write fault
+pub program_apart : (fault : ProgramFault) → program_status fault ≢ WRITE_FAULT
+program_apart (Refused fault) = refused_status fault
+program_apart (Limited passed) h = absurd cc
+
+pub is_program : (told : Option (List File)) (files : List Word) (sources : List File) (units : List Source) → AreRead told files sources → IsAccepted sources units → IsWithinLimits units → IsProgram told files units
+is_program told files sources units read accepted within = record { loaded = (sources, read, accepted); within = within }
+
+-- the machine of a checked program has its units
+pub machine_units : {E : Type 0} (r : Result TreeMachine E) (checked : Checked) (units : List Source) → sources_of checked ≡ units → IfOk r (λ m. m.code.checked ≡ checked) → IfOk r (λ m. units_of m ≡ units)
+machine_units (Ok m) checked units are of = ap sources_of of ∙ are
+machine_units (Err e) checked units are of = tt
+
+-- ---- what is said of a history
+
+-- an ending of `replay` is one of the program
+pub replayed_so : (words : List Word) (told : Option (List File)) (rose : Type 0) (old new : Option (List ℕ)) (status : ℕ) (history : Word) (files : List Word) → deed_in words ≡ Some (replays history files) → IsReplayAnswer told rose history files old new status
+    → IsAnswer words told rose old new status
+replayed_so words told rose old new status history files asked (inl (wanted, line, ending, ends, grew)) = inl (wanted, line, because.replayed history files wanted line asked ending, ends, grew)
+replayed_so words told rose old new status history files asked (inr silent) = inr silent

@@ -1,82 +1,124 @@
--- The headline: what a run keeps and prints, over the meanings of its program.
-use Rattle.std.specs.Prelude.{◌≡◌, ◌≢◌, ◌⊎◌, ℕ, List, [], ◌∷◌, ◌++◌, MatchOption, None, Option, Some, slice_get}
+-- The headline: what a run keeps and prints, and that its network was really used.
+use Rattle.std.specs.Prelude.{◌≡◌, ◌⊎◌, ◌++◌, ℕ, suc, List, [], length, map, Option, Some, option_map, slice_get}
 use Rattle.command_line.specs.declared.request.RunOptions.{RunOptions}
-use Rattle.orca_base.specs.declared.ids.ProcessNo.{ProcessNo}
+use Rattle.net_rules.specs.declared.asked.Asked.{Asked}
+use Rattle.net_rules.specs.declared.line.ScriptLine.{ScriptLine}
 use Rattle.orca_io.specs.Files.{File}
 use Rattle.link_rules.specs.Units.{Source}
-use Rattle.small_program.specs.declared.tree.SmallProgram.{SmallProgram}
-use Rattle.value_core.specs.History.{Legal, Process, most_turns, output_of, processes_of, replies_of}
-use Rattle.value_core.specs.Meaning.{Computes, Performs}
+use Rattle.meaning_rules.specs.Meanings.{computes_of, performs_of}
+use Rattle.program_names.specs.Naming.{AreNamesOf, CallsNamed}
+use Rattle.value_core.specs.History.{output_of}
 use Rattle.value_core.specs.declared.action.Action.{Action}
-use Rattle.value_core.specs.declared.action.Action.TheVariants as action
 use Rattle.value_core.specs.declared.action.Line.{Line}
-use Rattle.value_core.specs.declared.action.Reply.{Reply}
-use Rattle.value_core.specs.declared.meaning.Doing.{Doing}
-use Rattle.value_core.specs.declared.meaning.Doing.TheVariants as doing
+use Rattle.history_commands.specs.ReadBack.{ReadsBack}
+use Rattle.history_text.specs.declared.names.Names.{Names}
+use Rattle.world_rules.specs.declared.settings.Settings.{Settings}
+use Rattle.orca_base.specs.declared.what.What.{What}
+use Rattle.world_rules.specs.declared.standing.Standing.TheVariants.{Going, Limit}
+use Rattle.world_rules.specs.Frame.{Frame}
+use Rattle.world_rules.specs.Standings.{limit, standing}
+use Rattle.world_rules.specs.Worlds.{World}
+use Rattle.world_facts.specs.Rows.{ReadsStanding}
+use Rattle.run_loop.specs.Asked.{HaveToldOn, NoneAskedBehind, WereUsedSo, asked_since}
+use Rattle.run_loop.specs.Left.{run_of}
 use Rattle.orca_cli.specs.declared.kept.Kept.{Kept}
-use Rattle.orca_cli.specs.declared.kept.ProcessEnd.{ProcessEnd}
-use Rattle.orca_cli.specs.declared.kept.ProcessStanding.{ProcessStanding}
-use Rattle.orca_cli.specs.declared.kept.ProcessStanding.TheVariants as standings
-use Rattle.orca_cli.specs.declared.statuses.TheConstants.{FINISHED, WRITE_FAULT}
-use Rattle.orca_cli.specs.Job.{Word, deed_in, runs}
-use Rattle.orca_cli.specs.Printed.{Grew, Ends, EndsAs}
-use Rattle.orca_cli.specs.Loaded.{IsLoaded}
-use Rattle.orca_cli.specs.Small.{AreSmall}
+use Rattle.command_output.specs.declared.statuses.TheConstants.{NO_MEMORY}
+use Rattle.command_files.specs.Sources.{Word}
+use Rattle.orca_cli.specs.Job.{deed_in, runs}
+use Rattle.orca_cli.specs.Kept.{IsEndOf, IsHistory}
+use Rattle.command_output.specs.Printed.{Ends, EndsAs, Grew}
+use Rattle.orca_cli.specs.Programs.{IsProgram}
+use Rattle.orca_cli.specs.Rows.{KeptRow, ShownRows}
+use Rattle.orca_cli.specs.Scripts.{IsScriptOf}
+use Rattle.orca_cli.specs.Standings.{awaited_name, ending_line, history_said, standing_status}
 
--- the words ask for the run of the program in files, all of which were read, and this is the program in them
-pub record IsNamed (words : List Word) (told : Option (List File)) (p : SmallProgram) : Type 0 where
+-- ---- which run it is
+
+-- by the numbers of the words, over so many wires, with each object at every member
+abbrev pub settings_of : RunOptions → ℕ → Settings
+settings_of options wires = record {
+  nodes = options.group.nodes;
+  resilience = options.group.resilience;
+  turns = options.turns;
+  events = options.events;
+  wires = wires;
+  choices = [];
+}
+
+-- the words ask for the run of the accepted program in files, whose units are these, by these options; and the script in the file that they name,
+-- where they name one, has these lines
+pub record IsNamed (words : List Word) (told : Option (List File)) (units : List Source) (lines : List ScriptLine) : Type 0 where
   pub options : RunOptions
   pub script : Option Word
   pub files : List Word
-  pub units : List Source
   pub asked : deed_in words ≡ Some (runs options script files)
-  pub loaded : IsLoaded told files units
-  pub small : AreSmall units p
+  pub program : IsProgram told files units
+  pub script_has : IsScriptOf told script lines
 
--- where a process stands that has come to an action
-abbrev pub standing_at : Action → ProcessStanding
-standing_at action.Ended = standings.Ended
-standing_at (action.Faulted fault) = standings.Faulted fault
-standing_at act = standings.Waits act
+-- ---- its wires
 
--- where a process stands, by what it does next: it ended, or faulted, or waits for the reply to an action; of one that computes, or
--- whose member crashed, nothing is said
-abbrev pub StandsBy : Doing → ProcessStanding → Type 0
-StandsBy next standings.Ended = next ≡ doing.At action.Ended
-StandsBy next (standings.Faulted fault) = next ≡ doing.At (action.Faulted fault)
-StandsBy next (standings.Waits act) = (next ≡ doing.At act) × (standing_at act ≡ standings.Waits act)
-StandsBy next standings.Busy = Unit {0}
-StandsBy next standings.Crashed = Unit {0}
+-- what wires tell: what each was asked, with the answers; its script; and how much it was asked before that was loaded
+pub record Wires : Type 0 where
+  pub told : List (List Asked)
+  pub scripts : List (List ScriptLine)
+  pub loaded : List ℕ
 
--- the replies that a process received are the history's, or all of these but the last
-abbrev pub AreReceived : List Reply → List Reply → Type 0
-AreReceived received replies = (received ≡ replies) ⊎ ((last : Reply) × (replies ≡ received ++ last ∷ []))
+abbrev pub wires_of : {W : Type 0} → (W → List Asked) → (W → List ScriptLine) → (W → ℕ) → List W → Wires
+wires_of told script loaded wires = record { told = map told wires; scripts = map script wires; loaded = map loaded wires }
 
--- what is kept of a process: it is one of the history, with the history's replies, and stands by what it does next after those that it
--- received
-pub record IsProcessEnd (p : Performs) (q : Computes) (book : List Line) (number : ProcessNo) (end : ProcessEnd) : Type 0 where
-  pub process : Process
-  pub exists : slice_get (processes_of p q book) number.0 ≡ Some process
-  pub replies : AreReceived end.replies.items process.replies
-  pub standing : StandsBy (q.doing process.text number process.args end.replies.items most_turns) end.standing
+-- the first wire was loaded with these lines, before the run asked it anything; the other wires kept their scripts
+pub record AreLoaded (lines : List ScriptLine) (old new : Wires) : Type 0 where
+  pub script : slice_get new.scripts 0 ≡ Some lines
+  pub since : slice_get new.loaded 0 ≡ option_map length (slice_get old.told 0)
+  pub scripts : (wire : ℕ) → slice_get new.scripts (suc wire) ≡ slice_get old.scripts (suc wire)
+  pub loaded : (wire : ℕ) → slice_get new.loaded (suc wire) ≡ slice_get old.loaded (suc wire)
 
--- The kept book is a history of the program, and the kept processes are the history's. What the history writes was printed, and behind
--- it what the run says more, with the status that is wanted; where a write failed or memory lacked, a front of both was
-pub record IsRun (p : Performs) (q : Computes) (k : Kept) (wanted : ℕ) (more : List ℕ) (status : ℕ)
-    (old new : Option (List ℕ)) : Type 0 where
-  pub legal : Legal p q k.book.items
-  pub processes : (number : ProcessNo) → MatchOption (slice_get k.processes.items number.0)
-      (slice_get (processes_of p q k.book.items) number.0 ≡ None) (IsProcessEnd p q k.book.items number)
-  pub ends : EndsAs wanted status
-  pub printed : Grew old new (Ends wanted status (output_of k.book.items ++ more))
+-- nothing was run: the wires are as they were; or memory lacked, and they tell what they told, and maybe more
+abbrev pub AreUntouched : ℕ → Wires → Wires → Type 0
+AreUntouched status old new = (new ≡ old) ⊎ ((status ≡ NO_MEMORY) × HaveToldOn old.told new.told)
 
--- What a run of a small program is besides. It has one process, which takes no turn and received all replies of the history. The run is
--- over before anything is written: also where a write failed the process has ended. Only where memory lacked it may stand elsewhere
-pub record IsSmallRun (p : Performs) (q : Computes) (k : Kept) (status : ℕ) : Type 0 where
-  pub end : ProcessEnd
-  pub one : k.processes.items ≡ end ∷ []
-  pub node : end.node ≡ 0
-  pub turns : end.turns ≡ 0
-  pub replies : end.replies.items ≡ replies_of p q k.book.items 0
-  pub ended : (status ≡ FINISHED) ⊎ (status ≡ WRITE_FAULT) → end.standing ≡ standings.Ended
-  pub lives : end.standing ≢ standings.Crashed
+-- ---- the run
+
+-- What is kept is the end of the run to which its events lead, and a history with its processes and copies. How that run stands is read off
+-- what is kept (`row`, `only`), in both directions off its world (`reads`), and gives the status. What the history writes was printed, and behind
+-- it what is said of the history and the line of the standing; where a write failed or memory lacked, a front of these was. And the wires, which
+-- told `before` and tell `after`, were used in the run; one that was never in use was asked nothing
+pub record IsRun (f : Frame) (name : Action → List ℕ) (says : List Line → List ℕ) (k : Kept) (status : ℕ) (old new : Option (List ℕ))
+    (before after : List (List Asked)) : Type 0 where
+  pub world : World
+  pub end : IsEndOf f world k
+  pub history : IsHistory f world k
+  pub reads : ReadsStanding f world
+  pub row : KeptRow f world k (standing f world)
+  pub only : ShownRows f world k
+  -- of several limits that are passed it is the first: that before which the lowest member stops, and that of lines behind it
+  pub limited : (what : What) (number : ℕ) → limit f world ≡ Some (what, number) → standing f world ≡ Limit what number
+  pub ends : EndsAs (standing_status (standing f world)) status
+  pub lacked : standing f world ≡ Going → status ≡ NO_MEMORY
+  pub printed :
+      Grew old new (Ends (standing_status (standing f world)) status
+      (output_of k.book.items ++ (says k.book.items ++ ending_line name f.settings.turns (standing f world) k.processes.items)))
+  pub told : HaveToldOn before after
+  pub used : WereUsedSo (standing f world) f k.events.items world (asked_since before after)
+  pub unused : NoneAskedBehind world.swaps (asked_since before after)
+
+-- It is a run of the program with these units, in the source's meaning, by these options. By the program's names its line of a process that is
+-- blocked names the operation, and its history is said, where that is asked for: each call that a process comes to next behind a history has its
+-- names there. And the text of its history, printed or not, is read back as the history, and is legal
+pub record IsProgramRun (units : List Source) (options : RunOptions) (wires : ℕ) (k : Kept) (status : ℕ) (old new : Option (List ℕ))
+    (before after : List (List Asked)) : Type 0 where
+  pub names : Names
+  pub are : AreNamesOf units names
+  pub calls : CallsNamed units names
+  pub run : IsRun (run_of (performs_of units) (computes_of units) (settings_of options wires)) (awaited_name names)
+      (history_said options.history names) k status old new before after
+  pub back : ReadsBack (performs_of units) (computes_of units) names k.book.items
+
+-- it is the run that the words ask for, of the accepted program in files
+pub record IsRunOf (words : List Word) (files : Option (List File)) (k : Kept) (status : ℕ) (old new : Option (List ℕ))
+    (before after : Wires) : Type 0 where
+  pub units : List Source
+  pub lines : List ScriptLine
+  pub named : IsNamed words files units lines
+  pub run : IsProgramRun units named.options (length before.told) k status old new before.told after.told
+  pub loaded : AreLoaded lines before after

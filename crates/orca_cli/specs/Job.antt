@@ -1,50 +1,75 @@
 -- What the program does for its words (docs/FORMATS.md, The program).
-use Rattle.std.specs.Prelude.{ℕ, ◌+◌, ◌==◌, List, length, map, Option, Some, None, option_and_then, option_map, if◌then◌else◌}
+use Rattle.std.specs.Prelude.{ℕ, ◌==◌, ◌&&◌, not, Bool, List, map, Option, Some, None, option_and_then, option_map, if◌then◌else◌}
 use Rattle.command_line.specs.declared.request.RunOptions.{RunOptions}
-use Rattle.command_line.specs.Asked.{Asked}
+use Rattle.command_line.specs.Asked.{Asked, IsRunWithin}
 use Rattle.command_line.specs.Asked as ask
 use Rattle.command_line.specs.Command.{Command}
 use Rattle.command_line.specs.Help.{help_of, version_line}
+use Rattle.command_files.specs.Sources.{Word}
 use Rattle.orca_cli.specs.declared.job.Job.{Job}
 use Rattle.orca_cli.specs.declared.job.Job.TheVariants as jobs
 
--- a word, or the name of a file
-abbrev pub Word : Type 0
-Word = List ℕ
-
--- it says a text, checks the program in files, or runs the program in files, with these options and this file of a script
+-- it says a text, checks the program in files, runs it, with these options and this file of a script, or says whether the history in a file is
+-- one of it
 pub data Deed : Type 0 where
   says : List ℕ → Deed
   checks : List Word → Deed
   runs : RunOptions → Option Word → List Word → Deed
+  replays : Word → List Word → Deed
 
 abbrev pub deed_of : Job → Deed
 deed_of (jobs.Says text) = says text.now
 deed_of (jobs.Checks files) = checks (map (λ s. s.now) files.items)
 deed_of (jobs.Runs options script files) = runs options (option_map (λ s. s.now) script) (map (λ s. s.now) files.items)
+deed_of (jobs.Replays history files) = replays history.now (map (λ s. s.now) files.items)
 
--- the files with the texts of its program, in order, where it is of a program
+-- the files with the texts of its program, in order, where it checks or runs one
 abbrev pub files_of : Deed → Option (List Word)
 files_of (says text) = None
 files_of (checks files) = Some files
 files_of (runs options script files) = Some files
+files_of (replays history files) = None
 
--- so far a run has nothing beside the command and its files
-abbrev pub run_built : List Word → RunOptions → Option Word → List Word → Option Deed
-run_built words options script files = if length words == length files + 1 then Some (runs options script files) else None
+-- the file of its script, where it has one
+abbrev pub script_of : Deed → Option Word
+script_of (says text) = None
+script_of (checks files) = None
+script_of (runs options script files) = script
+script_of (replays history files) = None
+
+-- the numbers of its options are in their ranges, where it has options
+abbrev pub IsDeedWithin : Deed → Type 0
+IsDeedWithin (says text) = Unit {0}
+IsDeedWithin (checks files) = Unit {0}
+IsDeedWithin (runs options script files) = IsRunWithin options
+IsDeedWithin (replays history files) = Unit {0}
+
+-- so far a run is by one thread, whichever number of them isn't asked for, and doesn't tell where lines took place
+abbrev pub usual_workers : ℕ
+usual_workers = 4
+
+abbrev pub is_run_built : RunOptions → Bool
+is_run_built options = options.workers == usual_workers && not options.explain
+
+abbrev pub run_built : RunOptions → Option Word → List Word → Option Deed
+run_built options script files = if is_run_built options then Some (runs options script files) else None
 
 -- what is done for what words ask for, as far as it is built: this is the one place that says so
-abbrev pub built : List Word → Asked → Option Deed
-built words (ask.help of) = Some (says (help_of of))
-built words ask.version = Some (says version_line)
-built words (ask.check files) = Some (checks files)
-built words (ask.run options script files) = run_built words options script files
-built words _ = None
+abbrev pub built : Asked → Option Deed
+built (ask.help of) = Some (says (help_of of))
+built ask.version = Some (says version_line)
+built (ask.check files) = Some (checks files)
+built (ask.run options script files) = run_built options script files
+built (ask.replay history files) = Some (replays history files)
+built _ = None
 
 -- what is done for the words: nothing where they are no command, or ask for what isn't built
 abbrev pub deed_in : List Word → Option Deed
-deed_in words = option_and_then (built words) (Command words)
+deed_in words = option_and_then built (Command words)
 
--- the files of the program of which something is done for the words
+-- the files of the program of which something is done for the words, and that of the script
 abbrev pub files_in : List Word → Option (List Word)
 files_in words = option_and_then files_of (deed_in words)
+
+abbrev pub script_in : List Word → Option Word
+script_in words = option_and_then script_of (deed_in words)

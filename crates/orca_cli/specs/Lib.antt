@@ -1,9 +1,10 @@
 pub mod Job
 pub mod Lines
-pub mod Printed
-pub mod Small
-pub mod Sources
-pub mod Loaded
+pub mod Programs
+pub mod Scripts
 pub mod Endings
+pub mod Standings
+pub mod Laws
+pub mod Kept
+pub mod Rows
 pub mod Headline
-pub mod Stops

@@ -2,12 +2,12 @@
 
 ghost use Rattle.std.specs.Prelude.{◌≡◌, ◌≢◌, ◌<◌, ◌≤◌, None, IfOk, OnErr};
 ghost use Rattle.orca_io.specs.Causes.{Rose};
-ghost use Rattle.orca_cli.specs.Printed.{Grew, Ends, EndsAs, HasStopped};
+ghost use Rattle.command_output.specs.Printed.{Grew, Ends, EndsAs, HasStopped};
 
 use crate::kept::Ended;
-use crate::statuses::{NO_MEMORY, WRITE_FAULT};
+use command_output::{NO_MEMORY, WRITE_FAULT, print_ending};
 use orca_base::NoMemory;
-use orca_io::{Sink, SinkFault};
+use orca_io::Sink;
 
 /// Prints a line and gives its status, or that of the write that failed. Nothing is kept.
 pub fn said<K: Sink>(out: &mut K, line: Result<Vec<u8>, NoMemory>, status: u8) -> Ended
@@ -21,28 +21,8 @@ pub fn said<K: Sink>(out: &mut K, line: Result<Vec<u8>, NoMemory>, status: u8) -
     ensures stopped { K.faults out.old < K.faults out.new → HasStopped result.status }
 {
     Ended {
-        status: printed(out, line, status),
+        status: print_ending(out, line, status),
         kept: None,
-    }
-}
-
-// Prints a line, and gives the status that then holds.
-fn printed<K: Sink>(out: &mut K, line: Result<Vec<u8>, NoMemory>, status: u8) -> u8
-    requires { status ≢ WRITE_FAULT }
-    ensures status { EndsAs status result }
-    ensures printed { IfOk line (λ l. Grew (K.told out.old) (K.told out.new) (Ends status result l.items)) }
-    ensures silent { OnErr line ((result ≡ NO_MEMORY) × (K.told out.new ≡ K.told out.old)) }
-    ensures later { K.faults out.old ≤ K.faults out.new }
-    ensures failed { result ≡ WRITE_FAULT → Rose (K.faults out.old) (K.faults out.new) }
-    ensures stopped { K.faults out.old < K.faults out.new → HasStopped result }
-{
-    match line {
-        Err(_) => NO_MEMORY,
-        Ok(text) => match out.put(&text) {
-            Ok(()) => status,
-            Err(SinkFault::Failed) => WRITE_FAULT,
-            Err(SinkFault::NoMemory) => NO_MEMORY,
-        },
     }
 }
 

@@ -1,8 +1,8 @@
 //! What the program does for its words, as far as it is built.
 
-ghost use Rattle.std.specs.Prelude.{◌≡◌, map, option_map, string_bytes, IfOk};
-ghost use Rattle.command_line.specs.Asked.{asked_of};
-ghost use Rattle.orca_cli.specs.Job.{built, deed_in, deed_of, run_built};
+ghost use Rattle.std.specs.Prelude.{◌≡◌, map, option_map, string_bytes, IfOk, IfSome};
+ghost use Rattle.command_line.specs.Asked.{IsRunWithin, IsWithin, asked_of};
+ghost use Rattle.orca_cli.specs.Job.{IsDeedWithin, built, deed_in, deed_of, is_run_built, run_built};
 
 use command_line::{Request, RunOptions, help, read_words, version};
 use orca_base::{NoMemory, Refusal};
@@ -25,22 +25,30 @@ pub enum Job<'a> {
         script: Option<&'a str>,
         files: Vec<&'a str>,
     },
+    /// It says whether the history in this file is one of the program in these.
+    Replays {
+        history: &'a str,
+        files: Vec<&'a str>,
+    },
 }
 
 /// What the program does for the words, or none where they are no command or ask for what is not built yet.
 pub fn job_of<'a>(alloc: Global, words: &'a [String]) -> Result<Option<Job<'a>>, NoMemory>
-    ensures { IfOk result (λ j. option_map deed_of j ≡ deed_in (map string_bytes words.entry.now)) }
+    ensures is { IfOk result (λ j. option_map deed_of j ≡ deed_in (map string_bytes words.entry.now)) }
+    ensures within { IfOk result (λ j. IfSome j (λ job. IsDeedWithin (deed_of job))) }
 {
     match read_words(alloc, words) {
-        Ok(request) => Ok(job_built(words, request)),
+        Ok(request) => Ok(job_built(request)),
         Err(Refusal::Because { .. }) => Ok(None),
         Err(Refusal::NoMemory) => Err(NoMemory),
     }
 }
 
 // What is done for a request, where that is built.
-fn job_built<'a>(words: &[String], request: Request<'a>) -> Option<Job<'a>>
-    ensures { option_map deed_of result ≡ built (map string_bytes words.now) (asked_of request.entry) }
+fn job_built<'a>(request: Request<'a>) -> Option<Job<'a>>
+    requires { IsWithin (asked_of request) }
+    ensures is { option_map deed_of result ≡ built (asked_of request.entry) }
+    ensures within { IfSome result (λ job. IsDeedWithin (deed_of job)) }
 {
     match request {
         Request::Help { of } => Some(Job::Says { text: help(of) }),
@@ -50,7 +58,8 @@ fn job_built<'a>(words: &[String], request: Request<'a>) -> Option<Job<'a>>
             options,
             script,
             files,
-        } => run_built(words, options, script, files),
+        } => run_built(options, script, files),
+        Request::Replay { history, files } => Some(Job::Replays { history, files }),
         other => {
             drop(other);
             None
@@ -58,17 +67,28 @@ fn job_built<'a>(words: &[String], request: Request<'a>) -> Option<Job<'a>>
     }
 }
 
-// The run of the files, where the words have nothing beside the command and these.
+// How many threads a run has that asks for no other number.
+const USUAL_WORKERS: u8 = 4;
+
+// Whether runs with these options are built: by one thread, whatever number of them isn't asked for, and without what tells where lines took
+// place.
+fn is_run_built(options: RunOptions) -> bool
+    ensures { result ≡ is_run_built options }
+{
+    options.workers == USUAL_WORKERS && !options.explain
+}
+
+// The run of the files, where that is built.
 fn run_built<'a>(
-    words: &[String],
     options: RunOptions,
     script: Option<&'a str>,
     files: Vec<&'a str>,
 ) -> Option<Job<'a>>
-    ensures { option_map deed_of result ≡ run_built (map string_bytes words.now) options (option_map (λ s. s.now) script.entry)
-        (map (λ s. s.now) files.entry.items) }
+    requires { IsRunWithin options }
+    ensures is { option_map deed_of result ≡ run_built options (option_map (λ s. s.now) script.entry) (map (λ s. s.now) files.entry.items) }
+    ensures within { IfSome result (λ job. IsDeedWithin (deed_of job)) }
 {
-    if words.len() == files.len() + 1 {
+    if is_run_built(options) {
         Some(Job::Runs {
             options,
             script,

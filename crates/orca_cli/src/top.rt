@@ -1,36 +1,55 @@
 //! The top call.
 
-ghost use Rattle.std.specs.Prelude.{◌≡◌, ◌⊎◌, ◌<◌, ◌≤◌, [], ℕ, List, None, IfNone, IfOk, IfSome, Option, Some, map, slice_index_or, string_bytes};
-ghost use Rattle.command_line.specs.declared.request.RunOptions.{RunOptions as OptionsSeen};
+ghost use Rattle.std.specs.Prelude.{◌≡◌, ◌⊎◌, ◌<◌, ◌≤◌, [], ℕ, List, None, IfNone, IfOk, IfSome, OnOk, Option, Some, length, map, option_map, slice_index_or, string_bytes};
+ghost use Rattle.command_line.specs.Asked.{IsRunWithin};
 ghost use Rattle.orca_base.specs.Refusal.{IfBecause};
 ghost use Rattle.orca_io.specs.Causes.{Rose};
 ghost use Rattle.orca_io.specs.Files.{File};
-ghost use Rattle.link_rules.specs.Units.{source};
-ghost use Rattle.orca_front.specs.Sources.{IsAccepted, IsFault, file_of};
-ghost use Rattle.small_program.specs.declared.tree.SmallProgram.{SmallProgram};
-ghost use Rattle.orca_meaning.specs.Program.{computes_of, performs_of};
+ghost use Rattle.link_rules.specs.Units.{Source};
+ghost use Rattle.accepted_law.specs.Limits.{IsWithinLimits};
+ghost use Rattle.meaning_rules.specs.Meanings.{computes_of, performs_of};
+ghost use Rattle.orca_front.specs.Sources.{IsAccepted, file_of};
+ghost use Rattle.program_names.specs.Naming.{HistoriesNamed};
+ghost use Rattle.history_commands.specs.ReadBack.{ReadsBack};
+ghost use Rattle.history_text.specs.Sound.{AreTables};
+ghost use Rattle.run_loop.specs.Asked.{HaveToldOn};
+ghost use Rattle.run_loop.specs.Left.{run_of};
 ghost use Rattle.orca_cli.specs.Endings.{IsAnswer};
-ghost use Rattle.orca_cli.specs.Headline.{IsNamed, IsRun, IsSmallRun};
-ghost use Rattle.orca_cli.specs.Job.{Word, checks, deed_in, files_in, runs};
-ghost use Rattle.orca_cli.specs.Loaded.{IsFailed, IsLoadFault, front_status};
-ghost use Rattle.orca_cli.specs.Printed.{HasStopped};
-ghost use Rattle.orca_cli.specs.Sources.{AreRead};
+ghost use Rattle.orca_cli.specs.Headline.{AreLoaded, AreUntouched, IsProgramRun, IsRun, IsRunOf, settings_of, wires_of};
+ghost use Rattle.command_files.specs.Sources.{Word};
+ghost use Rattle.orca_cli.specs.Job.{checks, deed_in, files_in, runs, script_in};
+ghost use Rattle.orca_cli.specs.Laws.{RunLaws};
+ghost use Rattle.command_files.specs.Loaded.{IsFailed, IsLoadFault};
+ghost use Rattle.command_output.specs.Printed.{HasStopped};
+ghost use Rattle.orca_cli.specs.Scripts.{HasScript, IsScriptFault, IsUnreadable};
+ghost use Rattle.orca_cli.specs.Programs.{IsProgramFault, units_of};
+ghost use Rattle.orca_cli.specs.Standings.{awaited_name, history_said};
+ghost use Rattle.command_files.specs.Sources.{AreRead};
 
 use crate::ending::{nothing, said};
 use crate::job::{Job, job_of};
-use crate::kept::Ended;
-use crate::lines::{not_yet_line, ok_line, usage_line, whole};
-use crate::load_fault::LoadFault;
-use crate::run::run_kept;
-use crate::small::small_of;
-use crate::sources::sources;
-use crate::statuses::{FINISHED, LIMIT, NOT_YET, READ_FAULT, REFUSED, USAGE, WRITE_FAULT};
-use orca_base::Refusal;
-use orca_front::{FrontFault, SourceFile, accepted, fault_line, linked};
+use crate::kept::{Ended, Kept};
+use crate::lines::{ok_line, usage_line, whole};
+use crate::program::{ProgramFault, judged, linked_program, machine_of};
+use crate::replay::replay;
+use crate::report::report;
+use crate::script::{ScriptFault, script_of};
+use command_files::{LoadFault, sources};
+use command_output::{FINISHED, NO_MEMORY, READ_FAULT, USAGE, WRITE_FAULT};
+use command_line::RunOptions;
+use eval_machine::TreeMachine;
+use fault_scripts::Script;
+use history_text::{Names, lines_fit};
+use orca_base::{Items, NoMemory, Refusal};
+use orca_front::SourceFile;
 use orca_io::{Shelf, Sink};
-use orca_meaning::TreeMachine;
-use orca_modules::Program;
+use program_names::names;
+use run_law::run_law;
+use run_loop::{Ran, Settings, run};
 use std::alloc::Global;
+use wires::Wire;
+use world_book::legal_book;
+use world_facts::{book_by_places, ends_stand, processes_stand, standings_mean, worlds_count};
 
 // Prints why files weren't read.
 fn said_unread<K: Sink>(alloc: Global, out: &mut K, fault: LoadFault<'_>) -> Ended
@@ -46,44 +65,27 @@ fn said_unread<K: Sink>(alloc: Global, out: &mut K, fault: LoadFault<'_>) -> End
     said(out, fault.line(alloc), fault.status())
 }
 
-// The status for texts that are no program.
-fn front_status(fault: &FrontFault) -> u8
-    ensures { result ≡ front_status fault.now }
-{
-    match fault {
-        FrontFault::TooNested => LIMIT,
-        FrontFault::Faulty { .. } | FrontFault::Unlinked { .. } | FrontFault::Mistyped { .. } => {
-            REFUSED
-        }
-    }
-}
-
-// Prints why texts are no program.
-fn said_refused<K: Sink>(alloc: Global, out: &mut K, fault: &FrontFault) -> Ended
+// Prints why texts are no accepted program.
+fn said_refused<K: Sink>(alloc: Global, out: &mut K, fault: &ProgramFault) -> Ended
     ensures none { result.kept ≡ None }
     ensures said { (words : List Word) (told : Option (List File)) (before now : ℕ) (files : List Word) (sources : List File) →
-        files_in words ≡ Some files → AreRead told files sources → IsFault sources fault.now →
+        files_in words ≡ Some files → AreRead told files sources → HasScript told words → IsProgramFault sources fault.now →
         IsAnswer words told (Rose before now) (K.told out.old) (K.told out.new) result.status }
     ensures later { K.faults out.old ≤ K.faults out.new }
     ensures failed { result.status ≡ WRITE_FAULT → Rose (K.faults out.old) (K.faults out.new) }
     ensures stopped { K.faults out.old < K.faults out.new → HasStopped result.status }
 {
-    said(out, fault_line(alloc, fault), front_status(fault))
+    said(out, fault.line(alloc), fault.status())
 }
 
-// The program that sources are, where it is accepted.
-fn program_of(alloc: Global, files: &[SourceFile<'_>]) -> Result<Program, Refusal<FrontFault>>
-    ensures accepted { IfOk result (λ p. IsAccepted (map file_of files.now) (map source p.units.items)) }
-    ensures refused { IfBecause result (IsFault (map file_of files.now)) }
+// Whether sources are an accepted program, or why not.
+fn judged_sources(alloc: Global, files: &[SourceFile<'_>]) -> Result<(), Refusal<ProgramFault>>
+    ensures accepted { OnOk result ((units : List Source) × IsAccepted (map file_of files.now) units × IsWithinLimits units) }
+    ensures refused { IfBecause result (IsProgramFault (map file_of files.now)) }
 {
-    let program = linked(alloc, files)?;
-    let fault = match accepted(alloc, &program) {
-        Ok(_) => None,
-        Err(refusal) => Some(refusal),
-    };
-    match fault {
-        None => Ok(program),
-        Some(refusal) => Err(refusal),
+    match linked_program(alloc, files) {
+        Ok(program) => judged(alloc, &program),
+        Err(refusal) => Err(refusal),
     }
 }
 
@@ -109,23 +111,189 @@ fn check_files<F: Shelf, K: Sink>(
         Err(Refusal::Because { cause }) => return said_unread(alloc, out, cause),
         Err(Refusal::NoMemory) => return nothing(),
     };
-    match program_of(alloc, &sources) {
-        Ok(_program) => said(out, ok_line(alloc), FINISHED),
+    match judged_sources(alloc, &sources) {
+        Ok(()) => said(out, ok_line(alloc), FINISHED),
         Err(Refusal::Because { cause }) => said_refused(alloc, out, &cause),
         Err(Refusal::NoMemory) => nothing(),
     }
 }
 
-// Runs the program in the files, or says why not.
-fn run_files<F: Shelf, K: Sink>(alloc: Global, files: &[&str], shelf: &mut F, out: &mut K) -> Ended
-    ensures refused { (words : List Word) (options : OptionsSeen) (script : Option Word) →
-        deed_in words ≡ Some (runs options script (map (λ f. f.now) files.now)) → IfNone result.kept (IsAnswer words (F.told shelf.old)
-        (Rose (F.faults shelf.old) (F.faults shelf.new)) (K.told out.old) (K.told out.new) result.status) }
-    ensures kept { (words : List Word) (options : OptionsSeen) (script : Option Word) →
-        deed_in words ≡ Some (runs options script (map (λ f. f.now) files.now)) → IfSome result.kept (λ k. (p : SmallProgram) ×
-        IsNamed words (F.told shelf.old) p
-        × IsRun (performs_of p) (computes_of p) k FINISHED [] result.status (K.told out.old) (K.told out.new)
-        × IsSmallRun (performs_of p) (computes_of p) k result.status) }
+// Prints why the script of a run wasn't had.
+fn said_unscripted<K: Sink>(alloc: Global, out: &mut K, fault: ScriptFault<'_>) -> Ended
+    ensures none { result.kept ≡ None }
+    ensures said { (words : List Word) (told : Option (List File)) (before now : ℕ) (files : List Word) (sources : List File) (script : Word) →
+        files_in words ≡ Some files → AreRead told files sources → script_in words ≡ Some script →
+        IsScriptFault told (Rose before now) script fault.entry →
+        IsAnswer words told (Rose before now) (K.told out.old) (K.told out.new) result.status }
+    ensures status { IsUnreadable fault.entry → (result.status ≡ READ_FAULT) ⊎ HasStopped result.status }
+    ensures later { K.faults out.old ≤ K.faults out.new }
+    ensures failed { result.status ≡ WRITE_FAULT → Rose (K.faults out.old) (K.faults out.new) }
+    ensures stopped { K.faults out.old < K.faults out.new → HasStopped result.status }
+{
+    said(out, fault.line(alloc), fault.status())
+}
+
+// The settings of a run with these options over these wires: each object is at every member.
+fn settings_of<W: Wire>(alloc: Global, options: RunOptions, wires: &[W]) -> Settings
+    requires { length wires.now ≤ 1000 }
+    ensures { result ≡ settings_of options (length wires.now) }
+{
+    Settings {
+        nodes: options.group.nodes,
+        resilience: options.group.resilience,
+        turns: options.turns,
+        events: options.events,
+        wires: wires.len() as u16,
+        choices: Items::new(Vec::new(alloc)),
+    }
+}
+
+// Loads the first wire with a script.
+fn load_first<W: Wire>(alloc: Global, script: &Script, wires: &mut [W]) -> Result<(), NoMemory>
+    requires { 1 ≤ length wires.old }
+    ensures loaded { OnOk result (AreLoaded script.now
+        (wires_of W.told W.told_script W.loaded wires.old) (wires_of W.told W.told_script W.loaded wires.new)) }
+    ensures told { map W.told wires.new ≡ map W.told wires.old }
+    ensures count { length wires.new ≡ length wires.old }
+{
+    wires[0].load(alloc, script)
+}
+
+// What is so of each run of the program. A call of this function does nothing.
+fn laws_of_runs(machine: &TreeMachine<'_>)
+    ensures { RunLaws (performs_of (units_of machine.now)) (computes_of (units_of machine.now)) }
+{
+    book_by_places();
+    ends_stand();
+    legal_book(machine);
+    processes_stand();
+    run_law(machine);
+    standings_mean();
+    worlds_count();
+}
+
+// Runs a program over wires as they are loaded, and tells what came of it, the history by these names.
+fn run_loaded<K: Sink, W: Wire>(
+    alloc: Global,
+    machine: &TreeMachine<'_>,
+    names: &Names,
+    options: RunOptions,
+    out: &mut K,
+    wires: &mut [W],
+) -> Ended
+    requires tables { AreTables names.now }
+    requires named { HistoriesNamed (units_of machine.now) names.now }
+    requires options { IsRunWithin options }
+    requires wires { (1 ≤ length wires.old) × (length wires.old ≤ 1000) }
+    ensures none { IfNone result.kept ((result.status ≡ NO_MEMORY) × (K.told out.new ≡ K.told out.old)) }
+    ensures kept { IfSome result.kept (λ k. IsRun
+        (run_of (performs_of (units_of machine.now)) (computes_of (units_of machine.now)) (settings_of options (length wires.old)))
+        (awaited_name names.now) (history_said options.history names.now) k result.status (K.told out.old) (K.told out.new)
+        (map W.told wires.old) (map W.told wires.new)) }
+    ensures back { IfSome result.kept (λ k.
+        ReadsBack (performs_of (units_of machine.now)) (computes_of (units_of machine.now)) names.now k.book.items) }
+    ensures told { HaveToldOn (map W.told wires.old) (map W.told wires.new) }
+    ensures scripts { map W.told_script wires.new ≡ map W.told_script wires.old }
+    ensures loaded { map W.loaded wires.new ≡ map W.loaded wires.old }
+    ensures later { K.faults out.old ≤ K.faults out.new }
+    ensures failed { result.status ≡ WRITE_FAULT → Rose (K.faults out.old) (K.faults out.new) }
+    ensures stopped { K.faults out.old < K.faults out.new → HasStopped result.status }
+{
+    laws_of_runs(machine);
+    let settings = settings_of(alloc, options, wires);
+    let ran = run(alloc, machine, settings, wires);
+    let Ran { standing, end } = ran;
+    let Some(end) = end else {
+        return nothing();
+    };
+    lines_fit(names, &end.book);
+    let status = report(alloc, out, names, options, standing, &end);
+    Ended {
+        status,
+        kept: Some(Kept {
+            book: end.book,
+            events: end.steps,
+            nodes: end.nodes,
+            processes: end.processes,
+        }),
+    }
+}
+
+// Runs a program over wires as they are loaded, and tells what came of it, the history by the program's names.
+fn run_named<K: Sink, W: Wire>(
+    alloc: Global,
+    machine: &TreeMachine<'_>,
+    options: RunOptions,
+    out: &mut K,
+    wires: &mut [W],
+) -> Ended
+    requires options { IsRunWithin options }
+    requires wires { (1 ≤ length wires.old) × (length wires.old ≤ 1000) }
+    ensures none { IfNone result.kept ((result.status ≡ NO_MEMORY) × (K.told out.new ≡ K.told out.old)) }
+    ensures kept { IfSome result.kept (λ k. IsProgramRun (units_of machine.now) options (length wires.old) k result.status
+        (K.told out.old) (K.told out.new) (map W.told wires.old) (map W.told wires.new)) }
+    ensures told { HaveToldOn (map W.told wires.old) (map W.told wires.new) }
+    ensures scripts { map W.told_script wires.new ≡ map W.told_script wires.old }
+    ensures loaded { map W.loaded wires.new ≡ map W.loaded wires.old }
+    ensures later { K.faults out.old ≤ K.faults out.new }
+    ensures failed { result.status ≡ WRITE_FAULT → Rose (K.faults out.old) (K.faults out.new) }
+    ensures stopped { K.faults out.old < K.faults out.new → HasStopped result.status }
+{
+    match names(alloc, machine.code.checked()) {
+        Ok(names) => run_loaded(alloc, machine, &names, options, out, wires),
+        Err(_) => nothing(),
+    }
+}
+
+// Runs a program with this script, and tells what came of it. Where memory lacks before the run begins, nothing was asked.
+fn run_program<K: Sink, W: Wire>(
+    alloc: Global,
+    machine: &TreeMachine<'_>,
+    options: RunOptions,
+    script: &Script,
+    out: &mut K,
+    wires: &mut [W],
+) -> Ended
+    requires options { IsRunWithin options }
+    requires wires { (1 ≤ length wires.old) × (length wires.old ≤ 1000) }
+    ensures none { IfNone result.kept ((result.status ≡ NO_MEMORY) × (K.told out.new ≡ K.told out.old)) }
+    ensures kept { IfSome result.kept (λ k. IsProgramRun (units_of machine.now) options (length wires.old) k result.status
+        (K.told out.old) (K.told out.new) (map W.told wires.old) (map W.told wires.new)) }
+    ensures loaded { IfSome result.kept (λ k. AreLoaded script.now
+        (wires_of W.told W.told_script W.loaded wires.old) (wires_of W.told W.told_script W.loaded wires.new)) }
+    ensures told { HaveToldOn (map W.told wires.old) (map W.told wires.new) }
+    ensures later { K.faults out.old ≤ K.faults out.new }
+    ensures failed { result.status ≡ WRITE_FAULT → Rose (K.faults out.old) (K.faults out.new) }
+    ensures stopped { K.faults out.old < K.faults out.new → HasStopped result.status }
+{
+    match load_first(alloc, script, wires) {
+        Ok(()) => run_named(alloc, machine, options, out, wires),
+        Err(_) => nothing(),
+    }
+}
+
+// Runs the program in the files with the script in another, or says why not.
+fn run_files<F: Shelf, K: Sink, W: Wire>(
+    alloc: Global,
+    options: RunOptions,
+    script: Option<&str>,
+    files: &[&str],
+    shelf: &mut F,
+    out: &mut K,
+    wires: &mut [W],
+) -> Ended
+    requires options { IsRunWithin options }
+    requires wires { (1 ≤ length wires.old) × (length wires.old ≤ 1000) }
+    ensures refused { (words : List Word) →
+        deed_in words ≡ Some (runs options (option_map (λ f. f.now) script.entry) (map (λ f. f.now) files.now)) →
+        IfNone result.kept (IsAnswer words (F.told shelf.old) (Rose (F.faults shelf.old) (F.faults shelf.new))
+        (K.told out.old) (K.told out.new) result.status) }
+    ensures kept { (words : List Word) →
+        deed_in words ≡ Some (runs options (option_map (λ f. f.now) script.entry) (map (λ f. f.now) files.now)) →
+        IfSome result.kept (λ k. IsRunOf words (F.told shelf.old) k result.status (K.told out.old) (K.told out.new)
+        (wires_of W.told W.told_script W.loaded wires.old) (wires_of W.told W.told_script W.loaded wires.new)) }
+    ensures untouched { IfNone result.kept (AreUntouched result.status
+        (wires_of W.told W.told_script W.loaded wires.old) (wires_of W.told W.told_script W.loaded wires.new)) }
     ensures same { F.told shelf.new ≡ F.told shelf.old }
     ensures read { F.faults shelf.old ≤ F.faults shelf.new }
     ensures read_fault { F.faults shelf.old < F.faults shelf.new → (result.status ≡ READ_FAULT) ⊎ HasStopped result.status }
@@ -138,52 +306,97 @@ fn run_files<F: Shelf, K: Sink>(alloc: Global, files: &[&str], shelf: &mut F, ou
         Err(Refusal::Because { cause }) => return said_unread(alloc, out, cause),
         Err(Refusal::NoMemory) => return nothing(),
     };
-    let program = match program_of(alloc, &sources) {
+    let script = match script_of(alloc, shelf, script) {
+        Ok(script) => script,
+        Err(Refusal::Because { cause }) => return said_unscripted(alloc, out, cause),
+        Err(Refusal::NoMemory) => return nothing(),
+    };
+    let program = match linked_program(alloc, &sources) {
         Ok(program) => program,
         Err(Refusal::Because { cause }) => return said_refused(alloc, out, &cause),
         Err(Refusal::NoMemory) => return nothing(),
     };
-    match small_of(alloc, &program.units) {
-        Ok(Some(small)) => run_kept(alloc, &TreeMachine::new(small), out),
-        Ok(None) => said(out, not_yet_line(alloc, first_of(files)), NOT_YET),
+    let machine = match machine_of(alloc, &program) {
+        Ok(machine) => machine,
+        Err(Refusal::Because { cause }) => return said_refused(alloc, out, &cause),
+        Err(Refusal::NoMemory) => return nothing(),
+    };
+    run_program(alloc, &machine, options, &script, out, wires)
+}
+
+// Does what the words ask for, over wires of any kind.
+fn does<F: Shelf, K: Sink, W: Wire>(
+    alloc: Global,
+    words: &[String],
+    shelf: &mut F,
+    out: &mut K,
+    wires: &mut [W],
+) -> Ended
+    requires wires { (1 ≤ length wires.old) × (length wires.old ≤ 1000) }
+    ensures refused { IfNone result.kept (IsAnswer (map string_bytes words.now) (F.told shelf.old)
+        (Rose (F.faults shelf.old) (F.faults shelf.new)) (K.told out.old) (K.told out.new) result.status) }
+    ensures untouched { IfNone result.kept (AreUntouched result.status
+        (wires_of W.told W.told_script W.loaded wires.old) (wires_of W.told W.told_script W.loaded wires.new)) }
+    ensures headline { IfSome result.kept (λ k. IsRunOf (map string_bytes words.now) (F.told shelf.old) k result.status
+        (K.told out.old) (K.told out.new)
+        (wires_of W.told W.told_script W.loaded wires.old) (wires_of W.told W.told_script W.loaded wires.new)) }
+    ensures write_fault { result.status ≡ WRITE_FAULT → Rose (K.faults out.old) (K.faults out.new) }
+    ensures stopped { K.faults out.old < K.faults out.new → HasStopped result.status }
+    ensures same { F.told shelf.new ≡ F.told shelf.old }
+    ensures read_fault { F.faults shelf.old < F.faults shelf.new → (result.status ≡ READ_FAULT) ⊎ HasStopped result.status }
+    ensures read { F.faults shelf.old ≤ F.faults shelf.new }
+    ensures written { K.faults out.old ≤ K.faults out.new }
+{
+    match job_of(alloc, words) {
+        Ok(Some(Job::Says { text })) => said(out, whole(alloc, text), FINISHED),
+        Ok(Some(Job::Checks { files })) => check_files(alloc, &files, shelf, out),
+        Ok(
+            Some(
+                Job::Runs {
+                    options,
+                    script,
+                    files,
+                },
+            ),
+        ) => run_files(alloc, options, script, &files, shelf, out, wires),
+        Ok(Some(Job::Replays { history, files })) => replay(alloc, history, &files, shelf, out),
+        Ok(None) => said(out, usage_line(alloc), USAGE),
         Err(_) => nothing(),
     }
 }
 
-// The name of the first file.
-fn first_of<'a>(files: &[&'a str]) -> &'a str
-    ensures { result.now ≡ slice_index_or (map (λ f. f.now) files.now) 0 [] }
-{
-    match files {
-        [first, ..] => first,
-        [] => "",
-    }
-}
-
-/// Does what the words ask for: `run FILE...` runs the small program in the files on one member, `check FILE...` says whether the program
-/// in the files is accepted, `--help` and `--version` say what they name.
+/// Does what the words ask for: `run` runs the accepted program in the files on as many members as they say, over the wires; `check` says whether
+/// the program in the files is accepted; `replay` says whether the history in a file is one of the accepted program in the others; `--help` and
+/// `--version` say what they name.
 ///
-/// `words` leaves out the program's name. The status is `FINISHED` where the run finished, the program is accepted or the help was said, and
-/// `USAGE` where the words are no command or ask for what is not built. It is `READ_FAULT`, `ABSENT` and `LIMIT` where reading stopped at a
-/// file that is there and can't be read, isn't there, or is longer than `SOURCE_BYTES`; `LIMIT` also for more than `MODULES` files, and where
-/// the first text that is no unit nests beyond `NESTING` levels; `REFUSED` where that text has no tokens or is none for another fault, or all
-/// are units and don't link or break a rule of typing; `NOT_YET` where an accepted program can't be run yet, `WRITE_FAULT` where a write
-/// failed and `NO_MEMORY` where memory lacked. Each refusal prints its line; a run prints what its history writes, once it is over.
+/// `words` leaves out the program's name; of the wires, from 1 to 1,000, the first is in use at the beginning, and is loaded with the script of
+/// the words, or with the empty one. The status is that of docs/FORMATS.md. Nothing is kept where nothing was run: the words ask for no run, a
+/// file wasn't read, the script is none, the texts are no accepted program, or memory lacked before the run, or for what is kept. Each
+/// refusal prints its line; a run prints what its history writes, once it is over, behind that the history, where the words ask for it, and the
+/// line of how it ended.
 pub fn orca_main<F: Shelf, K: Sink>(
     alloc: Global,
     words: &[String],
     shelf: &mut F,
     out: &mut K,
+    wires: &mut Vec<Box<dyn Wire + Send>>,
 ) -> Ended
-    // Nothing was run: an ending by its cause, with its line, or want of memory.
+    requires wires { (1 ≤ length wires.old.items) × (length wires.old.items ≤ 1000) }
+
+    // Nothing was run: an ending by its cause, with its line, or want of memory. The wires are as they were, unless memory lacked.
     ensures refused { IfNone result.kept (IsAnswer (map string_bytes words.now) (F.told shelf.old)
         (Rose (F.faults shelf.old) (F.faults shelf.new)) (K.told out.old) (K.told out.new) result.status) }
+    ensures untouched { IfNone result.kept (AreUntouched result.status
+        (wires_of (λ b. told b) (λ b. told_script b) (λ b. loaded b) wires.old.items)
+        (wires_of (λ b. told b) (λ b. told_script b) (λ b. loaded b) wires.new.items)) }
 
-    // A kept run is one of the program that the words name, a history of it in the source's meaning, and what it writes was printed. It
-    // has one process, which has ended where the run finished and where a write failed.
-    ensures headline { IfSome result.kept (λ k. (p : SmallProgram) × IsNamed (map string_bytes words.now) (F.told shelf.old) p
-        × IsRun (performs_of p) (computes_of p) k FINISHED [] result.status (K.told out.old) (K.told out.new)
-        × IsSmallRun (performs_of p) (computes_of p) k result.status) }
+    // A kept run is one of the program that the words name, by their numbers: a history of it in the source's meaning, whose replies and copies
+    // its members have; what it writes was printed, and its own text, where that is asked for, which is read back and is legal. Its network was
+    // really used, by the script that the words name.
+    ensures headline { IfSome result.kept (λ k. IsRunOf (map string_bytes words.now) (F.told shelf.old) k result.status
+        (K.told out.old) (K.told out.new)
+        (wires_of (λ b. told b) (λ b. told_script b) (λ b. loaded b) wires.old.items)
+        (wires_of (λ b. told b) (λ b. told_script b) (λ b. loaded b) wires.new.items)) }
 
     // A write fault is told only where the sink's count of faults rose; and where it rose, that or want of memory is told.
     ensures write_fault { result.status ≡ WRITE_FAULT → Rose (K.faults out.old) (K.faults out.new) }
@@ -197,11 +410,5 @@ pub fn orca_main<F: Shelf, K: Sink>(
     ensures read { F.faults shelf.old ≤ F.faults shelf.new }
     ensures written { K.faults out.old ≤ K.faults out.new }
 {
-    match job_of(alloc, words) {
-        Ok(Some(Job::Says { text })) => said(out, whole(alloc, text), FINISHED),
-        Ok(Some(Job::Checks { files })) => check_files(alloc, &files, shelf, out),
-        Ok(Some(Job::Runs { files, .. })) => run_files(alloc, &files, shelf, out),
-        Ok(None) => said(out, usage_line(alloc), USAGE),
-        Err(_) => nothing(),
-    }
+    does(alloc, words, shelf, out, wires)
 }

@@ -1,6 +1,6 @@
 //! The law of names.
 
-ghost use Rattle.std.specs.Prelude.{List};
+ghost use Rattle.std.specs.Prelude.{◌≡◌, List, map};
 ghost use Rattle.link_rules.specs.Rules.{Links};
 ghost use Rattle.link_rules.specs.Units.{Source};
 ghost use Rattle.type_rules.specs.Breaches.{IsWellTyped};
@@ -15,7 +15,8 @@ use meaning_rules::{fitting_law, meaning_law, typed_law};
 
 /// The law of names. In a program that links and is well typed, whose words are such as a text may have, and which keeps within the limits,
 /// its names are tables: each has letters, digits and `_` alone, no two of one table are the same, and there are no more than 2^16. And
-/// each line of each of its histories has its names in them, and so has each call that is a process's next action after one.
+/// each line of each of its histories has its names in them, and so has each call that is a process's next action after one. Of any
+/// sources they are those alone.
 pub fn names_law()
     ensures tables { (us : List Source) (names : Names) → Links us → IsWellTyped us → AreTexts us → IsWithinLimits us →
         AreNamesOf us names → AreTables names }
@@ -23,6 +24,9 @@ pub fn names_law()
         AreNamesOf us names → HistoriesNamed us names }
     ensures calls { (us : List Source) (names : Names) → Links us → IsWellTyped us → AreTexts us → IsWithinLimits us →
         AreNamesOf us names → CallsNamed us names }
+    ensures once { (us : List Source) (one two : Names) → AreNamesOf us one → AreNamesOf us two → (one.kinds.items ≡ two.kinds.items)
+        × (map (λ o. o.names.items) one.operations.items ≡ map (λ o. o.names.items) two.operations.items)
+        × (one.texts.items ≡ two.texts.items) }
 {
     accepted_law();
     fitting_law();

@@ -9,6 +9,7 @@ use orca_cli::orca_main;
 use orca_io::{FileShelf, MemoryShelf, MemorySink, Shelf};
 use std::alloc::{AllocError, Global};
 use std::io;
+use wires::{PlainWire, Wire};
 
 // What `run` prints for a text.
 fn answer(alloc: Global, text: &str) -> Result<Vec<u8>, AllocError> {
@@ -22,7 +23,12 @@ fn answer(alloc: Global, text: &str) -> Result<Vec<u8>, AllocError> {
     ))?;
     let mut shelf = MemoryShelf::new(files, Vec::new(alloc));
     let mut out = MemorySink::new(alloc, Vec::new(alloc));
-    let _ended = orca_main(alloc, &words, &mut shelf, &mut out);
+    let mut wires: Vec<Box<dyn Wire + Send>> = Vec::new(alloc);
+    wires.push(Box::new(alloc, PlainWire::new(alloc))?)?;
+    if wires.len() != 1 {
+        return Err(AllocError);
+    }
+    let _ended = orca_main(alloc, &words, &mut shelf, &mut out, &mut wires);
     Vec::from_slice(alloc, out.bytes())
 }
 

@@ -136,7 +136,7 @@ pub idle_small : {P S : Type 0} (stood : Stood S) (left : Left S) (f : Frame) (s
 idle_small stood left f s w h is going = omega (arith, is.ticks, few_steps stood left f s w h is going, h.settings.events)
 
 pub may_close : {P S : Type 0} (stood : Stood S) (left : Left S) (f : Frame) (s s1 s2 : Parts P S) (w : World) (event : Event) (given : Known event) (draft : Draft P S) → Here stood left f s w event given
-    → IsDraft stood left f s w draft (happens f w event given) → HasRoomMade s s1 → HasLeft event s1 s2 → length draft.outgoing.items < 2 ^ 32 → MayClose draft s2
+    → IsDraft stood left f s w event draft (happens f w event given) → HasRoomMade s s1 → HasLeft event s1 s2 → length draft.outgoing.items < 2 ^ 32 → MayClose draft s2
 may_close {P} {S} stood left f s s1 s2 w event given draft h drafted room leaves few = record {
   members = each_within f.settings.nodes (length s2.nodes.items) draft.parts.items
       (sym (ap (λ (p : Parts P S). length p.nodes.items) leaves.others ∙ ap length room.nodes ∙ h.is.members)) drafted.members;

@@ -103,11 +103,11 @@ turns_there {P} {S} stood left f s w home start done before resident is at_home 
 
 -- ---- the step
 
-told_none : (f : Frame) (w : World) (mails : List Mail) → (posts_all f w mails []).told ≡ w.told
+pub told_none : (f : Frame) (w : World) (mails : List Mail) → (posts_all f w mails []).told ≡ w.told
 told_none f w [] = refl
 told_none f w (mail ∷ mails) = refl
 
-none_of : (b : Bool) → ◌≡◌ {A = ℕ} (cond b 0 0) 0
+pub none_of : (b : Bool) → ◌≡◌ {A = ℕ} (cond b 0 0) 0
 none_of true = refl
 none_of false = refl
 

@@ -54,7 +54,7 @@ pub record Ready {P S : Type 0} (f : Frame) (s : Parts P S) (w : World) (i : Pro
   pub computing : start.stage ≡ stage.Computing
   pub nobody : is_out (seen_of s) (home_of f w i.0) i.0 ≡ false
 
-not_true : (b : Bool) → not b ≡ true → b ≡ false
+pub not_true : (b : Bool) → not b ≡ true → b ≡ false
 not_true true h = absurd (cc h)
 not_true false h = refl
 

@@ -1,5 +1,6 @@
 -- What the calls of a step leave, one after the other, is the world after it.
-use Rattle.std.proofs.Common.{◌≡◌, ◌≤◌, ◌<◌, ◌+◌, ◌-◌, ◌^◌, ◌∙◌, ◌⊎◌, ⊎_elim, ℕ, Bool, true, false, cond, List, [], ◌∷◌, ◌++◌, Option, None, Some, slice_get, slice_set, map, ap, sym, subst, refl, arith, length}
+use Rattle.std.proofs.Common.{◌≡◌, ◌≤◌, ◌<◌, ◌+◌, ◌-◌, ◌^◌, ◌∙◌, ◌⊎◌, ⊎_elim, ◌||◌, ℕ, Bool, true, false, cond, List, [], ◌∷◌, ◌++◌, Option, None, Some, slice_get, slice_set, map, ap, sym, subst, refl, arith, length}
+use Rattle.std.proofs.lemmas.Option.{slice_get_within}
 use Rattle.std.specs.List.{AllByRecursion as Each}
 use Rattle.group_rules.specs.Sets.{with_at}
 use Rattle.net_rules.specs.Flights.{ready_copy, ticked, without}
@@ -7,7 +8,7 @@ use Rattle.net_rules.specs.declared.asked.Asked.{Asked}
 use Rattle.net_rules.specs.declared.fate.Fate.{Fate}
 use Rattle.net_rules.specs.declared.flight.Flight.{Flight}
 use Rattle.object_manager.specs.Viewed.{Viewed}
-use Rattle.world_facts.proofs.Counted.{Works, event_works}
+use Rattle.world_facts.proofs.Counted.{Works, event_works, posts_is}
 use Rattle.world_rules.specs.declared.event.Event.{Event}
 use Rattle.world_rules.specs.declared.event.Event.TheVariants as event
 use Rattle.world_rules.specs.declared.event.Step.{Step}
@@ -23,13 +24,13 @@ use Rattle.node_core.specs.declared.node.Node.{Node}
 use Rattle.node_core.specs.declared.resident.Resident.{Resident}
 use Rattle.world_parts.proofs.Worlds.{is_world}
 use Rattle.world_parts.specs.Recorded.{Recorded, of_pieces}
-use Rattle.world_parts.specs.Seen.{all_outs, tasks_out}
-use Rattle.world_parts.specs.Standing.{HasNumbers, IsWorld, Stands, outs_of, seen_of}
+use Rattle.world_parts.specs.Seen.{Out, all_outs, tasks_out}
+use Rattle.world_parts.specs.Standing.{HasNumbers, IsWorld, Stands, out_of, outs_of, seen_of}
 use Rattle.world_parts.specs.declared.parts.Numbers.{Numbers}
 use Rattle.world_parts.specs.declared.parts.Parts.{Parts}
 use Rattle.world_core.specs.Closing.{HasClosed, HasEnded, HasLeft, HasLost, HasRoomMade, asked_all, flights_after, lives_after, sent_all, swaps_after}
-use Rattle.world_core.specs.Drafting.{AreNodes, Drafts, IsDraft, KeepTasks, taken}
-use Rattle.world_core.specs.Stepping.{Leads, OutBefore, Stepped, told_so}
+use Rattle.world_core.specs.Drafting.{AreNodes, Drafts, IsDraft, KeepTasks, out_in, taken}
+use Rattle.world_core.specs.Stepping.{KeepsOut, Leads, OutBefore, Stepped, is_burst_of, is_crash_of, told_so}
 use Rattle.world_core.specs.declared.draft.Draft.{Draft}
 use Rattle.world_core.specs.declared.letters.Outgoing.{Outgoing}
 use Rattle.world_core.proofs.Adding.{got_set, set_length, with_other}
@@ -38,6 +39,7 @@ use Rattle.world_core.proofs.Fewer.{tasks_fewer}
 use Rattle.world_core.proofs.Handing.{out_before}
 use Rattle.world_core.proofs.Recalls.{none_there}
 use Rattle.world_core.proofs.Sending.{sent_asked}
+use Rattle.world_core.proofs.StayOut.{out_none, outs_ended}
 use Rattle.world_core.proofs.Stepped.{Changed, draft_leaves, outgoing_count, step_world, tick_lives, whole_lives}
 
 -- ---- the tasks of a crashed member
@@ -73,22 +75,27 @@ pub record Ended {P S : Type 0} (stood : Stood S) (left : Left S) (event : Event
   pub count : length new ≡ length old
   pub each : (f : Frame) (w : World) → AreNodes stood left f old w → AreNodes stood left f new w
   pub keeps : (base : List (Node P S)) → KeepTasks base old → KeepTasks base new
+  pub outs : (m i : ℕ) → out_in new m i ≡ cond (is_crash_of event m) None (out_in old m i)
   pub spares : (m i : ℕ) (node : Node P S) (r : Resident S) (view : Viewed) → slice_get new m ≡ Some node → resident_at node i ≡ Some r → r.out ≡ Some view → Spares event m
 
-ended_none : {P S : Type 0} (stood : Stood S) (left : Left S) (event : Event) (old new : Parts P S) → new ≡ old → ((m : ℕ) → Spares event m) → Ended stood left event old.nodes.items new.nodes.items
-ended_none {P} {S} stood left event old new is spares =
+ended_none : {P S : Type 0} (stood : Stood S) (left : Left S) (event : Event) (old new : Parts P S) → new ≡ old → ((m : ℕ) → Spares event m) → ((m : ℕ) → is_crash_of event m ≡ false) → Ended stood left event old.nodes.items new.nodes.items
+ended_none {P} {S} stood left event old new is spares none =
     subst (λ (p : Parts P S). Ended stood left event old.nodes.items p.nodes.items) (sym is)
-    (record { count = refl; each = λ f w h. h; keeps = λ base h. h; spares = λ m i node r view at here out. spares m })
+    (record { count = refl; each = λ f w h. h; keeps = λ base h. h; outs = λ m i. sym (ap (λ (b : Bool). cond b None (out_in old.nodes.items m i)) (none m)); spares = λ m i node r view at here out. spares m })
 
 ended_crash : {P S : Type 0} (stood : Stood S) (left : Left S) (member : ℕ) (old new : Parts P S) → HasLost stood left member old new → Ended stood left (event.Crash member) old.nodes.items new.nodes.items
 ended_crash {P} {S} stood left member old new h =
-    subst (Ended stood left (event.Crash member) old.nodes.items) (sym h.nodes) (record { count = set_length old.nodes.items member h.after; each = each; keeps = keeps; spares = spares })
+    subst (Ended stood left (event.Crash member) old.nodes.items) (sym h.nodes) (record { count = set_length old.nodes.items member h.after; each = each; keeps = keeps; outs = outs_ended old.nodes.items member h.after (slice_get_within old.nodes.items member h.before h.here) (λ i. ended (resident_at h.after i) i refl); spares = spares })
   where
     all : List (Node P S)
     all = slice_set old.nodes.items member h.after
 
     nothing : (i : ℕ) (node : Node P S) (r : Resident S) (view : Viewed) → h.after ≡ node → resident_at node i ≡ Some r → r.out ≡ Some view → ⊥
     nothing i node r view is here out = clash r.out view (none_there h.before h.after h.recalled i r (ap (λ (n : Node P S). resident_at n i) is ∙ here)) out
+
+    ended : (o : Option (Resident S)) (i : ℕ) → resident_at h.after i ≡ o → out_of o ≡ None
+    ended None i at = refl
+    ended (Some r) i at = out_none r (none_there h.before h.after h.recalled i r at)
 
     each : (f : Frame) (w : World) → AreNodes stood left f old.nodes.items w → AreNodes stood left f all w
     each f w are = record { count = set_length old.nodes.items member h.after ∙ are.count; each = λ m node at. ⊎_elim (own m node) (other m node) (got_set old.nodes.items member m h.after node at) }
@@ -115,12 +122,12 @@ ended_crash {P} {S} stood left member old new h =
 
 ended_all : {P S : Type 0} (stood : Stood S) (left : Left S) (event : Event) (old new : Parts P S) → HasEnded stood left event old new → Ended stood left event old.nodes.items new.nodes.items
 ended_all stood left (event.Crash node) old new h = ended_crash stood left node old new h
-ended_all stood left (event.Deliver packet copy) old new h = ended_none stood left _ old new h (λ m. tt)
-ended_all stood left event.Tick old new h = ended_none stood left _ old new h (λ m. tt)
-ended_all stood left (event.Burst process place turns) old new h = ended_none stood left _ old new h (λ m. tt)
-ended_all stood left (event.Act process) old new h = ended_none stood left _ old new h (λ m. tt)
-ended_all stood left (event.Suspect node) old new h = ended_none stood left _ old new h (λ m. tt)
-ended_all stood left event.Swap old new h = ended_none stood left _ old new h (λ m. tt)
+ended_all stood left (event.Deliver packet copy) old new h = ended_none stood left _ old new h (λ m. tt) (λ m. refl)
+ended_all stood left event.Tick old new h = ended_none stood left _ old new h (λ m. tt) (λ m. refl)
+ended_all stood left (event.Burst process place turns) old new h = ended_none stood left _ old new h (λ m. tt) (λ m. refl)
+ended_all stood left (event.Act process) old new h = ended_none stood left _ old new h (λ m. tt) (λ m. refl)
+ended_all stood left (event.Suspect node) old new h = ended_none stood left _ old new h (λ m. tt) (λ m. refl)
+ended_all stood left event.Swap old new h = ended_none stood left _ old new h (λ m. tt) (λ m. refl)
 
 -- who lived lives on, unless it crashed
 lived : (w : World) (lives : ℕ → Bool) (m : ℕ) → lives ≡ w.lives → w.lives m ≡ true → lives m ≡ true
@@ -209,7 +216,7 @@ fields_of {P} {S} stood left event draft fates s s1 s2 s3 s4 new h = record {
     sent2 = ap (λ (p : Parts P S). p.sent) h.leaves.others ∙ h.room.sent
 
 changed : {P S : Type 0} (stood : Stood S) (left : Left S) (f : Frame) (w : World) (event : Event) (given : Known event) (draft : Draft P S) (fates : List Fate) (s s1 s2 s3 s4 new : Parts P S)
-    → Here stood left f s w event given → IsDraft stood left f s w draft (happens f w event given) → Calls stood left event draft fates s s1 s2 s3 s4 new
+    → Here stood left f s w event given → IsDraft stood left f s w event draft (happens f w event given) → Calls stood left event draft fates s s1 s2 s3 s4 new
     → Changed stood left f s new event draft.outgoing.items draft.entries.items (of_pieces draft.pieces.items) draft.has_stirred fates (happens f w event given)
 changed {P} {S} stood left f w event given draft fates s s1 s2 s3 s4 new h drafted calls = record {
   nodes = are;
@@ -246,13 +253,13 @@ changed {P} {S} stood left f w event given draft fates s s1 s2 s3 s4 new h draft
 -- ---- the step
 
 stepped_is : {P S : Type 0} (stood : Stood S) (left : Left S) (f : Frame) (w : World) (event : Event) (given : Known event) (draft : Draft P S) (fates : List Fate) (s s1 s2 s3 s4 new : Parts P S)
-    → Here stood left f s w event given → IsDraft stood left f s w draft (happens f w event given) → Calls stood left event draft fates s s1 s2 s3 s4 new
+    → Here stood left f s w event given → IsDraft stood left f s w event draft (happens f w event given) → Calls stood left event draft fates s s1 s2 s3 s4 new
     → (length fates ≡ length (happens f w event given).mails) × IsWorld stood left f new (after_step f w (record { event = event; fates = fates }) given)
 stepped_is stood left f w event given draft fates s s1 s2 s3 s4 new h drafted calls =
     let u = happens f w event given in
     let same = calls.closed.count ∙ outgoing_count f.settings.nodes draft.outgoing.items u.mails drafted.letters in (
       same,
-      step_world stood left f s new w event given draft.outgoing.items draft.entries.items (of_pieces draft.pieces.items) draft.has_stirred fates h (draft_leaves stood left f s w draft u drafted) same
+      step_world stood left f s new w event given draft.outgoing.items draft.entries.items (of_pieces draft.pieces.items) draft.has_stirred fates h (draft_leaves stood left f s w event draft u drafted) same
           (changed stood left f w event given draft fates s s1 s2 s3 s4 new h drafted calls),
     )
 
@@ -286,6 +293,23 @@ step_outs {P} {S} stood left f event draft fates s s1 s2 s3 s4 new h going draft
     let c = changed stood left f h.world event d.0 draft fates s s1 s2 s3 s4 new here d.2 calls in
     out_before s new (λ m i node r view at there out. (c.tasks m i node r view at there out).1)
 
+either_none : {A : Type 0} (a b : Bool) (o : Option A) → cond b None (cond a None o) ≡ cond (a || b) None o
+either_none true true o = refl
+either_none true false o = refl
+either_none false true o = refl
+either_none false false o = refl
+
+-- all others stay out
+pub step_keeps : {P S : Type 0} (stood : Stood S) (left : Left S) (f : Frame) (event : Event) (draft : Draft P S) (fates : List Fate) (s s1 s2 s3 s4 new : Parts P S)
+    → Stands stood left f s → Drafts stood left f s event draft → Calls stood left event draft fates s s1 s2 s3 s4 new → KeepsOut f event (seen_of s) (seen_of new)
+step_keeps {P} {S} stood left f event draft fates s s1 s2 s3 s4 new h drafts calls w replays m i =
+    let d = drafts w (is_world stood left f s (seen_of s) refl h w replays) in
+    let now = fields_of stood left event draft fates s s1 s2 s3 s4 new calls in
+    now.members.outs m i
+    ∙ ap (λ (l : List (Node P S)). cond (is_crash_of event m) None (out_in l m i)) now.taken_is
+    ∙ ap (λ (o : Option (Out S)). cond (is_crash_of event m) None o) (d.2.outs m i)
+    ∙ either_none (is_burst_of f w event m i) (is_crash_of event m) (out_in s.nodes.items m i)
+
 pub step_done : {P S : Type 0} (stood : Stood S) (left : Left S) (f : Frame) (event : Event) (draft : Draft P S) (fates : List Fate) (s s1 s2 s3 s4 new : Parts P S) (before told : List Asked)
     → Stands stood left f s → ((w : World) → IsWorld stood left f s w → standing f w ≡ Going) → Drafts stood left f s event draft → Calls stood left event draft fates s s1 s2 s3 s4 new
     → told ≡ before ++ asked_all s2.sent draft.outgoing.items fates → Stepped f event (seen_of s) (seen_of new) before told
@@ -309,12 +333,13 @@ step_done {P} {S} stood left f event draft fates s s1 s2 s3 s4 new before told h
       more = sends.0;
       told = sends.1 ∙ ap (λ (l : List Told). l ++ sends.0) works.told;
       asked = asked ∙ ap (λ (l : List Asked). before ++ l) sends.2;
+      wire = subst (λ (n : ℕ). Each (λ (one : Told). one.wire ≡ n) sends.0) (sym (posts_is f (happens f w event d.0).world (happens f w event d.0).mails fates all.0).swaps) sends.3;
     }
       where
         is : IsWorld stood left f s w
         is = is_world stood left f s (seen_of s) refl h w replays
 
-        d : (given : Known event) × Possible f w event given × IsDraft stood left f s w draft (happens f w event given)
+        d : (given : Known event) × Possible f w event given × IsDraft stood left f s w event draft (happens f w event given)
         d = drafts w is
 
         here : Here stood left f s w event d.0
@@ -327,4 +352,5 @@ step_done {P} {S} stood left f event draft fates s s1 s2 s3 s4 new before told h
         all = stepped_is stood left f w event d.0 draft fates s s1 s2 s3 s4 new here d.2 calls
 
         sends : (more : List Told) × ((posts_all f (happens f w event d.0).world (happens f w event d.0).mails fates).told ≡ (happens f w event d.0).world.told ++ more) × (asked_all s2.sent draft.outgoing.items fates ≡ map told_so more)
+            × Each (λ (one : Told). one.wire ≡ (happens f w event d.0).world.swaps) more
         sends = sent_asked f (happens f w event d.0).world draft.outgoing.items (happens f w event d.0).mails fates s2.sent d.2.letters all.0 (sent2 ∙ is.sent ∙ sym works.sent)

@@ -67,8 +67,8 @@ come_part f w number copy flight h whole lives =
     ap (comes_whole f (gone w number copy)) h.there ∙ come_as f (gone w number copy) h.one true true whole lives
 
 pub come_nothing : {P S : Type 0} (stood : Stood S) (left : Left S) (f : Frame) (s : Parts P S) (w : World) (number copy : ℕ) (draft : Draft P S) → Here stood left f s w (event.Deliver number copy) tt
-    → happens f w (event.Deliver number copy) tt ≡ untouched (gone w number copy) → IsEmpty draft → IsDraft stood left f s w draft (happens f w (event.Deliver number copy) tt)
-come_nothing stood left f s w number copy draft here is empty = quiet_draft stood left f s w (gone w number copy) (event.Deliver number copy) tt draft here is refl refl empty
+    → happens f w (event.Deliver number copy) tt ≡ untouched (gone w number copy) → IsEmpty draft → IsDraft stood left f s w (event.Deliver number copy) draft (happens f w (event.Deliver number copy) tt)
+come_nothing stood left f s w number copy draft here is empty = quiet_draft stood left f s w (gone w number copy) (event.Deliver number copy) tt draft here is refl refl empty (λ m i. refl)
 
 -- ---- it comes to its receiver
 
@@ -137,13 +137,13 @@ come_may stood left f fitness s w number copy flight packet before draft h empty
 
 pub come_draft : {P S : Type 0} (stood : Stood S) (left : Left S) (f : Frame) (fitness : Fitness) (s : Parts P S) (w : World) (number copy : ℕ) (flight : Flight (List ℕ)) (packet : Packet Message Reply) (before : Node P S) (old new : Draft P S)
     → Receives stood left f fitness s w number copy flight packet before → IsEmpty old → AddsLetter stood left f fitness s before flight.from packet old new
-    → IsDraft stood left f s w new (happens f w (event.Deliver number copy) tt)
+    → IsDraft stood left f s w (event.Deliver number copy) new (happens f w (event.Deliver number copy) tt)
 come_draft stood left f fitness s w number copy flight packet before old new h empty adds =
     let mail = h.found.one.packet.mail in
     let lives = lives_there stood left f fitness s w number copy flight packet before h in
     one_draft stood left f fitness s w (gone w number copy) (event.Deliver number copy) tt (receiver_of mail) (Comes mail) before old new h.here (come_part f w number copy flight h.found h.whole lives) refl refl
     (comes_next stood left f fitness s w number copy flight packet before h) (fits_there stood left f fitness s w number copy flight packet before h) empty
-    (adds mail (post_is stood left f fitness s w number copy flight packet before h))
+    (adds mail (post_is stood left f fitness s w number copy flight packet before h)) (λ m i. refl)
 
 pub receives_of : {P S : Type 0} (stood : Stood S) (left : Left S) (f : Frame) (fitness : Fitness) (s : Parts P S) (w : World) (number copy : ℕ) (flight : Flight (List ℕ)) (packet : Packet Message Reply) (before : Node P S)
     → Stands stood left f s → IsWorld stood left f s w → standing f w ≡ Going → Some flight ≡ ready_copy number copy s.net.flights → lives_in f w flight.to ≡ true → IsIncoming flight.packet (Some packet)
@@ -158,7 +158,7 @@ receives_of stood left f fitness s w number copy flight packet before h is going
 -- where its receiver crashed, or it was cut, nothing comes
 pub crashed_drafts : {P S : Type 0} (stood : Stood S) (left : Left S) (f : Frame) (s : Parts P S) (w : World) (number copy : ℕ) (flight : Flight (List ℕ)) (draft : Draft P S) → Stands stood left f s → IsWorld stood left f s w → standing f w ≡ Going
     → Some flight ≡ ready_copy number copy s.net.flights → lives_in f w flight.to ≡ false → IsEmpty draft
-    → Here stood left f s w (event.Deliver number copy) tt × IsDraft stood left f s w draft (happens f w (event.Deliver number copy) tt)
+    → Here stood left f s w (event.Deliver number copy) tt × IsDraft stood left f s w (event.Deliver number copy) draft (happens f w (event.Deliver number copy) tt)
 crashed_drafts stood left f s w number copy flight draft h is going looked crashed empty =
     let found = found stood left f s w number copy flight h is looked in
     let here = arrives_here stood left f s w number copy flight h is going found in
@@ -167,7 +167,7 @@ crashed_drafts stood left f s w number copy flight draft h is going looked crash
 
 pub cut_drafts : {P S : Type 0} (stood : Stood S) (left : Left S) (f : Frame) (s : Parts P S) (w : World) (number copy : ℕ) (flight : Flight (List ℕ)) (draft : Draft P S) → Stands stood left f s → IsWorld stood left f s w → standing f w ≡ Going
     → Some flight ≡ ready_copy number copy s.net.flights → IsIncoming flight.packet None → Lengths → IsEmpty draft
-    → Here stood left f s w (event.Deliver number copy) tt × IsDraft stood left f s w draft (happens f w (event.Deliver number copy) tt)
+    → Here stood left f s w (event.Deliver number copy) tt × IsDraft stood left f s w (event.Deliver number copy) draft (happens f w (event.Deliver number copy) tt)
 cut_drafts stood left f s w number copy flight draft h is going looked incoming lengths empty =
     let found = found stood left f s w number copy flight h is looked in
     let here = arrives_here stood left f s w number copy flight h is going found in

@@ -25,6 +25,7 @@ use Rattle.world_core.specs.Drafting.{AddsPart, IsDraft, MayAdd}
 use Rattle.world_core.specs.declared.draft.Draft.{Draft}
 use Rattle.world_core.proofs.Eventing.{comes_now, entries_had, letters_sound, may_add}
 use Rattle.world_core.specs.Growing.{Progress}
+use Rattle.world_core.specs.Stepping.{is_burst_of}
 use Rattle.world_core.proofs.Progressing.{Comes, IsEmpty, progress_done, progress_first, progress_on}
 
 -- a run that is going, for which the parts stand, and an event that is possible in it
@@ -62,13 +63,13 @@ list_small stood left f s w h is going =
 -- ---- no member does a part
 
 pub quiet_draft : {P S : Type 0} (stood : Stood S) (left : Left S) (f : Frame) (s : Parts P S) (w v : World) (event : Event) (given : Known event) (draft : Draft P S)
-    → Here stood left f s w event given → happens f w event given ≡ untouched v → v.nodes ≡ w.nodes → v.aside ≡ w.aside → IsEmpty draft
-    → IsDraft stood left f s w draft (happens f w event given)
-quiet_draft stood left f s w v event given draft h is nodes aside empty =
+    → Here stood left f s w event given → happens f w event given ≡ untouched v → v.nodes ≡ w.nodes → v.aside ≡ w.aside → IsEmpty draft → ((m i : ℕ) → is_burst_of f w event m i ≡ false)
+    → IsDraft stood left f s w event draft (happens f w event given)
+quiet_draft stood left f s w v event given draft h is nodes aside empty none =
     let g = grows stood left f s w event given h in
-    progress_done stood left f s w draft (happens f w event given) h.is g.list g.performed (low_all stood left f s w h.stands h.is)
+    progress_done stood left f s w event draft (happens f w event given) h.is g.list g.performed (low_all stood left f s w h.stands h.is)
     (subst (λ (u : AtWork). Progress stood left f s w (happens f w event given).world draft u) (sym is)
-    (progress_first stood left f s w v (happens f w event given).world draft h.is nodes aside empty g.list))
+    (progress_first stood left f s w v (happens f w event given).world draft h.is nodes aside empty g.list)) none
 
 -- ---- one member does a part
 
@@ -90,16 +91,16 @@ one_may stood left f fitness s w v event given m start before draft h walks is c
 pub one_draft : {P S : Type 0} (stood : Stood S) (left : Left S) (f : Frame) (fitness : Fitness) (s : Parts P S) (w v : World) (event : Event) (given : Known event) (m : ℕ) (start : Start) (before : Node P S)
     (old new : Draft P S) → Here stood left f s w event given → happens f w event given ≡ after_part f m (part f m start (w.nodes m)) (untouched v) → v.nodes ≡ w.nodes → v.aside ≡ w.aside
     → Comes stood left f s w (happens f w event given).world m start before → EventFits f fitness m start (w.nodes m) → IsEmpty old → AddsPart stood left f fitness s before start old new
-    → IsDraft stood left f s w new (happens f w event given)
-one_draft {P} {S} stood left f fitness s w v event given m start before old new h is nodes aside comes fits empty adds =
+    → ((k i : ℕ) → is_burst_of f w event k i ≡ false) → IsDraft stood left f s w event new (happens f w event given)
+one_draft {P} {S} stood left f fitness s w v event given m start before old new h is nodes aside comes fits empty adds none =
     let g = grows stood left f s w event given h in
     let end = (happens f w event given).world in
     let me = comes.stands.member.me in
     let done = subst (λ (n : ℕ). StandsAs stood left f n before (w.nodes m) → EventFits f fitness n start (w.nodes m) → IsDone stood left f n adds.after adds.moved (w.nodes m) (part f n start (w.nodes m))) me (adds.does (w.nodes m)) comes.stands fits in
-    progress_done stood left f s w new (happens f w event given) h.is g.list g.performed (low_all stood left f s w h.stands h.is)
+    progress_done stood left f s w event new (happens f w event given) h.is g.list g.performed (low_all stood left f s w h.stands h.is)
     (subst (λ (u : AtWork). Progress stood left f s w end new u) (sym is)
     (progress_on stood left f s w end old new (untouched v) m start before adds.after adds.moved h.is g.list comes (ap (λ (k : ℕ → nodes_of.Node). k m) nodes) adds.added adds.tasks done
-    (progress_first stood left f s w v end old h.is nodes aside empty g.list)))
+    (progress_first stood left f s w v end old h.is nodes aside empty g.list))) none
 
 -- what is false isn't true
 pub not_both : (b : Bool) → b ≡ false → b ≡ true → ⊥

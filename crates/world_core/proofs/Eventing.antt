@@ -39,6 +39,7 @@ use Rattle.world_parts.specs.Standing.{IsWorld, Laws, Stands}
 use Rattle.world_parts.specs.declared.parts.Parts.{Parts}
 use Rattle.world_core.specs.Drafting.{MayAdd}
 use Rattle.world_core.specs.declared.draft.Draft.{Draft}
+use Rattle.world_core.proofs.StayOut.{out_computes}
 use Rattle.world_core.proofs.Progressing.{Comes}
 
 -- ---- lists
@@ -129,6 +130,7 @@ comes_now stood left f s w end h is m start node lt at own tells = record {
   places = one_of (λ (r : Placed). r.place ≤ (end.nodes m).copies.applied) _ tells.beside;
   had = (entries_had stood left f s w h is m node lt at).0;
   low = (entries_had stood left f s w h is m node lt at).1;
+  computes = out_computes stood left f s w h is m node at;
 }
 
 -- so its part may join a draft

@@ -30,7 +30,7 @@ map_set f [] k x = refl
 map_set f (y ∷ xs) zero x = refl
 map_set {A} {B} f (y ∷ xs) (suc k) x = ap (λ (l : List B). f y ∷ l) (map_set f xs k x)
 
-map_count : {A B : Type 0} (f : A → B) (xs : List A) → length (map f xs) ≡ length xs
+pub map_count : {A B : Type 0} (f : A → B) (xs : List A) → length (map f xs) ≡ length xs
 map_count f [] = refl
 map_count f (x ∷ xs) = ap suc (map_count f xs)
 
@@ -42,12 +42,12 @@ same_all d (x ∷ xs) [] count h = absurd (cc count)
 same_all {A} d (x ∷ xs) (y ∷ ys) count h =
     ap (λ (a : A). a ∷ xs) (h 0) ∙ ap (λ (l : List A). y ∷ l) (same_all d xs ys (omega (arith, count)) (λ i. h (suc i)))
 
-got_own : {A : Type 0} (d : A) (xs : List A) (k : ℕ) (x : A) → k < length xs → get_or (slice_set xs k x) k d ≡ x
+pub got_own : {A : Type 0} (d : A) (xs : List A) (k : ℕ) (x : A) → k < length xs → get_or (slice_set xs k x) k d ≡ x
 got_own d [] k x lt = absurd (omega (arith, lt))
 got_own d (y ∷ xs) zero x lt = refl
 got_own d (y ∷ xs) (suc k) x lt = got_own d xs k x (omega (arith, lt))
 
-got_else : {A : Type 0} (d : A) (xs : List A) (k j : ℕ) (x : A) → (j ≡ k → ⊥) → get_or (slice_set xs k x) j d ≡ get_or xs j d
+pub got_else : {A : Type 0} (d : A) (xs : List A) (k j : ℕ) (x : A) → (j ≡ k → ⊥) → get_or (slice_set xs k x) j d ≡ get_or xs j d
 got_else d [] k j x apart = refl
 got_else d (y ∷ xs) zero zero x apart = absurd (apart refl)
 got_else d (y ∷ xs) zero (suc j) x apart = refl
@@ -56,7 +56,7 @@ got_else d (y ∷ xs) (suc k) (suc j) x apart = got_else d xs k j x (λ e. apart
 
 -- ---- at a member
 
-residents_set : {P S : Type 0} (i : ℕ) (r : Resident S) (old new : Node P S) → HasChanged i r old new → i < length old.residents.items → new.residents.items ≡ slice_set old.residents.items i (Some r)
+pub residents_set : {P S : Type 0} (i : ℕ) (r : Resident S) (old new : Node P S) → HasChanged i r old new → i < length old.residents.items → new.residents.items ≡ slice_set old.residents.items i (Some r)
 residents_set {P} {S} i r old new h lt =
     same_all None new.residents.items (slice_set old.residents.items i (Some r)) (h.places ∙ sym (set_length old.residents.items i (Some r))) each
   where
@@ -71,7 +71,7 @@ residents_set {P} {S} i r old new h lt =
         other : (j ≡ i → ⊥) → get_or new.residents.items j None ≡ get_or (slice_set old.residents.items i (Some r)) j None
         other apart = h.put.put j ∙ with_other (resident_at old) i (Some r) j apart ∙ sym (got_else None old.residents.items i j (Some r) apart)
 
-has_at : {S : Type 0} (rs : List (Option (Resident S))) (i : ℕ) → get_or (map out_of rs) i None ≡ out_of (slice_index_or rs i None)
+pub has_at : {S : Type 0} (rs : List (Option (Resident S))) (i : ℕ) → get_or (map out_of rs) i None ≡ out_of (slice_index_or rs i None)
 has_at [] i = refl
 has_at (r ∷ rs) zero = refl
 has_at (r ∷ rs) (suc i) = has_at rs i
@@ -89,7 +89,7 @@ outs_changed {P} {S} i r old new h lt =
 
 -- ---- at all of them
 
-got_map : {A B : Type 0} (f : A → B) (xs : List A) (k : ℕ) (x : A) (d : B) → slice_get xs k ≡ Some x → get_or (map f xs) k d ≡ f x
+pub got_map : {A B : Type 0} (f : A → B) (xs : List A) (k : ℕ) (x : A) (d : B) → slice_get xs k ≡ Some x → get_or (map f xs) k d ≡ f x
 got_map f [] k x d is = absurd (cc is)
 got_map f (y ∷ xs) zero x d is = let e : y ≡ x = cc in ap f e
 got_map f (y ∷ xs) (suc k) x d is = got_map f xs k x d is

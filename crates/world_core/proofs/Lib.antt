@@ -11,6 +11,7 @@ pub mod Sending
 pub mod Leaving
 pub mod Stepped
 pub mod Handing
+pub mod StayOut
 pub mod Computed
 pub mod TakenIn
 pub mod Numbering
@@ -25,5 +26,7 @@ pub mod Delivers
 pub mod Running
 pub mod CheckingOut
 pub mod CheckingIn
+pub mod AtOnce
+pub mod NoneOut
 pub mod Spelled
 pub mod Books

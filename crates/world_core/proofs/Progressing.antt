@@ -1,5 +1,5 @@
 -- A draft, while the members of an event do their parts one after the other, and once they are done.
-use Rattle.std.proofs.Common.{◌≡◌, ◌≤◌, ◌<◌, ◌+◌, ◌∙◌, ◌⊎◌, inl, inr, ⊎_elim, ◌&&◌, ◌||◌, ◌==◌, not, ℕ, zero, suc, Bool, true, false, List, [], ◌∷◌, ◌++◌, Some, slice_get, slice_set, take, map, ap, sym, subst, refl, arith, length, length-append, append_assoc, append-nil}
+use Rattle.std.proofs.Common.{◌≡◌, ◌≤◌, ◌<◌, ◌+◌, ◌∙◌, ◌⊎◌, inl, inr, ⊎_elim, ◌&&◌, ◌||◌, ◌==◌, not, ℕ, zero, suc, Bool, true, false, cond, None, List, [], ◌∷◌, ◌++◌, Some, slice_get, slice_set, take, map, ap, sym, subst, refl, arith, length, length-append, append_assoc, append-nil}
 use Rattle.std.proofs.lemmas.Bool.{cases_eq, eq-eqb}
 use Rattle.std.specs.List.{AllByRecursion as Each}
 use Rattle.value_core.specs.declared.action.Line.{Line}
@@ -12,6 +12,7 @@ use Rattle.group_rules.specs.Steps.{is_empty}
 use Rattle.node_rules.specs.Entries.{told_lines}
 use Rattle.node_rules.specs.Starts.{Start, part}
 use Rattle.run_law.specs.Growing.{ListGrows, PerformedGrows, TellsPart}
+use Rattle.world_rules.specs.declared.event.Event.{Event}
 use Rattle.world_rules.specs.Frame.{Frame}
 use Rattle.world_rules.specs.Mail.{Mail, posted}
 use Rattle.world_rules.specs.Nodes as nodes
@@ -27,12 +28,15 @@ use Rattle.world_parts.specs.Recorded.{of_pieces}
 use Rattle.world_parts.specs.Standing.{IsWorld}
 use Rattle.world_parts.specs.declared.ledger.Piece.{Piece}
 use Rattle.world_parts.specs.declared.parts.Parts.{Parts}
-use Rattle.world_core.specs.Drafting.{AreNodes, AreOutgoing, HasAdded, HasSpelled, IsDraft, KeepTasks, behind, has_moved, lines_behind, taken}
+use Rattle.world_core.specs.Drafting.{AreNodes, AreOutgoing, HasAdded, HasSpelled, IsDraft, KeepTasks, behind, has_moved, lines_behind, out_in, taken}
 use Rattle.world_core.specs.Growing.{HasDrafted, Progress}
+use Rattle.world_core.specs.Stepping.{is_burst_of}
 use Rattle.world_core.specs.declared.draft.Draft.{Draft}
 use Rattle.world_core.specs.declared.draft.Part.{Part}
 use Rattle.world_core.specs.declared.letters.Outgoing.{Outgoing}
-use Rattle.world_core.proofs.Adding.{letters_added, nodes_added, set_length, stays_at, stirred_added, taken_push, tasks_added, with_other, with_own}
+use Rattle.world_core.proofs.Adding.{letters_added, nodes_added, set_length, stays_at, stirred_added, taken_length, taken_push, tasks_added, with_other, with_own}
+use Rattle.world_core.proofs.Handing.{seen_there}
+use Rattle.world_core.proofs.StayOut.{OutComputes, outs_kept, still_out}
 use Rattle.world_core.proofs.Growing.{Fronts, Tells, drafted_all, drafted_first, drafted_list, drafted_on, fronts_on}
 
 -- nothing is drafted
@@ -61,6 +65,7 @@ progress_first {P} {S} stood left f s w v end draft is same aside empty grows = 
   letters = subst (λ (l : List Outgoing). AreOutgoing f.settings.nodes l []) (sym empty.outgoing) tt;
   stirred = empty.stirred ∙ sym (still f w v same aside);
   tasks = subst (λ (l : List (Part P S)). KeepTasks s.nodes.items (taken l s.nodes.items)) (sym empty.parts) (λ m i node r view at here out. (node, at, here));
+  outs = subst (λ (l : List (Part P S)). (m i : ℕ) → out_in (taken l s.nodes.items) m i ≡ out_in s.nodes.items m i) (sym empty.parts) (λ m i. refl);
   members = subst (λ (l : List (Part P S)). Each (λ (part : Part P S). part.member < f.settings.nodes) l) (sym empty.parts) tt;
   beside = [];
   grown = aside ∙ sym (append-nil w.aside);
@@ -84,6 +89,7 @@ pub record Comes {P S : Type 0} (stood : Stood S) (left : Left S) (f : Frame) (s
   pub places : (k : ℕ) (r : Placed) → slice_get (aside_of (part f m start (w.nodes m)).deeds) k ≡ Some r → r.place ≤ (end.nodes m).copies.applied
   pub had : (w.nodes m).copies.applied ≡ length (entries_of (w.nodes m))
   pub low : length (entries_of (w.nodes m)) ≤ length (agreed f w)
+  pub computes : OutComputes before
 
 pub progress_on : {P S : Type 0} (stood : Stood S) (left : Left S) (f : Frame) (s : Parts P S) (w end : World) (old new : Draft P S) (u : AtWork) (m : ℕ) (start : Start) (before after : Node P S) (moved : Moved)
     → IsWorld stood left f s w → ListGrows f w end → Comes stood left f s w end m start before → u.world.nodes m ≡ w.nodes m
@@ -96,6 +102,10 @@ progress_on {P} {S} stood left f s w end old new u m start before after moved is
   stirred = added.stirred ∙ ap (λ (b : Bool). b || has_moved before after moved) h.stirred ∙ ap (λ (b : Bool). has_stirred f w u.world || b) moves
       ∙ sym (stirred_added f w u m v h.beside comes.within stood_there h.grown);
   tasks = tasks_added s.nodes.items _ _ m before after h.tasks next comes.there keeps.only;
+  outs = λ k i.
+      ap (λ (l : List (Node P S)). out_in l k i) next
+      ∙ outs_kept s.nodes.items (taken old.parts.items s.nodes.items) m after (omega (arith, comes.within, is.members, taken_length old.parts.items s.nodes.items)) h.outs
+      (λ j. still_out before after keeps comes.computes j ∙ sym (seen_there s.nodes.items m j before comes.there)) k i;
   members = subst (λ (l : List (Part P S)). Each (λ (part : Part P S). part.member < f.settings.nodes) l) (sym added.parts)
       (each_push (λ (part : Part P S). part.member < f.settings.nodes) old.parts.items (record { member = before.member.me; node = after }) h.members (omega (arith, me, comes.within)));
   beside = h.beside ++ aside_of v.deeds;
@@ -191,16 +201,17 @@ progress_on {P} {S} stood left f s w end old new u m start before after moved is
         ⊎_elim (λ (le : (end.nodes k).copies.applied ≤ length known). inl (omega (arith, le, fronts.from_known, ap length listed))) (λ (same : u.world.nodes k ≡ w.nodes k). inr (with_other u.world.nodes m v.node k apart ∙ same)) (h.covered k lt)
 
 -- once all members are done, that is the event's draft
-pub progress_done : {P S : Type 0} (stood : Stood S) (left : Left S) (f : Frame) (s : Parts P S) (w : World) (draft : Draft P S) (u : AtWork) → IsWorld stood left f s w
+pub progress_done : {P S : Type 0} (stood : Stood S) (left : Left S) (f : Frame) (s : Parts P S) (w : World) (event : Event) (draft : Draft P S) (u : AtWork) → IsWorld stood left f s w
     → ListGrows f w u.world → PerformedGrows f w u.world → ((m : ℕ) → m < f.settings.nodes → (w.nodes m).copies.applied ≤ length (agreed f w))
-    → Progress stood left f s w u.world draft u → IsDraft stood left f s w draft u
-progress_done stood left f s w draft u is grows law low h = record {
+    → Progress stood left f s w u.world draft u → ((m i : ℕ) → is_burst_of f w event m i ≡ false) → IsDraft stood left f s w event draft u
+progress_done stood left f s w event draft u is grows law low h none = record {
   nodes = h.nodes;
   letters = h.letters;
   entries = whole;
   performed = drafted_all f w u.world (s.ledger.entries ++ draft.entries.items) (of_pieces draft.pieces.items) h.beside s.ledger.performed h.drafted grows whole h.grown law is.performed;
   stirred = h.stirred;
   tasks = h.tasks;
+  outs = λ m i. h.outs m i ∙ ap (λ (b : Bool). cond b None (out_in s.nodes.items m i)) (sym (none m i));
   members = h.members;
   later = h.later;
 }

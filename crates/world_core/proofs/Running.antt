@@ -1,5 +1,5 @@
 -- A burst that is done as an event: it is computed on a copy of its member.
-use Rattle.std.proofs.Common.{◌≡◌, ◌≤◌, ◌<◌, ◌+◌, ◌-◌, ◌∙◌, ◌⊎◌, ⊎_elim, ◌&&◌, ◌==◌, not, leb, min, ℕ, Bool, true, false, List, [], ◌∷◌, ◌++◌, Option, None, Some, Result, Ok, Err, IfOk, slice_get, slice_set, slice_index_or, take, ap, sym, subst, refl, arith, length}
+use Rattle.std.proofs.Common.{◌≡◌, ◌≤◌, ◌<◌, ◌+◌, ◌-◌, ◌∙◌, ◌⊎◌, ⊎_elim, ◌&&◌, ◌==◌, not, leb, min, ℕ, zero, suc, Bool, true, false, cond, List, [], ◌∷◌, ◌++◌, Option, None, Some, Result, Ok, Err, IfOk, slice_get, slice_set, slice_index_or, take, ap, sym, subst, refl, arith, length}
 use Rattle.std.proofs.lemmas.Bool.{cases_eq, le-leb, leb-true}
 use Rattle.std.proofs.lemmas.List.{length-take-le, take-take, take_all}
 use Rattle.std.specs.List.{AllByRecursion as Each}
@@ -46,10 +46,11 @@ use Rattle.node_core.specs.declared.task.CheckedIn.{CheckedIn}
 use Rattle.world_parts.proofs.Worlds.{home_within, one_list}
 use Rattle.world_parts.specs.Choosing.{may_compute}
 use Rattle.world_parts.specs.Recorded.{of_pieces}
+use Rattle.world_parts.specs.Seen.{Out}
 use Rattle.world_parts.specs.Standing.{IsWorld, Stands}
 use Rattle.world_parts.specs.declared.parts.Parts.{Parts}
 use Rattle.world_core.specs.Bursting.{HasRunOn, RunsTo, is_between, may_burst}
-use Rattle.world_core.specs.Drafting.{AreOutgoing, IsDraft, taken}
+use Rattle.world_core.specs.Drafting.{AreOutgoing, IsDraft, out_in, taken}
 use Rattle.world_core.specs.declared.burst.Ran.{Ran}
 use Rattle.world_core.specs.declared.draft.Draft.{Draft}
 use Rattle.world_core.specs.declared.draft.Part.{Part}
@@ -58,6 +59,9 @@ use Rattle.world_core.proofs.Adding.{nodes_added, tasks_added, with_other, with_
 use Rattle.world_core.proofs.Computed.{burst_leaves}
 use Rattle.world_core.proofs.Doing.{low_all, not_both}
 use Rattle.world_core.proofs.Eventing.{entries_had}
+use Rattle.world_core.proofs.Handing.{residents_set}
+use Rattle.world_core.proofs.StayOut.{out_none, outs_put}
+use Rattle.node_core.proofs.TakingIn.{within_of}
 use Rattle.world_core.proofs.Stepped.{Leaves}
 
 -- what follows of a success
@@ -92,11 +96,20 @@ out_for {P} {S} i view budget task copy out done h of =
     there : resident_at out done.process.0 ≡ Some (record h.resident { out = Some view })
     there = ap (λ (j : ProcessNo). resident_at out j.0) same ∙ h.out.put.put i.0 ∙ with_own (resident_at copy) i.0 (Some (record h.resident { out = Some view }))
 
+set_again : {A : Type 0} (xs : List A) (k : ℕ) (x y : A) → slice_set (slice_set xs k x) k y ≡ slice_set xs k y
+set_again [] k x y = refl
+set_again (z ∷ xs) zero x y = refl
+set_again {A} (z ∷ xs) (suc k) x y = ap (λ (l : List A). z ∷ l) (set_again xs k x y)
+
 pub ran_on : {P S : Type 0} (stood : Stood S) (left : Left S) (f : Frame) (i : ProcessNo) (view : Viewed) (budget : ℕ) (task : Tasked S) (before copy out node : Node P S) (done : Computed S) (checked : CheckedIn) (turns : ℕ)
     → StandsAlike stood left before copy → IsCopy before copy → HandsOut i view budget task copy out → StandsAlike stood left copy out → IsOf task done → turns ≡ done.turns → HasCheckedIn stood left f done checked out node
     → HasRunOn stood left f i view before (record { node = node; burst = checked; turns = turns })
 ran_on {P} {S} stood left f i view budget task before copy out node done checked turns alike same h alike_out of took has = record {
   place = has.place ∙ ap (λ (v : Viewed). v.place) seen;
+  there = omega (arith, within, ap length same.residents);
+  after = after_burst done has.resident;
+  back = refl;
+  residents = residents;
   only = only;
   runs = runs;
 }
@@ -106,6 +119,17 @@ ran_on {P} {S} stood left f i view budget task before copy out node done checked
 
     is : done.process ≡ i
     is = of.process ∙ ap (λ (t : Tasked S). t.process) h.is
+
+    within : i.0 < length copy.residents.items
+    within = within_of copy.residents.items i.0 h.resident h.here
+
+    residents : node.residents.items ≡ slice_set before.residents.items i.0 (Some (after_burst done has.resident))
+    residents =
+        residents_set done.process.0 (after_burst done has.resident) out node has.changed (within_of out.residents.items done.process.0 has.resident has.here)
+        ∙ ap (λ (n : ProcessNo). slice_set out.residents.items n.0 (Some (after_burst done has.resident))) is
+        ∙ ap (λ (l : List (Option (Resident S))). slice_set l i.0 (Some (after_burst done has.resident))) (residents_set i.0 (record h.resident { out = Some view }) copy out h.out within)
+        ∙ set_again copy.residents.items i.0 (Some (record h.resident { out = Some view })) (Some (after_burst done has.resident))
+        ∙ ap (λ (l : List (Option (Resident S))). slice_set l i.0 (Some (after_burst done has.resident))) same.residents
 
     only : (j : ℕ) (r : Resident S) (o : Viewed) → resident_at node j ≡ Some r → r.out ≡ Some o → resident_at before j ≡ Some r
     only j r o there out_is = ⊎_elim own other (cases_eq j done.process.0)
@@ -135,6 +159,7 @@ ran_on {P} {S} stood left f i view budget task before copy out node done checked
               (subst (λ (n : ProcessNo). RanSo f done.view.objects done.view.place n (last_turn f r) r done.reads ended) is ran.ran));
           turns = took ∙ ran.turns;
           least = ran.least;
+          most = ran.most;
           node = subst (λ (reads : List Line). StandsAs stood left f m node (computes i.0 view.place reads ended v).node) (sym has.reads)
               (subst (λ (o : Viewed). StandsAs stood left f m node (computes i.0 o.place done.reads ended v).node) seen
               (subst (λ (n : ProcessNo). StandsAs stood left f m node (computes n.0 done.view.place done.reads ended v).node) is becomes.2));
@@ -262,7 +287,7 @@ viewed_again stood left f s w m place entries node view h is lt low taken_is at 
 
 -- ---- the event
 
-ran_there : {P S : Type 0} (stood : Stood S) (left : Left S) (f : Frame) (s : Parts P S) (w : World) (i : ProcessNo) (place home : ℕ) (view : Viewed) (node : Node P S) (ran : Ran P S) → IsWorld stood left f s w
+pub ran_there : {P S : Type 0} (stood : Stood S) (left : Left S) (f : Frame) (s : Parts P S) (w : World) (i : ProcessNo) (place home : ℕ) (view : Viewed) (node : Node P S) (ran : Ran P S) → IsWorld stood left f s w
     → (b : Bursts stood left f s w i place) → home ≡ home_of f w i.0 → Some node ≡ slice_get s.nodes.items home → HasRunOn stood left f i view node ran → RunsTo stood left f i view home (w.nodes home) b.start ran
 ran_there stood left f s w i place home view node ran is b at_home at has =
     has.runs home (w.nodes home) b.start (is.nodes home node (sym at)) (ap (λ (m : ℕ). (w.nodes m).played i.0) at_home ∙ b.here)
@@ -275,7 +300,7 @@ ran_least stood left f s w i place home start view node ran is b at_home at has 
     omega (arith, from, ap turns_in b.here, r.least, r.turns)
 
 -- it ran so on the objects at that place
-ran_so : {P S : Type 0} (stood : Stood S) (left : Left S) (f : Frame) (s : Parts P S) (w : World) (i : ProcessNo) (place home : ℕ) (view : Viewed) (ran : Ran P S) → (b : Bursts stood left f s w i place) → home ≡ home_of f w i.0
+pub ran_so : {P S : Type 0} (stood : Stood S) (left : Left S) (f : Frame) (s : Parts P S) (w : World) (i : ProcessNo) (place home : ℕ) (view : Viewed) (ran : Ran P S) → (b : Bursts stood left f s w i place) → home ≡ home_of f w i.0
     → view ≡ view_at f (w.nodes home) place → (r : RunsTo stood left f i view home (w.nodes home) b.start ran)
     → RanSo f (objects_after f (w.nodes (home_of f w i.0)) place) place i (last_turn f b.start) b.start ran.burst.reads.items r.ended
 ran_so stood left f s w i place home view ran b at_home seen r =
@@ -292,9 +317,9 @@ pub record Drafted {P S : Type 0} (draft : Draft P S) (member : ℕ) (ran : Ran 
 pub burst_drafts : {P S : Type 0} (stood : Stood S) (left : Left S) (f : Frame) (s : Parts P S) (w : World) (i : ProcessNo) (place home start turns : ℕ) (view : Viewed) (node : Node P S) (ran : Ran P S) (draft : Draft P S)
     → Stands stood left f s → IsWorld stood left f s w → Bursts stood left f s w i place → home ≡ home_of f w i.0 → Some node ≡ slice_get s.nodes.items home → view ≡ view_at f (w.nodes home) place → HasRunOn stood left f i view node ran
     → start ≡ turns_in (played_in f w i.0) → ran.turns - start ≡ turns → Drafted draft home ran
-    → (burst : Burst) × IsBurst f w i place turns burst × IsDraft stood left f s w draft (happens f w (event.Burst i place turns) burst)
+    → (burst : Burst) × IsBurst f w i place turns burst × IsDraft stood left f s w (event.Burst i place turns) draft (happens f w (event.Burst i place turns) burst)
 burst_drafts {P} {S} stood left f s w i place home start turns view node ran draft h is b at_home at seen has from took drafted =
-    (burst, possible, subst (λ (m : ℕ). IsDraft stood left f s w draft (after_part f m (computes i.0 place burst.reads burst.end (w.nodes m)) (untouched w))) at_home made)
+    (burst, possible, subst (λ (m : ℕ). IsDraft stood left f s w (event.Burst i place turns) draft (after_part f m (computes i.0 place burst.reads burst.end (w.nodes m)) (untouched w))) at_home made)
   where
     r : RunsTo stood left f i view home (w.nodes home) b.start ran
     r = ran_there stood left f s w i place home view node ran is b at_home at has
@@ -341,7 +366,7 @@ burst_drafts {P} {S} stood left f s w i place home start turns view node ran dra
     stood_after : StandsAs stood left f home ran.node v.node
     stood_after = subst (λ (n : ℕ). StandsAs stood left f home ran.node (computes i.0 n burst.reads burst.end (w.nodes home)).node) (ap (λ (o : Viewed). o.place) seen) r.node
 
-    made : IsDraft stood left f s w draft u
+    made : IsDraft stood left f s w (event.Burst i place turns) draft u
     made = record {
       nodes = nodes_added stood left f s.nodes.items (taken draft.parts.items s.nodes.items) home ran.node v (untouched w) (record { count = is.members; each = is.nodes }) more stood_after;
       letters = subst (λ (l : List Outgoing). AreOutgoing f.settings.nodes l u.mails) (sym drafted.outgoing) left_there.letters;
@@ -349,6 +374,11 @@ burst_drafts {P} {S} stood left f s w i place home start turns view node ran dra
       performed = subst (λ (l : List Placed). Performed (singles_in f u.world) f.performs (agreed f u.world) u.world.aside (s.ledger.performed ++ l)) (sym (drafted.pieces ∙ ap (λ (n : ℕ). placed n burst.reads) where_is)) left_there.did;
       stirred = drafted.stirred ∙ left_there.stirs;
       tasks = tasks_added s.nodes.items s.nodes.items (taken draft.parts.items s.nodes.items) home node ran.node (λ m j other r view at here out. (other, at, here)) more (sym at) has.only;
+      outs = λ m j.
+          ap (λ (l : List (Node P S)). out_in l m j) more
+          ∙ outs_put s.nodes.items home i.0 has.after node ran.node (sym at) has.there has.residents m j
+          ∙ ap (λ (o : Option (Out S)). cond ((m == home) && (j == i.0)) o (out_in s.nodes.items m j)) (out_none has.after has.back)
+          ∙ ap (λ (k : ℕ). cond ((m == k) && (j == i.0)) None (out_in s.nodes.items m j)) at_home;
       members = subst (Each (λ (part : Part P S). part.member < f.settings.nodes)) (sym drafted.parts) (lt, tt);
       later = left_there.later;
     }

@@ -1,5 +1,6 @@
 -- The packets that an event sends, in bytes and as letters.
 use Rattle.std.proofs.Common.{◌≡◌, ◌∙◌, ℕ, suc, List, [], ◌∷◌, ◌++◌, Some, None, take, map, ap, sym, subst, refl, arith, length, append-nil, append_assoc}
+use Rattle.std.specs.List.{AllByRecursion as Each}
 use Rattle.group_packets.specs.Packet.{kind_of}
 use Rattle.group_packets.specs.declared.packet.PacketKind.{PacketKind}
 use Rattle.net_rules.proofs.Travelling.{seen_joined}
@@ -64,8 +65,8 @@ asked_one f w one mail given is =
     ∙ ap (λ (n : ℕ). packet_asked (suc w.sent) (kind_of p.packet) p.from p.to n given) is.told
 
 pub sent_asked : (f : Frame) (w : World) (outgoing : List Outgoing) (mails : List Mail) (fates : List Fate) (sent : ℕ) → AreOutgoing f.settings.nodes outgoing mails → length fates ≡ length mails → sent ≡ w.sent
-    → (more : List Told) × ((posts_all f w mails fates).told ≡ w.told ++ more) × (asked_all sent outgoing fates ≡ map told_so more)
-sent_asked f w [] [] fates sent h same at = ([], sym (append-nil w.told), refl)
+    → (more : List Told) × ((posts_all f w mails fates).told ≡ w.told ++ more) × (asked_all sent outgoing fates ≡ map told_so more) × Each (λ (one : Told). one.wire ≡ w.swaps) more
+sent_asked f w [] [] fates sent h same at = ([], sym (append-nil w.told), refl, tt)
 sent_asked f w (one ∷ outgoing) (mail ∷ mails) [] sent h same at = absurd (cc same)
 sent_asked f w (one ∷ outgoing) (mail ∷ mails) (given ∷ fates) sent h same at =
     let next = posts f w mail given in
@@ -76,6 +77,7 @@ sent_asked f w (one ∷ outgoing) (mail ∷ mails) (given ∷ fates) sent h same
       ap (λ (l : List Asked). packet_asked (suc sent) one.kind one.from one.to one.length given ∷ l) rest.2
           ∙ ap (λ (n : ℕ). packet_asked (suc n) one.kind one.from one.to one.length given ∷ map told_so rest.0) at
           ∙ ap (λ (a : Asked). a ∷ map told_so rest.0) (asked_one f w one mail given h.0),
+      (refl, rest.3),
     )
 sent_asked f w [] (mail ∷ mails) fates sent h same at = absurd h
 sent_asked f w (one ∷ outgoing) [] fates sent h same at = absurd h

@@ -143,9 +143,9 @@ pub record Leaves {P S : Type 0} (f : Frame) (s : Parts P S) (w : World) (outgoi
   pub stirs : stirred ≡ has_stirred f w u.world
   pub later : (m : ℕ) → (w.nodes m).copies.applied ≤ (u.world.nodes m).copies.applied
 
-pub draft_leaves : {P S : Type 0} (stood : Stood S) (left : Left S) (f : Frame) (s : Parts P S) (w : World) (draft : Draft P S) (u : AtWork) → IsDraft stood left f s w draft u
+pub draft_leaves : {P S : Type 0} (stood : Stood S) (left : Left S) (f : Frame) (s : Parts P S) (w : World) (event : Event) (draft : Draft P S) (u : AtWork) → IsDraft stood left f s w event draft u
     → Leaves f s w draft.outgoing.items draft.entries.items (of_pieces draft.pieces.items) draft.has_stirred u
-draft_leaves stood left f s w draft u h = record { letters = h.letters; listed = h.entries; did = h.performed; stirs = h.stirred; later = h.later }
+draft_leaves stood left f s w event draft u h = record { letters = h.letters; listed = h.entries; did = h.performed; stirs = h.stirred; later = h.later }
 
 -- what a step changed of the parts
 pub record Changed {P S : Type 0} (stood : Stood S) (left : Left S) (f : Frame) (s new : Parts P S) (event : Event) (outgoing : List Outgoing) (entries : List Message) (performed : List Placed) (stirred : Bool) (fates : List Fate)

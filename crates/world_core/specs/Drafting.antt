@@ -1,5 +1,5 @@
 -- What an event leaves, before it is done.
-use Rattle.std.specs.Prelude.{◌≡◌, ◌<◌, ◌≤◌, ◌+◌, ◌-◌, ◌^◌, ◌++◌, ◌==◌, ◌&&◌, ◌||◌, not, nat_lt, if◌then◌else◌, ℕ, suc, Bool, List, [], ◌∷◌, length, Option, None, Some, slice_get, slice_set}
+use Rattle.std.specs.Prelude.{◌≡◌, ◌<◌, ◌≤◌, ◌+◌, ◌-◌, ◌^◌, ◌++◌, ◌==◌, ◌&&◌, ◌||◌, not, nat_lt, if◌then◌else◌, ℕ, suc, Bool, List, [], ◌∷◌, length, map, Option, None, Some, slice_get, slice_index_or, slice_set}
 use Rattle.value_core.specs.declared.action.Line.{Line}
 use Rattle.value_core.specs.declared.action.Reply.{Reply}
 use Rattle.value_core.specs.declared.message.Message.{Message}
@@ -33,11 +33,13 @@ use Rattle.node_core.specs.declared.moved.Moved.{Moved}
 use Rattle.node_core.specs.declared.node.Node.{Node}
 use Rattle.node_core.specs.declared.resident.Resident.{Resident}
 use Rattle.world_parts.specs.Recorded.{of_pieces}
-use Rattle.world_parts.specs.Standing.{Is}
+use Rattle.world_parts.specs.Seen.{Out}
+use Rattle.world_parts.specs.Standing.{Is, outs_of}
 use Rattle.world_parts.specs.declared.parts.Parts.{Parts}
 use Rattle.world_core.specs.declared.draft.Draft.{Draft}
 use Rattle.world_core.specs.declared.draft.Part.{Part}
 use Rattle.world_core.specs.declared.letters.Outgoing.{Outgoing}
+use Rattle.world_core.specs.Stepping.{is_burst_of}
 
 -- ---- packets
 
@@ -76,6 +78,10 @@ taken (part ∷ parts) nodes = taken parts (slice_set nodes part.member part.nod
 pub record AreNodes {P S : Type 0} (stood : Stood S) (left : Left S) (f : Frame) (nodes : List (Node P S)) (w : World) : Type 0 where
   pub count : length nodes ≡ f.settings.nodes
   pub each : (m : ℕ) (node : Node P S) → slice_get nodes m ≡ Some node → StandsAs stood left f m node (w.nodes m)
+
+-- the task of process i that is out at member m
+abbrev pub out_in : {P S : Type 0} → List (Node P S) → ℕ → ℕ → Option (Out S)
+out_in nodes m i = slice_index_or (slice_index_or (map outs_of nodes) m []) i None
 
 -- a process with a task out is as it was before the event
 abbrev pub KeepTasks : {P S : Type 0} → List (Node P S) → List (Node P S) → Type 0
@@ -167,22 +173,25 @@ AddsLetter stood left f fitness s before from packet old new =
 
 -- ---- an event
 
--- it leaves what the event gave: its members, whose tasks stay as they are, the packets that it sent, the entries that are new
--- to the list, and what was performed
-pub record IsDraft {P S : Type 0} (stood : Stood S) (left : Left S) (f : Frame) (s : Parts P S) (w : World) (draft : Draft P S) (u : AtWork) : Type 0 where
+-- it leaves what the event gave: its members, whose tasks stay as they are, but for the task of a burst's process; the packets that it
+-- sent, the entries that are new to the list, and what was performed
+pub record IsDraft {P S : Type 0} (stood : Stood S) (left : Left S) (f : Frame) (s : Parts P S) (w : World) (event : Event) (draft : Draft P S)
+    (u : AtWork) : Type 0 where
   pub nodes : AreNodes stood left f (taken draft.parts.items s.nodes.items) u.world
   pub letters : AreOutgoing f.settings.nodes draft.outgoing.items u.mails
   pub entries : s.ledger.entries ++ draft.entries.items ≡ agreed f u.world
   pub performed : Performed (singles_in f u.world) f.performs (agreed f u.world) u.world.aside (s.ledger.performed ++ of_pieces draft.pieces.items)
   pub stirred : draft.has_stirred ≡ has_stirred f w u.world
   pub tasks : KeepTasks s.nodes.items (taken draft.parts.items s.nodes.items)
+  pub outs :
+      (m i : ℕ) → out_in (taken draft.parts.items s.nodes.items) m i ≡ (if is_burst_of f w event m i then None else out_in s.nodes.items m i)
   pub members : Each (λ (part : Part P S). part.member < f.settings.nodes) draft.parts.items
   pub later : (m : ℕ) → (w.nodes m).copies.applied ≤ (u.world.nodes m).copies.applied
 
 -- of an event that is possible
 abbrev pub Drafts : {P S : Type 0} → Stood S → Left S → Frame → Parts P S → Event → Draft P S → Type 0
 Drafts stood left f s event draft =
-    Is stood left f s (λ w. (given : Known event) × Possible f w event given × IsDraft stood left f s w draft (happens f w event given))
+    Is stood left f s (λ w. (given : Known event) × Possible f w event given × IsDraft stood left f s w event draft (happens f w event given))
 
 -- where the event may not be, in a run that is going
 abbrev pub MayNotBe : {P S : Type 0} → Stood S → Left S → Frame → Parts P S → Event → Type 0

@@ -11,7 +11,7 @@ use Rattle.world_rules.specs.Worlds.{World, agreed}
 use Rattle.node_core.specs.Shown.{Left, Stood}
 use Rattle.world_parts.specs.Recorded.{of_pieces}
 use Rattle.world_parts.specs.declared.parts.Parts.{Parts}
-use Rattle.world_core.specs.Drafting.{AreNodes, AreOutgoing, KeepTasks, taken}
+use Rattle.world_core.specs.Drafting.{AreNodes, AreOutgoing, KeepTasks, out_in, taken}
 use Rattle.world_core.specs.declared.draft.Draft.{Draft}
 use Rattle.world_core.specs.declared.draft.Part.{Part}
 
@@ -34,6 +34,7 @@ pub record Progress {P S : Type 0} (stood : Stood S) (left : Left S) (f : Frame)
   pub letters : AreOutgoing f.settings.nodes draft.outgoing.items u.mails
   pub stirred : draft.has_stirred ≡ has_stirred f w u.world
   pub tasks : KeepTasks s.nodes.items (taken draft.parts.items s.nodes.items)
+  pub outs : (m i : ℕ) → out_in (taken draft.parts.items s.nodes.items) m i ≡ out_in s.nodes.items m i
   pub members : Each (λ (part : Part P S). part.member < f.settings.nodes) draft.parts.items
   pub beside : List Placed
   pub grown : u.world.aside ≡ w.aside ++ beside

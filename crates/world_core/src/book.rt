@@ -7,6 +7,7 @@ ghost use Rattle.node_core.specs.Shown.{on_stage};
 ghost use Rattle.value_core.specs.declared.action.Line.{Line as LineOf};
 ghost use Rattle.world_facts.specs.Ends.{end_at, end_crashed, end_living, end_of, end_over, process_end, replies_in};
 ghost use Rattle.world_rules.specs.Worlds.{Book, played_in};
+ghost use Rattle.world_parts.specs.Choosing.{longest_log};
 ghost use Rattle.world_parts.specs.Recorded.{of_piece, of_pieces};
 ghost use Rattle.world_parts.specs.Standing.{Is, Stands};
 ghost use Rattle.world_core.specs.Telling.{AreNodeEnds, AreProcessEnds, HasHeard, TellsNode, on_process_end, on_standing, standing_as};
@@ -396,18 +397,21 @@ fn over(alloc: Global, action: &Action) -> Result<ProcessStanding, NoMemory>
 pub(crate) fn into_end<P: OneRun>(parts: Parts<P>, alloc: Global) -> Result<RunEnd, NoMemory>
     requires { Stands P.stood P.left P.run.frame parts }
     ensures steps { IfOk result (λ end. end.steps.items ≡ parts.ledger.steps) }
+    ensures longest { Is P.stood P.left P.run.frame parts (λ w. IfOk result (λ end. end.longest ≡ longest_log P.run.frame w)) }
     ensures book { Is P.stood P.left P.run.frame parts (λ w. IfOk result (λ end. end.book.items ≡ Book P.run.frame w)) }
     ensures nodes { Is P.stood P.left P.run.frame parts (λ w. IfOk result (λ end. AreNodeEnds P.run.frame w end.nodes.items)) }
     ensures processes { Is P.stood P.left P.run.frame parts (λ w. IfOk result (λ end. AreProcessEnds P.run.frame w end.processes.items)) }
 {
     let nodes = node_ends(&parts, alloc)?;
     let processes = process_ends(&parts, alloc)?;
+    let longest = parts.longest_log();
     let (steps, pieces) = parts.ledger.into_parts();
     let performed = taken(alloc, pieces)?;
     let book = sorted(alloc, performed)?;
     Ok(RunEnd {
         book,
         steps,
+        longest,
         nodes,
         processes,
     })

@@ -1,21 +1,23 @@
 //! Processes that compute outside.
 
-ghost use Rattle.std.specs.Prelude.{◌≡◌, ◌+◌, ◌==◌, ◌∷◌, [], true, not, length, IfErr, IfOk, OnErr, OnOk};
+ghost use Rattle.std.specs.Prelude.{◌≡◌, ◌+◌, ◌<◌, ◌≤◌, ◌==◌, ◌∷◌, [], true, not, length, IfErr, IfOk, OnErr, OnOk};
 ghost use Rattle.book_law.specs.Performed.{placed};
 ghost use Rattle.node_core.specs.CheckingIn.{MayHandOut};
 ghost use Rattle.node_core.specs.Stands.{fitness_of};
-ghost use Rattle.world_core.specs.Bursting.{HasRunOn};
+ghost use Rattle.world_core.specs.Bursting.{HasRunNow, HasRunOn, HasStored};
+ghost use Rattle.world_facts.specs.Ends.{turns_in};
 ghost use Rattle.world_parts.specs.Recorded.{of_pieces};
 ghost use Rattle.world_rules.specs.Standings.{standing};
+ghost use Rattle.world_rules.specs.Worlds.{home_of, played_in};
 ghost use Rattle.world_rules.specs.declared.standing.Standing.TheVariants.{Going};
 ghost use Rattle.world_core.specs.Recalling.{AreRecalled};
-ghost use Rattle.world_core.specs.Stepping.{ChecksIn, HandsOutOf, IsAstray};
+ghost use Rattle.world_core.specs.Stepping.{ChecksIn, HandsOutOf, HasComputed, IsAstray};
 ghost use Rattle.world_parts.specs.Choosing.{is_ready};
 ghost use Rattle.world_parts.specs.Seen.{tasks_out};
 ghost use Rattle.world_parts.specs.Standing.{Is, Stands, seen_of};
 
 use crate::draft::{Draft, reads_of};
-use crate::events::{budget, turns_of};
+use crate::events::{budget, member_of, turns_of};
 use crate::step::is_going;
 use node_core::{CheckedIn, Done, Node, OneRun, Stray, Task};
 use object_manager::View;
@@ -133,6 +135,82 @@ pub(crate) fn check_in<P: OneRun>(parts: &mut Parts<P>, done: Done<P>) -> Result
     let fates = Items::new(parts.ledger.no_fates());
     parts.ledger.push_step(Step { event, fates });
     Ok(())
+}
+
+/// Lets a process that is ready, in a run that is going, compute on its member's copies as they are, and does the Burst event of that, which
+/// becomes the last step. Tasks that are out stay so.
+///
+/// It is computed on a copy of the member: where there is no memory, the world is as it was.
+pub(crate) fn compute<P: OneRun>(
+    parts: &mut Parts<P>,
+    alloc: Global,
+    machine: &P,
+    process: ProcessNo,
+) -> Result<(), NoMemory>
+    requires stands { Stands P.stood P.left P.run.frame parts.old }
+    requires going { Is P.stood P.left P.run.frame parts.old (λ w. standing P.run.frame w ≡ Going) }
+    requires ready { Is P.stood P.left P.run.frame parts.old (λ w. is_ready P.run.frame (seen_of parts.old) w process.0 ≡ true) }
+    ensures stands { Stands P.stood P.left P.run.frame parts.new }
+    ensures done { OnOk result (HasComputed P.run.frame process (seen_of parts.old) (seen_of parts.new)) }
+    ensures out { (seen_of parts.new).out ≡ (seen_of parts.old).out }
+    ensures tasks { tasks_out (seen_of parts.new) ≡ tasks_out (seen_of parts.old) }
+    ensures err { OnErr result (seen_of parts.new ≡ seen_of parts.old) }
+{
+    let home = parts.home_of(process);
+    let start = turns_of(parts, process);
+    let ran = run_now(parts, alloc, machine, process, home, start)?;
+    let tasks = parts.tasks_out() as usize + 1;
+    parts.ledger.make_room(tasks, 0, tasks)?;
+    let event = Event::Burst {
+        process,
+        place: ran.burst.place,
+        turns: (ran.turns - start) as u32,
+    };
+    store_burst(parts, home, event, ran);
+    Ok(())
+}
+
+// Computes a burst of the process, which is ready and took so many turns, on its member's copies as they are.
+fn run_now<P: OneRun>(
+    parts: &Parts<P>,
+    alloc: Global,
+    machine: &P,
+    process: ProcessNo,
+    home: u8,
+    start: u64,
+) -> Result<Ran<P>, NoMemory>
+    requires stands { Stands P.stood P.left P.run.frame parts.now }
+    requires going { Is P.stood P.left P.run.frame parts.now (λ w. standing P.run.frame w ≡ Going) }
+    requires ready { Is P.stood P.left P.run.frame parts.now (λ w. is_ready P.run.frame (seen_of parts.now) w process.0 ≡ true) }
+    requires home { Is P.stood P.left P.run.frame parts.now (λ w. home ≡ home_of P.run.frame w process.0) }
+    requires start { Is P.stood P.left P.run.frame parts.now (λ w. start ≡ turns_in (played_in P.run.frame w process.0)) }
+    ensures { IfOk result (HasRunNow P.stood P.left P.run.frame process home parts.now) }
+{
+    calls_fit(machine);
+    let before = member_of(parts, home);
+    let view = before.copies().view(alloc)?;
+    let budget = budget(parts, start);
+    let ran = run_on(alloc, machine, before, process, view, budget)?;
+    Ok(ran)
+}
+
+// The member after a burst takes its place, the burst's reads are kept, and the event is the last step. There is room for both.
+fn store_burst<P: OneRun>(parts: &mut Parts<P>, home: u8, event: Event, ran: Ran<P>)
+    requires home { home < length parts.old.nodes.items }
+    requires step { 1 ≤ parts.old.ledger.step_room }
+    requires piece { 1 ≤ parts.old.ledger.piece_room }
+    ensures { HasStored home event ran parts.old parts.new }
+{
+    let Ran {
+        node,
+        burst,
+        turns: _,
+    } = ran;
+    parts.nodes[home as usize] = node;
+    parts.ledger.push_piece(reads_of(burst));
+    parts.idle = 0;
+    let fates = Items::new(parts.ledger.no_fates());
+    parts.ledger.push_step(Step { event, fates });
 }
 
 /// Ends every task that is out. Those processes are ready again, and nothing else changes. It takes no memory.

@@ -51,6 +51,8 @@ pub struct RunEnd {
     pub book: Vec<Line>,
     /// Its events, with the fates of the packets that they sent.
     pub steps: Vec<Step>,
+    /// The length of the longest log of a member.
+    pub longest: u64,
     /// Its members, by their numbers.
     pub nodes: Vec<NodeEnd>,
     /// Its processes, by their numbers.

@@ -6,7 +6,7 @@ ghost use Rattle.world_rules.specs.Steps.{idle_after};
 ghost use Rattle.world_rules.specs.declared.standing.Standing.TheVariants.{Going};
 ghost use Rattle.world_parts.specs.Seen.{tasks_out};
 ghost use Rattle.world_parts.specs.Standing.{Is, Stands, seen_of};
-ghost use Rattle.world_core.specs.Stepping.{IsRefused, OutBefore, Stepped, is_going};
+ghost use Rattle.world_core.specs.Stepping.{IsRefused, KeepsOut, OutBefore, Stepped, is_going};
 ghost use Rattle.world_core.specs.Closing.{HasClosed, HasEnded, HasLeft, HasRoomMade, MayEnd, MayLeave, asked_all, sent_all};
 ghost use Rattle.world_core.specs.Drafting.{taken};
 ghost use Rattle.world_parts.specs.Recorded.{of_pieces};
@@ -78,6 +78,7 @@ pub(crate) fn step<P: OneRun, W: Wire>(
     ensures refused { result ≡ Err StepError.NotEnabled → IsRefused P.run.frame event (seen_of parts.old) }
     ensures enabled { IsRefused P.run.frame event (seen_of parts.old) → (result ≡ Err StepError.NotEnabled) ⊎ (result ≡ Err StepError.NoMemory) }
     ensures tasks { OutBefore (seen_of parts.old) (seen_of parts.new) }
+    ensures out { OnOk result (KeepsOut P.run.frame event (seen_of parts.old) (seen_of parts.new)) }
     ensures fewer { tasks_out (seen_of parts.new) ≤ tasks_out (seen_of parts.old) }
     ensures script { W.told_script wire.new ≡ W.told_script wire.old }
     ensures since { W.loaded wire.new ≡ W.loaded wire.old }
@@ -113,6 +114,7 @@ fn does<P: OneRun, W: Wire>(
     ensures refused { result ≡ Err StepError.NotEnabled → IsRefused P.run.frame event (seen_of parts.old) }
     ensures enabled { IsRefused P.run.frame event (seen_of parts.old) → (result ≡ Err StepError.NotEnabled) ⊎ (result ≡ Err StepError.NoMemory) }
     ensures tasks { OutBefore (seen_of parts.old) (seen_of parts.new) }
+    ensures out { OnOk result (KeepsOut P.run.frame event (seen_of parts.old) (seen_of parts.new)) }
     ensures fewer { tasks_out (seen_of parts.new) ≤ tasks_out (seen_of parts.old) }
     ensures script { W.told_script wire.new ≡ W.told_script wire.old }
     ensures since { W.loaded wire.new ≡ W.loaded wire.old }

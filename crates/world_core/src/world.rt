@@ -1,23 +1,25 @@
 //! The world of one run.
 
-ghost use Rattle.std.specs.Prelude.{◌≡◌, ◌⊎◌, ◌+◌, ◌≤◌, [], true, Err, IfErr, IfOk, OnErr, OnOk, option_map};
+ghost use Rattle.std.specs.Option.{option_copied};
+ghost use Rattle.std.specs.Prelude.{◌≡◌, ◌⊎◌, ◌+◌, ◌<◌, ◌≤◌, [], true, is_some, Err, IfErr, IfOk, IfSome, OnErr, OnOk, option_map};
 ghost use Rattle.value_core.specs.History.{Legal};
+ghost use Rattle.node_core.specs.Stands.{StandsAs};
 ghost use Rattle.net_rules.specs.Flights.{first_ready};
 ghost use Rattle.world_rules.specs.Frame.{AreSettings};
 ghost use Rattle.world_rules.specs.Standings as rules;
-ghost use Rattle.world_rules.specs.Steps.{Replays};
+ghost use Rattle.world_rules.specs.Steps.{Replays, lives_in};
 ghost use Rattle.world_rules.specs.Worlds.{Book, World as RunWorld, home_of};
 ghost use Rattle.world_rules.specs.declared.standing.Standing.TheVariants.{Going};
 ghost use Rattle.world_book.specs.Promise.{AllStuck, IsKept};
-ghost use Rattle.world_parts.specs.Choosing.{due_act, is_ready, longest_log};
+ghost use Rattle.world_parts.specs.Choosing.{due_act, is_ready, longest_log, spent_process};
 ghost use Rattle.world_parts.specs.Seen.{Of, tasks_out};
-ghost use Rattle.world_core.specs.Stepping.{ChecksIn, HandsOutOf, IsAstray, IsRefused, OutBefore, Stepped};
+ghost use Rattle.world_core.specs.Stepping.{AreOut, ChecksIn, HandsOutOf, HasComputed, IsAstray, IsRefused, KeepsOut, OutBefore, Stepped};
 ghost use Rattle.world_core.specs.Telling.{AreNodeEnds, AreProcessEnds, EndsMean};
 
 use crate::ends::{NodeEnd, ProcessEnd, RunEnd};
 use crate::step::StepError;
 use crate::{book, burst, step};
-use node_core::{Done, OneRun, Stray, Task};
+use node_core::{Done, Node, OneRun, Stray, Task};
 use orca_base::{NoMemory, ProcessNo};
 use std::alloc::Global;
 use std::marker::Model;
@@ -94,6 +96,7 @@ impl<P: OneRun> World<P> {
         ensures refused { result ≡ Err StepError.NotEnabled → IsRefused P.run.frame event self.old }
         ensures enabled { IsRefused P.run.frame event self.old → (result ≡ Err StepError.NotEnabled) ⊎ (result ≡ Err StepError.NoMemory) }
         ensures tasks { OutBefore self.old self.new }
+        ensures out { OnOk result (KeepsOut P.run.frame event self.old self.new) }
         ensures fewer { tasks_out self.new ≤ tasks_out self.old }
         ensures script { W.told_script wire.new ≡ W.told_script wire.old }
         ensures since { W.loaded wire.new ≡ W.loaded wire.old }
@@ -134,6 +137,27 @@ impl<P: OneRun> World<P> {
         burst::check_in(&mut self.parts, done)
     }
 
+    /// Lets a process that is ready, in a run that is going, compute on its member's copies as they are, and does the Burst event of that,
+    /// which becomes the last step: a check-out, what is computed and its check-in in one go, of which nothing comes back astray. Tasks that
+    /// are out stay so.
+    ///
+    /// Where there is no memory, the world is as it was.
+    pub fn compute(
+        &mut self,
+        alloc: Global,
+        machine: &P,
+        process: ProcessNo,
+    ) -> Result<(), NoMemory>
+        requires going { Of P.run.frame self.old (λ w. rules.standing P.run.frame w ≡ Going) }
+        requires ready { Of P.run.frame self.old (λ w. is_ready P.run.frame self.old w process.0 ≡ true) }
+        ensures done { OnOk result (HasComputed P.run.frame process self.old self.new) }
+        ensures out { self.new.out ≡ self.old.out }
+        ensures tasks { tasks_out self.new ≡ tasks_out self.old }
+        ensures err { OnErr result (self.new ≡ self.old) }
+    {
+        burst::compute(&mut self.parts, alloc, machine, process)
+    }
+
     /// Ends every task that is out. Those processes are ready again, and nothing else changes. It takes no memory.
     pub fn recall(&mut self)
         ensures steps { self.new.steps ≡ self.old.steps }
@@ -157,6 +181,23 @@ impl<P: OneRun> World<P> {
         ensures { Of P.run.frame self.now (λ w. result ≡ home_of P.run.frame w process.0) }
     {
         self.parts.home_of(process)
+    }
+
+    /// Whether this member lives; one that there isn't doesn't.
+    pub fn lives(&self, member: u8) -> bool
+        ensures { Of P.run.frame self.now (λ w. result ≡ lives_in P.run.frame w member) }
+    {
+        self.parts.lives(member)
+    }
+
+    /// The member of this number, where there is one: its node stands for the world's, so its calls tell its copies and where it stands in
+    /// the group.
+    pub fn node(&self, member: u8) -> Option<&Node<P>>
+        ensures some { member < P.run.frame.settings.nodes → is_some (option_copied result) ≡ true }
+        ensures stands { Of P.run.frame self.now (λ w. IfSome (option_copied result)
+            (λ node. StandsAs P.stood P.left P.run.frame member node (w.nodes member))) }
+    {
+        self.parts.node(member)
     }
 
     /// The length of the longest log of a member.
@@ -187,17 +228,33 @@ impl<P: OneRun> World<P> {
         self.parts.is_ready(process)
     }
 
+    /// The lowest process that computes and has no turns left.
+    pub fn spent_process(&self) -> Option<ProcessNo>
+        ensures { Of P.run.frame self.now (λ w. option_map (λ i. i.0) result ≡ spent_process P.run.frame w) }
+    {
+        self.parts.spent_process()
+    }
+
     /// Whether the moment is quiet: no packet can be delivered, and no process on a living member computes or is at an action that wasn't
     /// carried out. So no task is out.
     pub fn is_quiet(&self) -> bool
-        ensures { Of P.run.frame self.now (λ w. result ≡ rules.is_quiet P.run.frame w) }
+        ensures quiet { Of P.run.frame self.now (λ w. result ≡ rules.is_quiet P.run.frame w) }
+        ensures tasks { result ≡ true → tasks_out self.now ≡ 0 }
     {
         self.parts.is_quiet()
     }
 
-    /// How many tasks are out.
+    /// How many wires were given up: the one in use stands behind so many.
+    pub fn swaps(&self) -> u16
+        ensures { Of P.run.frame self.now (λ w. result ≡ w.swaps) }
+    {
+        self.parts.swaps
+    }
+
+    /// How many tasks are out. Each is of a process that computes on a living member, over a view from the process's place on (`each`).
     pub fn tasks_out(&self) -> u16
-        ensures { result ≡ tasks_out self.now }
+        ensures count { result ≡ tasks_out self.now }
+        ensures each { AreOut P.run.frame self.now }
     {
         self.parts.tasks_out()
     }
@@ -247,11 +304,14 @@ impl<P: OneRun> World<P> {
     /// there is no memory, it is gone.
     pub fn into_end(self, alloc: Global) -> Result<RunEnd, NoMemory>
         ensures steps { IfOk result (λ end. end.steps.items ≡ self.steps) }
+        ensures longest { Of P.run.frame self (λ w. IfOk result (λ end. end.longest ≡ longest_log P.run.frame w)) }
+        ensures replayed { (w : RunWorld) × Replays P.run.frame self.steps w }
         ensures book { Of P.run.frame self (λ w. IfOk result (λ end. end.book.items ≡ Book P.run.frame w)) }
         ensures legal { IfOk result (λ end. Legal P.run.frame.performs P.run.frame.computes end.book.items) }
         ensures nodes { Of P.run.frame self (λ w. IfOk result (λ end. AreNodeEnds P.run.frame w end.nodes.items)) }
         ensures processes { Of P.run.frame self (λ w. IfOk result (λ end. AreProcessEnds P.run.frame w end.processes.items)) }
         ensures mean { Of P.run.frame self (EndsMean P.run.frame) }
+        ensures stuck { Of P.run.frame self (AllStuck P.run.frame) }
         ensures kept { Of P.run.frame self (IsKept P.run.frame) }
     {
         book::into_end(self.parts, alloc)

@@ -1,6 +1,7 @@
 use Rattle.orca_cli.specs.Endings as because
-use Rattle.orca_cli.specs.Loaded.{load_line, load_status}
-use Rattle.orca_cli.proofs.CliLemmas.{answer_of, failed_status, unread_status}
+use Rattle.command_files.specs.Loaded.{load_line, load_status}
+use Rattle.command_files.proofs.ReadFiles.{failed_status, unread_status}
+use Rattle.orca_cli.proofs.CliLemmas.{answer_of}
 use Rattle.orca_cli.proofs.top.said_unread.Goals as goal
 
 pub said-requires : goal.said-requires

@@ -13,3 +13,6 @@ returns-clause-nodes g c w is = (c.in_ok-nodes.ensures {u = tt}) w is
 
 pub returns-clause-processes : goal.returns-clause-processes
 returns-clause-processes g c w is = (c.in_ok-processes.ensures {u = tt}) w is
+
+pub returns-clause-longest : goal.returns-clause-longest
+returns-clause-longest g c w is = c.longest_log-longest.ensures w is

@@ -27,6 +27,6 @@ returns g c w is =
     let all : c.members.member ≡ g.P.OneRun.run.frame.settings.nodes = omega (arith, c.members.auto.member-end, c.members-test.false, c.requires.stands.numbers.nodes) in (
       tt,
       c.requires.quiet w is,
-      progress_done g.P.OneRun.stood g.P.OneRun.left g.P.OneRun.run.frame c.args.parts.now w c.members.draft (ticking g.P.OneRun.run.frame w g.P.OneRun.run.frame.settings.nodes) is grows.list grows.performed (low_all g.P.OneRun.stood g.P.OneRun.left g.P.OneRun.run.frame c.args.parts.now w c.requires.stands is)
-          (subst (λ (n : ℕ). Progress g.P.OneRun.stood g.P.OneRun.left g.P.OneRun.run.frame c.args.parts.now w (ticking g.P.OneRun.run.frame w g.P.OneRun.run.frame.settings.nodes).world c.members.draft (ticking g.P.OneRun.run.frame w n)) all (c.members.invariant w is)),
+      progress_done g.P.OneRun.stood g.P.OneRun.left g.P.OneRun.run.frame c.args.parts.now w event.Tick c.members.draft (ticking g.P.OneRun.run.frame w g.P.OneRun.run.frame.settings.nodes) is grows.list grows.performed (low_all g.P.OneRun.stood g.P.OneRun.left g.P.OneRun.run.frame c.args.parts.now w c.requires.stands is)
+          (subst (λ (n : ℕ). Progress g.P.OneRun.stood g.P.OneRun.left g.P.OneRun.run.frame c.args.parts.now w (ticking g.P.OneRun.run.frame w g.P.OneRun.run.frame.settings.nodes).world c.members.draft (ticking g.P.OneRun.run.frame w n)) all (c.members.invariant w is)) (λ m i. refl),
     )

@@ -45,7 +45,7 @@ returns-in_ok-suspects_at-clause-drafts g c w is =
       tt,
       may,
       one_draft g.P.OneRun.stood g.P.OneRun.left g.P.OneRun.run.frame (fitness_of (g.P.Performer.fits_state m) (g.P.Performer.fits_args m) (g.P.Performer.fits_text m) (g.P.Performer.fits_reply m)) s w w (event.Suspect c.args.member) tt c.args.member (Suspects) c.member_of-before.result.now c.nothing-draft.result c.suspects_at.new.draft here refl refl refl
-          (one_comes g.P.OneRun.stood g.P.OneRun.left g.P.OneRun.run.frame s w (event.Suspect c.args.member) tt c.args.member (Suspects) c.member_of-before.result.now here lt at own tells) fits (record { parts = c.nothing-draft.ensures.parts; outgoing = c.nothing-draft.ensures.outgoing; entries = c.nothing-draft.ensures.entries; pieces = ap of_pieces c.nothing-draft.ensures.pieces; stirred = c.nothing-draft.ensures.stirred }) (c.in_ok-suspects_at.ensures {u = tt}),
+          (one_comes g.P.OneRun.stood g.P.OneRun.left g.P.OneRun.run.frame s w (event.Suspect c.args.member) tt c.args.member (Suspects) c.member_of-before.result.now here lt at own tells) fits (record { parts = c.nothing-draft.ensures.parts; outgoing = c.nothing-draft.ensures.outgoing; entries = c.nothing-draft.ensures.entries; pieces = ap of_pieces c.nothing-draft.ensures.pieces; stirred = c.nothing-draft.ensures.stirred }) (c.in_ok-suspects_at.ensures {u = tt}) (λ k i. refl),
     )
 
 pub returns-else-lives-clause-refused : goal.returns-else-lives-clause-refused

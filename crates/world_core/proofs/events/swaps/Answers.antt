@@ -10,7 +10,7 @@ returns-then-may_swap-clause-drafts g c w is =
       tt,
       may,
       quiet_draft g.P.OneRun.stood g.P.OneRun.left g.P.OneRun.run.frame c.args.parts.now w (record w { swaps = suc w.swaps }) event.Swap tt c.nothing.result
-          (record { stands = c.requires.stands; is = is; going = c.requires.going w is; possible = may }) refl refl refl (record { parts = c.nothing.ensures.parts; outgoing = c.nothing.ensures.outgoing; entries = c.nothing.ensures.entries; pieces = ap of_pieces c.nothing.ensures.pieces; stirred = c.nothing.ensures.stirred }),
+          (record { stands = c.requires.stands; is = is; going = c.requires.going w is; possible = may }) refl refl refl (record { parts = c.nothing.ensures.parts; outgoing = c.nothing.ensures.outgoing; entries = c.nothing.ensures.entries; pieces = ap of_pieces c.nothing.ensures.pieces; stirred = c.nothing.ensures.stirred }) (λ m i. refl),
     )
 
 pub returns-else-may_swap-clause-refused : goal.returns-else-may_swap-clause-refused

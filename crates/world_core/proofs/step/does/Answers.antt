@@ -7,7 +7,7 @@ use Rattle.world_parts.specs.declared.parts.Parts.{Parts}
 use Rattle.world_core.specs.Closing.{asked_all}
 use Rattle.world_core.proofs.Adding.{taken_length}
 use Rattle.world_core.proofs.Asking.{MayClose, done_possible, either_error, idle_small, may_close, may_end, may_leave, refused_by, room_seen, room_stands}
-use Rattle.world_core.proofs.Closed.{Calls, done_as, ended_others, step_done, step_fewer, step_outs, step_stands}
+use Rattle.world_core.proofs.Closed.{Calls, done_as, ended_others, step_done, step_fewer, step_keeps, step_outs, step_stands}
 use Rattle.world_core.proofs.Doing.{Here}
 use Rattle.world_core.proofs.Handing.{out_same}
 use Rattle.world_core.proofs.step.does.Goals as goal
@@ -161,6 +161,27 @@ returns-clause-tasks g c =
       idle = c.idle_after-idle.ensures;
     } in
     step_outs g.P.OneRun.stood g.P.OneRun.left g.P.OneRun.run.frame c.args.event c.in_ok-draft.draft c.close-fates.result.items c.args.parts.now c.make_room.new.parts c.leave_net.new.parts c.close-fates.new.parts c.end_tasks.new.parts (done_as c.end_tasks.new.parts c.idle_after-idle.result c.push_step.new.self) c.requires.stands (c.requires.going c.requires.stands.world c.requires.stands.is) (c.in_ok-draft.ensures {u = tt}).drafts calls
+
+pub returns-clause-out : goal.returns-clause-out
+returns-clause-out g c =
+    let calls : Calls g.P.OneRun.stood g.P.OneRun.left c.args.event c.in_ok-draft.draft c.close-fates.result.items c.args.parts.now c.make_room.new.parts c.leave_net.new.parts c.close-fates.new.parts c.end_tasks.new.parts (done_as c.end_tasks.new.parts c.idle_after-idle.result c.push_step.new.self) = record {
+      room = c.make_room.ensures.same;
+      steps = (c.in_ok-fates.ensures {u = tt}).steps;
+      pieces = (c.in_ok-fates.ensures {u = tt}).pieces;
+      few = (c.in_ok-fates.ensures {u = tt}).few;
+      leaves = c.leave_net.ensures;
+      closed = c.close-fates.ensures.closed;
+      ended = c.end_tasks.ensures;
+      numbers = refl;
+      nodes = refl;
+      lives = refl;
+      flights = refl;
+      ledger = c.push_step.ensures ∙ ap (λ (l : List Fate). record c.end_tasks.new.parts.ledger { steps = c.end_tasks.new.parts.ledger.steps ++ record { event = c.args.event; fates = l } ∷ []; step_room = c.end_tasks.new.parts.ledger.step_room - 1 }) c.new.ensures;
+      sent = refl;
+      swaps = refl;
+      idle = c.idle_after-idle.ensures;
+    } in
+    step_keeps g.P.OneRun.stood g.P.OneRun.left g.P.OneRun.run.frame c.args.event c.in_ok-draft.draft c.close-fates.result.items c.args.parts.now c.make_room.new.parts c.leave_net.new.parts c.close-fates.new.parts c.end_tasks.new.parts (done_as c.end_tasks.new.parts c.idle_after-idle.result c.push_step.new.self) c.requires.stands (c.in_ok-draft.ensures {u = tt}).drafts calls
 
 pub returns-clause-fewer : goal.returns-clause-fewer
 returns-clause-fewer g c =

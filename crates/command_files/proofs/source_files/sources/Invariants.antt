@@ -1,0 +1,10 @@
+use Rattle.std.proofs.Common.{◌≡◌}
+use Rattle.command_files.proofs.ReadFiles.{ReadSoFar}
+use Rattle.command_files.proofs.source_files.sources.Given as goal
+
+abbrev pub invariant-files : goal.invariant-files
+invariant-files g l = record {
+  read : ReadSoFar (g.F.Shelf.told l.initial.shelf) l.files l.file-index l.sources.items;
+  same : g.F.Shelf.told l.shelf ≡ g.F.Shelf.told l.initial.shelf;
+  quiet : g.F.Shelf.faults l.shelf ≡ g.F.Shelf.faults l.initial.shelf;
+}

@@ -1,0 +1,20 @@
+use Rattle.std.proofs.Common.{◌∙◌, ap, sym}
+use Rattle.std.specs.Prelude.{option_map}
+use Rattle.world_core.specs.declared.ends.ProcessEnd.{ProcessEnd}
+use Rattle.orca_cli.specs.Standings.{awaited_of}
+use Rattle.orca_cli.proofs.ReportLemmas.{first_found, first_none, first_passed}
+use Rattle.orca_cli.proofs.report.first_waiting.Goals as goal
+
+pub returns-in-Some : goal.returns-in-Some
+returns-in-Some c =
+    first_found (λ (end : ProcessEnd). awaited_of end.standing) c.args.ends.now c.ends.number c.index-ends-number.result c.in-Some.action.now c.ends-test.true c.index-ends-number.is
+    (sym c.awaited_of.ensures ∙ ap (option_map (λ a. a.now)) c.in-Some.is) c.ends.invariant
+
+pub ends-preserved : goal.ends-preserved
+ends-preserved c =
+    first_passed (λ (end : ProcessEnd). awaited_of end.standing) c.args.ends.now c.ends.number c.index-ends-number.result c.ends-test.true c.index-ends-number.is
+    (sym c.awaited_of.ensures ∙ ap (option_map (λ a. a.now)) c.in_default.is) c.ends.invariant
+
+pub returns : goal.returns
+returns c =
+    first_none (λ (end : ProcessEnd). awaited_of end.standing) c.args.ends.now c.ends.number c.ends-test.false c.ends.invariant

@@ -1,5 +1,0 @@
-use Rattle.orca_cli.proofs.CliLemmas.{puts_none}
-use Rattle.orca_cli.proofs.run.put_some.Goals as goal
-
-pub returns-then-is_empty-clause-puts : goal.returns-then-is_empty-clause-puts
-returns-then-is_empty-clause-puts g c = puts_none _ _ c.if-is_empty.ensures

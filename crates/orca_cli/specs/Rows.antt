@@ -1,0 +1,90 @@
+-- What each standing says of what is kept: the table of statuses, row by row (docs/FORMATS.md, Statuses).
+use Rattle.std.specs.Prelude.{◌≡◌, ◌⊎◌, ◌<◌, ◌||◌, ℕ, List, Some, true, length, slice_get}
+use Rattle.std.specs.List.{count_by}
+use Rattle.orca_base.specs.declared.fault.FaultKind.{FaultKind}
+use Rattle.orca_base.specs.declared.ids.ProcessNo.{ProcessNo}
+use Rattle.orca_base.specs.declared.what.What.{What}
+use Rattle.value_core.specs.History.{IsStuck, Process, processes_of}
+use Rattle.value_core.specs.declared.action.Action.{Action}
+use Rattle.value_core.specs.declared.meaning.Doing.TheVariants.{Busy}
+use Rattle.world_rules.specs.declared.standing.Standing.{Standing}
+use Rattle.world_rules.specs.declared.standing.Standing.TheVariants.{Limit, OutOfTurns, OutOfEvents, NoGroup, Faulted, Blocked, Finished, Going}
+use Rattle.world_rules.specs.Frame.{Frame}
+use Rattle.world_rules.specs.Worlds.{World}
+use Rattle.world_facts.specs.Rows.{IsLimited, IsOver, IsUnlimited, LacksGroup, MayGoOn, is_limit}
+use Rattle.world_rules.specs.Standings as rules
+use Rattle.world_core.specs.declared.ends.NodeEnd.{NodeEnd}
+use Rattle.world_core.specs.declared.ends.ProcessEnd.{ProcessEnd}
+use Rattle.world_core.specs.declared.ends.ProcessStanding.{ProcessStanding}
+use Rattle.world_core.specs.declared.ends.ProcessStanding.TheVariants as standing
+use Rattle.orca_cli.specs.declared.kept.Kept.{Kept}
+
+-- process i is kept, and stands so
+abbrev pub StandsAt : Kept → ℕ → ProcessStanding → Type 0
+StandsAt k i stands = (end : ProcessEnd) × (slice_get k.processes.items i ≡ Some end) × (end.standing ≡ stands)
+
+abbrev pub NoneFaulted : Kept → Type 0
+NoneFaulted k = (i : ℕ) (fault : FaultKind) → StandsAt k i (standing.Faulted fault) → ⊥
+
+-- each process ended, but for those whose members crashed before they did
+abbrev pub AllEnded : Kept → Type 0
+AllEnded k =
+    (i : ℕ) (end : ProcessEnd) → slice_get k.processes.items i ≡ Some end →
+    (end.standing ≡ standing.Ended) ⊎ (end.standing ≡ standing.Crashed)
+
+-- some process waits for the reply to an action, and none computes; and each that waits is stuck: by the history it is at a call whose
+-- guards are all false
+pub record SomeStuck (f : Frame) (k : Kept) : Type 0 where
+  pub number : ℕ
+  pub act : Action
+  pub waits : StandsAt k number (standing.Waits act)
+  pub none_busy : (i : ℕ) → StandsAt k i standing.Busy → ⊥
+  pub stuck :
+      (i : ProcessNo) (act : Action) → StandsAt k i.0 (standing.Waits act) → IsStuck f.performs f.computes k.book.items i
+
+-- a process took all the turns that there are, and is busy then after its replies
+pub record SomeBusy (f : Frame) (k : Kept) : Type 0 where
+  pub number : ProcessNo
+  pub end : ProcessEnd
+  pub kept : slice_get k.processes.items number.0 ≡ Some end
+  pub turns : end.turns ≡ f.settings.turns
+  pub process : Process
+  pub exists : slice_get (processes_of f.performs f.computes k.book.items) number.0 ≡ Some process
+  pub busy : f.computes.doing process.text number process.args end.replies f.settings.turns ≡ Busy
+
+-- more than r members are crashed or outside
+abbrev pub LostTooMany : Frame → Kept → Type 0
+LostTooMany f k = f.settings.resilience < count_by (λ (n : NodeEnd). n.crashed || n.outside) k.nodes.items
+
+-- ---- the rows
+
+-- the row of a standing; the first that holds is the run's
+abbrev pub KeptRow : Frame → World → Kept → Standing → Type 0
+KeptRow f w k (Limit what number) = IsLimited f w what number
+KeptRow f w k OutOfTurns = SomeBusy f k
+KeptRow f w k OutOfEvents = length k.events.items ≡ f.settings.events
+KeptRow f w k NoGroup = LostTooMany f k × LacksGroup f w
+KeptRow f w k Faulted = (i : ℕ) × (fault : FaultKind) × StandsAt k i (standing.Faulted fault)
+KeptRow f w k Blocked = NoneFaulted k × SomeStuck f k
+KeptRow f w k Finished = AllEnded k
+KeptRow f w k Going = Unit {0}
+
+-- no kept process took all its turns
+abbrev pub HaveTurns : Frame → Kept → Type 0
+HaveTurns f k = (i : ℕ) (end : ProcessEnd) → slice_get k.processes.items i ≡ Some end → end.turns < f.settings.turns
+
+-- The other way, row by row, each where none above it holds. A limit was passed; a process took all its turns; there are as many events as
+-- stated; there is no group; the run is over, and a process faulted, or none did and one waits; each process ended
+pub record ShownRows (f : Frame) (w : World) (k : Kept) : Type 0 where
+  pub limits : (what : What) (number : ℕ) → IsLimited f w what number → is_limit (rules.standing f w) ≡ true
+  pub turns :
+      IsUnlimited f w → (i : ℕ) (end : ProcessEnd) → slice_get k.processes.items i ≡ Some end → end.turns ≡ f.settings.turns →
+      rules.standing f w ≡ OutOfTurns
+  pub events : IsUnlimited f w → HaveTurns f k → length k.events.items ≡ f.settings.events → rules.standing f w ≡ OutOfEvents
+  pub group : IsUnlimited f w → HaveTurns f k → length k.events.items < f.settings.events → LacksGroup f w → rules.standing f w ≡ NoGroup
+  pub faulted :
+      MayGoOn f w → IsOver f w → (i : ℕ) (fault : FaultKind) → StandsAt k i (standing.Faulted fault) → rules.standing f w ≡ Faulted
+  pub blocked :
+      MayGoOn f w → IsOver f w → NoneFaulted k → (i : ℕ) (act : Action) → StandsAt k i (standing.Waits act) →
+      rules.standing f w ≡ Blocked
+  pub finished : MayGoOn f w → AllEnded k → rules.standing f w ≡ Finished

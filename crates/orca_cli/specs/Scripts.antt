@@ -1,0 +1,59 @@
+-- The script of a run: what the text in its file says, or nothing where there is none (docs/RUNTIME.md, Fault scripts).
+use Rattle.std.specs.Prelude.{◌≡◌, ℕ, List, [], Option, None, Some, Result, Ok, Err, codes}
+use Rattle.fault_scripts.specs.Says.{IsScript}
+use Rattle.fault_scripts.specs.Script.{IsRefusal}
+use Rattle.fault_scripts.specs.declared.error.ScriptError.{ScriptError}
+use Rattle.net_rules.specs.declared.line.ScriptLine.{ScriptLine}
+use Rattle.orca_base.specs.declared.limits.TheConstants.{SCRIPT_BYTES}
+use Rattle.orca_io.specs.Files.{File}
+use Rattle.orca_front.specs.Lines.{limit_line}
+use Rattle.orca_cli.specs.declared.script.ScriptFault.{ScriptFault}
+use Rattle.orca_cli.specs.declared.script.ScriptFault.TheVariants.{Absent, Bad, Failed, TooLong}
+use Rattle.command_output.specs.declared.statuses.TheConstants.{ABSENT, BAD_SCRIPT, LIMIT, READ_FAULT}
+use Rattle.command_files.specs.Sources.{Word}
+use Rattle.orca_cli.specs.Job.{script_in}
+use Rattle.command_files.specs.Lines.{absent_line, unread_line}
+use Rattle.orca_cli.specs.Lines.{script_line}
+use Rattle.command_files.specs.Loaded.{IsAbsent, IsThere, IsTooLong}
+use Rattle.command_files.specs.Sources.{IsRead}
+
+-- the text in this file was read, and says these lines; without a file there are none
+abbrev pub IsScriptOf : Option (List File) → Option Word → List ScriptLine → Type 0
+IsScriptOf told None lines = lines ≡ []
+IsScriptOf told (Some file) lines = (text : List ℕ) × IsRead told SCRIPT_BYTES (file, text) × IsScript text lines
+
+-- the words name no file of a script, or one that has a script
+abbrev pub HasScript : Option (List File) → List Word → Type 0
+HasScript told words = (lines : List ScriptLine) × IsScriptOf told (script_in words) lines
+
+-- the text is no script: this line is the first that is wrong
+abbrev pub IsWrong : List ℕ → ScriptFault → Type 0
+IsWrong text (Bad error) = IsRefusal text error
+IsWrong text (Absent file) = ⊥
+IsWrong text (TooLong file) = ⊥
+IsWrong text (Failed file) = ⊥
+
+-- The file isn't there, or is longer than a script may be, or is there and can't be read, which comes only where the shelf's count of faults
+-- rose. Or its text is no script
+abbrev pub IsScriptFault : Option (List File) → Type 0 → Word → ScriptFault → Type 0
+IsScriptFault told rose script (Absent file) = (file.now ≡ script) × IsAbsent told script
+IsScriptFault told rose script (TooLong file) = (file.now ≡ script) × IsTooLong told SCRIPT_BYTES script
+IsScriptFault told rose script (Failed file) = (file.now ≡ script) × IsThere told script × rose
+IsScriptFault told rose script (Bad error) = (text : List ℕ) × IsRead told SCRIPT_BYTES (script, text) × IsWrong text (Bad error)
+
+abbrev pub script_status : ScriptFault → ℕ
+script_status (Absent file) = ABSENT
+script_status (TooLong file) = LIMIT
+script_status (Failed file) = READ_FAULT
+script_status (Bad error) = BAD_SCRIPT
+
+abbrev pub script_fault_line : ScriptFault → List ℕ
+script_fault_line (Absent file) = absent_line file.now
+script_fault_line (TooLong file) = limit_line (codes "script bytes") SCRIPT_BYTES
+script_fault_line (Failed file) = unread_line file.now
+script_fault_line (Bad error) = script_line error
+
+-- a file that is there couldn't be read
+abbrev pub IsUnreadable : ScriptFault → Type 0
+IsUnreadable (Failed file) = Unit {0}
+IsUnreadable fault = ⊥

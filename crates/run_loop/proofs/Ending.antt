@@ -1,0 +1,79 @@
+-- A run from its opening to what is kept of it.
+use Rattle.std.proofs.Common.{◌≡◌, ◌∙◌, ◌≢◌, ℕ, List, [], length, map, Option, Some, None, IfSome, Result, Ok, Err, IfOk, OnErr, OnOk, ap, sym, subst}
+use Rattle.std.specs.Result.{result_ok}
+use Rattle.std.proofs.lemmas.List.{length-map}
+use Rattle.net_rules.specs.declared.asked.Asked.{Asked}
+use Rattle.orca_base.specs.declared.refusal.NoMemory.{NoMemory}
+use Rattle.world_rules.specs.declared.settings.Settings.{Settings}
+use Rattle.world_rules.specs.declared.standing.Standing.{Standing}
+use Rattle.world_rules.specs.declared.standing.Standing.TheVariants.{Going}
+use Rattle.world_rules.specs.declared.event.Step.{Step}
+use Rattle.world_rules.specs.Frame.{AreSettings, Frame}
+use Rattle.world_rules.specs.Standings as rules
+use Rattle.world_rules.specs.Steps.{Replays}
+use Rattle.world_rules.specs.Worlds.{Book, World}
+use Rattle.world_book.specs.Promise.{AllStuck, IsKept}
+use Rattle.world_parts.specs.Seen.{Of, Seen, tasks_out}
+use Rattle.world_core.specs.Telling.{AreNodeEnds, AreProcessEnds, EndsMean}
+use Rattle.world_core.specs.declared.ends.RunEnd.{RunEnd}
+use Rattle.run_loop.specs.Asked.{HaveToldOn, NoneAskedBehind, WereUsedSo, asked_since}
+use Rattle.run_loop.specs.Driven.{HasStopped, IsDriven}
+use Rattle.run_loop.specs.Left.{HasRun}
+use Rattle.run_loop.proofs.Driving.{opens, used_over, used_stopped}
+
+-- ---- before the first event
+
+pub opens_as : {S : Type 0} (f : Frame) (s : Seen S) (in_use : ℕ) (old new : List (List Asked)) (settings : Settings) → settings ≡ f.settings → s.steps ≡ [] → tasks_out s ≡ 0 → in_use ≡ 0 → new ≡ old
+    → settings.wires ≡ length new → AreSettings settings → IsDriven f s in_use old new
+opens_as f s in_use old new settings same none idle first told wires ranges =
+    subst (λ (k : ℕ). IsDriven f s k old new) (sym first)
+    (subst (λ (l : List (List Asked)). IsDriven f s 0 l new) told
+    (opens f s new none idle (sym wires ∙ ap (λ (x : Settings). x.wires) same) (subst AreSettings same ranges)))
+
+-- ---- behind the last
+
+-- how it went: the wires were used up to where it stands
+pub record HasGone {S : Type 0} (f : Frame) (s : Seen S) (st : Standing) (old new : List (List Asked)) : Type 0 where
+  pub world : World
+  pub replays : Replays f s.steps world
+  pub used : WereUsedSo st f s.steps world (asked_since old new)
+  pub unused : NoneAskedBehind world.swaps (asked_since old new)
+  pub told : HaveToldOn old new
+
+pub gone : {S T E : Type 0} (f : Frame) (s : Seen S) (in_use : ℕ) (st : Standing) (old new : List (List Asked)) (r : Result T E) → OnOk r (IsDriven f s in_use old new) → OnOk r (Of f s (λ w. rules.standing f w ≢ Going))
+    → OnErr r (HasStopped f s old new) → Of f s (λ w. st ≡ rules.standing f w) → HasGone f s st old new
+gone f s in_use st old new (Ok x) d over stopped stands = record {
+  world = d.world;
+  replays = d.replays;
+  used = used_over f s in_use old new st d (stands d.world d.replays) (λ going. over d.world d.replays (sym (stands d.world d.replays) ∙ going));
+  unused = subst (λ (k : ℕ). NoneAskedBehind k (asked_since old new)) d.swaps d.unused;
+  told = d.told;
+}
+gone f s in_use st old new (Err e) driven over h stands = record {
+  world = h.world;
+  replays = h.replays;
+  used = used_stopped f s old new st h (stands h.world h.replays);
+  unused = h.unused;
+  told = h.told;
+}
+
+-- what is kept of it
+pub ran : {S : Type 0} (f : Frame) (s : Seen S) (st : Standing) (old new : List (List Asked)) (r : Result RunEnd NoMemory) → HasGone f s st old new → Of f s (λ w. st ≡ rules.standing f w) → Of f s (AllStuck f)
+    → IfOk r (λ end. end.steps.items ≡ s.steps) → Of f s (λ w. IfOk r (λ end. end.book.items ≡ Book f w)) → Of f s (λ w. IfOk r (λ end. AreNodeEnds f w end.nodes.items))
+    → Of f s (λ w. IfOk r (λ end. AreProcessEnds f w end.processes.items)) → Of f s (EndsMean f) → Of f s (IsKept f) → IfSome (result_ok r) (HasRun f st old new)
+ran f s st old new (Err e) h stands stuck steps book nodes processes mean kept = tt
+ran f s st old new (Ok end) h stands stuck steps book nodes processes mean kept = record {
+  world = h.world;
+  left = record {
+    replays = subst (λ (l : List Step). Replays f l h.world) (sym steps) h.replays;
+    stands = stands h.world h.replays;
+    book = book h.world h.replays;
+    nodes = nodes h.world h.replays;
+    processes = processes h.world h.replays;
+    kept = kept h.world h.replays;
+    stuck = stuck h.world h.replays;
+    mean = mean h.world h.replays;
+  };
+  used = subst (λ (l : List Step). WereUsedSo st f l h.world (asked_since old new)) (sym steps) h.used;
+  unused = h.unused;
+}

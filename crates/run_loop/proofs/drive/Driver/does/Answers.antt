@@ -1,0 +1,51 @@
+use Rattle.std.proofs.Common.{◌+◌, Err, Some, ap, map}
+use Rattle.run_loop.proofs.Stepping.{act_by, none_given, passed_by, some_given, stopped_asked_by}
+use Rattle.run_loop.proofs.Telling.{kept_at}
+use Rattle.run_loop.proofs.drive.Driver.does.Goals as goal
+
+pub returns-in_default-clause-passed : goal.returns-in_default-clause-passed
+returns-in_default-clause-passed g c = λ _.
+    none_given g.P.OneRun.run.frame c.args.self.now.world c.args.self.now.in_use g.P.OneRun.run.told (map g.W.Wire.told c.args.wires.now) c.args.act c.in_default.is c.requires.answered
+
+pub returns-in-Ok-clause-done : goal.returns-in-Ok-clause-done
+returns-in-Ok-clause-done g c = λ _.
+    act_by g.W.Wire.told c.args.wires.now c.index-wires-self.result c.step.new.wire g.P.OneRun.run.frame c.args.self.now.world c.step.new.self c.args.self.now.in_use g.P.OneRun.run.told
+    c.in-Some.act c.event_of.result c.swaps_of.result c.worlds_count.ensures.counted
+    (some_given g.P.OneRun.run.frame c.args.self.now.world c.args.self.now.in_use g.P.OneRun.run.told (map g.W.Wire.told c.args.wires.now) c.args.act c.in-Some.act c.in-Some.is c.requires.answered)
+    c.event_of.ensures c.swaps_of.ensures c.in-Ok.ensures.done c.step.ensures.fewer
+
+pub returns-in-Ok-clause-scripts : goal.returns-in-Ok-clause-scripts
+returns-in-Ok-clause-scripts g c =
+    kept_at g.W.Wire.told_script c.args.wires.now c.args.self.now.in_use c.index-wires-self.result c.step.new.wire c.step.ensures.script
+
+pub returns-in-Ok-clause-loaded : goal.returns-in-Ok-clause-loaded
+returns-in-Ok-clause-loaded g c =
+    kept_at g.W.Wire.loaded c.args.wires.now c.args.self.now.in_use c.index-wires-self.result c.step.new.wire c.step.ensures.since
+
+pub returns-in-Err-NotEnabled-clause-passed : goal.returns-in-Err-NotEnabled-clause-passed
+returns-in-Err-NotEnabled-clause-passed g c = λ _.
+    passed_by g.W.Wire.told c.args.wires.now c.index-wires-self.result c.step.new.wire g.P.OneRun.run.frame c.args.self.now.world c.step.new.self c.args.self.now.in_use g.P.OneRun.run.told
+    c.in-Some.act c.event_of.result
+    (some_given g.P.OneRun.run.frame c.args.self.now.world c.args.self.now.in_use g.P.OneRun.run.told (map g.W.Wire.told c.args.wires.now) c.args.act c.in-Some.act c.in-Some.is c.requires.answered)
+    c.requires.going c.event_of.ensures (c.in-Err-NotEnabled.ensures.refused (ap Err c.in-Err-NotEnabled.field-0-is)) c.in-Err-NotEnabled.ensures.err c.in-Err-NotEnabled.ensures.unasked
+
+pub returns-in-Err-NotEnabled-clause-scripts : goal.returns-in-Err-NotEnabled-clause-scripts
+returns-in-Err-NotEnabled-clause-scripts g c =
+    kept_at g.W.Wire.told_script c.args.wires.now c.args.self.now.in_use c.index-wires-self.result c.step.new.wire c.step.ensures.script
+
+pub returns-in-Err-NotEnabled-clause-loaded : goal.returns-in-Err-NotEnabled-clause-loaded
+returns-in-Err-NotEnabled-clause-loaded g c =
+    kept_at g.W.Wire.loaded c.args.wires.now c.args.self.now.in_use c.index-wires-self.result c.step.new.wire c.step.ensures.since
+
+pub returns-in-Err-NoMemory-clause-stopped : goal.returns-in-Err-NoMemory-clause-stopped
+returns-in-Err-NoMemory-clause-stopped g c =
+    stopped_asked_by g.W.Wire.told c.args.wires.now c.index-wires-self.result c.step.new.wire g.P.OneRun.run.frame c.args.self.now.world c.step.new.self c.args.self.now.in_use g.P.OneRun.run.told
+    c.args.act c.requires.answered c.requires.going c.in-Err-NoMemory.ensures.err c.in-Err-NoMemory.ensures.unasked
+
+pub returns-in-Err-NoMemory-clause-scripts : goal.returns-in-Err-NoMemory-clause-scripts
+returns-in-Err-NoMemory-clause-scripts g c =
+    kept_at g.W.Wire.told_script c.args.wires.now c.args.self.now.in_use c.index-wires-self.result c.step.new.wire c.step.ensures.script
+
+pub returns-in-Err-NoMemory-clause-loaded : goal.returns-in-Err-NoMemory-clause-loaded
+returns-in-Err-NoMemory-clause-loaded g c =
+    kept_at g.W.Wire.loaded c.args.wires.now c.args.self.now.in_use c.index-wires-self.result c.step.new.wire c.step.ensures.since

@@ -1,0 +1,169 @@
+//! What drives a run: it does the next event, again and again.
+
+ghost use Rattle.std.specs.Prelude.{◌≡◌, ◌≢◌, ◌<◌, ◌+◌, [], false, true, Err, IfOk, None, Ok, OnErr, OnOk, Some, length, map};
+ghost use Rattle.world_rules.specs.Frame.{AreSettings};
+ghost use Rattle.world_rules.specs.Standings as rules;
+ghost use Rattle.world_rules.specs.declared.standing.Standing.TheVariants.{Going};
+ghost use Rattle.world_parts.specs.Seen.{Of, tasks_out};
+ghost use Rattle.run_loop.specs.Driven.{HasAnswered, HasStopped, IsDriven, IsDue, IsGoing, MayBe, MayGoOn, WentOn};
+
+use crate::asking::{ask, event_of, swaps_of};
+use crate::order::{Bursts, chosen};
+use net_rules::WireAct;
+use node_core::OneRun;
+use orca_base::NoMemory;
+use std::alloc::Global;
+use wires::Wire;
+use world_core::{Event, Settings, Standing, StepError, World};
+use world_facts::{standings_mean, worlds_count};
+
+/// A run that is driven: its world, which wire is in use, and how many bursts each process has computed.
+#[derive(Drop)]
+pub(crate) struct Driver<P: OneRun> {
+    pub(crate) world: World<P>,
+    in_use: usize,
+    bursts: Bursts,
+}
+
+impl<P: OneRun> Driver<P> {
+    /// Before the first event, by the run's settings, over the first wire.
+    pub(crate) fn new(alloc: Global, machine: &P, settings: Settings) -> Result<Driver<P>, NoMemory>
+        requires settings { settings ≡ P.run.frame.settings }
+        requires ranges { AreSettings settings }
+        ensures { IfOk result (λ d. (d.world.steps ≡ []) × (tasks_out d.world ≡ 0) × (d.in_use ≡ 0)) }
+    {
+        Ok(Driver {
+            world: World::new(alloc, machine, settings)?,
+            in_use: 0,
+            bursts: Bursts::none(alloc)?,
+        })
+    }
+
+    /// Does one event after the other, until the run isn't going. Where there is no memory it stops before an event, and the run goes
+    /// on standing for the steps before it.
+    pub(crate) fn drive<W: Wire>(
+        &mut self,
+        alloc: Global,
+        machine: &P,
+        wires: &mut [W],
+    ) -> Result<(), NoMemory>
+        requires { IsDriven P.run.frame self.old.world self.old.in_use P.run.told (map W.told wires.old) }
+        ensures driven { OnOk result (IsDriven P.run.frame self.new.world self.new.in_use P.run.told (map W.told wires.new)) }
+        ensures over { OnOk result (Of P.run.frame self.new.world (λ w. rules.standing P.run.frame w ≢ Going)) }
+        ensures stopped { OnErr result (HasStopped P.run.frame self.new.world P.run.told (map W.told wires.new)) }
+        ensures scripts { map W.told_script wires.new ≡ map W.told_script wires.old }
+        ensures loaded { map W.loaded wires.new ≡ map W.loaded wires.old }
+    {
+        worlds_count();
+        standings_mean();
+        'events: while self.world.standing() == Standing::Going {
+            self.next(alloc, machine, wires)?;
+        }
+        Ok(())
+    }
+
+    // Does the next event: what the wire in use gives, or what is due, where that gives nothing or what it gives is passed over.
+    fn next<W: Wire>(&mut self, alloc: Global, machine: &P, wires: &mut [W]) -> Result<(), NoMemory>
+        requires driven { IsDriven P.run.frame self.old.world self.old.in_use P.run.told (map W.told wires.old) }
+        requires going { IsGoing P.run.frame self.old.world }
+        ensures went { OnOk result (WentOn P.run.frame self.old.world self.new.world self.new.in_use P.run.told (map W.told wires.new)) }
+        ensures stopped { OnErr result (HasStopped P.run.frame self.new.world P.run.told (map W.told wires.new)) }
+        ensures scripts { map W.told_script wires.new ≡ map W.told_script wires.old }
+        ensures loaded { map W.loaded wires.new ≡ map W.loaded wires.old }
+    {
+        let number = self.world.steps().len() as u64 + 1;
+        let act = ask(wires, self.in_use, number)?;
+        if self.does(alloc, machine, act, wires)? {
+            return Ok(());
+        }
+        self.due(alloc, machine, wires)
+    }
+
+    // Whether the act that the wire in use gave is the next event, which is then done: not where it gave none, or one that is passed over.
+    fn does<W: Wire>(
+        &mut self,
+        alloc: Global,
+        machine: &P,
+        act: Option<WireAct>,
+        wires: &mut [W],
+    ) -> Result<bool, NoMemory>
+        requires answered { HasAnswered P.run.frame self.old.world self.old.in_use P.run.told (map W.told wires.old) act }
+        requires going { IsGoing P.run.frame self.old.world }
+        ensures done { result ≡ Ok true →
+            WentOn P.run.frame self.old.world self.new.world self.new.in_use P.run.told (map W.told wires.new) }
+        ensures passed { result ≡ Ok false → MayGoOn P.run.frame self.new.world self.new.in_use P.run.told (map W.told wires.new) }
+        ensures same { result ≡ Ok false → self.new.world ≡ self.old.world }
+        ensures stopped { OnErr result (HasStopped P.run.frame self.new.world P.run.told (map W.told wires.new)) }
+        ensures scripts { map W.told_script wires.new ≡ map W.told_script wires.old }
+        ensures loaded { map W.loaded wires.new ≡ map W.loaded wires.old }
+    {
+        worlds_count();
+        let Some(act) = act else {
+            return Ok(false);
+        };
+        match self
+            .world
+            .step(alloc, machine, event_of(act), &mut wires[self.in_use])
+        {
+            Ok(()) => {
+                self.in_use += swaps_of(act);
+                Ok(true)
+            }
+            Err(StepError::NotEnabled) => Ok(false),
+            Err(StepError::NoMemory) => Err(NoMemory),
+        }
+    }
+
+    // Does what is due: the action of the lowest process that is at one, the packet of the lowest number that can be delivered, a burst of
+    // a process that is ready. Where there is none of these, the moment is quiet, and time passes.
+    fn due<W: Wire>(&mut self, alloc: Global, machine: &P, wires: &mut [W]) -> Result<(), NoMemory>
+        requires on { MayGoOn P.run.frame self.old.world self.old.in_use P.run.told (map W.told wires.old) }
+        requires going { IsGoing P.run.frame self.old.world }
+        ensures went { OnOk result (WentOn P.run.frame self.old.world self.new.world self.new.in_use P.run.told (map W.told wires.new)) }
+        ensures stopped { OnErr result (HasStopped P.run.frame self.new.world P.run.told (map W.told wires.new)) }
+        ensures scripts { map W.told_script wires.new ≡ map W.told_script wires.old }
+        ensures loaded { map W.loaded wires.new ≡ map W.loaded wires.old }
+    {
+        worlds_count();
+        if let Some(process) = self.world.due_act() {
+            return self.step(alloc, machine, Event::Act { process }, wires);
+        }
+        if let Some((packet, copy)) = self.world.due_packet() {
+            return self.step(alloc, machine, Event::Deliver { packet, copy }, wires);
+        }
+        match chosen(&self.world, &self.bursts) {
+            Some(process) => {
+                self.bursts.count(process);
+                self.world.compute(alloc, machine, process)
+            }
+            None => self.step(alloc, machine, Event::Tick, wires),
+        }
+    }
+
+    // Does an event that is possible, and is no exchange of the wire.
+    fn step<W: Wire>(
+        &mut self,
+        alloc: Global,
+        machine: &P,
+        event: Event,
+        wires: &mut [W],
+    ) -> Result<(), NoMemory>
+        requires on { MayGoOn P.run.frame self.old.world self.old.in_use P.run.told (map W.told wires.old) }
+        requires possible { MayBe P.run.frame self.old.world event }
+        requires plain { IsDue event }
+        ensures went { OnOk result (WentOn P.run.frame self.old.world self.new.world self.new.in_use P.run.told (map W.told wires.new)) }
+        ensures stopped { OnErr result (HasStopped P.run.frame self.new.world P.run.told (map W.told wires.new)) }
+        ensures scripts { map W.told_script wires.new ≡ map W.told_script wires.old }
+        ensures loaded { map W.loaded wires.new ≡ map W.loaded wires.old }
+    {
+        worlds_count();
+        match self
+            .world
+            .step(alloc, machine, event, &mut wires[self.in_use])
+        {
+            Ok(()) => Ok(()),
+            Err(StepError::NoMemory) => Err(NoMemory),
+            Err(StepError::NotEnabled) => unreachable!(),
+        }
+    }
+}

@@ -1,0 +1,96 @@
+//! A run from its beginning to its end.
+
+ghost use Rattle.std.specs.Prelude.{◌≡◌, IfSome, Some, length, map};
+ghost use Rattle.world_rules.specs.Frame.{AreSettings};
+ghost use Rattle.run_loop.specs.Asked.{HaveToldOn};
+ghost use Rattle.run_loop.specs.Left.{HasRun, run_of};
+
+use crate::drive::Driver;
+use node_core::{OneRun, RunMachine, RunName};
+use std::alloc::Global;
+use std::marker::Brand;
+use value_core::Processor;
+use wires::Wire;
+use world_core::{RunEnd, Settings, Standing};
+
+/// What a run leaves.
+#[derive(Drop)]
+pub struct Ran {
+    /// How it stands: it is going only where there was no memory.
+    pub standing: Standing,
+    /// All that is kept of it; none where there was no memory to begin, or for what is kept.
+    pub end: Option<RunEnd>,
+}
+
+/// Runs the program of a machine by these settings over these wires, until the run isn't going or memory lacks. The first wire is in use
+/// at the beginning, and each stays in its place.
+///
+/// What is kept is the end of the run to which its steps lead (`HasRun`), and the wires were used in it: each was asked about just the
+/// packets that were sent while it was in use, and each crash, suspicion and exchange is what the wire in use gave.
+pub fn run<M: Processor, W: Wire>(
+    alloc: Global,
+    machine: &M,
+    settings: Settings,
+    wires: &mut [W],
+) -> Ran
+    requires ranges { AreSettings settings }
+    requires wires { settings.wires ≡ length wires.old }
+    ensures run { IfSome result.end (HasRun (run_of (M.performs machine.now) (M.computes machine.now) settings)
+        result.standing (map W.told wires.old) (map W.told wires.new)) }
+    ensures told { HaveToldOn (map W.told wires.old) (map W.told wires.new) }
+    ensures scripts { map W.told_script wires.new ≡ map W.told_script wires.old }
+    ensures loaded { map W.loaded wires.new ≡ map W.loaded wires.old }
+{
+    run_as::<Brand, M, W>(alloc, machine, settings, wires)
+}
+
+// The same of the run that T names.
+fn run_as<T: RunName<M>, M: Processor, W: Wire>(
+    alloc: Global,
+    machine: &M,
+    settings: Settings,
+    wires: &mut [W],
+) -> Ran
+    requires machine { T.machine ≡ Some machine.now }
+    requires settings { settings ≡ T.settings }
+    requires told { map W.told wires.old ≡ T.told }
+    requires ranges { AreSettings settings }
+    requires wires { settings.wires ≡ length wires.old }
+    ensures run { IfSome result.end (HasRun (run_of (M.performs machine.now) (M.computes machine.now) settings)
+        result.standing (map W.told wires.old) (map W.told wires.new)) }
+    ensures told { HaveToldOn (map W.told wires.old) (map W.told wires.new) }
+    ensures scripts { map W.told_script wires.new ≡ map W.told_script wires.old }
+    ensures loaded { map W.loaded wires.new ≡ map W.loaded wires.old }
+{
+    let machine: RunMachine<'_, M, T> = RunMachine::new(machine);
+    run_tied(alloc, &machine, settings, wires)
+}
+
+// The same of the run to which the machine's type is tied.
+fn run_tied<P: OneRun, W: Wire>(
+    alloc: Global,
+    machine: &P,
+    settings: Settings,
+    wires: &mut [W],
+) -> Ran
+    requires settings { settings ≡ P.run.frame.settings }
+    requires told { map W.told wires.old ≡ P.run.told }
+    requires ranges { AreSettings settings }
+    requires wires { settings.wires ≡ length wires.old }
+    ensures run { IfSome result.end (HasRun P.run.frame result.standing (map W.told wires.old) (map W.told wires.new)) }
+    ensures told { HaveToldOn (map W.told wires.old) (map W.told wires.new) }
+    ensures scripts { map W.told_script wires.new ≡ map W.told_script wires.old }
+    ensures loaded { map W.loaded wires.new ≡ map W.loaded wires.old }
+{
+    let Ok(mut driver) = Driver::new(alloc, machine, settings) else {
+        return Ran {
+            standing: Standing::Going,
+            end: None,
+        };
+    };
+    let _ = driver.drive(alloc, machine, wires);
+    Ran {
+        standing: driver.world.standing(),
+        end: driver.world.into_end(alloc).ok(),
+    }
+}

@@ -1,0 +1,5 @@
+use Rattle.world_parts.proofs.Worlds.{is_world}
+use Rattle.world_core.proofs.world.World.spent_process.Goals as goal
+
+pub returns : goal.returns
+returns g c w replays = c.spent_process.ensures w (is_world g.P.OneRun.stood g.P.OneRun.left g.P.OneRun.run.frame c.self.inside.parts c.args.self.now c.self.view_is c.self.invariant w replays)
