@@ -1,6 +1,6 @@
 //! The top call.
 
-ghost use Rattle.std.specs.Prelude.{◌≡◌, ◌⊎◌, ◌<◌, ◌≤◌, [], ℕ, List, None, IfNone, IfOk, IfSome, OnOk, Option, Some, length, map, option_map, slice_index_or, string_bytes};
+ghost use Rattle.std.specs.Prelude.{◌≡◌, ◌⊎◌, ◌<◌, ◌≤◌, ℕ, List, None, IfNone, IfSome, OnOk, Option, Some, length, map, option_map, string_bytes};
 ghost use Rattle.command_line.specs.Asked.{IsRunWithin};
 ghost use Rattle.orca_base.specs.Refusal.{IfBecause};
 ghost use Rattle.orca_io.specs.Causes.{Rose};
