@@ -15,7 +15,19 @@ use std::alloc::{AllocError, Global};
 use std::io;
 use wires::{ScriptWire, Wire};
 
-const PROGRAMS: [&str; 4] = ["countdown", "one", "register", "swap"];
+const PROGRAMS: [&str; 11] = [
+    "buffer",
+    "chain",
+    "consistency",
+    "countdown",
+    "meeting",
+    "one",
+    "paths",
+    "register",
+    "relaxation",
+    "salesman",
+    "swap",
+];
 
 const SCRIPTS: [&str; 3] = ["abandoned", "lost", "suspected"];
 

@@ -3,7 +3,7 @@ use Rattle.std.proofs.Common.{◌≡◌, ◌≢◌, ◌⊎◌, ℕ, suc, ◌+◌
 use Rattle.std.specs.List.{All}
 use Rattle.std.proofs.Math.Seq.{take-suc}
 use Rattle.std.specs.Borrow.{Bor}
-use Rattle.std.specs.Prelude.{◌==◌, Result, Ok, Err, IfNone, IfOk, IfSome, MatchOption, OnErr, map, option_and_then, option_map}
+use Rattle.std.specs.Prelude.{◌==◌, Result, Ok, Err, IfNone, IfOk, IfSome, MatchOption, OnErr, OnOk, map, option_and_then, option_map}
 use Rattle.std.proofs.lemmas.Bool.Decides.{nat_tests}
 use Rattle.std.proofs.lemmas.List.{append-nil, length-map, map-append, take_all}
 use Rattle.std.proofs.lemmas.List.Elements.{All-head, All-nil, All-push}
@@ -13,35 +13,26 @@ use Rattle.orca_base.specs.declared.refusal.Refusal.{Refusal}
 use Rattle.orca_base.specs.declared.refusal.Refusal.TheVariants.{Because, NoMemory}
 use Rattle.orca_base.specs.Refusal.{IfBecause}
 use Rattle.net_rules.specs.declared.line.ScriptLine.{ScriptLine}
-use Rattle.orca_lexer.specs.declared.token.Token.{Token}
-use Rattle.orca_grammar.specs.Forms.{spelled}
-use Rattle.orca_grammar.specs.Grammar.{IsText}
-use Rattle.orca_grammar.proofs.Placed.{text_kinds}
-use Rattle.orca_tree.specs.declared.tree.Unit.{Unit as UnitTree}
-use Rattle.orca_tree.specs.Marks.{unit as unit_marks}
-use Rattle.orca_syntax.specs.Shown.{syntax_of}
-use Rattle.orca_syntax.specs.TextSyntax.{HasSyntax}
-use Rattle.orca_syntax.proofs.MarksOfDeclarations.{unit_shown}
-use Rattle.link_rules.specs.declared.named_unit.NamedUnit.{NamedUnit}
-use Rattle.link_rules.specs.Units.{Source, source}
+use Rattle.link_rules.specs.Units.{Source}
+use Rattle.accepted_law.specs.Limits.{IsWithinLimits}
+use Rattle.eval_bodies.specs.Codes.{sources as sources_of}
+use Rattle.eval_machine.specs.declared.machine.TreeMachine.{TreeMachine}
+use Rattle.type_decls.specs.declared.checked.Checked.{Checked}
 use Rattle.orca_front.specs.declared.fault.FrontFault.{FrontFault}
 use Rattle.orca_front.specs.declared.fault.FrontFault.TheVariants as fronts
-use Rattle.orca_front.specs.declared.source.SourceFile.{SourceFile}
-use Rattle.orca_front.specs.Sources.{AreUnits, IsUnit, file_of}
-use Rattle.orca_front.specs.Sources as units_of
+use Rattle.orca_front.specs.Sources.{IsAccepted, IsFault, IsLinkFault}
 use Rattle.orca_io.specs.declared.sink.SinkFault.{SinkFault}
 use Rattle.orca_io.specs.declared.sink.SinkFault.TheVariants as faults
 use Rattle.orca_io.specs.Causes.{Rose}
 use Rattle.orca_io.specs.Files.{File, content_of}
 use Rattle.orca_io.specs.Sinks.{Puts}
-use Rattle.small_program.specs.declared.tree.SmallProgram.{SmallProgram}
-use Rattle.small_program.specs.Least.{least_bytes}
-use Rattle.small_program.proofs.Sizes.{tokens_long}
 use Rattle.value_core.specs.History.{output_by, output_of}
 use Rattle.value_core.specs.declared.action.Line.{Line}
 use Rattle.orca_cli.specs.declared.job.Job.{Job}
 use Rattle.command_files.specs.declared.load_fault.LoadFault.{LoadFault}
 use Rattle.command_files.specs.declared.load_fault.LoadFault.TheVariants as loads
+use Rattle.orca_cli.specs.declared.program.ProgramFault.{ProgramFault}
+use Rattle.orca_cli.specs.declared.program.ProgramFault.TheVariants.{Limited, Refused}
 use Rattle.orca_cli.specs.declared.script.ScriptFault.{ScriptFault}
 use Rattle.orca_cli.specs.declared.script.ScriptFault.TheVariants as scripts
 use Rattle.command_output.specs.declared.statuses.TheConstants.{NO_MEMORY, READ_FAULT, WRITE_FAULT}
@@ -54,7 +45,9 @@ use Rattle.command_files.specs.Loaded.{IsAbsent, IsFailed, IsLoaded, IsLoadFault
 use Rattle.command_output.specs.Printed.{Grew, WroteOf, Ends, EndsAs}
 use Rattle.orca_cli.specs.Scripts.{HasScript, IsScriptFault, IsScriptOf, IsUnreadable, script_status}
 use Rattle.command_files.specs.Sources.{AreRead, IsRead, StopsAt}
-use Rattle.orca_replay.specs.SoFar.{AnswersSoFar}
+use Rattle.orca_cli.specs.Programs.{IsProgram, program_status, units_of}
+use Rattle.command_files.proofs.ReadFiles.{refused_status}
+use Rattle.replay_command.specs.Endings.{IsReplayAnswer}
 
 -- ---- what was printed
 
@@ -90,6 +83,14 @@ answer_of bytes (Err e) words told rose old new wanted status text is grew silen
 pub if_none : {T : Type 0} (o : Option T) (P : Type 0) → P → IfNone o P
 if_none None P p = p
 if_none (Some x) P p = tt
+
+pub on_any : {T E : Type 0} (r : Result T E) (P : Type 0) → P → OnOk r P
+on_any (Ok x) P p = p
+on_any (Err e) P p = tt
+
+pub if_any : {T E : Type 0} (r : Result T E) (P : Type 0) → P → IfOk r (λ _. P)
+if_any (Ok x) P p = p
+if_any (Err e) P p = tt
 
 -- ---- the words
 
@@ -130,10 +131,45 @@ pub unscripted_run : (words files : List Word) (options : RunOptions) (script : 
 unscripted_run words files options None told rose fault A asked is so = absurd is
 unscripted_run words files options (Some name) told rose fault A asked is so = so name (script_run words files options (Some name) asked) is
 
+-- a run whose script wasn't had ends with no status of a write fault, and with that of a read fault where its file can't be read
+pub unscripted_status : (fault : ScriptFault) → script_status fault ≢ WRITE_FAULT
+unscripted_status (scripts.Absent file) h = absurd cc
+unscripted_status (scripts.TooLong file) h = absurd cc
+unscripted_status (scripts.Failed file) h = absurd cc
+unscripted_status (scripts.Bad error) h = absurd cc
+
+pub unreadable_status : (fault : ScriptFault) → IsUnreadable fault → script_status fault ≡ READ_FAULT
+unreadable_status (scripts.Absent file) h = absurd h
+unreadable_status (scripts.TooLong file) h = absurd h
+unreadable_status (scripts.Failed file) h = refl
+unreadable_status (scripts.Bad error) h = absurd h
+
+-- ---- the program
+
+-- texts that don't link are no accepted program
+pub link_fault_is : (sources : List File) (fault : FrontFault) → IsLinkFault sources fault → IsFault sources fault
+link_fault_is sources (fronts.Faulty file at said) h = h
+link_fault_is sources fronts.TooNested h = h
+link_fault_is sources (fronts.Unlinked error) h = h
+link_fault_is sources (fronts.Mistyped error) h = absurd h
+
+-- why it is none ends with no status of a write fault
+pub program_apart : (fault : ProgramFault) → program_status fault ≢ WRITE_FAULT
+program_apart (Refused fault) = refused_status fault
+program_apart (Limited passed) h = absurd cc
+
+pub is_program : (told : Option (List File)) (files : List Word) (sources : List File) (units : List Source) → AreRead told files sources → IsAccepted sources units → IsWithinLimits units → IsProgram told files units
+is_program told files sources units read accepted within = record { loaded = (sources, read, accepted); within = within }
+
+-- the machine of a checked program has its units
+pub machine_units : {E : Type 0} (r : Result TreeMachine E) (checked : Checked) (units : List Source) → sources_of checked ≡ units → IfOk r (λ m. m.code.checked ≡ checked) → IfOk r (λ m. units_of m ≡ units)
+machine_units (Ok m) checked units are of = ap sources_of of ∙ are
+machine_units (Err e) checked units are of = tt
+
 -- ---- what is said of a history
 
 -- an ending of `replay` is one of the program
-pub replayed_so : (words : List Word) (told : Option (List File)) (rose : Type 0) (old new : Option (List ℕ)) (status : ℕ) (history : Word) (files : List Word) → deed_in words ≡ Some (replays history files) → AnswersSoFar told rose history files old new status
+pub replayed_so : (words : List Word) (told : Option (List File)) (rose : Type 0) (old new : Option (List ℕ)) (status : ℕ) (history : Word) (files : List Word) → deed_in words ≡ Some (replays history files) → IsReplayAnswer told rose history files old new status
     → IsAnswer words told rose old new status
 replayed_so words told rose old new status history files asked (inl (wanted, line, ending, ends, grew)) = inl (wanted, line, because.replayed history files wanted line asked ending, ends, grew)
 replayed_so words told rose old new status history files asked (inr silent) = inr silent

@@ -8,7 +8,7 @@ use Rattle.command_line.specs.declared.request.RunOptions.{RunOptions}
 use Rattle.net_rules.specs.declared.asked.Asked.{Asked}
 use Rattle.net_rules.specs.declared.line.ScriptLine.{ScriptLine}
 use Rattle.orca_io.specs.Files.{File}
-use Rattle.small_program.specs.declared.tree.SmallProgram.{SmallProgram}
+use Rattle.link_rules.specs.Units.{Source}
 use Rattle.value_core.specs.History.{Legal, output_of}
 use Rattle.value_core.specs.Meaning.{Computes, Performs}
 use Rattle.value_core.specs.declared.action.Action.{Action}
@@ -28,17 +28,16 @@ use Rattle.world_rules.specs.Worlds.{World}
 use Rattle.world_core.specs.declared.ends.RunEnd.{RunEnd}
 use Rattle.run_loop.specs.Asked.{HaveToldOn, WereUsedSo, asked_since}
 use Rattle.run_loop.specs.Left.{HasRun, run_of}
-use Rattle.orca_meaning.specs.Program.{computes_of, performs_of}
+use Rattle.meaning_rules.specs.Meanings.{computes_of, performs_of}
 use Rattle.orca_cli.specs.declared.kept.Kept.{Kept}
 use Rattle.command_output.specs.declared.statuses.TheConstants.{NO_MEMORY}
-use Rattle.orca_cli.specs.Headline.{AreLoaded, IsNamed, IsRun, IsRunOf, IsSmallRun, Wires, settings_of, wires_of}
+use Rattle.orca_cli.specs.Headline.{AreLoaded, IsNamed, IsRun, IsProgramRun, IsRunOf, Wires, settings_of, wires_of}
 use Rattle.command_files.specs.Sources.{Word}
 use Rattle.orca_cli.specs.Kept.{IsEndOf}
 use Rattle.orca_cli.specs.Laws.{RunLaws}
 use Rattle.command_output.specs.Printed.{Ends, EndsAs, Grew}
-use Rattle.orca_cli.specs.Small.{awaited_name}
-use Rattle.orca_cli.specs.Standings.{ending_line, history_said, standing_status}
-use Rattle.small_names.specs.Naming.{AreSmallNames}
+use Rattle.orca_cli.specs.Standings.{awaited_name, ending_line, history_said, standing_status}
+use Rattle.program_names.specs.Naming.{AreNamesOf, CallsNamed}
 use Rattle.orca_cli.proofs.KeptLemmas.{history_kept}
 use Rattle.orca_cli.proofs.RowLemmas.{row_kept, rows_shown}
 
@@ -94,6 +93,7 @@ is_run f name says end standing status old new before after laws settings none h
       row = row_kept f w k laws.count laws.read is stand (laws.finished f end.steps.items w left.replays) processes left.kept left.stuck
           (laws.spent f refl refl settings end.steps.items w left.replays) (rules.standing f w) refl;
       only = rows_shown f w k laws.count laws.read is stand processes settings.a_turn;
+      limited = λ what number passed. ap (rules.after_limit f w) passed;
       ends = said.ends;
       lacked = said.lacked;
       printed = said.printed;
@@ -128,11 +128,11 @@ module _ (p : Performs) (q : Computes) (settings : Settings) (names : Names) (st
   book_back are = reads_back p q names end.book.items are book_legal
 
 -- by the program's names
-pub small_run : (p : SmallProgram) (options : RunOptions) (wires : ℕ) (names : Names) (o : Option Kept) (status : ℕ) (old new : Option (List ℕ)) (before after : List (List Asked)) → AreSmallNames p names
-    → IfSome o (λ k. IsRun (run_of (performs_of p) (computes_of p) (settings_of options wires)) (awaited_name p) (history_said options.history names) k status old new before after)
-    → IfSome o (λ k. ReadsBack (performs_of p) (computes_of p) names k.book.items) → IfSome o (λ k. IsSmallRun p options wires k status old new before after)
-small_run p options wires names None status old new before after are run back = tt
-small_run p options wires names (Some k) status old new before after are run back = record { names = names; are = are; run = run; back = back }
+pub program_run : (units : List Source) (options : RunOptions) (wires : ℕ) (names : Names) (o : Option Kept) (status : ℕ) (old new : Option (List ℕ)) (before after : List (List Asked)) → AreNamesOf units names → CallsNamed units names
+    → IfSome o (λ k. IsRun (run_of (performs_of units) (computes_of units) (settings_of options wires)) (awaited_name names) (history_said options.history names) k status old new before after)
+    → IfSome o (λ k. ReadsBack (performs_of units) (computes_of units) names k.book.items) → IfSome o (λ k. IsProgramRun units options wires k status old new before after)
+program_run units options wires names None status old new before after are calls run back = tt
+program_run units options wires names (Some k) status old new before after are calls run back = record { names = names; are = are; calls = calls; run = run; back = back }
 
 -- of what there is
 pub some_is : {T : Type 0} (o : Option T) (x : T) (P : T → Type 0) → o ≡ Some x → IfSome o P → P x
@@ -171,17 +171,17 @@ pub none_as : {T A B : Type 0} (o : Option T) → (A → B) → IfNone o A → I
 none_as None so a = so a
 none_as (Some x) so a = tt
 
-pub run_of_words : {W : Type 0} (told : W → List Asked) (script : W → List ScriptLine) (loaded : W → ℕ) (before after : List W) (words : List Word) (files : Option (List File)) (p : SmallProgram) (options : RunOptions) (lines : List ScriptLine)
-    (o : Option Kept) (status : ℕ) (old new : Option (List ℕ)) (named : IsNamed words files p lines) → named.options ≡ options
-    → IfSome o (λ k. IsSmallRun p options (length before) k status old new (map told before) (map told after))
+pub run_of_words : {W : Type 0} (told : W → List Asked) (script : W → List ScriptLine) (loaded : W → ℕ) (before after : List W) (words : List Word) (files : Option (List File)) (units : List Source) (options : RunOptions) (lines : List ScriptLine)
+    (o : Option Kept) (status : ℕ) (old new : Option (List ℕ)) (named : IsNamed words files units lines) → named.options ≡ options
+    → IfSome o (λ k. IsProgramRun units options (length before) k status old new (map told before) (map told after))
     → IfSome o (λ k. AreLoaded lines (wires_of told script loaded before) (wires_of told script loaded after))
     → IfSome o (λ k. IsRunOf words files k status old new (wires_of told script loaded before) (wires_of told script loaded after))
-run_of_words told script loaded before after words files p options lines None status old new named same run has = tt
-run_of_words told script loaded before after words files p options lines (Some k) status old new named same run has = record {
-  program = p;
+run_of_words told script loaded before after words files units options lines None status old new named same run has = tt
+run_of_words told script loaded before after words files units options lines (Some k) status old new named same run has = record {
+  units = units;
   lines = lines;
   named = named;
-  run = subst (λ (os : RunOptions). IsSmallRun p os (length (map told before)) k status old new (map told before) (map told after)) (sym same)
-      (subst (λ (n : ℕ). IsSmallRun p options n k status old new (map told before) (map told after)) (sym (length-map before told)) run);
+  run = subst (λ (os : RunOptions). IsProgramRun units os (length (map told before)) k status old new (map told before) (map told after)) (sym same)
+      (subst (λ (n : ℕ). IsProgramRun units options n k status old new (map told before) (map told after)) (sym (length-map before told)) run);
   loaded = has;
 }

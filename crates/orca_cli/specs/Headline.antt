@@ -5,34 +5,32 @@ use Rattle.net_rules.specs.declared.asked.Asked.{Asked}
 use Rattle.net_rules.specs.declared.line.ScriptLine.{ScriptLine}
 use Rattle.orca_io.specs.Files.{File}
 use Rattle.link_rules.specs.Units.{Source}
-use Rattle.small_program.specs.declared.tree.SmallProgram.{SmallProgram}
+use Rattle.meaning_rules.specs.Meanings.{computes_of, performs_of}
+use Rattle.program_names.specs.Naming.{AreNamesOf, CallsNamed}
 use Rattle.value_core.specs.History.{output_of}
 use Rattle.value_core.specs.declared.action.Action.{Action}
 use Rattle.value_core.specs.declared.action.Line.{Line}
 use Rattle.history_commands.specs.ReadBack.{ReadsBack}
 use Rattle.history_text.specs.declared.names.Names.{Names}
 use Rattle.world_rules.specs.declared.settings.Settings.{Settings}
-use Rattle.world_rules.specs.declared.standing.Standing.TheVariants.{Going}
+use Rattle.orca_base.specs.declared.what.What.{What}
+use Rattle.world_rules.specs.declared.standing.Standing.TheVariants.{Going, Limit}
 use Rattle.world_rules.specs.Frame.{Frame}
-use Rattle.world_rules.specs.Standings.{standing}
+use Rattle.world_rules.specs.Standings.{limit, standing}
 use Rattle.world_rules.specs.Worlds.{World}
 use Rattle.world_facts.specs.Rows.{ReadsStanding}
 use Rattle.run_loop.specs.Asked.{HaveToldOn, NoneAskedBehind, WereUsedSo, asked_since}
-use Rattle.orca_meaning.specs.Program.{computes_of, performs_of}
 use Rattle.run_loop.specs.Left.{run_of}
 use Rattle.orca_cli.specs.declared.kept.Kept.{Kept}
 use Rattle.command_output.specs.declared.statuses.TheConstants.{NO_MEMORY}
 use Rattle.command_files.specs.Sources.{Word}
 use Rattle.orca_cli.specs.Job.{deed_in, runs}
 use Rattle.orca_cli.specs.Kept.{IsEndOf, IsHistory}
-use Rattle.command_files.specs.Loaded.{IsLoaded}
 use Rattle.command_output.specs.Printed.{Ends, EndsAs, Grew}
+use Rattle.orca_cli.specs.Programs.{IsProgram}
 use Rattle.orca_cli.specs.Rows.{KeptRow, ShownRows}
 use Rattle.orca_cli.specs.Scripts.{IsScriptOf}
-use Rattle.orca_cli.specs.Small.{awaited_name}
-use Rattle.orca_cli.specs.Standings.{ending_line, history_said, standing_status}
-use Rattle.small_names.specs.Naming.{AreSmallNames}
-use Rattle.small_names.specs.Small.{AreSmall}
+use Rattle.orca_cli.specs.Standings.{awaited_name, ending_line, history_said, standing_status}
 
 -- ---- which run it is
 
@@ -47,16 +45,14 @@ settings_of options wires = record {
   choices = [];
 }
 
--- the words ask for the run of the program in files, by these options; all files were read, and this is the program in them; and the script in
--- the file that they name, where they name one, has these lines
-pub record IsNamed (words : List Word) (told : Option (List File)) (p : SmallProgram) (lines : List ScriptLine) : Type 0 where
+-- the words ask for the run of the accepted program in files, whose units are these, by these options; and the script in the file that they name,
+-- where they name one, has these lines
+pub record IsNamed (words : List Word) (told : Option (List File)) (units : List Source) (lines : List ScriptLine) : Type 0 where
   pub options : RunOptions
   pub script : Option Word
   pub files : List Word
-  pub units : List Source
   pub asked : deed_in words ≡ Some (runs options script files)
-  pub loaded : IsLoaded told files units
-  pub small : AreSmall units p
+  pub program : IsProgram told files units
   pub script_has : IsScriptOf told script lines
 
 -- ---- its wires
@@ -95,6 +91,8 @@ pub record IsRun (f : Frame) (name : Action → List ℕ) (says : List Line → 
   pub reads : ReadsStanding f world
   pub row : KeptRow f world k (standing f world)
   pub only : ShownRows f world k
+  -- of several limits that are passed it is the first: that before which the lowest member stops, and that of lines behind it
+  pub limited : (what : What) (number : ℕ) → limit f world ≡ Some (what, number) → standing f world ≡ Limit what number
   pub ends : EndsAs (standing_status (standing f world)) status
   pub lacked : standing f world ≡ Going → status ≡ NO_MEMORY
   pub printed :
@@ -104,21 +102,23 @@ pub record IsRun (f : Frame) (name : Action → List ℕ) (says : List Line → 
   pub used : WereUsedSo (standing f world) f k.events.items world (asked_since before after)
   pub unused : NoneAskedBehind world.swaps (asked_since before after)
 
--- it is a run of this small program, in the source's meaning, by these options; its history is said where that is asked for, by the
--- program's names; and that text, printed or not, is read back as the history, and is legal
-pub record IsSmallRun (p : SmallProgram) (options : RunOptions) (wires : ℕ) (k : Kept) (status : ℕ) (old new : Option (List ℕ))
+-- It is a run of the program with these units, in the source's meaning, by these options. By the program's names its line of a process that is
+-- blocked names the operation, and its history is said, where that is asked for: each call that a process comes to next behind a history has its
+-- names there. And the text of its history, printed or not, is read back as the history, and is legal
+pub record IsProgramRun (units : List Source) (options : RunOptions) (wires : ℕ) (k : Kept) (status : ℕ) (old new : Option (List ℕ))
     (before after : List (List Asked)) : Type 0 where
   pub names : Names
-  pub are : AreSmallNames p names
-  pub run : IsRun (run_of (performs_of p) (computes_of p) (settings_of options wires)) (awaited_name p) (history_said options.history names)
-      k status old new before after
-  pub back : ReadsBack (performs_of p) (computes_of p) names k.book.items
+  pub are : AreNamesOf units names
+  pub calls : CallsNamed units names
+  pub run : IsRun (run_of (performs_of units) (computes_of units) (settings_of options wires)) (awaited_name names)
+      (history_said options.history names) k status old new before after
+  pub back : ReadsBack (performs_of units) (computes_of units) names k.book.items
 
--- it is the run that the words ask for, of the program in files
+-- it is the run that the words ask for, of the accepted program in files
 pub record IsRunOf (words : List Word) (files : Option (List File)) (k : Kept) (status : ℕ) (old new : Option (List ℕ))
     (before after : Wires) : Type 0 where
-  pub program : SmallProgram
+  pub units : List Source
   pub lines : List ScriptLine
-  pub named : IsNamed words files program lines
-  pub run : IsSmallRun program named.options (length before.told) k status old new before.told after.told
+  pub named : IsNamed words files units lines
+  pub run : IsProgramRun units named.options (length before.told) k status old new before.told after.told
   pub loaded : AreLoaded lines before after

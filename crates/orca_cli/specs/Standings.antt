@@ -6,8 +6,9 @@ use Rattle.orca_io.specs.declared.sink.SinkFault.{SinkFault}
 use Rattle.orca_io.specs.declared.sink.SinkFault.TheVariants as faults
 use Rattle.orca_front.specs.Lines.{limit_line}
 use Rattle.value_core.specs.declared.action.Action.{Action}
+use Rattle.value_core.specs.declared.action.Action.TheVariants as action
 use Rattle.value_core.specs.declared.action.Line.{Line}
-use Rattle.history_text.specs.Spelling.{history_text}
+use Rattle.history_text.specs.Spelling.{called_name, history_text}
 use Rattle.history_text.specs.declared.names.Names.{Names}
 use Rattle.world_rules.specs.declared.standing.Standing.{Standing}
 use Rattle.world_rules.specs.declared.standing.Standing.TheVariants.{Limit, OutOfTurns, OutOfEvents, NoGroup, Faulted, Blocked, Finished, Going}
@@ -88,6 +89,14 @@ abbrev pub history_said : Bool → Names → List Line → List ℕ
 history_said asked names book = if asked then history_text names book else []
 
 -- ---- the line
+
+-- `KIND$OP`, the operation for which a process waits that is at this action
+abbrev pub awaited_name : Names → Action → List ℕ
+awaited_name names (action.Call kind op object args) = called_name names kind op
+awaited_name names (action.Make kind object) = []
+awaited_name names (action.Fork text args place_on) = []
+awaited_name names action.Ended = []
+awaited_name names (action.Faulted fault) = []
 
 abbrev pub fault_said : Option (ℕ × FaultKind) → List ℕ
 fault_said None = []

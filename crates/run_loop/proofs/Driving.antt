@@ -24,10 +24,6 @@ use Rattle.world_rules.specs.Steps.{Leads, Next, Replays, asked_of}
 use Rattle.world_rules.specs.Worlds.{Told, World, opening_world}
 use Rattle.world_facts.specs.Counted.{AllCounted, count_swaps, is_swap}
 use Rattle.world_facts.specs.Rows.{AllRead}
-use Rattle.world_law.specs.Packets.{AllNumber}
-use Rattle.world_book.proofs.Kept.{submits}
-use Rattle.world_book.specs.Holding.{RunsHold}
-use Rattle.world_book.specs.Submitting.{ProcessesMaySubmit}
 use Rattle.world_parts.specs.Seen.{Of, Seen, tasks_out}
 use Rattle.world_core.specs.Stepping.{HasComputed, IsRefused, Stepped, told_so}
 use Rattle.run_loop.specs.Asked.{HaveToldOn, NoneAskedBehind, WereUsedSo, asked_since}
@@ -258,17 +254,6 @@ module _ {S : Type 0} (f : Frame) (s after : Seen S) (in_use next_use : ℕ) (ol
 
 -- ---- which wire was told
 
--- a step tells the wire that is in use behind it
-abbrev pub TellsInUse : Frame → Type 0
-TellsInUse f = (steps : List Step) (w v : World) (step : Step) (more : List Told) → Replays f steps w → Next f w step v → v.told ≡ w.told ++ more → Each (λ (one : Told). one.wire ≡ v.swaps) more
-
-pub tells_in_use : (f : Frame) → AllNumber → RunsHold f.performs f.computes → ProcessesMaySubmit f.performs f.computes → AreSettings f.settings → TellsInUse f
-tells_in_use f number hold may settings steps w v step more replays next told =
-    let h = hold f refl refl settings steps w replays in
-    let t = (number f settings.resilience).tells w v step next (submits f w step.event (may f refl refl settings steps w replays)) h.grouped h.numbered in
-    let same : t.more ≡ more = append_cancel_left w.told t.more more (sym t.told ∙ told) in
-    subst (λ (l : List Told). Each (λ (one : Told). one.wire ≡ v.swaps) l) same t.wire
-
 -- a swap sends nothing
 silent_as : (f : Frame) (w v : World) (e : Event) (fates : List Fate) → e ≡ event.Swap → Next f w (record { event = e; fates = fates }) v → v.told ≡ w.told
 silent_as f w v (event.Burst process place turns) fates is next = absurd (cc is)
@@ -282,13 +267,13 @@ silent_as f w v event.Swap fates is next = ap (λ (u : World). u.told) next.afte
 nothing_more : (f : Frame) (w v : World) (step : Step) (more : List Told) → step.event ≡ event.Swap → Next f w step v → v.told ≡ w.told ++ more → more ≡ []
 nothing_more f w v step more is next told = append_cancel_left w.told more [] (sym told ∙ silent_as f w v step.event step.fates is next ∙ sym (append-nil w.told))
 
--- so it was the wire in use before
-pub own_wire : (f : Frame) (steps : List Step) (w v : World) (step : Step) (more : List Told) (in_use : ℕ) → AllCounted → TellsInUse f → Replays f steps w → Next f w step v → v.told ≡ w.told ++ more → in_use ≡ w.swaps
+-- a step tells the wire that is in use behind it, which was in use before
+pub own_wire : (f : Frame) (steps : List Step) (w v : World) (step : Step) (more : List Told) (in_use : ℕ) → AllCounted → Replays f steps w → Next f w step v → v.told ≡ w.told ++ more → Each (λ (one : Told). one.wire ≡ v.swaps) more → in_use ≡ w.swaps
     → (swaps_by step.event ≡ 0) ⊎ (step.event ≡ event.Swap) → Each (λ (one : Told). one.wire ≡ in_use) more
-own_wire f steps w v step more in_use count tell replays next told use_is (inl none) =
+own_wire f steps w v step more in_use count replays next told wires use_is (inl none) =
     let same : v.swaps ≡ in_use = let after = swaps_step f steps w v step count replays next in omega (arith, after, none, use_is) in
-    subst (λ k. Each (λ (one : Told). one.wire ≡ k) more) same (tell steps w v step more replays next told)
-own_wire f steps w v step more in_use count tell replays next told use_is (inr swap) =
+    subst (λ k. Each (λ (one : Told). one.wire ≡ k) more) same wires
+own_wire f steps w v step more in_use count replays next told wires use_is (inr swap) =
     subst (λ (l : List Told). Each (λ (one : Told). one.wire ≡ in_use) l) (sym (nothing_more f w v step more swap next told)) tt
 
 -- ---- each event
@@ -328,9 +313,9 @@ same_act does.Swap does.Swap e = refl
 told_so_more : (in_use : ℕ) (new told : List (List Asked)) (prior after more : List Asked) → prior ≡ slice_index_or new in_use [] → after ≡ prior ++ more → told ≡ slice_set new in_use after → told ≡ told_more in_use more new
 told_so_more in_use new told prior after more same grown put = put ∙ ap (slice_set new in_use) (grown ∙ ap (λ (l : List Asked). l ++ more) same)
 
-stepped_is : {S : Type 0} (f : Frame) (s after : Seen S) (in_use : ℕ) (new told : List (List Asked)) (what : Event) (prior now : List Asked) (w : World) → AllCounted → TellsInUse f → Replays f s.steps w → in_use ≡ w.swaps
+stepped_is : {S : Type 0} (f : Frame) (s after : Seen S) (in_use : ℕ) (new told : List (List Asked)) (what : Event) (prior now : List Asked) (w : World) → AllCounted → Replays f s.steps w → in_use ≡ w.swaps
     → (st : Stepped f what s after prior now) → (swaps_by what ≡ 0) ⊎ (what ≡ event.Swap) → prior ≡ slice_index_or new in_use [] → told ≡ slice_set new in_use now → tasks_out after ≡ 0 → Does f s after in_use new told w st.step
-stepped_is f s after in_use new told what prior now w count tell replays use_is st kind same put idle =
+stepped_is f s after in_use new told what prior now w count replays use_is st kind same put idle =
     let led = st.leads w replays in
     record {
       world = led.world;
@@ -338,22 +323,22 @@ stepped_is f s after in_use new told what prior now w count tell replays use_is 
       steps = st.steps;
       more = led.more;
       told_is = led.told;
-      wires = own_wire f s.steps w led.world st.step led.more in_use count tell replays led.next led.told use_is (subst (λ (e : Event). (swaps_by e ≡ 0) ⊎ (e ≡ event.Swap)) (sym st.event_is) kind);
+      wires = own_wire f s.steps w led.world st.step led.more in_use count replays led.next led.told led.wire use_is (subst (λ (e : Event). (swaps_by e ≡ 0) ⊎ (e ≡ event.Swap)) (sym st.event_is) kind);
       tells = told_so_more in_use new told prior now (map told_so led.more) same led.asked put;
       idle = idle;
     }
 
 -- what was due was done
-pub due_done : {S : Type 0} (f : Frame) (s after : Seen S) (in_use : ℕ) (old new told : List (List Asked)) (what : Event) (prior now : List Asked) → AllCounted → TellsInUse f → MayGoOn f s in_use old new → IsDue what
+pub due_done : {S : Type 0} (f : Frame) (s after : Seen S) (in_use : ℕ) (old new told : List (List Asked)) (what : Event) (prior now : List Asked) → AllCounted → MayGoOn f s in_use old new → IsDue what
     → Stepped f what s after prior now → prior ≡ slice_index_or new in_use [] → told ≡ slice_set new in_use now → tasks_out after ≤ tasks_out s → WentOn f s after in_use old told
-due_done f s after in_use old new told what prior now count tell on due st same put tasks =
+due_done f s after in_use old new told what prior now count on due st same put tasks =
     let d = on.driven in
     let idle = d.idle in
     let within = d.within in
     let length_is = ap length put ∙ length-set new in_use now in
     driven_on f s after in_use in_use old new told st.step count d.world d.replays d.swaps d.within d.wires d.told (is_used f s.steps d.world (asked_since old new) d.used)
     (λ wire. all_accounted f s.steps st.step (acts_in (asked_since old new wire)) (d.numbers wire) (d.used.given wire)) d.numbers d.settings
-    (stepped_is f s after in_use new told what prior now d.world count tell d.replays d.swaps st (inl (due_swaps what due)) same put (omega (arith, tasks, idle)))
+    (stepped_is f s after in_use new told what prior now d.world count d.replays d.swaps st (inl (due_swaps what due)) same put (omega (arith, tasks, idle)))
     (λ plain. (on.answer, on.asked))
     (λ act is. absurd (due_not_given act (subst IsDue (sym st.event_is ∙ is) due)))
     d.unused
@@ -361,9 +346,9 @@ due_done f s after in_use old new told what prior now count tell on due st same 
     (omega (arith, within, length_is))
 
 -- the wire's act was done
-pub act_done : {S : Type 0} (f : Frame) (s after : Seen S) (in_use next_use : ℕ) (old new told : List (List Asked)) (act : WireAct) (prior now : List Asked) → AllCounted → TellsInUse f → HasAnswered f s in_use old new (Some act)
+pub act_done : {S : Type 0} (f : Frame) (s after : Seen S) (in_use next_use : ℕ) (old new told : List (List Asked)) (act : WireAct) (prior now : List Asked) → AllCounted → HasAnswered f s in_use old new (Some act)
     → Stepped f (event_of act) s after prior now → prior ≡ slice_index_or new in_use [] → told ≡ slice_set new in_use now → tasks_out after ≤ tasks_out s → next_use ≡ in_use + swaps_by (event_of act) → next_use < length told → WentOn f s after next_use old told
-act_done f s after in_use next_use old new told act prior now count tell h st same put tasks moves low =
+act_done f s after in_use next_use old new told act prior now count h st same put tasks moves low =
     let d = h.driven in
     let idle = d.idle in
     let within = d.within in
@@ -379,7 +364,7 @@ act_done f s after in_use next_use old new told act prior now count tell h st sa
     (inl (st.step, step_last s.steps st.step, st.event_is)))
     (numbers_asked in_use n (Some act) before_it since asked n (omega arith) d.numbers)
     d.settings
-    (stepped_is f s after in_use new told (event_of act) prior now d.world count tell d.replays d.swaps st (act_swaps act) same put (omega (arith, tasks, idle)))
+    (stepped_is f s after in_use new told (event_of act) prior now d.world count d.replays d.swaps st (act_swaps act) same put (omega (arith, tasks, idle)))
     (λ plain. (Some act, asked_is in_use n (Some act) before_it since asked))
     (λ other is. answer_is in_use n (Some act) before_it since asked ∙ ap (λ (a : WireAct). Some (Some a)) (same_act act other (sym st.event_is ∙ is)))
     (unused_asked f s in_use old new (Some act) h)

@@ -9,7 +9,6 @@ use Rattle.net_rules.specs.declared.fate.WireAct.{WireAct}
 use Rattle.net_rules.specs.declared.fate.WireAct.TheVariants as does
 use Rattle.net_rules.specs.Flights.{first_ready}
 use Rattle.orca_base.specs.declared.ids.ProcessNo.{ProcessNo}
-use Rattle.value_core.specs.Meaning.{Computes, Performs}
 use Rattle.world_rules.specs.declared.event.Event.{Event}
 use Rattle.world_rules.specs.declared.event.Event.TheVariants as event
 use Rattle.world_rules.specs.declared.event.Step.{Step}
@@ -19,36 +18,17 @@ use Rattle.world_rules.specs.Standings.{process_count}
 use Rattle.world_rules.specs.Steps.{Known, Next, Possible}
 use Rattle.world_rules.specs.Worlds.{World}
 use Rattle.world_facts.specs.Counted.{AllCounted}
-use Rattle.world_facts.specs.Rows.{AllRead}
-use Rattle.world_law.specs.Packets.{AllNumber}
-use Rattle.world_book.specs.Holding.{RunsHold}
-use Rattle.world_book.specs.Submitting.{ProcessesMaySubmit}
 use Rattle.world_parts.specs.Choosing.{due_act, is_ready}
 use Rattle.world_parts.specs.Seen.{Of, Seen, tasks_out}
 use Rattle.world_core.specs.Stepping.{IsRefused, Stepped}
-use Rattle.run_loop.specs.Driven.{HasAnswered, HasStopped, IsDriven, IsDue, IsGoing, Laws, MayBe, MayGoOn, WentOn, told_more}
+use Rattle.run_loop.specs.Driven.{HasAnswered, HasStopped, IsDriven, IsDue, IsGoing, MayBe, MayGoOn, WentOn, told_more}
 use Rattle.run_loop.proofs.Due.{act_may, deliver_may, tick_may}
-use Rattle.run_loop.proofs.Driving.{TellsInUse, act_done, due_done, gives_nothing, passes_over, same_length, stops, stops_asked, tells_in_use}
+use Rattle.run_loop.proofs.Driving.{act_done, due_done, gives_nothing, passes_over, same_length, stops, stops_asked}
 use Rattle.run_loop.proofs.Telling.{kept_at, put_at, told_at}
 
 pub on_err : {T E : Type 0} (r : Result T E) (A : Type 0) → A → OnErr r A
 on_err (Ok x) A a = tt
 on_err (Err e) A a = a
-
--- ---- laws
-
--- what is so of all runs of a machine, is so of the run's program
-pub laws_as : (f : Frame) (p : Performs) (q : Computes) → p ≡ f.performs → q ≡ f.computes → AllCounted → AllRead → AllNumber → RunsHold p q → ProcessesMaySubmit p q → Laws f
-laws_as f p q e d count read number hold may = record {
-  count = count;
-  read = read;
-  number = number;
-  hold = subst (λ (r : Performs). RunsHold r f.computes) e (subst (λ (r : Computes). RunsHold p r) d hold);
-  may = subst (λ (r : Performs). ProcessesMaySubmit r f.computes) e (subst (λ (r : Computes). ProcessesMaySubmit p r) d may);
-}
-
-tell_of : (f : Frame) → Laws f → AreSettings f.settings → TellsInUse f
-tell_of f laws settings = tells_in_use f laws.number laws.hold laws.may settings
 
 -- ---- a swap leaves a wire that can be put in use
 
@@ -81,15 +61,15 @@ module _ {W S : Type 0} (told : W → List Asked) (wires : List W) (first wire :
   there : in_use < length (map told wires) → (told (get_or wires in_use first)) ≡ slice_index_or (map told wires) in_use []
   there lt = let many = length-map wires told in told_at told wires in_use first (omega (arith, lt, many))
 
-  pub due_by : (what : Event) → Laws f → MayGoOn f s in_use old (map told wires) → IsDue what → Stepped f what s after (told (get_or wires in_use first)) (told wire) → tasks_out after ≤ tasks_out s
+  pub due_by : (what : Event) → AllCounted → MayGoOn f s in_use old (map told wires) → IsDue what → Stepped f what s after (told (get_or wires in_use first)) (told wire) → tasks_out after ≤ tasks_out s
       → WentOn f s after in_use old (map told (set wires in_use wire))
-  due_by what laws on due st tasks =
-      due_done f s after in_use old (map told wires) (map told (set wires in_use wire)) what (told (get_or wires in_use first)) (told wire) laws.count (tell_of f laws on.driven.settings) on due st
+  due_by what count on due st tasks =
+      due_done f s after in_use old (map told wires) (map told (set wires in_use wire)) what (told (get_or wires in_use first)) (told wire) count on due st
       (there on.driven.within) (put_at told wires in_use wire) tasks
 
-  pub act_by : (act : WireAct) (what : Event) (swaps : ℕ) → Laws f → HasAnswered f s in_use old (map told wires) (Some act) → what ≡ event_of act → swaps ≡ swaps_by (event_of act)
+  pub act_by : (act : WireAct) (what : Event) (swaps : ℕ) → AllCounted → HasAnswered f s in_use old (map told wires) (Some act) → what ≡ event_of act → swaps ≡ swaps_by (event_of act)
       → Stepped f what s after (told (get_or wires in_use first)) (told wire) → tasks_out after ≤ tasks_out s → WentOn f s after (in_use + swaps) old (map told (set wires in_use wire))
-  act_by act what swaps laws h event_is swaps_is done tasks =
+  act_by act what swaps count h event_is swaps_is done tasks =
       let d = h.driven in
       let within = d.within in
       let many = d.wires in
@@ -98,7 +78,7 @@ module _ {W S : Type 0} (told : W → List Asked) (wires : List W) (first wire :
       let st : Stepped f (event_of act) s after (told (get_or wires in_use first)) (told wire) = subst (λ (e : Event). Stepped f e s after (told (get_or wires in_use first)) (told wire)) event_is done in
       let led = st.leads d.world d.replays in
       let left = wire_left f d.world led.world act st.step in_use st.event_is led.next d.swaps (omega (arith, within, many)) in
-      act_done f s after in_use (in_use + swaps) old (map told wires) (map told (set wires in_use wire)) act (told (get_or wires in_use first)) (told wire) laws.count (tell_of f laws d.settings) h st
+      act_done f s after in_use (in_use + swaps) old (map told wires) (map told (set wires in_use wire)) act (told (get_or wires in_use first)) (told wire) count h st
       (there (omega (arith, within, same))) (put_at told wires in_use wire) tasks (ap (λ (n : ℕ). in_use + n) swaps_is) (omega (arith, left, swaps_is, put, same, many))
 
   pub passed_by : (act : WireAct) (what : Event) → HasAnswered f s in_use old (map told wires) (Some act) → IsGoing f s → what ≡ event_of act → IsRefused f what s → after ≡ s → told wire ≡ (told (get_or wires in_use first))

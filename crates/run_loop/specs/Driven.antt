@@ -12,24 +12,9 @@ use Rattle.world_rules.specs.Frame.{AreSettings, Frame}
 use Rattle.world_rules.specs.Standings.{standing}
 use Rattle.world_rules.specs.Steps.{Replays}
 use Rattle.world_rules.specs.Worlds.{World}
-use Rattle.world_facts.specs.Counted.{AllCounted}
 use Rattle.world_facts.specs.Possible.{MayStep}
-use Rattle.world_facts.specs.Rows.{AllRead}
-use Rattle.world_law.specs.Packets.{AllNumber}
-use Rattle.world_book.specs.Holding.{RunsHold}
-use Rattle.world_book.specs.Submitting.{ProcessesMaySubmit}
 use Rattle.world_parts.specs.Seen.{Of, Seen, tasks_out}
 use Rattle.run_loop.specs.Asked.{HaveToldOn, NoneAskedBehind, WereUsedUpTo, asked_since}
-
--- ---- what is so of each run of a program by these settings
-
--- worlds count their steps and swaps, standings are read off the table, packets are numbered, and what the group's side asks holds
-pub record Laws (f : Frame) : Type 0 where
-  pub count : AllCounted
-  pub read : AllRead
-  pub number : AllNumber
-  pub hold : RunsHold f.performs f.computes
-  pub may : ProcessesMaySubmit f.performs f.computes
 
 -- ---- wires
 

@@ -5,7 +5,7 @@ ghost use Rattle.world_rules.specs.Frame.{AreSettings};
 ghost use Rattle.world_rules.specs.Standings as rules;
 ghost use Rattle.world_rules.specs.declared.standing.Standing.TheVariants.{Going};
 ghost use Rattle.world_parts.specs.Seen.{Of, tasks_out};
-ghost use Rattle.run_loop.specs.Driven.{HasAnswered, HasStopped, IsDriven, IsDue, IsGoing, Laws, MayBe, MayGoOn, WentOn};
+ghost use Rattle.run_loop.specs.Driven.{HasAnswered, HasStopped, IsDriven, IsDue, IsGoing, MayBe, MayGoOn, WentOn};
 
 use crate::asking::{ask, event_of, swaps_of};
 use crate::order::{Bursts, chosen};
@@ -14,10 +14,8 @@ use node_core::OneRun;
 use orca_base::NoMemory;
 use std::alloc::Global;
 use wires::Wire;
-use world_book::legal_book;
 use world_core::{Event, Settings, Standing, StepError, World};
 use world_facts::{standings_mean, worlds_count};
-use world_law::packets_are_numbered;
 
 /// A run that is driven: its world, which wire is in use, and how many bursts each process has computed.
 #[derive(Drop)]
@@ -56,7 +54,8 @@ impl<P: OneRun> Driver<P> {
         ensures scripts { map W.told_script wires.new ≡ map W.told_script wires.old }
         ensures loaded { map W.loaded wires.new ≡ map W.loaded wires.old }
     {
-        laws_of_driving(machine);
+        worlds_count();
+        standings_mean();
         'events: while self.world.standing() == Standing::Going {
             self.next(alloc, machine, wires)?;
         }
@@ -98,7 +97,7 @@ impl<P: OneRun> Driver<P> {
         ensures scripts { map W.told_script wires.new ≡ map W.told_script wires.old }
         ensures loaded { map W.loaded wires.new ≡ map W.loaded wires.old }
     {
-        laws_of_driving(machine);
+        worlds_count();
         let Some(act) = act else {
             return Ok(false);
         };
@@ -125,7 +124,7 @@ impl<P: OneRun> Driver<P> {
         ensures scripts { map W.told_script wires.new ≡ map W.told_script wires.old }
         ensures loaded { map W.loaded wires.new ≡ map W.loaded wires.old }
     {
-        laws_of_driving(machine);
+        worlds_count();
         if let Some(process) = self.world.due_act() {
             return self.step(alloc, machine, Event::Act { process }, wires);
         }
@@ -157,7 +156,7 @@ impl<P: OneRun> Driver<P> {
         ensures scripts { map W.told_script wires.new ≡ map W.told_script wires.old }
         ensures loaded { map W.loaded wires.new ≡ map W.loaded wires.old }
     {
-        laws_of_driving(machine);
+        worlds_count();
         match self
             .world
             .step(alloc, machine, event, &mut wires[self.in_use])
@@ -167,14 +166,4 @@ impl<P: OneRun> Driver<P> {
             Err(StepError::NotEnabled) => unreachable!(),
         }
     }
-}
-
-// What is so of each run of the program. A call of this function does nothing.
-fn laws_of_driving<P: OneRun>(machine: &P)
-    ensures { Laws P.run.frame }
-{
-    legal_book(machine);
-    packets_are_numbered();
-    worlds_count();
-    standings_mean();
 }

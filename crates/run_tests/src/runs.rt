@@ -36,7 +36,6 @@ fn is_so(rt: &HostRuntime, row: &Row<'_>) -> Result<bool, Fail> {
         tried.ended.status == FINISHED
             && tried.printed.as_str() == "6\n"
             && counts(&kept.events) == row.counts
-            && kept.events.len() == row.counts.steps()
             && kept.book.len() == 4
             && kept.nodes.len() == row.nodes
             && same,
@@ -267,18 +266,20 @@ fn suspected_sequencer(rt: HostRuntime) -> Result<(), Fail> {
 }
 
 // Packets before and behind the first swap.
-fn packets_about_swap(events: &[Step]) -> (u32, u32) {
-    let mut about = (0, 0);
+fn packets_about_swap(events: &[Step]) -> (u64, u64) {
+    let mut before = 0u64;
+    let mut behind = 0u64;
     let mut swapped = false;
     for step in events {
+        let packets = step.fates.len() as u64;
         if swapped {
-            about.1 += step.fates.len() as u32;
+            behind = behind.saturating_add(packets);
         } else {
-            about.0 += step.fates.len() as u32;
+            before = before.saturating_add(packets);
         }
         swapped = swapped || counts(std::slice::from_ref(step)).swaps == 1;
     }
-    about
+    (before, behind)
 }
 
 // The first wire loses all, and is exchanged once it was asked about both packets of the first message: the second is asked about 19.

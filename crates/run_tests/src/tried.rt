@@ -32,19 +32,19 @@ pub struct Tried {
 /// How many events of each sort a run had, and how many packets they sent.
 #[derive(Clone, Copy, Debug, PartialEq, Eq)]
 pub struct Counts {
-    pub bursts: u32,
-    pub acts: u32,
-    pub deliveries: u32,
-    pub ticks: u32,
-    pub crashes: u32,
-    pub suspects: u32,
-    pub swaps: u32,
-    pub packets: u32,
+    pub bursts: u64,
+    pub acts: u64,
+    pub deliveries: u64,
+    pub ticks: u64,
+    pub crashes: u64,
+    pub suspects: u64,
+    pub swaps: u64,
+    pub packets: u64,
 }
 
 impl Counts {
     /// A run in which nothing but its program happens: so many bursts, acts, and packets that all come.
-    pub fn plain(bursts: u32, acts: u32, packets: u32) -> Counts {
+    pub fn plain(bursts: u64, acts: u64, packets: u64) -> Counts {
         Counts {
             bursts,
             acts,
@@ -56,33 +56,23 @@ impl Counts {
             packets,
         }
     }
-
-    /// How many events these are.
-    pub fn steps(self) -> usize {
-        (self.bursts
-            + self.acts
-            + self.deliveries
-            + self.ticks
-            + self.crashes
-            + self.suspects
-            + self.swaps) as usize
-    }
 }
 
 /// What a run's events were.
 pub fn counts(events: &[Step]) -> Counts {
     let mut found = Counts::plain(0, 0, 0);
     for step in events {
-        match step.event {
-            Event::Burst { .. } => found.bursts += 1,
-            Event::Act { .. } => found.acts += 1,
-            Event::Deliver { .. } => found.deliveries += 1,
-            Event::Tick => found.ticks += 1,
-            Event::Crash { .. } => found.crashes += 1,
-            Event::Suspect { .. } => found.suspects += 1,
-            Event::Swap => found.swaps += 1,
-        }
-        found.packets += step.fates.len() as u32;
+        let one = match step.event {
+            Event::Burst { .. } => &mut found.bursts,
+            Event::Act { .. } => &mut found.acts,
+            Event::Deliver { .. } => &mut found.deliveries,
+            Event::Tick => &mut found.ticks,
+            Event::Crash { .. } => &mut found.crashes,
+            Event::Suspect { .. } => &mut found.suspects,
+            Event::Swap => &mut found.swaps,
+        };
+        *one = one.saturating_add(1);
+        found.packets = found.packets.saturating_add(step.fates.len() as u64);
     }
     found
 }

@@ -10,7 +10,7 @@ returns-in_default-clause-passed g c = λ _.
 pub returns-in-Ok-clause-done : goal.returns-in-Ok-clause-done
 returns-in-Ok-clause-done g c = λ _.
     act_by g.W.Wire.told c.args.wires.now c.index-wires-self.result c.step.new.wire g.P.OneRun.run.frame c.args.self.now.world c.step.new.self c.args.self.now.in_use g.P.OneRun.run.told
-    c.in-Some.act c.event_of.result c.swaps_of.result c.laws_of_driving.ensures
+    c.in-Some.act c.event_of.result c.swaps_of.result c.worlds_count.ensures.counted
     (some_given g.P.OneRun.run.frame c.args.self.now.world c.args.self.now.in_use g.P.OneRun.run.told (map g.W.Wire.told c.args.wires.now) c.args.act c.in-Some.act c.in-Some.is c.requires.answered)
     c.event_of.ensures c.swaps_of.ensures c.in-Ok.ensures.done c.step.ensures.fewer
 

@@ -19,7 +19,7 @@ pub returns-in-Some-chosen-clause-went : goal.returns-in-Some-chosen-clause-went
 returns-in-Some-chosen-clause-went g c =
     ok_as c.compute.result
     (λ done. burst_done g.P.OneRun.run.frame c.args.self.now.world c.compute.new.self c.args.self.now.in_use g.P.OneRun.run.told (map g.W.Wire.told c.args.wires.now) c.in-Some-chosen.process
-    c.laws_of_driving.ensures.count c.requires.on done c.compute.ensures.tasks)
+    c.worlds_count.ensures.counted c.requires.on done c.compute.ensures.tasks)
     c.compute.ensures.done
 
 pub returns-in-Some-chosen-clause-stopped : goal.returns-in-Some-chosen-clause-stopped

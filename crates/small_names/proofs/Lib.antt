@@ -1,3 +1,0 @@
-pub mod Ready
-mod Tables
-mod Named
