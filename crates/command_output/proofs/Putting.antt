@@ -1,7 +1,7 @@
 -- What was printed, one put on: of a text of several pieces a front was put, and its rest is left.
 use Rattle.std.proofs.Common.{◌≡◌, ℕ, suc, ◌+◌, ◌<◌, List, [], ◌∷◌, ◌++◌, length, get_or, take, drop, add-one, drop-cons, Option, Some, None, refl, sym, ap, ◌∙◌, subst, inl, inr, arith, append_assoc, take-append-drop, true}
 use Rattle.std.specs.List.{flat_map}
-use Rattle.std.specs.Prelude.{◌==◌, Result, Ok, Err}
+use Rattle.std.specs.Prelude.{◌==◌, Ok, Err}
 use Rattle.std.proofs.lemmas.Bool.Decides.{nat_tests}
 use Rattle.std.proofs.lemmas.List.{append-nil}
 use Rattle.orca_io.specs.declared.sink.SinkFault.{SinkFault}
