@@ -1,5 +1,5 @@
 -- The files of `replay`, and why they weren't read (docs/FORMATS.md, The program): those of the program first, and behind them the history.
-use Rattle.std.specs.Prelude.{◌≡◌, ℕ, List, Option, Some, None, codes}
+use Rattle.std.specs.Prelude.{◌≡◌, ℕ, List, Option, codes}
 use Rattle.orca_base.specs.declared.limits.TheConstants.{HISTORY_BYTES}
 use Rattle.orca_io.specs.Files.{File}
 use Rattle.orca_front.specs.Lines.{limit_line}

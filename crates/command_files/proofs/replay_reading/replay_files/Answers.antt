@@ -1,4 +1,4 @@
-use Rattle.std.proofs.Common.{◌∙◌, map}
+use Rattle.std.proofs.Common.{map}
 use Rattle.orca_front.specs.Sources.{file_of}
 use Rattle.command_files.proofs.ReadFiles.{history_since, only_left, quiet_on, quiet_since, read_since}
 use Rattle.command_files.proofs.replay_reading.replay_files.Goals as goal
