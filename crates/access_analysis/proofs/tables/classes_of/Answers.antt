@@ -2,7 +2,7 @@ use Rattle.meaning_rules.specs.Classes.{class_of}
 use Rattle.eval_bodies.specs.Codes.{sources}
 use Rattle.access_analysis.proofs.Listed.{right_classes}
 use Rattle.access_analysis.proofs.Specified.{class_known}
-use Rattle.access_analysis.proofs.tables.classes.Goals as goal
+use Rattle.access_analysis.proofs.tables.classes_of.Goals as goal
 
 pub returns : goal.returns
 returns c = λ kind op.
