@@ -147,11 +147,10 @@ fn replays_that_are_refused(rt: HostRuntime) -> Result<(), Fail> {
             13,
             "orca: history breaks at line 1: form\n",
         ),
-        // There is no machine for it yet.
         (
             &["replay", "b.txt", "two.orca"],
-            15,
-            "orca: two.orca: not yet\n",
+            13,
+            "orca: history breaks at line 1: form\n",
         ),
     ];
     for (line, status, printed) in rows {
