@@ -30,10 +30,10 @@ use crate::report::report;
 use crate::script::{ScriptFault, script_of};
 use crate::small::small_of;
 use command_files::{LoadFault, front_status, sources};
+use command_line::RunOptions;
 use command_output::{
     FINISHED, LIMIT, NO_MEMORY, NOT_YET, READ_FAULT, REFUSED, USAGE, WRITE_FAULT,
 };
-use command_line::RunOptions;
 use fault_scripts::Script;
 use orca_base::{Items, NoMemory, Refusal};
 use orca_front::{FrontFault, SourceFile, accepted, fault_line, linked};
