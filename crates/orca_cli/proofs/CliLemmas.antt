@@ -1,17 +1,10 @@
 -- What was printed, one put on; and how the program ends where it runs nothing.
-use Rattle.std.proofs.Common.{◌≡◌, ◌≢◌, ◌⊎◌, ℕ, suc, ◌+◌, ◌*◌, ◌^◌, ◌<◌, ◌≤◌, true, List, [], ◌∷◌, ◌++◌, length, get_or, take, drop, add-one, drop-cons, Option, Some, None, refl, sym, ap, ◌∙◌, subst, inl, inr, arith, append_assoc, take-append-drop}
+use Rattle.std.proofs.Common.{◌≡◌, ◌≢◌, ℕ, suc, ◌+◌, ◌*◌, ◌^◌, ◌<◌, ◌≤◌, List, [], ◌∷◌, ◌++◌, length, get_or, drop, add-one, drop-cons, Option, Some, None, refl, sym, ap, ◌∙◌, subst, inl, inr, arith}
 use Rattle.std.specs.List.{All}
-use Rattle.std.proofs.Math.Seq.{take-suc}
-use Rattle.std.specs.Borrow.{Bor}
-use Rattle.std.specs.Prelude.{◌==◌, Result, Ok, Err, IfNone, IfOk, IfSome, MatchOption, OnErr, map, option_and_then, option_map}
-use Rattle.std.proofs.lemmas.Bool.Decides.{nat_tests}
-use Rattle.std.proofs.lemmas.List.{append-nil, length-map, map-append, take_all}
-use Rattle.std.proofs.lemmas.List.Elements.{All-head, All-nil, All-push}
+use Rattle.std.specs.Prelude.{Result, Ok, Err, IfNone, IfOk, IfSome, MatchOption, OnErr, map, option_and_then, option_map}
+use Rattle.std.proofs.lemmas.List.Elements.{All-head}
 use Rattle.command_line.specs.declared.request.RunOptions.{RunOptions}
-use Rattle.orca_base.specs.declared.limits.TheConstants.{MODULES, SOURCE_BYTES}
-use Rattle.orca_base.specs.declared.refusal.Refusal.{Refusal}
-use Rattle.orca_base.specs.declared.refusal.Refusal.TheVariants.{Because, NoMemory}
-use Rattle.orca_base.specs.Refusal.{IfBecause}
+use Rattle.orca_base.specs.declared.limits.TheConstants.{SOURCE_BYTES}
 use Rattle.net_rules.specs.declared.line.ScriptLine.{ScriptLine}
 use Rattle.orca_lexer.specs.declared.token.Token.{Token}
 use Rattle.orca_grammar.specs.Forms.{spelled}
@@ -24,15 +17,10 @@ use Rattle.orca_syntax.specs.TextSyntax.{HasSyntax}
 use Rattle.orca_syntax.proofs.MarksOfDeclarations.{unit_shown}
 use Rattle.link_rules.specs.declared.named_unit.NamedUnit.{NamedUnit}
 use Rattle.link_rules.specs.Units.{Source, source}
-use Rattle.orca_front.specs.declared.fault.FrontFault.{FrontFault}
-use Rattle.orca_front.specs.declared.fault.FrontFault.TheVariants as fronts
-use Rattle.orca_front.specs.declared.source.SourceFile.{SourceFile}
 use Rattle.orca_front.specs.Sources.{AreUnits, IsUnit, file_of}
 use Rattle.orca_front.specs.Sources as units_of
 use Rattle.orca_io.specs.declared.sink.SinkFault.{SinkFault}
-use Rattle.orca_io.specs.declared.sink.SinkFault.TheVariants as faults
-use Rattle.orca_io.specs.Causes.{Rose}
-use Rattle.orca_io.specs.Files.{File, content_of}
+use Rattle.orca_io.specs.Files.{File}
 use Rattle.orca_io.specs.Sinks.{Puts}
 use Rattle.small_program.specs.declared.tree.SmallProgram.{SmallProgram}
 use Rattle.small_program.specs.Least.{least_bytes}
@@ -40,8 +28,6 @@ use Rattle.small_program.proofs.Sizes.{tokens_long}
 use Rattle.value_core.specs.History.{output_by, output_of}
 use Rattle.value_core.specs.declared.action.Line.{Line}
 use Rattle.orca_cli.specs.declared.job.Job.{Job}
-use Rattle.command_files.specs.declared.load_fault.LoadFault.{LoadFault}
-use Rattle.command_files.specs.declared.load_fault.LoadFault.TheVariants as loads
 use Rattle.orca_cli.specs.declared.script.ScriptFault.{ScriptFault}
 use Rattle.orca_cli.specs.declared.script.ScriptFault.TheVariants as scripts
 use Rattle.command_output.specs.declared.statuses.TheConstants.{NO_MEMORY, READ_FAULT, WRITE_FAULT}
@@ -50,11 +36,11 @@ use Rattle.orca_cli.specs.Headline.{IsNamed, settings_of}
 use Rattle.command_files.specs.Sources.{Word}
 use Rattle.orca_cli.specs.Job.{IsDeedWithin, checks, deed_in, deed_of, files_in, files_of, runs, script_in, script_of}
 use Rattle.command_output.proofs.Putting.{GrewUpTo, grew_fault, grew_put}
-use Rattle.command_files.specs.Loaded.{IsAbsent, IsFailed, IsLoaded, IsLoadFault, IsThere, IsTooLong, Reads, front_status, load_status}
+use Rattle.command_files.specs.Loaded.{IsLoaded}
 use Rattle.command_output.specs.Printed.{Grew, WroteOf, Ends, EndsAs}
 use Rattle.orca_cli.specs.Scripts.{HasScript, IsScriptFault, IsScriptOf, IsUnreadable, script_status}
 use Rattle.orca_cli.specs.Small.{AreSmall, TakesRoom}
-use Rattle.command_files.specs.Sources.{AreRead, IsRead, StopsAt}
+use Rattle.command_files.specs.Sources.{IsRead}
 
 -- ---- what was printed
 
