@@ -310,11 +310,15 @@ class WorkedHistories(PictureTest):
         self.assertEqual(picture.numbers(), list(range(1425, 1440)))
         self.assertEqual(picture.bars(), [(7, 1429), (1429, 1431), (1431, 1433), (1433, 1435), (1435, 1437)])
 
-    def test_the_picture_in_docs(self):
-        words = ["--nodes", "3", "--title", "A run of pool.orca on three members"]
-        done = run([*words, os.path.join(PICTURES, "pool.history"), os.path.join(PICTURES, "pool.orca")])
-        with open(os.path.join(PICTURES, "pool.svg"), "rb") as file:
-            self.assertEqual(done.stdout, file.read())
+    def test_the_pictures_in_docs(self):
+        """The first is of an example, and its history is the one that docs/FORMATS.md has."""
+        with open(os.path.join(PICTURES, "one.history"), encoding="ascii") as file:
+            self.assertEqual(file.read(), ONE_CELL)
+        for name, program in [("one", os.path.join(HOME, "examples", "one.orca")), ("pool", os.path.join(PICTURES, "pool.orca"))]:
+            words = ["--nodes", "3", "--title", f"A run of {name}.orca on three members"]
+            done = run([*words, os.path.join(PICTURES, f"{name}.history"), program])
+            with open(os.path.join(PICTURES, f"{name}.svg"), "rb") as file:
+                self.assertEqual(done.stdout, file.read())
 
 
 class Members(PictureTest):

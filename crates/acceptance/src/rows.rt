@@ -1,24 +1,25 @@
 //! The definitions of histories and of command lines, computed on worked examples.
 
-ghost use Rattle.std.specs.Prelude.{◌≡◌, ◌∷◌, [], None, Option, Some};
+ghost use Rattle.std.specs.Prelude.{◌≡◌, None, Option, Some, codes};
 ghost use Rattle.std.specs.Str.Iter.{HasSubslice};
 ghost use Rattle.command_line.specs.Command.{Command};
 ghost use Rattle.command_line.specs.Help.{help_of};
 ghost use Rattle.command_line.specs.declared.request.CommandName.{CommandName};
 ghost use Rattle.value_core.specs.History.{HasEnded, Legal, output_of};
-ghost use Rattle.orca_meaning.specs.Program.{computes_of, performs_of};
-ghost use Rattle.acceptance.specs.OneCell.{book, book_of, one_cell};
+ghost use Rattle.meaning_rules.specs.Meanings.{computes_of, performs_of};
+ghost use Rattle.meaning_rules.specs.ObjectExamples.{one_orca};
+ghost use Rattle.acceptance.specs.OneCell.{book, book_of};
 ghost use Rattle.acceptance.specs.Words as words;
 
 /// The four lines of the one cell's history are a history of its program, after which its process has ended; they write 6
 /// and a line feed. With another call number, guard or value of the third line they are none.
 pub fn one_cell_law()
-    ensures legal { Legal (performs_of one_cell) (computes_of one_cell) book }
-    ensures ended { HasEnded (performs_of one_cell) (computes_of one_cell) book (record { 0 = 0 }) }
-    ensures output { output_of book ≡ 54 ∷ 10 ∷ [] }
-    ensures call { Legal (performs_of one_cell) (computes_of one_cell) (book_of 3 0 6) → ⊥ }
-    ensures guard { Legal (performs_of one_cell) (computes_of one_cell) (book_of 2 1 6) → ⊥ }
-    ensures value { Legal (performs_of one_cell) (computes_of one_cell) (book_of 2 0 7) → ⊥ }
+    ensures legal { Legal (performs_of one_orca) (computes_of one_orca) book }
+    ensures ended { HasEnded (performs_of one_orca) (computes_of one_orca) book (record { 0 = 0 }) }
+    ensures output { output_of book ≡ codes "6\n" }
+    ensures call { Legal (performs_of one_orca) (computes_of one_orca) (book_of 3 0 6) → ⊥ }
+    ensures guard { Legal (performs_of one_orca) (computes_of one_orca) (book_of 2 1 6) → ⊥ }
+    ensures value { Legal (performs_of one_orca) (computes_of one_orca) (book_of 2 0 7) → ⊥ }
 {}
 
 /// What command lines ask for, one of each command: the words in full, with what isn't said filled in.

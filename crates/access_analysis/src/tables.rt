@@ -96,7 +96,7 @@ fn table_of(alloc: Global, checked: &Checked<'_>) -> Result<Vec<Vec<Class>>, NoM
 /// Whether each operation is a read or a write: a list for each object type, by its number, of its operations, by theirs. The output
 /// object's type has the number 0 and an empty list, and what stands nowhere is a write: so the table says what `class_of` says of all
 /// numbers. The only error is want of memory. No clause says so, but each body is gone through once.
-pub fn classes(alloc: Global, checked: &Checked<'_>) -> Result<Vec<Vec<Class>>, NoMemory>
+pub fn classes_of(alloc: Global, checked: &Checked<'_>) -> Result<Vec<Vec<Class>>, NoMemory>
     ensures { IfOk result (λ v. (kind : KindNo) (op : OpNo) →
         class_at_place (map (λ l. l.items) v.items) kind op ≡ rules.class_of (sources checked.now) kind op) }
 {
@@ -124,7 +124,7 @@ fn entry_at(row: &[Class], place: usize) -> Class
     }
 }
 
-/// What a table of classes (`classes`) says of an operation, by its number and by that of the object type. Its cost is that of two look-ups
+/// What a table of classes (`classes_of`) says of an operation, by its number and by that of the object type. Its cost is that of two look-ups
 /// by place.
 pub fn class_listed(table: &[Vec<Class>], kind: KindNo, op: OpNo) -> Class
     ensures { result ≡ class_at_place (map (λ l. l.items) table.now) kind op }

@@ -24,7 +24,7 @@ usage: orca COMMAND
   -h, --help                  prints this; behind a command's name, more about it
   -V, --version               prints the version
 
-So far `check` is built, and `run` for small programs, of one object type and one process.
+So far `check`, `run` and `replay` are built.
 ";
 
 /// The command `check`.
@@ -47,8 +47,7 @@ usage: orca run [OPTIONS] FILE...
   --history       prints the history of the run, too
   --explain       prints where each line of the history took place, too
 
-So far programs that are run are small, of one object type and one process, and `--workers`,
-`--history` and `--explain` aren't built.
+So far `--workers` and `--explain` aren't built.
 ";
 
 /// The command `code`.
@@ -75,8 +74,6 @@ pub const REPLAY_HELP: &str =
     "Says whether a history is one of the program in the files, or where it first breaks.
 
 usage: orca replay HISTORY FILE...
-
-Not built yet.
 ";
 
 /// The command `make`.

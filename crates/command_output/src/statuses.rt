@@ -45,6 +45,3 @@ pub const BREACH: u8 = 13;
 
 /// The script of the run is none.
 pub const BAD_SCRIPT: u8 = 14;
-
-/// The program is accepted, and can't be run yet.
-pub const NOT_YET: u8 = 15;

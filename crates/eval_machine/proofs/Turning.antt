@@ -18,17 +18,17 @@ use Rattle.eval_machine.specs.Processes.{IsLeftAt, IsOnTheWay, IsReached, Stands
 
 pub told_again : (p : TreeProcess) (w : Told) (turns : ℕ) → p.last ≡ None → kept p ≡ w → told (record p { turns = turns }) ≡ record w { turns = turns }
 told_again p w turns none is =
-    ap (λ (o : Option Reply). record { text = p.text; number = p.number; args = p.args; replies = with_last p.replies.items o; turns = turns }) none
+    ap (λ (o : Option Reply). record { text = p.text; number = p.number; args = p.args; replies = with_last p.replies o; turns = turns }) none
     ∙ ap (λ (v : Told). record v { turns = turns }) is
 
 pub left_at : (us : List Source) (p : TreeProcess) (turns most : ℕ) (act : Action) → p.last ≡ None → doing_by us (kept p) most ≡ doing.At act → IsLeftAt us (record p { turns = turns }) act
 left_at us p turns most act none is =
-    (none, (most, ap (λ (o : Option Reply). next_doing us p.text p.number p.args (with_last p.replies.items o) most) none ∙ is))
+    (none, (most, ap (λ (o : Option Reply). next_doing us p.text p.number p.args (with_last p.replies o) most) none ∙ is))
 
 -- ---- one reply more
 
 kept_is : (s : TreeProcess) → s.last ≡ None → kept s ≡ told s
-kept_is s none = ap (λ (o : Option Reply). record { text = s.text; number = s.number; args = s.args; replies = with_last s.replies.items o; turns = s.turns }) (sym none)
+kept_is s none = ap (λ (o : Option Reply). record { text = s.text; number = s.number; args = s.args; replies = with_last s.replies o; turns = s.turns }) (sym none)
 
 abbrev pub one_more : Told → Reply → Told
 one_more w reply = record w { replies = w.replies ++ reply ∷ [] }

@@ -150,7 +150,10 @@ fn try_history(
 
 fn main(rt: HostRuntime) -> io::Result<()> {
     let mut maker = Maker::new(rt.alloc(), SEED);
-    let names = there(tables::names(rt.alloc()))?;
+    let names = match tables::names(rt.alloc()) {
+        Ok(names) => names,
+        Err(_) => return Err(AllocError.into()),
+    };
     let mut counts = Counts::new();
     for _ in 0..TEXTS {
         try_history(&rt, &mut maker, &names, &mut counts)?;

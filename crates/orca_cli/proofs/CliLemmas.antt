@@ -1,46 +1,53 @@
 -- What was printed, one put on; and how the program ends where it runs nothing.
-use Rattle.std.proofs.Common.{◌≡◌, ◌≢◌, ℕ, suc, ◌+◌, ◌*◌, ◌^◌, ◌<◌, ◌≤◌, List, [], ◌∷◌, ◌++◌, length, get_or, drop, add-one, drop-cons, Option, Some, None, refl, sym, ap, ◌∙◌, subst, inl, inr, arith}
+use Rattle.std.proofs.Common.{◌≡◌, ◌≢◌, ◌⊎◌, ℕ, suc, ◌+◌, ◌*◌, ◌^◌, ◌<◌, ◌≤◌, true, List, [], ◌∷◌, ◌++◌, length, get_or, take, drop, add-one, drop-cons, Option, Some, None, refl, sym, ap, ◌∙◌, subst, inl, inr, arith, append_assoc, take-append-drop}
 use Rattle.std.specs.List.{All}
-use Rattle.std.specs.Prelude.{Result, Ok, Err, IfNone, IfOk, IfSome, MatchOption, OnErr, map, option_and_then, option_map}
-use Rattle.std.proofs.lemmas.List.Elements.{All-head}
+use Rattle.std.proofs.Math.Seq.{take-suc}
+use Rattle.std.specs.Borrow.{Bor}
+use Rattle.std.specs.Prelude.{◌==◌, Result, Ok, Err, IfNone, IfOk, IfSome, MatchOption, OnErr, OnOk, map, option_and_then, option_map}
+use Rattle.std.proofs.lemmas.Bool.Decides.{nat_tests}
+use Rattle.std.proofs.lemmas.List.{append-nil, length-map, map-append, take_all}
+use Rattle.std.proofs.lemmas.List.Elements.{All-head, All-nil, All-push}
 use Rattle.command_line.specs.declared.request.RunOptions.{RunOptions}
-use Rattle.orca_base.specs.declared.limits.TheConstants.{SOURCE_BYTES}
+use Rattle.orca_base.specs.declared.limits.TheConstants.{MODULES, SOURCE_BYTES}
+use Rattle.orca_base.specs.declared.refusal.Refusal.{Refusal}
+use Rattle.orca_base.specs.declared.refusal.Refusal.TheVariants.{Because, NoMemory}
+use Rattle.orca_base.specs.Refusal.{IfBecause}
 use Rattle.net_rules.specs.declared.line.ScriptLine.{ScriptLine}
-use Rattle.orca_lexer.specs.declared.token.Token.{Token}
-use Rattle.orca_grammar.specs.Forms.{spelled}
-use Rattle.orca_grammar.specs.Grammar.{IsText}
-use Rattle.orca_grammar.proofs.Placed.{text_kinds}
-use Rattle.orca_tree.specs.declared.tree.Unit.{Unit as UnitTree}
-use Rattle.orca_tree.specs.Marks.{unit as unit_marks}
-use Rattle.orca_syntax.specs.Shown.{syntax_of}
-use Rattle.orca_syntax.specs.TextSyntax.{HasSyntax}
-use Rattle.orca_syntax.proofs.MarksOfDeclarations.{unit_shown}
-use Rattle.link_rules.specs.declared.named_unit.NamedUnit.{NamedUnit}
-use Rattle.link_rules.specs.Units.{Source, source}
-use Rattle.orca_front.specs.Sources.{AreUnits, IsUnit, file_of}
-use Rattle.orca_front.specs.Sources as units_of
+use Rattle.link_rules.specs.Units.{Source}
+use Rattle.accepted_law.specs.Limits.{IsWithinLimits}
+use Rattle.eval_bodies.specs.Codes.{sources as sources_of}
+use Rattle.eval_machine.specs.declared.machine.TreeMachine.{TreeMachine}
+use Rattle.type_decls.specs.declared.checked.Checked.{Checked}
+use Rattle.orca_front.specs.declared.fault.FrontFault.{FrontFault}
+use Rattle.orca_front.specs.declared.fault.FrontFault.TheVariants as fronts
+use Rattle.orca_front.specs.Sources.{IsAccepted, IsFault, IsLinkFault}
 use Rattle.orca_io.specs.declared.sink.SinkFault.{SinkFault}
-use Rattle.orca_io.specs.Files.{File}
+use Rattle.orca_io.specs.declared.sink.SinkFault.TheVariants as faults
+use Rattle.orca_io.specs.Causes.{Rose}
+use Rattle.orca_io.specs.Files.{File, content_of}
 use Rattle.orca_io.specs.Sinks.{Puts}
-use Rattle.small_program.specs.declared.tree.SmallProgram.{SmallProgram}
-use Rattle.small_program.specs.Least.{least_bytes}
-use Rattle.small_program.proofs.Sizes.{tokens_long}
 use Rattle.value_core.specs.History.{output_by, output_of}
 use Rattle.value_core.specs.declared.action.Line.{Line}
 use Rattle.orca_cli.specs.declared.job.Job.{Job}
+use Rattle.command_files.specs.declared.load_fault.LoadFault.{LoadFault}
+use Rattle.command_files.specs.declared.load_fault.LoadFault.TheVariants as loads
+use Rattle.orca_cli.specs.declared.program.ProgramFault.{ProgramFault}
+use Rattle.orca_cli.specs.declared.program.ProgramFault.TheVariants.{Limited, Refused}
 use Rattle.orca_cli.specs.declared.script.ScriptFault.{ScriptFault}
 use Rattle.orca_cli.specs.declared.script.ScriptFault.TheVariants as scripts
 use Rattle.command_output.specs.declared.statuses.TheConstants.{NO_MEMORY, READ_FAULT, WRITE_FAULT}
+use Rattle.orca_cli.specs.Endings as because
 use Rattle.orca_cli.specs.Endings.{IsAnswer, IsEnding}
-use Rattle.orca_cli.specs.Headline.{IsNamed, settings_of}
 use Rattle.command_files.specs.Sources.{Word}
-use Rattle.orca_cli.specs.Job.{IsDeedWithin, checks, deed_in, deed_of, files_in, files_of, runs, script_in, script_of}
+use Rattle.orca_cli.specs.Job.{IsDeedWithin, checks, deed_in, deed_of, files_in, files_of, replays, runs, script_in, script_of}
 use Rattle.command_output.proofs.Putting.{GrewUpTo, grew_fault, grew_put}
-use Rattle.command_files.specs.Loaded.{IsLoaded}
+use Rattle.command_files.specs.Loaded.{IsAbsent, IsFailed, IsLoaded, IsLoadFault, IsThere, IsTooLong, Reads, front_status, load_status}
 use Rattle.command_output.specs.Printed.{Grew, WroteOf, Ends, EndsAs}
 use Rattle.orca_cli.specs.Scripts.{HasScript, IsScriptFault, IsScriptOf, IsUnreadable, script_status}
-use Rattle.orca_cli.specs.Small.{AreSmall, TakesRoom}
-use Rattle.command_files.specs.Sources.{IsRead}
+use Rattle.command_files.specs.Sources.{AreRead, IsRead, StopsAt}
+use Rattle.orca_cli.specs.Programs.{IsProgram, program_status, units_of}
+use Rattle.command_files.proofs.ReadFiles.{refused_status}
+use Rattle.replay_command.specs.Endings.{IsReplayAnswer}
 
 -- ---- what was printed
 
@@ -76,6 +83,14 @@ answer_of bytes (Err e) words told rose old new wanted status text is grew silen
 pub if_none : {T : Type 0} (o : Option T) (P : Type 0) → P → IfNone o P
 if_none None P p = p
 if_none (Some x) P p = tt
+
+pub on_any : {T E : Type 0} (r : Result T E) (P : Type 0) → P → OnOk r P
+on_any (Ok x) P p = p
+on_any (Err e) P p = tt
+
+pub if_any : {T E : Type 0} (r : Result T E) (P : Type 0) → P → IfOk r (λ _. P)
+if_any (Ok x) P p = p
+if_any (Err e) P p = tt
 
 -- ---- the words
 
@@ -129,30 +144,32 @@ unreadable_status (scripts.TooLong file) h = absurd h
 unreadable_status (scripts.Failed file) h = refl
 unreadable_status (scripts.Bad error) h = absurd h
 
--- the run is the one that the words name
-pub run_named : (words : List Word) (told : Option (List File)) (wires : ℕ) (options : RunOptions) (script : Option Word) (files : List Word) (units : List Source) (p : SmallProgram) (lines : List ScriptLine) → deed_in words ≡ Some (runs options script files)
-    → IsLoaded told files units → AreSmall units p → IsScriptOf told script lines → IsNamed words told wires p (settings_of options wires) lines
-run_named words told wires options script files units p lines asked loaded small has =
-    record { options = options; script = script; files = files; units = units; asked = asked; loaded = loaded; small = small; settings_are = refl; script_has = has }
+-- ---- the program
 
--- ---- how much room small programs take
+-- texts that don't link are no accepted program
+pub link_fault_is : (sources : List File) (fault : FrontFault) → IsLinkFault sources fault → IsFault sources fault
+link_fault_is sources (fronts.Faulty file at said) h = h
+link_fault_is sources fronts.TooNested h = h
+link_fault_is sources (fronts.Unlinked error) h = h
+link_fault_is sources (fronts.Mistyped error) h = absurd h
 
--- a text is as long as the words of its unit at least
-long_enough : (text : List ℕ) (u : UnitTree) (n : ℕ) → HasSyntax text (syntax_of u) → n ≤ least_bytes (spelled (unit_marks u)) → n ≤ length text
-long_enough text u n has long =
-    let parsed = subst (λ ms. IsText ms has.tokens) (sym (unit_shown u)) has.derived in
-    let words : least_bytes (map (λ (t : Token). t.kind) has.tokens) ≡ least_bytes (spelled (unit_marks u)) = ap least_bytes (text_kinds (unit_marks u) has.tokens parsed) in
-    let room = tokens_long text has.tokens has.are in
-    omega arith
+-- why it is none ends with no status of a write fault
+pub program_apart : (fault : ProgramFault) → program_status fault ≢ WRITE_FAULT
+program_apart (Refused fault) = refused_status fault
+program_apart (Limited passed) h = absurd cc
 
-room_of : (told : Option (List File)) (file : File) (u : NamedUnit) (p : SmallProgram) → IsUnit file (source u) → IsRead told SOURCE_BYTES file → TakesRoom (u ∷ []) p → (length p.operations < 2 ^ 16) × (length p.fields < 2 ^ 32)
-room_of told file u p unit read room =
-    let operations = long_enough file.1 u.unit (35 * length p.operations) unit.has room.0 in
-    let fields = long_enough file.1 u.unit (4 * length p.fields) unit.has room.1 in
-    (omega (arith, read.bytes, operations), omega (arith, read.bytes, fields))
+pub is_program : (told : Option (List File)) (files : List Word) (sources : List File) (units : List Source) → AreRead told files sources → IsAccepted sources units → IsWithinLimits units → IsProgram told files units
+is_program told files sources units read accepted within = record { loaded = (sources, read, accepted); within = within }
 
--- so its operations and fields are few
-pub few_enough : (told : Option (List File)) (sources : List File) (units : List NamedUnit) (p : SmallProgram) → AreUnits sources (map source units) → All (IsRead told SOURCE_BYTES) sources → TakesRoom units p →
-    (length p.operations < 2 ^ 16) × (length p.fields < 2 ^ 32)
-few_enough told sources [] p are read room = absurd room
-few_enough told _ (u ∷ units) p (units_of.one file files v vs unit more) read room = room_of told file u p unit (All-head (IsRead told SOURCE_BYTES) file files read) room
+-- the machine of a checked program has its units
+pub machine_units : {E : Type 0} (r : Result TreeMachine E) (checked : Checked) (units : List Source) → sources_of checked ≡ units → IfOk r (λ m. m.code.checked ≡ checked) → IfOk r (λ m. units_of m ≡ units)
+machine_units (Ok m) checked units are of = ap sources_of of ∙ are
+machine_units (Err e) checked units are of = tt
+
+-- ---- what is said of a history
+
+-- an ending of `replay` is one of the program
+pub replayed_so : (words : List Word) (told : Option (List File)) (rose : Type 0) (old new : Option (List ℕ)) (status : ℕ) (history : Word) (files : List Word) → deed_in words ≡ Some (replays history files) → IsReplayAnswer told rose history files old new status
+    → IsAnswer words told rose old new status
+replayed_so words told rose old new status history files asked (inl (wanted, line, ending, ends, grew)) = inl (wanted, line, because.replayed history files wanted line asked ending, ends, grew)
+replayed_so words told rose old new status history files asked (inr silent) = inr silent

@@ -1,34 +1,43 @@
 -- What a run leaves is what the headline says of it: from the run that was driven, the law of runs, and what was printed.
-use Rattle.std.proofs.Common.{◌≡◌, ◌≤◌, ℕ, true, false, List, [], ◌∷◌, ◌++◌, get_or, length, map, set, Option, Some, None, IfNone, IfSome, Result, Ok, Err, OnOk, suc, ap, sym, subst, refl, arith}
+use Rattle.std.proofs.Common.{◌≡◌, ◌∙◌, ◌<◌, ◌≤◌, ℕ, Bool, true, false, List, [], ◌∷◌, ◌++◌, get_or, length, map, set, Option, Some, None, IfNone, IfSome, Result, Ok, Err, OnOk, suc, ap, sym, subst, refl, arith}
 use Rattle.std.specs.Prelude.{option_map, slice_get}
+use Rattle.std.specs.List.{All}
 use Rattle.std.proofs.lemmas.List.{length-map}
 use Rattle.command_line.specs.Asked.{IsRunWithin}
 use Rattle.command_line.specs.declared.request.RunOptions.{RunOptions}
 use Rattle.net_rules.specs.declared.asked.Asked.{Asked}
 use Rattle.net_rules.specs.declared.line.ScriptLine.{ScriptLine}
 use Rattle.orca_io.specs.Files.{File}
-use Rattle.small_program.specs.declared.tree.SmallProgram.{SmallProgram}
-use Rattle.value_core.specs.History.{output_of}
+use Rattle.link_rules.specs.Units.{Source}
+use Rattle.value_core.specs.History.{Legal, output_of}
 use Rattle.value_core.specs.Meaning.{Computes, Performs}
 use Rattle.value_core.specs.declared.action.Action.{Action}
+use Rattle.value_core.specs.declared.action.Line.{Line}
+use Rattle.book_law.specs.Events.{In}
+use Rattle.history_text.specs.Sound.{AreLines, HasNames, IsPrintable}
+use Rattle.history_text.specs.declared.names.Names.{Names}
+use Rattle.history_commands.specs.ReadBack.{ReadsBack}
+use Rattle.history_commands.proofs.Answering.{printable, reads_back}
+use Rattle.world_book.specs.Sounding.{RunsSound}
 use Rattle.world_rules.specs.declared.settings.Settings.{Settings}
 use Rattle.world_rules.specs.declared.standing.Standing.{Standing}
 use Rattle.world_rules.specs.declared.standing.Standing.TheVariants.{Going}
 use Rattle.world_rules.specs.Frame.{AreSettings, Frame}
 use Rattle.world_rules.specs.Standings as rules
+use Rattle.world_rules.specs.Worlds.{World}
 use Rattle.world_core.specs.declared.ends.RunEnd.{RunEnd}
 use Rattle.run_loop.specs.Asked.{HaveToldOn, WereUsedSo, asked_since}
 use Rattle.run_loop.specs.Left.{HasRun, run_of}
-use Rattle.orca_meaning.specs.Program.{computes_of, performs_of}
+use Rattle.meaning_rules.specs.Meanings.{computes_of, performs_of}
 use Rattle.orca_cli.specs.declared.kept.Kept.{Kept}
 use Rattle.command_output.specs.declared.statuses.TheConstants.{NO_MEMORY}
-use Rattle.orca_cli.specs.Headline.{AreLoaded, IsNamed, IsRun, IsRunOf, settings_of, wires_of}
+use Rattle.orca_cli.specs.Headline.{AreLoaded, IsNamed, IsRun, IsProgramRun, IsRunOf, Wires, settings_of, wires_of}
 use Rattle.command_files.specs.Sources.{Word}
 use Rattle.orca_cli.specs.Kept.{IsEndOf}
 use Rattle.orca_cli.specs.Laws.{RunLaws}
 use Rattle.command_output.specs.Printed.{Ends, EndsAs, Grew}
-use Rattle.orca_cli.specs.Small.{awaited_name}
-use Rattle.orca_cli.specs.Standings.{ending_line, standing_status}
+use Rattle.orca_cli.specs.Standings.{awaited_name, ending_line, history_said, standing_status}
+use Rattle.program_names.specs.Naming.{AreNamesOf, CallsNamed}
 use Rattle.orca_cli.proofs.KeptLemmas.{history_kept}
 use Rattle.orca_cli.proofs.RowLemmas.{row_kept, rows_shown}
 
@@ -59,20 +68,20 @@ abbrev pub kept_of : RunEnd → Kept
 kept_of end = record { book = end.book; events = end.steps; nodes = end.nodes; processes = end.processes }
 
 -- what was printed, by how the run stands
-pub record IsTold (name : Action → List ℕ) (turns : ℕ) (end : RunEnd) (standing : Standing) (status : ℕ) (old new : Option (List ℕ)) : Type 0 where
+pub record IsTold (name : Action → List ℕ) (says : List Line → List ℕ) (turns : ℕ) (end : RunEnd) (standing : Standing) (status : ℕ) (old new : Option (List ℕ)) : Type 0 where
   pub ends : EndsAs (standing_status standing) status
   pub lacked : standing ≡ Going → status ≡ NO_MEMORY
-  pub printed : Grew old new (Ends (standing_status standing) status (output_of end.book.items ++ ending_line name turns standing end.processes.items))
+  pub printed : Grew old new (Ends (standing_status standing) status (output_of end.book.items ++ (says end.book.items ++ ending_line name turns standing end.processes.items)))
 
-pub is_run : (f : Frame) (name : Action → List ℕ) (end : RunEnd) (standing : Standing) (status : ℕ) (old new : Option (List ℕ)) (before after : List (List Asked))
-    → RunLaws f.performs f.computes → AreSettings f.settings → f.settings.choices ≡ [] → HasRun f standing before after end → HaveToldOn before after → IsTold name f.settings.turns end standing status old new
-    → IsRun f name (kept_of end) status old new before after
-is_run f name end standing status old new before after laws settings none h told says =
+pub is_run : (f : Frame) (name : Action → List ℕ) (says : List Line → List ℕ) (end : RunEnd) (standing : Standing) (status : ℕ) (old new : Option (List ℕ)) (before after : List (List Asked))
+    → RunLaws f.performs f.computes → AreSettings f.settings → f.settings.choices ≡ [] → HasRun f standing before after end → HaveToldOn before after → IsTold name says f.settings.turns end standing status old new
+    → IsRun f name says (kept_of end) status old new before after
+is_run f name says end standing status old new before after laws settings none h told printed =
     let w = h.world in
     let left = h.left in
     let k : Kept = kept_of end in
     let is : IsEndOf f w k = record { replays = left.replays; book = left.book; nodes = left.nodes; processes = left.processes } in
-    let said : IsTold name f.settings.turns end (rules.standing f w) status old new = subst (λ (s : Standing). IsTold name f.settings.turns end s status old new) left.stands says in
+    let said : IsTold name says f.settings.turns end (rules.standing f w) status old new = subst (λ (s : Standing). IsTold name says f.settings.turns end s status old new) left.stands printed in
     let stand = laws.ends f w in
     let processes = laws.stand f end.steps.items w left.replays in
     let some = settings.some in
@@ -84,6 +93,7 @@ is_run f name end standing status old new before after laws settings none h told
       row = row_kept f w k laws.count laws.read is stand (laws.finished f end.steps.items w left.replays) processes left.kept left.stuck
           (laws.spent f refl refl settings end.steps.items w left.replays) (rules.standing f w) refl;
       only = rows_shown f w k laws.count laws.read is stand processes settings.a_turn;
+      limited = λ what number passed. ap (rules.after_limit f w) passed;
       ends = said.ends;
       lacked = said.lacked;
       printed = said.printed;
@@ -93,12 +103,36 @@ is_run f name end standing status old new before after laws settings none h told
     }
 
 -- by the settings of the words
-pub is_run_by : (p : Performs) (q : Computes) (options : RunOptions) (wires : ℕ) (settings : Settings) (name : Action → List ℕ) (end : RunEnd) (standing : Standing) (status : ℕ) (old new : Option (List ℕ)) (before after : List (List Asked))
-    → RunLaws p q → settings ≡ settings_of options wires → AreSettings settings → HasRun (run_of p q settings) standing before after end → HaveToldOn before after → IsTold name options.turns end standing status old new
-    → IsRun (run_of p q (settings_of options wires)) name (kept_of end) status old new before after
-is_run_by p q options wires settings name end standing status old new before after laws is ranges h told says =
-    is_run (run_of p q (settings_of options wires)) name end standing status old new before after laws (subst AreSettings is ranges) refl
-    (subst (λ (s : Settings). HasRun (run_of p q s) standing before after end) is h) told says
+pub is_run_by : (p : Performs) (q : Computes) (options : RunOptions) (wires : ℕ) (settings : Settings) (name : Action → List ℕ) (says : List Line → List ℕ) (end : RunEnd) (standing : Standing) (status : ℕ) (old new : Option (List ℕ)) (before after : List (List Asked))
+    → RunLaws p q → settings ≡ settings_of options wires → AreSettings settings → HasRun (run_of p q settings) standing before after end → HaveToldOn before after → IsTold name says options.turns end standing status old new
+    → IsRun (run_of p q (settings_of options wires)) name says (kept_of end) status old new before after
+is_run_by p q options wires settings name says end standing status old new before after laws is ranges h told printed =
+    is_run (run_of p q (settings_of options wires)) name says end standing status old new before after laws (subst AreSettings is ranges) refl
+    (subst (λ (s : Settings). HasRun (run_of p q s) standing before after end) is h) told printed
+
+-- ---- its history as a text
+
+module _ (p : Performs) (q : Computes) (settings : Settings) (names : Names) (standing : Standing) (before after : List (List Asked)) (end : RunEnd) (h : HasRun (run_of p q settings) standing before after end) where
+  book_legal : Legal p q end.book.items
+  book_legal = subst (Legal p q) (sym h.left.book) h.left.kept.legal
+
+  -- its lines may be printed, by names that each history of the program has
+  pub book_printable : RunsSound p q → AreSettings settings → ((lines : List Line) → Legal p q lines → All (λ l. HasNames names l.action) lines) → All (IsPrintable names) end.book.items
+  book_printable sounds ranges named =
+      printable names end.book.items
+      (λ line inside. (sounds (run_of p q settings) refl refl ranges end.steps.items h.world h.left.replays).lines line (subst (λ (ls : List Line). In line ls) h.left.book inside))
+      (named end.book.items book_legal)
+
+  -- and are read back
+  pub book_back : AreLines names end.book.items → ReadsBack p q names end.book.items
+  book_back are = reads_back p q names end.book.items are book_legal
+
+-- by the program's names
+pub program_run : (units : List Source) (options : RunOptions) (wires : ℕ) (names : Names) (o : Option Kept) (status : ℕ) (old new : Option (List ℕ)) (before after : List (List Asked)) → AreNamesOf units names → CallsNamed units names
+    → IfSome o (λ k. IsRun (run_of (performs_of units) (computes_of units) (settings_of options wires)) (awaited_name names) (history_said options.history names) k status old new before after)
+    → IfSome o (λ k. ReadsBack (performs_of units) (computes_of units) names k.book.items) → IfSome o (λ k. IsProgramRun units options wires k status old new before after)
+program_run units options wires names None status old new before after are calls run back = tt
+program_run units options wires names (Some k) status old new before after are calls run back = record { names = names; are = are; calls = calls; run = run; back = back }
 
 -- of what there is
 pub some_is : {T : Type 0} (o : Option T) (x : T) (P : T → Type 0) → o ≡ Some x → IfSome o P → P x
@@ -137,17 +171,17 @@ pub none_as : {T A B : Type 0} (o : Option T) → (A → B) → IfNone o A → I
 none_as None so a = so a
 none_as (Some x) so a = tt
 
-pub run_of_words : {W : Type 0} (told : W → List Asked) (script : W → List ScriptLine) (loaded : W → ℕ) (before after : List W) (words : List Word) (files : Option (List File)) (p : SmallProgram) (options : RunOptions) (lines : List ScriptLine)
-    (o : Option Kept) (status : ℕ) (old new : Option (List ℕ)) → IsNamed words files (length (map told before)) p (settings_of options (length (map told before))) lines
-    → IfSome o (λ k. IsRun (run_of (performs_of p) (computes_of p) (settings_of options (length before))) (awaited_name p) k status old new (map told before) (map told after))
+pub run_of_words : {W : Type 0} (told : W → List Asked) (script : W → List ScriptLine) (loaded : W → ℕ) (before after : List W) (words : List Word) (files : Option (List File)) (units : List Source) (options : RunOptions) (lines : List ScriptLine)
+    (o : Option Kept) (status : ℕ) (old new : Option (List ℕ)) (named : IsNamed words files units lines) → named.options ≡ options
+    → IfSome o (λ k. IsProgramRun units options (length before) k status old new (map told before) (map told after))
     → IfSome o (λ k. AreLoaded lines (wires_of told script loaded before) (wires_of told script loaded after))
     → IfSome o (λ k. IsRunOf words files k status old new (wires_of told script loaded before) (wires_of told script loaded after))
-run_of_words told script loaded before after words files p options lines None status old new named run has = tt
-run_of_words told script loaded before after words files p options lines (Some k) status old new named run has = record {
-  program = p;
-  settings = settings_of options (length (map told before));
+run_of_words told script loaded before after words files units options lines None status old new named same run has = tt
+run_of_words told script loaded before after words files units options lines (Some k) status old new named same run has = record {
+  units = units;
   lines = lines;
   named = named;
-  run = subst (λ (n : ℕ). IsRun (run_of (performs_of p) (computes_of p) (settings_of options n)) (awaited_name p) k status old new (map told before) (map told after)) (sym (length-map before told)) run;
+  run = subst (λ (os : RunOptions). IsProgramRun units os (length (map told before)) k status old new (map told before) (map told after)) (sym same)
+      (subst (λ (n : ℕ). IsProgramRun units options n k status old new (map told before) (map told after)) (sym (length-map before told)) run);
   loaded = has;
 }

@@ -10,7 +10,10 @@ use Rattle.world_rules.specs.declared.standing.Standing.TheVariants.{Limit, OutO
 use Rattle.world_core.specs.declared.ends.ProcessEnd.{ProcessEnd}
 use Rattle.command_output.specs.declared.statuses.TheConstants.{NO_MEMORY, WRITE_FAULT}
 use Rattle.command_output.specs.Printed.{Ends, EndsAs, Grew, HasStopped, WroteOf}
-use Rattle.orca_cli.specs.Standings.{first_of, or_later, run_status, spent_of, standing_status, write_status}
+use Rattle.value_core.specs.declared.action.Line.{Line}
+use Rattle.history_text.specs.Spelling.{history_text}
+use Rattle.history_text.specs.declared.names.Names.{Names}
+use Rattle.orca_cli.specs.Standings.{first_of, history_said, or_later, run_status, spent_of, standing_status, write_status}
 use Rattle.command_output.proofs.Putting.{GrewUpTo, grew_all, grew_fault, grew_front, grew_put}
 
 -- ---- of a status that is wanted
@@ -151,3 +154,34 @@ line_behind old now new text line (Err fault) grew puts =
 -- there was no memory for the line
 pub no_line : (old now : Option (List ℕ)) (text line : List ℕ) (fault : SinkFault) → Grew old now (WroteOf (Ok tt) text) → Grew old now (WroteOf (Err fault) (text ++ line))
 no_line old now text line fault grew = grew_front old now (text ++ line) line fault (left_line old now text line grew)
+
+-- a text, and another behind it, of which so much was written
+pub text_behind : (old now new : Option (List ℕ)) (text behind : List ℕ) (put : Result Unit SinkFault) → Grew old now (WroteOf (Ok tt) text) → Grew now new (WroteOf put behind) → Grew old new (WroteOf put (text ++ behind))
+text_behind None now new text behind put grew more = subst (λ (o : Option (List ℕ)). Grew o new (WroteOf put behind)) grew more
+text_behind (Some old) None new text behind put grew more = absurd grew
+text_behind (Some old) (Some now) None text behind put grew more = absurd more
+text_behind (Some old) (Some now) (Some new) text behind (Ok u) grew more = (
+  grew.0 ++ more.0,
+  more.1 ∙ ap (λ (l : List ℕ). l ++ more.0) grew.1 ∙ append_assoc old grew.0 more.0,
+  ap (λ (l : List ℕ). l ++ more.0) grew.2 ∙ ap (λ (l : List ℕ). text ++ l) more.2,
+)
+text_behind (Some old) (Some now) (Some new) text behind (Err fault) grew more =
+    let rest = more.2 in (
+      grew.0 ++ more.0,
+      more.1 ∙ ap (λ (l : List ℕ). l ++ more.0) grew.1 ∙ append_assoc old grew.0 more.0,
+      (
+        rest.0,
+        ap (λ (l : List ℕ). l ++ behind) (sym grew.2) ∙ ap (λ (l : List ℕ). grew.0 ++ l) rest.1 ∙ sym (append_assoc grew.0 more.0 rest.0),
+      ),
+    )
+
+-- ---- the history
+
+-- it isn't asked for
+pub said_none : (told : Option (List ℕ)) (asked : Bool) (names : Names) (book : List Line) → asked ≡ false → Grew told told (WroteOf (Ok tt) (history_said asked names book))
+said_none None asked names book not = refl
+said_none (Some old) asked names book not = ([], sym (append-nil old), ap (λ (b : Bool). history_said b names book) (sym not))
+
+-- it is
+pub said_all : (old new : Option (List ℕ)) (asked : Bool) (names : Names) (book : List Line) (put : Result Unit SinkFault) → asked ≡ true → Grew old new (WroteOf put (history_text names book)) → Grew old new (WroteOf put (history_said asked names book))
+said_all old new asked names book put is grew = subst (λ (b : Bool). Grew old new (WroteOf put (history_said b names book))) (sym is) grew

@@ -1,26 +1,24 @@
 -- How the program ends where it runs nothing: with which status and line, and when (docs/FORMATS.md, Statuses).
-use Rattle.std.specs.Prelude.{◌≡◌, ◌⊎◌, ℕ, List, [], Option, Some, None, slice_index_or}
-use Rattle.command_line.specs.declared.request.RunOptions.{RunOptions}
+use Rattle.std.specs.Prelude.{◌≡◌, ◌⊎◌, ℕ, List, Option, Some, None}
 use Rattle.orca_io.specs.Files.{File}
 use Rattle.link_rules.specs.Units.{Source}
-use Rattle.orca_front.specs.declared.fault.FrontFault.{FrontFault}
-use Rattle.orca_front.specs.Lines.{fault_line}
-use Rattle.orca_front.specs.Sources.{IsFault}
 use Rattle.command_files.specs.declared.load_fault.LoadFault.{LoadFault}
-use Rattle.command_output.specs.declared.statuses.TheConstants.{FINISHED, NOT_YET, NO_MEMORY, USAGE}
+use Rattle.command_output.specs.declared.statuses.TheConstants.{FINISHED, NO_MEMORY, USAGE}
+use Rattle.orca_cli.specs.declared.program.ProgramFault.{ProgramFault}
 use Rattle.orca_cli.specs.declared.script.ScriptFault.{ScriptFault}
 use Rattle.command_files.specs.Sources.{Word}
-use Rattle.orca_cli.specs.Job.{checks, deed_in, files_in, runs, says, script_in}
-use Rattle.orca_cli.specs.Lines.{usage_line, ok_line, not_yet_line}
-use Rattle.command_files.specs.Loaded.{IsLoadFault, IsLoaded, front_status, load_line, load_status}
+use Rattle.orca_cli.specs.Job.{checks, deed_in, files_in, replays, says, script_in}
+use Rattle.orca_cli.specs.Lines.{usage_line, ok_line}
+use Rattle.replay_command.specs.Endings.{IsReplayEnding}
+use Rattle.command_files.specs.Loaded.{IsLoadFault, load_line, load_status}
 use Rattle.command_output.specs.Printed.{Grew, Ends, EndsAs}
+use Rattle.orca_cli.specs.Programs.{IsProgram, IsProgramFault, program_line, program_status}
 use Rattle.orca_cli.specs.Scripts.{HasScript, IsScriptFault, script_fault_line, script_status}
-use Rattle.orca_cli.specs.Small.{IsNotSmall}
 use Rattle.command_files.specs.Sources.{AreRead}
 
--- The words ask for help or for the version; they are no command, or ask for what isn't built. They ask for something of the program in
--- files, and these weren't read; or they were, and the script of the run wasn't, or is none; or that is one, and their texts are no program
--- that is accepted. They ask for a check of one that is. They ask for a run of one that can't be run yet, whose first file is named
+-- The words ask for help or for the version; they are no command, or ask for what isn't built. They ask for a check or a run of the program
+-- in files, and these weren't read; or they were, and the script of the run wasn't, or is none; or that is one, and their texts are no accepted
+-- program. They ask for a check of one that is. They ask whether a history is one of a program, and `replay` ends so
 pub data IsEnding (words : List Word) (told : Option (List File)) (rose : Type 0) : ℕ → List ℕ → Type 0 where
   said : (text : List ℕ) → deed_in words ≡ Some (says text) → IsEnding words told rose FINISHED text
   usage : deed_in words ≡ None → IsEnding words told rose USAGE usage_line
@@ -29,13 +27,12 @@ pub data IsEnding (words : List Word) (told : Option (List File)) (rose : Type 0
   unscripted : (files : List Word) (sources : List File) (script : Word) (fault : ScriptFault) → files_in words ≡ Some files →
       AreRead told files sources → script_in words ≡ Some script → IsScriptFault told rose script fault →
       IsEnding words told rose (script_status fault) (script_fault_line fault)
-  refused : (files : List Word) (sources : List File) (fault : FrontFault) → files_in words ≡ Some files → AreRead told files sources →
-      HasScript told words → IsFault sources fault → IsEnding words told rose (front_status fault) (fault_line fault)
-  accepted : (files : List Word) (units : List Source) → deed_in words ≡ Some (checks files) → IsLoaded told files units →
+  refused : (files : List Word) (sources : List File) (fault : ProgramFault) → files_in words ≡ Some files → AreRead told files sources →
+      HasScript told words → IsProgramFault sources fault → IsEnding words told rose (program_status fault) (program_line fault)
+  accepted : (files : List Word) (units : List Source) → deed_in words ≡ Some (checks files) → IsProgram told files units →
       IsEnding words told rose FINISHED ok_line
-  not_yet : (options : RunOptions) (script : Option Word) (files : List Word) (units : List Source) →
-      deed_in words ≡ Some (runs options script files) → HasScript told words → IsLoaded told files units → IsNotSmall units →
-      IsEnding words told rose NOT_YET (not_yet_line (slice_index_or files 0 []))
+  replayed : (history : Word) (files : List Word) (wanted : ℕ) (line : List ℕ) → deed_in words ≡ Some (replays history files) →
+      IsReplayEnding told rose history files wanted line → IsEnding words told rose wanted line
 
 -- the answer where nothing was run: an ending whose line was printed, or a front of the line where the write failed or
 -- memory lacked; or nothing at all, for want of memory

@@ -5,29 +5,32 @@ use Rattle.net_rules.specs.declared.asked.Asked.{Asked}
 use Rattle.net_rules.specs.declared.line.ScriptLine.{ScriptLine}
 use Rattle.orca_io.specs.Files.{File}
 use Rattle.link_rules.specs.Units.{Source}
-use Rattle.small_program.specs.declared.tree.SmallProgram.{SmallProgram}
+use Rattle.meaning_rules.specs.Meanings.{computes_of, performs_of}
+use Rattle.program_names.specs.Naming.{AreNamesOf, CallsNamed}
 use Rattle.value_core.specs.History.{output_of}
 use Rattle.value_core.specs.declared.action.Action.{Action}
+use Rattle.value_core.specs.declared.action.Line.{Line}
+use Rattle.history_commands.specs.ReadBack.{ReadsBack}
+use Rattle.history_text.specs.declared.names.Names.{Names}
 use Rattle.world_rules.specs.declared.settings.Settings.{Settings}
-use Rattle.world_rules.specs.declared.standing.Standing.TheVariants.{Going}
+use Rattle.orca_base.specs.declared.what.What.{What}
+use Rattle.world_rules.specs.declared.standing.Standing.TheVariants.{Going, Limit}
 use Rattle.world_rules.specs.Frame.{Frame}
-use Rattle.world_rules.specs.Standings.{standing}
+use Rattle.world_rules.specs.Standings.{limit, standing}
 use Rattle.world_rules.specs.Worlds.{World}
 use Rattle.world_facts.specs.Rows.{ReadsStanding}
 use Rattle.run_loop.specs.Asked.{HaveToldOn, NoneAskedBehind, WereUsedSo, asked_since}
-use Rattle.orca_meaning.specs.Program.{computes_of, performs_of}
 use Rattle.run_loop.specs.Left.{run_of}
 use Rattle.orca_cli.specs.declared.kept.Kept.{Kept}
 use Rattle.command_output.specs.declared.statuses.TheConstants.{NO_MEMORY}
 use Rattle.command_files.specs.Sources.{Word}
 use Rattle.orca_cli.specs.Job.{deed_in, runs}
 use Rattle.orca_cli.specs.Kept.{IsEndOf, IsHistory}
-use Rattle.command_files.specs.Loaded.{IsLoaded}
 use Rattle.command_output.specs.Printed.{Ends, EndsAs, Grew}
+use Rattle.orca_cli.specs.Programs.{IsProgram}
 use Rattle.orca_cli.specs.Rows.{KeptRow, ShownRows}
 use Rattle.orca_cli.specs.Scripts.{IsScriptOf}
-use Rattle.orca_cli.specs.Small.{AreSmall, awaited_name}
-use Rattle.orca_cli.specs.Standings.{ending_line, standing_status}
+use Rattle.orca_cli.specs.Standings.{awaited_name, ending_line, history_said, standing_status}
 
 -- ---- which run it is
 
@@ -42,18 +45,14 @@ settings_of options wires = record {
   choices = [];
 }
 
--- the words ask for the run of the program in files, all of which were read, and this is the program in them; by these settings; and the
--- script in the file that they name, where they name one, has these lines
-pub record IsNamed (words : List Word) (told : Option (List File)) (wires : ℕ) (p : SmallProgram) (settings : Settings)
-    (lines : List ScriptLine) : Type 0 where
+-- the words ask for the run of the accepted program in files, whose units are these, by these options; and the script in the file that they name,
+-- where they name one, has these lines
+pub record IsNamed (words : List Word) (told : Option (List File)) (units : List Source) (lines : List ScriptLine) : Type 0 where
   pub options : RunOptions
   pub script : Option Word
   pub files : List Word
-  pub units : List Source
   pub asked : deed_in words ≡ Some (runs options script files)
-  pub loaded : IsLoaded told files units
-  pub small : AreSmall units p
-  pub settings_are : settings ≡ settings_of options wires
+  pub program : IsProgram told files units
   pub script_has : IsScriptOf told script lines
 
 -- ---- its wires
@@ -81,32 +80,45 @@ AreUntouched status old new = (new ≡ old) ⊎ ((status ≡ NO_MEMORY) × HaveT
 -- ---- the run
 
 -- What is kept is the end of the run to which its events lead, and a history with its processes and copies. How that run stands is read off
--- what is kept (`row`, `only`), in both directions off its world (`reads`), and gives the status. What the history writes was printed, and behind it
--- the line of the standing; where a write failed or memory lacked, a front of both was. And the wires, which told `before` and tell `after`,
--- were used in the run; one that was never in use was asked nothing
-pub record IsRun (f : Frame) (name : Action → List ℕ) (k : Kept) (status : ℕ) (old new : Option (List ℕ)) (before after : List (List Asked)) :
-    Type 0 where
+-- what is kept (`row`, `only`), in both directions off its world (`reads`), and gives the status. What the history writes was printed, and behind
+-- it what is said of the history and the line of the standing; where a write failed or memory lacked, a front of these was. And the wires, which
+-- told `before` and tell `after`, were used in the run; one that was never in use was asked nothing
+pub record IsRun (f : Frame) (name : Action → List ℕ) (says : List Line → List ℕ) (k : Kept) (status : ℕ) (old new : Option (List ℕ))
+    (before after : List (List Asked)) : Type 0 where
   pub world : World
   pub end : IsEndOf f world k
   pub history : IsHistory f world k
   pub reads : ReadsStanding f world
   pub row : KeptRow f world k (standing f world)
   pub only : ShownRows f world k
+  -- of several limits that are passed it is the first: that before which the lowest member stops, and that of lines behind it
+  pub limited : (what : What) (number : ℕ) → limit f world ≡ Some (what, number) → standing f world ≡ Limit what number
   pub ends : EndsAs (standing_status (standing f world)) status
   pub lacked : standing f world ≡ Going → status ≡ NO_MEMORY
   pub printed :
       Grew old new (Ends (standing_status (standing f world)) status
-      (output_of k.book.items ++ ending_line name f.settings.turns (standing f world) k.processes.items))
+      (output_of k.book.items ++ (says k.book.items ++ ending_line name f.settings.turns (standing f world) k.processes.items)))
   pub told : HaveToldOn before after
   pub used : WereUsedSo (standing f world) f k.events.items world (asked_since before after)
   pub unused : NoneAskedBehind world.swaps (asked_since before after)
 
--- it is the run that the words ask for, of the program in files, in the source's meaning
+-- It is a run of the program with these units, in the source's meaning, by these options. By the program's names its line of a process that is
+-- blocked names the operation, and its history is said, where that is asked for: each call that a process comes to next behind a history has its
+-- names there. And the text of its history, printed or not, is read back as the history, and is legal
+pub record IsProgramRun (units : List Source) (options : RunOptions) (wires : ℕ) (k : Kept) (status : ℕ) (old new : Option (List ℕ))
+    (before after : List (List Asked)) : Type 0 where
+  pub names : Names
+  pub are : AreNamesOf units names
+  pub calls : CallsNamed units names
+  pub run : IsRun (run_of (performs_of units) (computes_of units) (settings_of options wires)) (awaited_name names)
+      (history_said options.history names) k status old new before after
+  pub back : ReadsBack (performs_of units) (computes_of units) names k.book.items
+
+-- it is the run that the words ask for, of the accepted program in files
 pub record IsRunOf (words : List Word) (files : Option (List File)) (k : Kept) (status : ℕ) (old new : Option (List ℕ))
     (before after : Wires) : Type 0 where
-  pub program : SmallProgram
-  pub settings : Settings
+  pub units : List Source
   pub lines : List ScriptLine
-  pub named : IsNamed words files (length before.told) program settings lines
-  pub run : IsRun (run_of (performs_of program) (computes_of program) settings) (awaited_name program) k status old new before.told after.told
+  pub named : IsNamed words files units lines
+  pub run : IsProgramRun units named.options (length before.told) k status old new before.told after.told
   pub loaded : AreLoaded lines before after

@@ -1,5 +1,5 @@
 -- What the program does for its words (docs/FORMATS.md, The program).
-use Rattle.std.specs.Prelude.{ℕ, ◌==◌, ◌&&◌, ◌||◌, not, Bool, List, map, Option, Some, None, option_and_then, option_map, if◌then◌else◌}
+use Rattle.std.specs.Prelude.{ℕ, ◌==◌, ◌&&◌, not, Bool, List, map, Option, Some, None, option_and_then, option_map, if◌then◌else◌}
 use Rattle.command_line.specs.declared.request.RunOptions.{RunOptions}
 use Rattle.command_line.specs.Asked.{Asked, IsRunWithin}
 use Rattle.command_line.specs.Asked as ask
@@ -9,41 +9,47 @@ use Rattle.command_files.specs.Sources.{Word}
 use Rattle.orca_cli.specs.declared.job.Job.{Job}
 use Rattle.orca_cli.specs.declared.job.Job.TheVariants as jobs
 
--- it says a text, checks the program in files, or runs the program in files, with these options and this file of a script
+-- it says a text, checks the program in files, runs it, with these options and this file of a script, or says whether the history in a file is
+-- one of it
 pub data Deed : Type 0 where
   says : List ℕ → Deed
   checks : List Word → Deed
   runs : RunOptions → Option Word → List Word → Deed
+  replays : Word → List Word → Deed
 
 abbrev pub deed_of : Job → Deed
 deed_of (jobs.Says text) = says text.now
 deed_of (jobs.Checks files) = checks (map (λ s. s.now) files.items)
 deed_of (jobs.Runs options script files) = runs options (option_map (λ s. s.now) script) (map (λ s. s.now) files.items)
+deed_of (jobs.Replays history files) = replays history.now (map (λ s. s.now) files.items)
 
--- the files with the texts of its program, in order, where it is of a program
+-- the files with the texts of its program, in order, where it checks or runs one
 abbrev pub files_of : Deed → Option (List Word)
 files_of (says text) = None
 files_of (checks files) = Some files
 files_of (runs options script files) = Some files
+files_of (replays history files) = None
 
 -- the file of its script, where it has one
 abbrev pub script_of : Deed → Option Word
 script_of (says text) = None
 script_of (checks files) = None
 script_of (runs options script files) = script
+script_of (replays history files) = None
 
 -- the numbers of its options are in their ranges, where it has options
 abbrev pub IsDeedWithin : Deed → Type 0
 IsDeedWithin (says text) = Unit {0}
 IsDeedWithin (checks files) = Unit {0}
 IsDeedWithin (runs options script files) = IsRunWithin options
+IsDeedWithin (replays history files) = Unit {0}
 
--- so far a run is by one thread, whichever number of them isn't asked for, and prints its output alone
+-- so far a run is by one thread, whichever number of them isn't asked for, and doesn't tell where lines took place
 abbrev pub usual_workers : ℕ
 usual_workers = 4
 
 abbrev pub is_run_built : RunOptions → Bool
-is_run_built options = options.workers == usual_workers && not (options.history || options.explain)
+is_run_built options = options.workers == usual_workers && not options.explain
 
 abbrev pub run_built : RunOptions → Option Word → List Word → Option Deed
 run_built options script files = if is_run_built options then Some (runs options script files) else None
@@ -54,6 +60,7 @@ built (ask.help of) = Some (says (help_of of))
 built ask.version = Some (says version_line)
 built (ask.check files) = Some (checks files)
 built (ask.run options script files) = run_built options script files
+built (ask.replay history files) = Some (replays history files)
 built _ = None
 
 -- what is done for the words: nothing where they are no command, or ask for what isn't built

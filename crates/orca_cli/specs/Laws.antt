@@ -1,6 +1,7 @@
 -- What is so of each run of a program: what the top takes from the law of runs.
 use Rattle.value_core.specs.Meaning.{Computes, Performs}
 use Rattle.run_law.specs.Spent.{AllSpentBusy}
+use Rattle.world_book.specs.Sounding.{RunsSound}
 use Rattle.world_facts.specs.Counted.{AllCounted}
 use Rattle.world_facts.specs.Ends.{AllEndsStand, FinishedRunsEnd}
 use Rattle.world_facts.specs.Places.{AllPlaced}
@@ -8,7 +9,8 @@ use Rattle.world_facts.specs.Processes.{AllStand, HomesAreMembers}
 use Rattle.world_facts.specs.Rows.{AllRead}
 
 -- a book stands by places; ends of members and processes stand, and those of a run that has finished; processes are on members, and at what
--- they do next; one that computes with all its turns is busy; standings are read off the table; worlds count their steps
+-- they do next; one that computes with all its turns is busy; standings are read off the table; worlds count their steps; lines of books are
+-- sound
 pub record RunLaws (p : Performs) (q : Computes) : Type 0 where
   pub placed : AllPlaced
   pub ends : AllEndsStand
@@ -18,3 +20,4 @@ pub record RunLaws (p : Performs) (q : Computes) : Type 0 where
   pub spent : AllSpentBusy p q
   pub read : AllRead
   pub count : AllCounted
+  pub sound : RunsSound p q

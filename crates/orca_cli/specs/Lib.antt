@@ -1,6 +1,6 @@
 pub mod Job
 pub mod Lines
-pub mod Small
+pub mod Programs
 pub mod Scripts
 pub mod Endings
 pub mod Standings

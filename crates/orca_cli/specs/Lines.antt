@@ -4,9 +4,9 @@ use Rattle.std.specs.Fmt.{decimal}
 use Rattle.fault_scripts.specs.declared.error.ScriptError.{ScriptError}
 use Rattle.fault_scripts.specs.declared.error.ScriptError.TheVariants.{BadNumber, UnknownWord}
 use Rattle.orca_base.specs.declared.fault.FaultKind.{FaultKind}
-use Rattle.orca_base.specs.declared.fault.FaultKind.TheVariants as fault
 use Rattle.orca_base.specs.declared.what.What.{What}
 use Rattle.orca_base.specs.declared.what.What.TheVariants as what
+use Rattle.history_text.specs.Spelling.{fault_name}
 use Rattle.value_core.specs.Datum.{Data}
 use Rattle.value_core.specs.History.{string_first}
 
@@ -17,9 +17,6 @@ usage_line =
 -- the program in the files is accepted
 abbrev pub ok_line : List ℕ
 ok_line = codes "ok" ++ 10 ∷ []
-
-abbrev pub not_yet_line : List ℕ → List ℕ
-not_yet_line file = codes "orca: " ++ file ++ (codes ": not yet" ++ 10 ∷ [])
 
 -- the string that is the first argument, and a line feed
 abbrev pub line_with : Data → List ℕ
@@ -35,16 +32,6 @@ script_line (UnknownWord line) = script_said line (codes "unknown word")
 script_line (BadNumber line) = script_said line (codes "bad number")
 
 -- ---- where a run ends otherwise than by its program
-
-abbrev pub fault_name : FaultKind → List ℕ
-fault_name fault.Overflow = codes "Overflow"
-fault_name fault.DivideByZero = codes "DivideByZero"
-fault_name fault.IndexOutside = codes "IndexOutside"
-fault_name fault.FromEmpty = codes "FromEmpty"
-fault_name fault.TooLarge = codes "TooLarge"
-fault_name fault.TooLong = codes "TooLong"
-fault_name fault.TooDeep = codes "TooDeep"
-fault_name fault.NoReturn = codes "NoReturn"
 
 abbrev pub faulted_line : ℕ → FaultKind → List ℕ
 faulted_line process kind = codes "orca: process " ++ decimal process ++ (codes " faulted: " ++ fault_name kind ++ 10 ∷ [])

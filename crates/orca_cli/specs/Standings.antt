@@ -1,10 +1,15 @@
--- How a run ends by how it stands: its status, and the line that is said behind its output (docs/FORMATS.md, Statuses).
-use Rattle.std.specs.Prelude.{ℕ, suc, ◌==◌, if◌then◌else◌, List, [], ◌∷◌, Option, None, Some, Result, Ok, Err}
+-- How a run ends by how it stands: its status, and what is said behind its output: its history, where that is asked for, and the line of its
+-- status (docs/FORMATS.md, Statuses, Histories).
+use Rattle.std.specs.Prelude.{Bool, ℕ, suc, ◌==◌, if◌then◌else◌, List, [], ◌∷◌, Option, None, Some, Result, Ok, Err}
 use Rattle.orca_base.specs.declared.fault.FaultKind.{FaultKind}
 use Rattle.orca_io.specs.declared.sink.SinkFault.{SinkFault}
 use Rattle.orca_io.specs.declared.sink.SinkFault.TheVariants as faults
 use Rattle.orca_front.specs.Lines.{limit_line}
 use Rattle.value_core.specs.declared.action.Action.{Action}
+use Rattle.value_core.specs.declared.action.Action.TheVariants as action
+use Rattle.value_core.specs.declared.action.Line.{Line}
+use Rattle.history_text.specs.Spelling.{called_name, history_text}
+use Rattle.history_text.specs.declared.names.Names.{Names}
 use Rattle.world_rules.specs.declared.standing.Standing.{Standing}
 use Rattle.world_rules.specs.declared.standing.Standing.TheVariants.{Limit, OutOfTurns, OutOfEvents, NoGroup, Faulted, Blocked, Finished, Going}
 use Rattle.world_core.specs.declared.ends.ProcessEnd.{ProcessEnd}
@@ -78,7 +83,20 @@ first_waiting ends = first_of (λ (end : ProcessEnd). awaited_of end.standing) 0
 abbrev pub first_spent : ℕ → List ProcessEnd → Option (ℕ × Unit)
 first_spent turns ends = first_of (spent_of turns) 0 ends
 
+-- ---- the history
+
+abbrev pub history_said : Bool → Names → List Line → List ℕ
+history_said asked names book = if asked then history_text names book else []
+
 -- ---- the line
+
+-- `KIND$OP`, the operation for which a process waits that is at this action
+abbrev pub awaited_name : Names → Action → List ℕ
+awaited_name names (action.Call kind op object args) = called_name names kind op
+awaited_name names (action.Make kind object) = []
+awaited_name names (action.Fork text args place_on) = []
+awaited_name names action.Ended = []
+awaited_name names (action.Faulted fault) = []
 
 abbrev pub fault_said : Option (ℕ × FaultKind) → List ℕ
 fault_said None = []

@@ -25,6 +25,11 @@ pub enum Job<'a> {
         script: Option<&'a str>,
         files: Vec<&'a str>,
     },
+    /// It says whether the history in this file is one of the program in these.
+    Replays {
+        history: &'a str,
+        files: Vec<&'a str>,
+    },
 }
 
 /// What the program does for the words, or none where they are no command or ask for what is not built yet.
@@ -54,6 +59,7 @@ fn job_built<'a>(request: Request<'a>) -> Option<Job<'a>>
             script,
             files,
         } => run_built(options, script, files),
+        Request::Replay { history, files } => Some(Job::Replays { history, files }),
         other => {
             drop(other);
             None
@@ -64,11 +70,12 @@ fn job_built<'a>(request: Request<'a>) -> Option<Job<'a>>
 // How many threads a run has that asks for no other number.
 const USUAL_WORKERS: u8 = 4;
 
-// Whether runs with these options are built: by one thread, whatever number of them isn't asked for, and with the output alone.
+// Whether runs with these options are built: by one thread, whatever number of them isn't asked for, and without what tells where lines took
+// place.
 fn is_run_built(options: RunOptions) -> bool
     ensures { result ≡ is_run_built options }
 {
-    options.workers == USUAL_WORKERS && !(options.history || options.explain)
+    options.workers == USUAL_WORKERS && !options.explain
 }
 
 // The run of the files, where that is built.

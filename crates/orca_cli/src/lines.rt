@@ -5,6 +5,7 @@ ghost use Rattle.orca_front.specs.Lines.{limit_line};
 ghost use Rattle.orca_cli.specs.Lines as lines;
 
 use fault_scripts::ScriptError;
+use history_text::fault_name;
 use orca_base::{FaultKind, NoMemory, What};
 use std::alloc::Global;
 
@@ -32,14 +33,6 @@ pub fn ok_line(alloc: Global) -> Result<Vec<u8>, NoMemory>
     Ok(Vec::from_slice(alloc, b"ok\n")?)
 }
 
-/// The program in files, of which this is the first, can't be run yet.
-pub fn not_yet_line(alloc: Global, file: &str) -> Result<Vec<u8>, NoMemory>
-    ensures { IfOk result (λ line. line.items ≡ lines.not_yet_line file.now) }
-{
-    let line = format!(in alloc; "orca: {file}: not yet\n")?;
-    Ok(line.into_bytes())
-}
-
 /// The line of a script is none.
 pub fn script_line(alloc: Global, error: ScriptError) -> Result<Vec<u8>, NoMemory>
     ensures { IfOk result (λ line. line.items ≡ lines.script_line error) }
@@ -58,37 +51,24 @@ fn script_said(alloc: Global, line: u32, said: &str) -> Result<Vec<u8>, NoMemory
     Ok(text.into_bytes())
 }
 
-/// The name of a fault.
-pub fn fault_name(fault: FaultKind) -> &'static str
-    ensures { result.now ≡ lines.fault_name fault }
-{
-    match fault {
-        FaultKind::Overflow => "Overflow",
-        FaultKind::DivideByZero => "DivideByZero",
-        FaultKind::IndexOutside => "IndexOutside",
-        FaultKind::FromEmpty => "FromEmpty",
-        FaultKind::TooLarge => "TooLarge",
-        FaultKind::TooLong => "TooLong",
-        FaultKind::TooDeep => "TooDeep",
-        FaultKind::NoReturn => "NoReturn",
-    }
-}
-
 /// A process ended by a fault.
 pub fn faulted_line(alloc: Global, process: usize, fault: FaultKind) -> Result<Vec<u8>, NoMemory>
     ensures { IfOk result (λ line. line.items ≡ lines.faulted_line process fault) }
 {
-    let name = fault_name(fault);
-    let line = format!(in alloc; "orca: process {process} faulted: {name}\n")?;
-    Ok(line.into_bytes())
+    let mut line = format!(in alloc; "orca: process {process} faulted: ")?.into_bytes();
+    line.extend_from_slice(fault_name(fault))?;
+    line.push(b'\n')?;
+    Ok(line)
 }
 
 /// A process waits for the operation of this name.
-pub fn blocked_line(alloc: Global, process: usize, name: &str) -> Result<Vec<u8>, NoMemory>
+pub fn blocked_line(alloc: Global, process: usize, name: &[u8]) -> Result<Vec<u8>, NoMemory>
     ensures { IfOk result (λ line. line.items ≡ lines.blocked_line process name.now) }
 {
-    let line = format!(in alloc; "orca: blocked: process {process} waits for {name}\n")?;
-    Ok(line.into_bytes())
+    let mut line = format!(in alloc; "orca: blocked: process {process} waits for ")?.into_bytes();
+    line.extend_from_slice(name)?;
+    line.push(b'\n')?;
+    Ok(line)
 }
 
 /// There is no group any more.

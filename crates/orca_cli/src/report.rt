@@ -1,50 +1,54 @@
 //! What is told of a run, once it is over.
 
-ghost use Rattle.std.specs.Prelude.{◌≡◌, ◌≢◌, ◌⊎◌, ◌==◌, ◌≤◌, ◌<◌, ◌++◌, IfOk, IsErrOf, OnOk, option_map};
+ghost use Rattle.std.specs.Prelude.{◌≡◌, ◌≢◌, ◌⊎◌, ◌==◌, ◌≤◌, ◌<◌, ◌++◌, All, IfOk, IsErrOf, OnOk, option_map};
 ghost use Rattle.orca_io.specs.Causes.{Rose};
 ghost use Rattle.orca_io.specs.Sinks.{Puts};
 ghost use Rattle.value_core.specs.History.{output_by, output_of};
+ghost use Rattle.history_text.specs.Sound.{AreTables, IsPrintable};
 ghost use Rattle.world_rules.specs.declared.standing.Standing.TheVariants.{Going};
 ghost use Rattle.orca_cli.specs.Lines.{line_with};
 ghost use Rattle.command_output.specs.Printed.{Ends, EndsAs, Grew, HasStopped, WroteOf};
-ghost use Rattle.orca_cli.specs.Small.{awaited_name};
-ghost use Rattle.orca_cli.specs.Standings.{awaited_of, ending_line, fault_of, fault_said, first_faulted, first_spent, first_waiting, run_status, spent_said, standing_status, wait_said};
+ghost use Rattle.orca_cli.specs.Standings.{awaited_name, awaited_of, ending_line, fault_of, fault_said, first_faulted, first_spent, first_waiting, history_said, run_status, spent_said, standing_status, wait_said};
 
 use crate::lines::{
     blocked_line, events_line, faulted_line, no_group_line, run_limit_line, turns_line,
 };
-use crate::small::awaited_name;
+use crate::names::awaited_name;
 use command_output::{
     BLOCKED, FAULTED, FINISHED, LIMIT, NO_GROUP, NO_MEMORY, OUT_OF_EVENTS, OUT_OF_TURNS,
     WRITE_FAULT,
 };
+use command_line::RunOptions;
+use history_commands::print_lines;
+use history_text::Names;
 use orca_base::{FaultKind, KindNo, NoMemory};
 use orca_io::{Sink, SinkFault};
 use run_loop::{ProcessEnd, ProcessStanding, RunEnd, Standing};
-use small_program::SmallProgram;
 use std::alloc::Global;
 use value_core::{Action, Line, Parts, Value};
 
-/// Prints what a run's history writes, one put a line, and behind it the line of its standing, up to the first put that fails; and gives the
-/// status.
+/// Prints what a run's history writes, one put a line, behind it the history, where that is asked for, and the line of its standing, up to
+/// the first put that fails; and gives the status.
 pub fn report<K: Sink>(
     alloc: Global,
     out: &mut K,
-    program: &SmallProgram,
-    turns: u64,
+    names: &Names,
+    options: RunOptions,
     standing: Standing,
     end: &RunEnd,
 ) -> u8
+    requires tables { AreTables names.now }
+    requires lines { All (IsPrintable names.now) end.now.book.items }
     ensures ends { EndsAs (standing_status standing) result }
     ensures lacked { standing ≡ Going → result ≡ NO_MEMORY }
     ensures printed { Grew (K.told out.old) (K.told out.new) (Ends (standing_status standing) result
-        (output_of end.now.book.items
-        ++ ending_line (awaited_name program.now) turns standing end.now.processes.items)) }
+        (output_of end.now.book.items ++ (history_said options.history names.now end.now.book.items
+        ++ ending_line (awaited_name names.now) options.turns standing end.now.processes.items))) }
     ensures later { K.faults out.old ≤ K.faults out.new }
     ensures failed { result ≡ WRITE_FAULT → Rose (K.faults out.old) (K.faults out.new) }
     ensures stopped { K.faults out.old < K.faults out.new → HasStopped result }
 {
-    let printed = print_run(alloc, out, program, turns, standing, end);
+    let printed = print_run(alloc, out, names, options, standing, end);
     run_status(standing, printed)
 }
 
@@ -75,40 +79,85 @@ fn standing_status(standing: Standing) -> u8
     }
 }
 
-// Prints what the history writes, and the line of the standing.
+// Prints what the history writes, and what is said behind it.
 fn print_run<K: Sink>(
     alloc: Global,
     out: &mut K,
-    program: &SmallProgram,
-    turns: u64,
+    names: &Names,
+    options: RunOptions,
     standing: Standing,
     end: &RunEnd,
 ) -> Result<(), SinkFault>
+    requires tables { AreTables names.now }
+    requires lines { All (IsPrintable names.now) end.now.book.items }
     ensures wrote { Grew (K.told out.old) (K.told out.new) (WroteOf result (output_of end.now.book.items
-        ++ ending_line (awaited_name program.now) turns standing end.now.processes.items)) }
+        ++ (history_said options.history names.now end.now.book.items
+        ++ ending_line (awaited_name names.now) options.turns standing end.now.processes.items))) }
     ensures later { K.faults out.old ≤ K.faults out.new }
     ensures failed { IsErrOf result SinkFault.Failed → Rose (K.faults out.old) (K.faults out.new) }
     ensures quiet { OnOk result (K.faults out.new ≡ K.faults out.old) }
 {
     print_book(alloc, out, &end.book)?;
-    let line = ending_line(alloc, program, turns, standing, &end.processes)?;
+    print_behind(alloc, out, names, options, standing, end)
+}
+
+// Prints the history, where it is asked for, and the line of the standing.
+fn print_behind<K: Sink>(
+    alloc: Global,
+    out: &mut K,
+    names: &Names,
+    options: RunOptions,
+    standing: Standing,
+    end: &RunEnd,
+) -> Result<(), SinkFault>
+    requires tables { AreTables names.now }
+    requires lines { All (IsPrintable names.now) end.now.book.items }
+    ensures wrote { Grew (K.told out.old) (K.told out.new) (WroteOf result (history_said options.history names.now end.now.book.items
+        ++ ending_line (awaited_name names.now) options.turns standing end.now.processes.items)) }
+    ensures later { K.faults out.old ≤ K.faults out.new }
+    ensures failed { IsErrOf result SinkFault.Failed → Rose (K.faults out.old) (K.faults out.new) }
+    ensures quiet { OnOk result (K.faults out.new ≡ K.faults out.old) }
+{
+    print_history(alloc, out, names, options.history, &end.book)?;
+    let line = ending_line(alloc, names, options.turns, standing, &end.processes)?;
     put_some(out, &line)
+}
+
+// Prints the history, one put a line, where it is asked for.
+fn print_history<K: Sink>(
+    alloc: Global,
+    out: &mut K,
+    names: &Names,
+    asked: bool,
+    book: &[Line],
+) -> Result<(), SinkFault>
+    requires tables { AreTables names.now }
+    requires lines { All (IsPrintable names.now) book.now }
+    ensures wrote { Grew (K.told out.old) (K.told out.new) (WroteOf result (history_said asked names.now book.now)) }
+    ensures later { K.faults out.old ≤ K.faults out.new }
+    ensures failed { IsErrOf result SinkFault.Failed → Rose (K.faults out.old) (K.faults out.new) }
+    ensures quiet { OnOk result (K.faults out.new ≡ K.faults out.old) }
+{
+    if asked {
+        return print_lines(alloc, out, names, book);
+    }
+    Ok(())
 }
 
 // The line of the standing; nothing where there is none.
 fn ending_line(
     alloc: Global,
-    program: &SmallProgram,
+    names: &Names,
     turns: u64,
     standing: Standing,
     ends: &[ProcessEnd],
 ) -> Result<Vec<u8>, NoMemory>
     ensures { IfOk result (λ line. line.items ≡
-        ending_line (awaited_name program.now) turns standing ends.now) }
+        ending_line (awaited_name names.now) turns standing ends.now) }
 {
     match standing {
         Standing::Faulted => fault_said(alloc, ends),
-        Standing::Blocked => wait_said(alloc, program, ends),
+        Standing::Blocked => wait_said(alloc, names, ends),
         Standing::NoGroup => no_group_line(alloc),
         Standing::OutOfEvents => events_line(alloc),
         Standing::OutOfTurns => spent_said(alloc, turns, ends),
@@ -155,15 +204,15 @@ fn fault_of(standing: &ProcessStanding) -> Option<FaultKind>
 // Of the lowest process that waits.
 fn wait_said(
     alloc: Global,
-    program: &SmallProgram,
+    names: &Names,
     ends: &[ProcessEnd],
 ) -> Result<Vec<u8>, NoMemory>
-    ensures { IfOk result (λ line. line.items ≡ wait_said (awaited_name program.now) (first_waiting ends.now)) }
+    ensures { IfOk result (λ line. line.items ≡ wait_said (awaited_name names.now) (first_waiting ends.now)) }
 {
     match first_waiting(ends) {
         Some((process, action)) => {
-            let name = awaited_name(alloc, program, action)?;
-            blocked_line(alloc, process, name.as_str())
+            let name = awaited_name(alloc, names, action)?;
+            blocked_line(alloc, process, &name)
         }
         None => Ok(Vec::new(alloc)),
     }

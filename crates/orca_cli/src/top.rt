@@ -1,50 +1,54 @@
 //! The top call.
 
-ghost use Rattle.std.specs.Prelude.{◌≡◌, ◌⊎◌, ◌<◌, ◌≤◌, ◌^◌, [], ℕ, List, None, IfNone, IfOk, IfSome, OnOk, Option, Some, length, map, option_map, slice_index_or, string_bytes};
+ghost use Rattle.std.specs.Prelude.{◌≡◌, ◌⊎◌, ◌<◌, ◌≤◌, ℕ, List, None, IfNone, IfSome, OnOk, Option, Some, length, map, option_map, string_bytes};
 ghost use Rattle.command_line.specs.Asked.{IsRunWithin};
 ghost use Rattle.orca_base.specs.Refusal.{IfBecause};
 ghost use Rattle.orca_io.specs.Causes.{Rose};
 ghost use Rattle.orca_io.specs.Files.{File};
-ghost use Rattle.link_rules.specs.Units.{source};
-ghost use Rattle.orca_front.specs.Sources.{IsAccepted, IsFault, file_of};
-ghost use Rattle.small_program.specs.Scope.{IsScoped};
-ghost use Rattle.orca_meaning.specs.Program.{computes_of, performs_of};
+ghost use Rattle.link_rules.specs.Units.{Source};
+ghost use Rattle.accepted_law.specs.Limits.{IsWithinLimits};
+ghost use Rattle.meaning_rules.specs.Meanings.{computes_of, performs_of};
+ghost use Rattle.orca_front.specs.Sources.{IsAccepted, file_of};
+ghost use Rattle.program_names.specs.Naming.{HistoriesNamed};
+ghost use Rattle.history_commands.specs.ReadBack.{ReadsBack};
+ghost use Rattle.history_text.specs.Sound.{AreTables};
 ghost use Rattle.run_loop.specs.Asked.{HaveToldOn};
 ghost use Rattle.run_loop.specs.Left.{run_of};
 ghost use Rattle.orca_cli.specs.Endings.{IsAnswer};
-ghost use Rattle.orca_cli.specs.Headline.{AreLoaded, AreUntouched, IsRun, IsRunOf, settings_of, wires_of};
+ghost use Rattle.orca_cli.specs.Headline.{AreLoaded, AreUntouched, IsProgramRun, IsRun, IsRunOf, settings_of, wires_of};
 ghost use Rattle.command_files.specs.Sources.{Word};
 ghost use Rattle.orca_cli.specs.Job.{checks, deed_in, files_in, runs, script_in};
 ghost use Rattle.orca_cli.specs.Laws.{RunLaws};
-ghost use Rattle.command_files.specs.Loaded.{IsFailed, IsLoadFault, front_status};
+ghost use Rattle.command_files.specs.Loaded.{IsFailed, IsLoadFault};
 ghost use Rattle.command_output.specs.Printed.{HasStopped};
 ghost use Rattle.orca_cli.specs.Scripts.{HasScript, IsScriptFault, IsUnreadable};
-ghost use Rattle.orca_cli.specs.Small.{awaited_name};
+ghost use Rattle.orca_cli.specs.Programs.{IsProgramFault, units_of};
+ghost use Rattle.orca_cli.specs.Standings.{awaited_name, history_said};
 ghost use Rattle.command_files.specs.Sources.{AreRead};
 
 use crate::ending::{nothing, said};
 use crate::job::{Job, job_of};
 use crate::kept::{Ended, Kept};
-use crate::lines::{not_yet_line, ok_line, usage_line, whole};
+use crate::lines::{ok_line, usage_line, whole};
+use crate::program::{ProgramFault, judged, linked_program, machine_of};
+use crate::replay::replay;
 use crate::report::report;
 use crate::script::{ScriptFault, script_of};
-use crate::small::small_of;
-use command_files::{LoadFault, front_status, sources};
+use command_files::{LoadFault, sources};
+use command_output::{FINISHED, NO_MEMORY, READ_FAULT, USAGE, WRITE_FAULT};
 use command_line::RunOptions;
-use command_output::{
-    FINISHED, LIMIT, NO_MEMORY, NOT_YET, READ_FAULT, REFUSED, USAGE, WRITE_FAULT,
-};
+use eval_machine::TreeMachine;
 use fault_scripts::Script;
+use history_text::{Names, lines_fit};
 use orca_base::{Items, NoMemory, Refusal};
-use orca_front::{FrontFault, SourceFile, accepted, fault_line, linked};
+use orca_front::SourceFile;
 use orca_io::{Shelf, Sink};
-use orca_meaning::TreeMachine;
-use orca_modules::Program;
+use program_names::names;
 use run_law::run_law;
 use run_loop::{Ran, Settings, run};
-use small_program::SmallProgram;
 use std::alloc::Global;
 use wires::Wire;
+use world_book::legal_book;
 use world_facts::{book_by_places, ends_stand, processes_stand, standings_mean, worlds_count};
 
 // Prints why files weren't read.
@@ -61,32 +65,27 @@ fn said_unread<K: Sink>(alloc: Global, out: &mut K, fault: LoadFault<'_>) -> End
     said(out, fault.line(alloc), fault.status())
 }
 
-// Prints why texts are no program.
-fn said_refused<K: Sink>(alloc: Global, out: &mut K, fault: &FrontFault) -> Ended
+// Prints why texts are no accepted program.
+fn said_refused<K: Sink>(alloc: Global, out: &mut K, fault: &ProgramFault) -> Ended
     ensures none { result.kept ≡ None }
     ensures said { (words : List Word) (told : Option (List File)) (before now : ℕ) (files : List Word) (sources : List File) →
-        files_in words ≡ Some files → AreRead told files sources → HasScript told words → IsFault sources fault.now →
+        files_in words ≡ Some files → AreRead told files sources → HasScript told words → IsProgramFault sources fault.now →
         IsAnswer words told (Rose before now) (K.told out.old) (K.told out.new) result.status }
     ensures later { K.faults out.old ≤ K.faults out.new }
     ensures failed { result.status ≡ WRITE_FAULT → Rose (K.faults out.old) (K.faults out.new) }
     ensures stopped { K.faults out.old < K.faults out.new → HasStopped result.status }
 {
-    said(out, fault_line(alloc, fault), front_status(fault))
+    said(out, fault.line(alloc), fault.status())
 }
 
-// The program that sources are, where it is accepted.
-fn program_of(alloc: Global, files: &[SourceFile<'_>]) -> Result<Program, Refusal<FrontFault>>
-    ensures accepted { IfOk result (λ p. IsAccepted (map file_of files.now) (map source p.units.items)) }
-    ensures refused { IfBecause result (IsFault (map file_of files.now)) }
+// Whether sources are an accepted program, or why not.
+fn judged_sources(alloc: Global, files: &[SourceFile<'_>]) -> Result<(), Refusal<ProgramFault>>
+    ensures accepted { OnOk result ((units : List Source) × IsAccepted (map file_of files.now) units × IsWithinLimits units) }
+    ensures refused { IfBecause result (IsProgramFault (map file_of files.now)) }
 {
-    let program = linked(alloc, files)?;
-    let fault = match accepted(alloc, &program) {
-        Ok(_) => None,
-        Err(refusal) => Some(refusal),
-    };
-    match fault {
-        None => Ok(program),
-        Some(refusal) => Err(refusal),
+    match linked_program(alloc, files) {
+        Ok(program) => judged(alloc, &program),
+        Err(refusal) => Err(refusal),
     }
 }
 
@@ -112,8 +111,8 @@ fn check_files<F: Shelf, K: Sink>(
         Err(Refusal::Because { cause }) => return said_unread(alloc, out, cause),
         Err(Refusal::NoMemory) => return nothing(),
     };
-    match program_of(alloc, &sources) {
-        Ok(_program) => said(out, ok_line(alloc), FINISHED),
+    match judged_sources(alloc, &sources) {
+        Ok(()) => said(out, ok_line(alloc), FINISHED),
         Err(Refusal::Because { cause }) => said_refused(alloc, out, &cause),
         Err(Refusal::NoMemory) => nothing(),
     }
@@ -161,32 +160,38 @@ fn load_first<W: Wire>(alloc: Global, script: &Script, wires: &mut [W]) -> Resul
 }
 
 // What is so of each run of the program. A call of this function does nothing.
-fn laws_of_runs(machine: &TreeMachine)
-    ensures { RunLaws (performs_of machine.now.program) (computes_of machine.now.program) }
+fn laws_of_runs(machine: &TreeMachine<'_>)
+    ensures { RunLaws (performs_of (units_of machine.now)) (computes_of (units_of machine.now)) }
 {
     book_by_places();
     ends_stand();
+    legal_book(machine);
     processes_stand();
     run_law(machine);
     standings_mean();
     worlds_count();
 }
 
-// Runs a small program over wires as they are loaded, and tells what came of it.
+// Runs a program over wires as they are loaded, and tells what came of it, the history by these names.
 fn run_loaded<K: Sink, W: Wire>(
     alloc: Global,
-    machine: &TreeMachine,
+    machine: &TreeMachine<'_>,
+    names: &Names,
     options: RunOptions,
     out: &mut K,
     wires: &mut [W],
 ) -> Ended
+    requires tables { AreTables names.now }
+    requires named { HistoriesNamed (units_of machine.now) names.now }
     requires options { IsRunWithin options }
     requires wires { (1 ≤ length wires.old) × (length wires.old ≤ 1000) }
     ensures none { IfNone result.kept ((result.status ≡ NO_MEMORY) × (K.told out.new ≡ K.told out.old)) }
     ensures kept { IfSome result.kept (λ k. IsRun
-        (run_of (performs_of machine.now.program) (computes_of machine.now.program) (settings_of options (length wires.old)))
-        (awaited_name machine.now.program) k result.status (K.told out.old) (K.told out.new)
+        (run_of (performs_of (units_of machine.now)) (computes_of (units_of machine.now)) (settings_of options (length wires.old)))
+        (awaited_name names.now) (history_said options.history names.now) k result.status (K.told out.old) (K.told out.new)
         (map W.told wires.old) (map W.told wires.new)) }
+    ensures back { IfSome result.kept (λ k.
+        ReadsBack (performs_of (units_of machine.now)) (computes_of (units_of machine.now)) names.now k.book.items) }
     ensures told { HaveToldOn (map W.told wires.old) (map W.told wires.new) }
     ensures scripts { map W.told_script wires.new ≡ map W.told_script wires.old }
     ensures loaded { map W.loaded wires.new ≡ map W.loaded wires.old }
@@ -201,7 +206,8 @@ fn run_loaded<K: Sink, W: Wire>(
     let Some(end) = end else {
         return nothing();
     };
-    let status = report(alloc, out, &machine.program, options.turns, standing, &end);
+    lines_fit(names, &end.book);
+    let status = report(alloc, out, names, options, standing, &end);
     Ended {
         status,
         kept: Some(Kept {
@@ -213,25 +219,46 @@ fn run_loaded<K: Sink, W: Wire>(
     }
 }
 
-// Runs a small program with this script, and tells what came of it. Where memory lacks before the run begins, nothing was asked.
-fn run_small<K: Sink, W: Wire>(
+// Runs a program over wires as they are loaded, and tells what came of it, the history by the program's names.
+fn run_named<K: Sink, W: Wire>(
     alloc: Global,
-    program: SmallProgram,
+    machine: &TreeMachine<'_>,
+    options: RunOptions,
+    out: &mut K,
+    wires: &mut [W],
+) -> Ended
+    requires options { IsRunWithin options }
+    requires wires { (1 ≤ length wires.old) × (length wires.old ≤ 1000) }
+    ensures none { IfNone result.kept ((result.status ≡ NO_MEMORY) × (K.told out.new ≡ K.told out.old)) }
+    ensures kept { IfSome result.kept (λ k. IsProgramRun (units_of machine.now) options (length wires.old) k result.status
+        (K.told out.old) (K.told out.new) (map W.told wires.old) (map W.told wires.new)) }
+    ensures told { HaveToldOn (map W.told wires.old) (map W.told wires.new) }
+    ensures scripts { map W.told_script wires.new ≡ map W.told_script wires.old }
+    ensures loaded { map W.loaded wires.new ≡ map W.loaded wires.old }
+    ensures later { K.faults out.old ≤ K.faults out.new }
+    ensures failed { result.status ≡ WRITE_FAULT → Rose (K.faults out.old) (K.faults out.new) }
+    ensures stopped { K.faults out.old < K.faults out.new → HasStopped result.status }
+{
+    match names(alloc, machine.code.checked()) {
+        Ok(names) => run_loaded(alloc, machine, &names, options, out, wires),
+        Err(_) => nothing(),
+    }
+}
+
+// Runs a program with this script, and tells what came of it. Where memory lacks before the run begins, nothing was asked.
+fn run_program<K: Sink, W: Wire>(
+    alloc: Global,
+    machine: &TreeMachine<'_>,
     options: RunOptions,
     script: &Script,
     out: &mut K,
     wires: &mut [W],
 ) -> Ended
-    requires scoped { IsScoped program }
-    requires numbered { length program.operations < 2 ^ 16 }
-    requires listed { length program.fields < 2 ^ 32 }
     requires options { IsRunWithin options }
     requires wires { (1 ≤ length wires.old) × (length wires.old ≤ 1000) }
     ensures none { IfNone result.kept ((result.status ≡ NO_MEMORY) × (K.told out.new ≡ K.told out.old)) }
-    ensures kept { IfSome result.kept (λ k. IsRun
-        (run_of (performs_of program) (computes_of program) (settings_of options (length wires.old)))
-        (awaited_name program) k result.status (K.told out.old) (K.told out.new)
-        (map W.told wires.old) (map W.told wires.new)) }
+    ensures kept { IfSome result.kept (λ k. IsProgramRun (units_of machine.now) options (length wires.old) k result.status
+        (K.told out.old) (K.told out.new) (map W.told wires.old) (map W.told wires.new)) }
     ensures loaded { IfSome result.kept (λ k. AreLoaded script.now
         (wires_of W.told W.told_script W.loaded wires.old) (wires_of W.told W.told_script W.loaded wires.new)) }
     ensures told { HaveToldOn (map W.told wires.old) (map W.told wires.new) }
@@ -240,7 +267,7 @@ fn run_small<K: Sink, W: Wire>(
     ensures stopped { K.faults out.old < K.faults out.new → HasStopped result.status }
 {
     match load_first(alloc, script, wires) {
-        Ok(()) => run_loaded(alloc, &TreeMachine::new(program), options, out, wires),
+        Ok(()) => run_named(alloc, machine, options, out, wires),
         Err(_) => nothing(),
     }
 }
@@ -284,26 +311,17 @@ fn run_files<F: Shelf, K: Sink, W: Wire>(
         Err(Refusal::Because { cause }) => return said_unscripted(alloc, out, cause),
         Err(Refusal::NoMemory) => return nothing(),
     };
-    let program = match program_of(alloc, &sources) {
+    let program = match linked_program(alloc, &sources) {
         Ok(program) => program,
         Err(Refusal::Because { cause }) => return said_refused(alloc, out, &cause),
         Err(Refusal::NoMemory) => return nothing(),
     };
-    match small_of(alloc, &program.units) {
-        Ok(Some(small)) => run_small(alloc, small, options, &script, out, wires),
-        Ok(None) => said(out, not_yet_line(alloc, first_of(files)), NOT_YET),
-        Err(_) => nothing(),
-    }
-}
-
-// The name of the first file.
-fn first_of<'a>(files: &[&'a str]) -> &'a str
-    ensures { result.now ≡ slice_index_or (map (λ f. f.now) files.now) 0 [] }
-{
-    match files {
-        [first, ..] => first,
-        [] => "",
-    }
+    let machine = match machine_of(alloc, &program) {
+        Ok(machine) => machine,
+        Err(Refusal::Because { cause }) => return said_refused(alloc, out, &cause),
+        Err(Refusal::NoMemory) => return nothing(),
+    };
+    run_program(alloc, &machine, options, &script, out, wires)
 }
 
 // Does what the words ask for, over wires of any kind.
@@ -341,18 +359,21 @@ fn does<F: Shelf, K: Sink, W: Wire>(
                 },
             ),
         ) => run_files(alloc, options, script, &files, shelf, out, wires),
+        Ok(Some(Job::Replays { history, files })) => replay(alloc, history, &files, shelf, out),
         Ok(None) => said(out, usage_line(alloc), USAGE),
         Err(_) => nothing(),
     }
 }
 
-/// Does what the words ask for: `run` runs the small program in the files on as many members as they say, over the wires; `check` says whether
-/// the program in the files is accepted; `--help` and `--version` say what they name.
+/// Does what the words ask for: `run` runs the accepted program in the files on as many members as they say, over the wires; `check` says whether
+/// the program in the files is accepted; `replay` says whether the history in a file is one of the accepted program in the others; `--help` and
+/// `--version` say what they name.
 ///
 /// `words` leaves out the program's name; of the wires, from 1 to 1,000, the first is in use at the beginning, and is loaded with the script of
 /// the words, or with the empty one. The status is that of docs/FORMATS.md. Nothing is kept where nothing was run: the words ask for no run, a
-/// file wasn't read, the script is none, the texts are no program that can be run, or memory lacked before the run, or for what is kept. Each
-/// refusal prints its line; a run prints what its history writes, once it is over, and behind that the line of how it ended.
+/// file wasn't read, the script is none, the texts are no accepted program, or memory lacked before the run, or for what is kept. Each
+/// refusal prints its line; a run prints what its history writes, once it is over, behind that the history, where the words ask for it, and the
+/// line of how it ended.
 pub fn orca_main<F: Shelf, K: Sink>(
     alloc: Global,
     words: &[String],
@@ -372,7 +393,8 @@ pub fn orca_main<F: Shelf, K: Sink>(
         wires.new.items)) }
 
     // A kept run is one of the program that the words name, by their numbers: a history of it in the source's meaning, whose replies and copies
-    // its members have, and what it writes was printed. Its network was really used, by the script that the words name.
+    // its members have; what it writes was printed, and its own text, where that is asked for, which is read back and is legal. Its network was
+    // really used, by the script that the words name.
     ensures headline { IfSome result.kept (λ k. IsRunOf (map string_bytes words.now) (F.told shelf.old) k result.status
         (K.told out.old) (K.told out.new)
         (wires_of (λ b. (Wire-box b).told b.value) (λ b. (Wire-box b).told_script b.value) (λ b. (Wire-box b).loaded b.value)

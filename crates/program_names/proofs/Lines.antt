@@ -125,7 +125,7 @@ module _ (us : List Source) (names : Names) (are : AreNamesOf us names) where
             let there = kinds_there in
             omega (arith, known.1, there)
         by (action.Call kind op object args) is =
-            call_named lines fit line.process step.process kind op object args step.exists (step.next ∙ ap (λ a. doing.At a) is)
+            call_named lines fits line.process step.process kind op object args step.exists (step.next ∙ ap (λ a. doing.At a) is)
         by (action.Fork text args place_on) is = fork_fits lines line next text args place_on is
         by action.Ended is = tt
         by (action.Faulted fault) is = tt

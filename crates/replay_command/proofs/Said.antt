@@ -1,5 +1,5 @@
 -- How `replay` ends, by what was printed.
-use Rattle.std.proofs.Common.{◌≡◌, ◌⊎◌, ℕ, List, Option, inl, inr, subst}
+use Rattle.std.proofs.Common.{◌≡◌, ℕ, List, Option, inl, inr, subst}
 use Rattle.std.specs.Prelude.{Result, Ok, Err, IfOk, OnErr}
 use Rattle.orca_io.specs.Files.{File}
 use Rattle.command_output.specs.declared.statuses.TheConstants.{NO_MEMORY}

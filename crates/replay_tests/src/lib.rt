@@ -1,9 +1,9 @@
 //! Tests of the commands over histories: what `replay` says of the one cell's history, in which order causes come, and what a run under
 //! `--history` prints, whole, cut and read back.
 //!
-//! Programs are small ones here, since no other have a machine yet, and the commands' calls are put together as the top call has them. They
-//! stand here, so that the crates below have none; nothing stands on it. With each allocation refused in turn, outside the gate
-//! (`rt try --test --fail-alloc N`), a test passes or ends by the error `no memory`: another answer would be an assertion that fails.
+//! They go through the top call, but for what is put piece by piece, and stand here, so that the crates below have none; nothing stands on it.
+//! With each allocation refused in turn, outside the gate (`rt try --test --fail-alloc N`), a test passes or ends by the error `no memory`: another
+//! answer would be an assertion that fails.
 #![tactic(auto)]
 
 #[cfg(test)]

@@ -1,7 +1,7 @@
 //! What is said of the one cell's history, and of others.
 
-use crate::cell::{BOOK, ONE, cell_names};
-use crate::command::{SURE, TestFile, machine_in, outcome, said_of};
+use crate::cell::{BOOK, ONE};
+use crate::command::{SURE, TestFile, outcome};
 use std::alloc::Global;
 use std::test::Fail;
 
@@ -91,13 +91,11 @@ fn lines_fewer_and_more(rt: HostRuntime) -> Result<(), Fail> {
 #[test]
 fn a_history_cut_at_each_byte(rt: HostRuntime) -> Result<(), Fail> {
     let alloc = rt.alloc();
-    let machine = machine_in(alloc, ONE)?;
-    let names = cell_names(alloc)?;
     let mut front = String::new(alloc);
     let mut line = 1u32;
     for char in BOOK.chars() {
         front.push(char)?;
-        let (status, printed) = said_of(alloc, &machine, &names, front.as_str())?;
+        let (status, printed) = said(alloc, front.as_str())?;
         if char == '\n' {
             line = line.wrapping_add(1);
             assert_eq!(rt; (status, printed.as_str()), (0, "legal\n"));

@@ -1,6 +1,7 @@
 //! Runs a program of many calls on many members, for `bench/run`, which takes the time.
 //!
-//! The words are: how many members the group has, how many of them may be lost, how many calls the program makes, and what befalls packets:
+//! The words are: how many members the group has, how many of them may be lost, how many calls the program makes, by a hundred processes on member 0,
+//! and what befalls packets:
 //! `plain`, nothing; `lossy`, a fifth is lost by chance; `twice`, each comes twice. It prints the status, and of a run that is kept how many
 //! events there were, how many packets these sent, and how many entries each member applied at least.
 #![tactic(auto)]
@@ -12,8 +13,8 @@ use std::process::ExitCode;
 use std::{env, io};
 use wires::{ScriptWire, Wire};
 
-// The one cell, whose assignment stands in the program as often as is wanted.
-const ONE: &str = "object specification Cell;
+// A cell, and processes that assign to it. There are many, since what a process does next is found from its beginning.
+const CALLERS: &str = "object specification Cell;
   operation Value(): integer;
   operation Assign(v: integer);
 end;
@@ -22,12 +23,15 @@ object implementation Cell;
   operation Value(): integer; begin return x; end;
   operation Assign(v: integer); begin x := v; end;
 begin x := 0; end;
+process Caller(c: shared Cell; calls: integer);
+begin for k in 1..calls do c$Assign(k); od; end;
 process OrcaMain();
   X: Cell;
-begin X$Assign(6); WriteLine(X$Value()); end;
+begin for k in 1..100 do fork Caller(X, CALLS); od; end;
 ";
 
-const CALL: &str = "X$Assign(6); ";
+// How many callers there are.
+const MANY: u32 = 100;
 
 /// Why nothing was printed.
 #[derive(Debug, Drop)]
@@ -101,10 +105,10 @@ fn script_of(word: &String) -> Option<&'static str> {
     }
 }
 
-// The one cell, assigned so often.
+// The program that makes so many calls, in hundreds.
 fn many(alloc: Global, calls: u32) -> Result<String, AllocError> {
-    let all = CALL.repeat(alloc, calls as usize)?;
-    ONE.replace(alloc, CALL, all.as_str())
+    let each = format!(in alloc; "{}", calls / MANY)?;
+    CALLERS.replace(alloc, "CALLS", each.as_str())
 }
 
 // What comes of these words over a program and a script.

@@ -25,7 +25,7 @@ fn is_refused(
 
 #[test]
 fn faulty_words(rt: HostRuntime) -> Result<(), Fail> {
-    let lines: [&[&str]; 12] = [
+    let lines: [&[&str]; 10] = [
         &["run", "--nodes", "2", "--resilience", "1", "one.orca"],
         &["run", "--nodes", "0", "one.orca"],
         &["run", "--nodes", "17", "one.orca"],
@@ -35,10 +35,8 @@ fn faulty_words(rt: HostRuntime) -> Result<(), Fail> {
         &["run", "--events", "4000001", "one.orca"],
         &["run", "--script", "one.orca"],
         // Not built yet.
-        &["run", "--history", "one.orca"],
         &["run", "--explain", "one.orca"],
         &["run", "--workers", "3", "one.orca"],
-        &["replay", "h.txt", "one.orca"],
     ];
     for line in lines {
         assert!(rt; is_refused(&rt, line, "", 2, USAGE)?);

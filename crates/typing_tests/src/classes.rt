@@ -1,9 +1,8 @@
 //! Which operations of a program are reads.
 
-use crate::reading::units_of;
-use access_analysis::{class_listed, classes};
+use crate::reading::program_of;
+use access_analysis::{class_listed, classes_of};
 use orca_base::{KindNo, OpNo};
-use orca_modules::link;
 use std::test::Fail;
 use type_decls::check;
 use value_core::Class;
@@ -19,14 +18,11 @@ const TEXTS: [(&str, &str); 1] = [(
 
 #[test]
 fn operations_have_classes_by_number(rt: HostRuntime) -> Result<(), Fail> {
-    let units = units_of(rt.alloc(), &TEXTS)?;
-    let Ok(program) = link(rt.alloc(), units) else {
-        return Err("unlinked".into());
-    };
+    let program = program_of(rt.alloc(), &TEXTS)?;
     let Ok(checked) = check(rt.alloc(), &program) else {
         return Err("refused".into());
     };
-    let table = classes(rt.alloc(), &checked)?;
+    let table = classes_of(rt.alloc(), &checked)?;
     let [output, cell] = table.as_slice() else {
         return Err("not two object types".into());
     };

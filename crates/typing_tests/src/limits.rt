@@ -1,7 +1,6 @@
 //! The limits of a program beside the rules of typing.
 
-use crate::reading::units_of;
-use orca_modules::{Program, link};
+use crate::reading::program_of;
 use program_limits::{PassedLimit, within_limits};
 use std::alloc::{AllocError, Global};
 use std::test::Fail;
@@ -19,22 +18,13 @@ fn text_with(alloc: Global, parameters: usize) -> Result<String, AllocError> {
     Ok(text)
 }
 
-// The program that a text is.
-fn program_of(alloc: Global, text: &str) -> Result<Program, Fail> {
-    let units = units_of(alloc, &[("m.orca", text)])?;
-    match link(alloc, units) {
-        Ok(program) => Ok(program),
-        Err(_) => Err("unlinked".into()),
-    }
-}
-
 #[test]
 fn a_function_has_at_most_255_parameters(rt: HostRuntime) -> Result<(), Fail> {
     let most = text_with(rt.alloc(), 255)?;
-    let program = program_of(rt.alloc(), most.as_str())?;
+    let program = program_of(rt.alloc(), &[("m.orca", most.as_str())])?;
     assert!(rt; within_limits(rt.alloc(), &program).is_ok());
     let more = text_with(rt.alloc(), 256)?;
-    let program = program_of(rt.alloc(), more.as_str())?;
+    let program = program_of(rt.alloc(), &[("m.orca", more.as_str())])?;
     match within_limits(rt.alloc(), &program) {
         Err(orca_base::Refusal::Because { cause }) => {
             assert!(rt; cause == PassedLimit::Parameters);

@@ -1,8 +1,7 @@
 //! The names of a program by the numbers by which its histories go.
 
-use crate::reading::units_of;
+use crate::reading::program_of;
 use orca_base::Text;
-use orca_modules::link;
 use program_names::names;
 use std::test::Fail;
 use type_decls::check;
@@ -36,10 +35,7 @@ fn are(names: &[Text], wanted: &[&str]) -> bool {
 
 #[test]
 fn a_program_has_names_by_number(rt: HostRuntime) -> Result<(), Fail> {
-    let units = units_of(rt.alloc(), &TEXTS)?;
-    let Ok(program) = link(rt.alloc(), units) else {
-        return Err("unlinked".into());
-    };
+    let program = program_of(rt.alloc(), &TEXTS)?;
     let Ok(checked) = check(rt.alloc(), &program) else {
         return Err("refused".into());
     };

@@ -1,17 +1,26 @@
-//! Units of texts.
+//! Units, programs, code and values of texts.
 
 ghost use Rattle.std.specs.Prelude.{IfOk};
 ghost use Rattle.std.specs.List.{All};
 ghost use Rattle.orca_lexer.specs.Tokens.{HasRoom, Tokens};
 ghost use Rattle.orca_syntax.specs.TextSyntax.{IsOfText};
+ghost use Rattle.value_core.specs.Sound.{AreSound};
 
+use eval_bodies::Code;
 use link_rules::NamedUnit;
 use orca_base::Text;
 use orca_lexer::{Token, tokens};
+use orca_modules::{Program, link};
 use orca_tree::Unit;
 use parse_units::parse;
 use std::alloc::Global;
 use std::test::Fail;
+use type_decls::check;
+use value_core::{Parts, Value};
+use value_texts::{read_value, values_in_front};
+
+// No text of values has more bytes.
+const MOST: usize = 1_000;
 
 // The tokens of a text.
 fn tokens_of(alloc: Global, text: &str) -> Result<Vec<Token>, Fail>
@@ -47,4 +56,45 @@ pub fn units_of(alloc: Global, texts: &[(&str, &str)]) -> Result<Vec<NamedUnit>,
         units.push(NamedUnit { file, unit })?;
     }
     Ok(units)
+}
+
+/// The program that texts are.
+pub fn program_of(alloc: Global, texts: &[(&str, &str)]) -> Result<Program, Fail> {
+    let units = units_of(alloc, texts)?;
+    match link(alloc, units) {
+        Ok(program) => Ok(program),
+        Err(_) => Err("unlinked".into()),
+    }
+}
+
+/// The code of a program that breaks no rule of typing.
+pub fn code_of<'p>(alloc: Global, program: &'p Program) -> Result<Code<'p>, Fail> {
+    match check(alloc, program) {
+        Ok(checked) => Ok(Code::new(alloc, checked)?),
+        Err(_) => Err("refused".into()),
+    }
+}
+
+/// The value that a text spells.
+pub fn value_of(alloc: Global, text: &str) -> Result<Value, Fail> {
+    if text.len() > MOST {
+        return Err("too long".into());
+    }
+    match read_value(alloc, text.as_bytes()) {
+        Ok(value) => Ok(value),
+        Err(_) => Err("no value".into()),
+    }
+}
+
+/// The values in round brackets with which a text begins.
+pub fn values_of(alloc: Global, text: &str) -> Result<Parts, Fail>
+    ensures { IfOk result AreSound }
+{
+    if text.len() > MOST {
+        return Err("too long".into());
+    }
+    match values_in_front(alloc, text.as_bytes()) {
+        Ok((values, _)) => Ok(values),
+        Err(_) => Err("no values".into()),
+    }
 }

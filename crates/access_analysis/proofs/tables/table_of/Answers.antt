@@ -9,8 +9,8 @@ use Rattle.access_analysis.specs.Tables.{specified_classes}
 use Rattle.access_analysis.proofs.Listed.{all_grown, grown, one_empty}
 use Rattle.access_analysis.proofs.tables.table_of.Goals as goal
 
-pub tops-given : goal.tops-given
-tops-given c = λ names. one_empty _ c.new-output.result _ _ c.new-all.ensures.items c.in_ok-push.ensures.items c.new-output.ensures.items
+pub tops-init : goal.tops-init
+tops-init c = λ names. one_empty _ c.new-output.result _ _ c.new-all.ensures.items c.in_ok-push.ensures.items c.new-output.ensures.items
 
 pub tops-preserved : goal.tops-preserved
 tops-preserved c = λ names.

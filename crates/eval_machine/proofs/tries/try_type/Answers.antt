@@ -22,7 +22,7 @@ returns-in-None c = λ us kind t is numbers type fits.
 pub returns-in-Some : goal.returns-in-Some
 returns-in-Some c = λ us kind t is numbers type fits.
     let of = c.args.of.now in
-    let own = c.in-Some.operation in
+    let own = c.in-Some.operation.now in
     let there : slice_get of.operations.items c.args.op.0 ≡ Some own =
     ap (λ (l : List OperationCode). slice_get l c.args.op.0) (sym c.deref.ensures.value) ∙ sym c.operation_at.ensures ∙ ap now_of c.in-Some.is in
     let found = some_at (IsOperationCode us t) of.operations.items t.operations c.args.op.0 own fits.operations there in

@@ -1,4 +1,3 @@
-use Rattle.history_commands.specs.Replays.{answer_line, answer_status}
 use Rattle.history_commands.proofs.Answering.{answer_apart, said_of}
 use Rattle.history_commands.proofs.answer.say_answer.Goals as goal
 

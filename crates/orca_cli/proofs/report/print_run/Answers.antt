@@ -1,7 +1,12 @@
-use Rattle.orca_cli.proofs.ReportLemmas.{line_behind}
+use Rattle.std.proofs.Common.{◌∙◌}
+use Rattle.std.proofs.lemmas.Result.{err_from_is_err_and}
+use Rattle.orca_cli.proofs.ReportLemmas.{front_of_both, text_behind}
 use Rattle.orca_cli.proofs.report.print_run.Goals as goal
 
+pub returns-in_err-print_book-clause-wrote : goal.returns-in_err-print_book-clause-wrote
+returns-in_err-print_book-clause-wrote g c =
+    let p = err_from_is_err_and c.from_residual-in_err-print_book.result c.from_residual-in_err-print_book.ensures.1 in
+    rw (p.1, p.2) (front_of_both _ _ _ _ _ (rw c.deref.ensures.value at c.in_err-print_book.ensures.wrote))
+
 pub returns-clause-wrote : goal.returns-clause-wrote
-returns-clause-wrote g c =
-    line_behind _ _ _ _ _ _ (rw c.deref.ensures.value at c.in_ok-print_book.ensures.wrote)
-    (rw (c.deref-3.ensures.value, c.in_ok-line.ensures, c.deref-2.ensures.value) at c.put_some.ensures.puts)
+returns-clause-wrote g c = text_behind _ _ _ _ _ _ (rw c.deref.ensures.value at c.in_ok-print_book.ensures.wrote) c.print_behind.ensures.wrote

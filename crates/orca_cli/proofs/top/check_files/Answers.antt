@@ -1,20 +1,20 @@
 use Rattle.std.proofs.Common.{map}
-use Rattle.link_rules.specs.Units.{source}
 use Rattle.orca_front.specs.Sources.{file_of}
 use Rattle.orca_cli.specs.Endings as because
 use Rattle.orca_cli.specs.Lines as lines
-use Rattle.orca_cli.proofs.CliLemmas.{answer_of, files_checked, has_none}
+use Rattle.orca_cli.proofs.CliLemmas.{answer_of, files_checked, has_none, is_program}
 use Rattle.orca_cli.proofs.top.check_files.Goals as goal
 
 pub returns-in-Err-Because-clause-said : goal.returns-in-Err-Because-clause-said
 returns-in-Err-Because-clause-said g c = λ words asked.
     c.said_unread.ensures.said words _ _ _ _ (files_checked words _ asked) (rw c.in-Err-Because.field-0-is at c.in-Err-Because.ensures.refused)
 
-pub returns-in-Ok-program_of-clause-said : goal.returns-in-Ok-program_of-clause-said
-returns-in-Ok-program_of-clause-said g c = λ words asked.
+pub returns-in-Ok-judged_sources-clause-said : goal.returns-in-Ok-judged_sources-clause-said
+returns-in-Ok-judged_sources-clause-said g c = λ words asked.
+    let accepted = rw c.deref.ensures.value at c.in-Ok-judged_sources.ensures.accepted in
     answer_of (λ l. l.items) c.ok_line.result words _ _ _ _ 0 _ lines.ok_line c.ok_line.ensures c.said.ensures.printed c.said.ensures.silent c.said.ensures.status
-    (because.accepted _ (map source c.in-Ok-program_of._program.units.items) asked (map file_of c.in-Ok.sources.items, c.in-Ok.ensures.read, rw c.deref.ensures.value at c.in-Ok-program_of.ensures.accepted))
+    (because.accepted _ accepted.0 asked (is_program _ _ (map file_of c.in-Ok.sources.items) accepted.0 c.in-Ok.ensures.read accepted.1.0 accepted.1.1))
 
-pub returns-in-Err-Because-program_of-clause-said : goal.returns-in-Err-Because-program_of-clause-said
-returns-in-Err-Because-program_of-clause-said g c = λ words asked.
-    c.said_refused.ensures.said words _ _ _ _ (map file_of c.in-Ok.sources.items) (files_checked words _ asked) c.in-Ok.ensures.read (has_none words _ _ asked) (rw (c.deref.ensures.value, c.in-Err-Because-program_of.field-0-is) at c.in-Err-Because-program_of.ensures.refused)
+pub returns-in-Err-Because-judged_sources-clause-said : goal.returns-in-Err-Because-judged_sources-clause-said
+returns-in-Err-Because-judged_sources-clause-said g c = λ words asked.
+    c.said_refused.ensures.said words _ _ _ _ (map file_of c.in-Ok.sources.items) (files_checked words _ asked) c.in-Ok.ensures.read (has_none words _ _ asked) (rw (c.deref.ensures.value, c.in-Err-Because-judged_sources.field-0-is) at c.in-Err-Because-judged_sources.ensures.refused)

@@ -11,6 +11,10 @@ pub returns-in-Ok-None-clause-refused : goal.returns-in-Ok-None-clause-refused
 returns-in-Ok-None-clause-refused g c =
     if_none _ _ (answer_of (λ l. l.items) c.usage_line.result _ _ _ _ _ 2 _ lines.usage_line c.usage_line.ensures c.said-in-Ok-None.ensures.printed c.said-in-Ok-None.ensures.silent c.said-in-Ok-None.ensures.status (because.usage (deed_none _ _ c.in-Ok-None.ensures.is c.in-Ok-None.field-0-is)))
 
+pub returns-in-Ok-Some-Replays-clause-refused : goal.returns-in-Ok-Some-Replays-clause-refused
+returns-in-Ok-Some-Replays-clause-refused g c =
+    if_none _ _ ((rw c.deref-in-Ok-Some-Replays.ensures.value at c.replay.ensures.said) _ (deed_is _ _ _ _ c.in-Ok-Some-Replays.ensures.is c.in-Ok-Some-Replays.field-0-is c.in-Ok-Some-Replays.field-0-0-is))
+
 pub run_files-requires-clause-options : goal.run_files-requires-clause-options
 run_files-requires-clause-options g c = within_is _ _ _ c.in-Ok-Some-Runs.ensures.within c.in-Ok-Some-Runs.field-0-is c.in-Ok-Some-Runs.field-0-0-is
 

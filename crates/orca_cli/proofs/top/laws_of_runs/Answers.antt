@@ -10,4 +10,5 @@ returns c = record {
   spent = c.run_law.ensures.spent;
   read = c.standings_mean.ensures;
   count = c.worlds_count.ensures.counted;
+  sound = c.legal_book.ensures.sound;
 }

@@ -7,7 +7,7 @@ use Rattle.eval_machine.proofs.processing.TreeMachineProcessor.reply.Goals as go
 
 pub returns : goal.returns
 returns c = λ text number args replies turns stands.
-    let us = sources c.args.self.now.checked.now in
+    let us = sources c.args.self.now.code.checked in
     let w = record { text = text; number = number; args = args; replies = replies; turns = turns } in
     subst (λ (s : TreeProcess). StandsFor us s (one_more w c.args.reply)) (sym c.replied.ensures)
     (receives us c.args.state w c.args.reply c.requires.fits.1.0.0 stands)

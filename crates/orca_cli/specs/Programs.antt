@@ -1,0 +1,40 @@
+-- Accepted programs: which texts are one, and why others aren't (docs/FORMATS.md, Statuses).
+use Rattle.std.specs.Prelude.{ℕ, List, Option}
+use Rattle.orca_io.specs.Files.{File}
+use Rattle.link_rules.specs.Units.{Source}
+use Rattle.accepted_law.specs.Limits.{IsWithinLimits}
+use Rattle.program_limits.specs.Passed.{Passes}
+use Rattle.orca_front.specs.Lines.{fault_line}
+use Rattle.orca_front.specs.Sources.{IsAccepted, IsFault}
+use Rattle.command_files.specs.Loaded.{IsLoaded, front_status}
+use Rattle.command_files.specs.Sources.{Word}
+use Rattle.command_output.specs.declared.statuses.TheConstants.{LIMIT}
+use Rattle.eval_bodies.specs.Codes.{sources}
+use Rattle.eval_machine.specs.declared.machine.TreeMachine.{TreeMachine}
+use Rattle.replay_command.specs.Endings.{passed_line}
+use Rattle.orca_cli.specs.declared.program.ProgramFault.{ProgramFault}
+use Rattle.orca_cli.specs.declared.program.ProgramFault.TheVariants.{Limited, Refused}
+
+-- all files were read; their texts are these units, which link and break no rule of typing; and these keep within the limits on parameters, and on
+-- tokens and declared names together
+pub record IsProgram (told : Option (List File)) (files : List Word) (units : List Source) : Type 0 where
+  pub loaded : IsLoaded told files units
+  pub within : IsWithinLimits units
+
+-- Why sources are no accepted program: some text is no unit, or they don't link, or break a rule of typing. Or they are units that pass this limit,
+-- and would be one else
+abbrev pub IsProgramFault : List File → ProgramFault → Type 0
+IsProgramFault sources (Refused fault) = IsFault sources fault
+IsProgramFault sources (Limited passed) = (units : List Source) × IsAccepted sources units × Passes units passed
+
+abbrev pub program_status : ProgramFault → ℕ
+program_status (Refused fault) = front_status fault
+program_status (Limited passed) = LIMIT
+
+abbrev pub program_line : ProgramFault → List ℕ
+program_line (Refused fault) = fault_line fault
+program_line (Limited passed) = passed_line passed
+
+-- the units of the program that a machine runs
+abbrev pub units_of : TreeMachine → List Source
+units_of m = sources m.code.checked

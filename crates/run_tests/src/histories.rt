@@ -1,0 +1,164 @@
+//! Histories: what a run prints behind its output where it is asked for, and what `replay` says of that and of others.
+
+use crate::tried::{ONE, tried};
+use orca_cli::{FINISHED, WRITE_FAULT};
+use std::alloc::Global;
+use std::test::Fail;
+
+// The history of the one cell (docs/FORMATS.md, Histories).
+const BOOK: &str = "0 0 make Cell o0.1 none
+0 1 call Cell$Assign o0.1 (6) guard 0 none
+0 2 call Cell$Value o0.1 () guard 0 6
+0 3 call Output$WriteLine o0.0 (\"6\") guard 0 none
+";
+
+// The first lines of what the one cell prints with its history, so many.
+fn first_lines(alloc: Global, count: u64) -> Result<String, Fail> {
+    let whole = format!(in alloc; "6\n{BOOK}")?;
+    let mut front = String::new(alloc);
+    let mut feeds = 0u64;
+    for char in whole.as_str().chars() {
+        if feeds < count {
+            front.push(char)?;
+        }
+        if char == '\n' {
+            feeds = feeds.wrapping_add(1);
+        }
+    }
+    Ok(front)
+}
+
+// The status of `replay` for this history of the one cell, and what it prints.
+fn replayed(alloc: Global, history: &str) -> Result<(u8, String), Fail> {
+    let files = [("one.orca", ONE), ("h.txt", history)];
+    let tried = tried(alloc, &["replay", "h.txt", "one.orca"], &files, &[])?;
+    if tried.ended.kept.is_some() {
+        return Err(Fail::from("something kept"));
+    }
+    Ok((tried.ended.status, tried.printed))
+}
+
+// The output is a write, and so is each line; where the i-th fails, the lines in front of it stand there, and what is kept is whole.
+#[test]
+fn one_cell_with_its_history(rt: HostRuntime) -> Result<(), Fail> {
+    let alloc = rt.alloc();
+    let files = [("one.orca", ONE)];
+    let line = ["run", "--history", "one.orca"];
+    let whole = tried(alloc, &line, &files, &[])?;
+    assert_eq!(rt; whole.ended.status, FINISHED);
+    assert_eq!(rt; whole.printed.as_str(), first_lines(alloc, 5)?.as_str());
+    for failing in 1..6u64 {
+        let tried = tried(alloc, &line, &files, &[failing])?;
+        assert_eq!(rt; tried.ended.status, WRITE_FAULT);
+        assert_eq!(rt; tried.printed.as_str(), first_lines(alloc, failing.wrapping_sub(1))?.as_str());
+        let kept = tried.ended.kept.as_ref().ok_or("nothing kept")?;
+        assert_eq!(rt; kept.book.len(), 4);
+    }
+    Ok(())
+}
+
+// The line of how a run ended stands behind its history, which is a front of the whole one: of 13 events none is left to end in, and after four the
+// make isn't accepted.
+#[test]
+fn histories_of_runs_that_were_cut_off(rt: HostRuntime) -> Result<(), Fail> {
+    let alloc = rt.alloc();
+    let files = [("one.orca", ONE)];
+    let line = ["run", "--history", "--events", "13", "one.orca"];
+    let printed = format!(in alloc; "6\n{BOOK}orca: out of events\n")?;
+    assert_eq!(rt; tried(alloc, &line, &files, &[])?.printed.as_str(), printed.as_str());
+    let line = [
+        "run",
+        "--history",
+        "--resilience",
+        "1",
+        "--events",
+        "4",
+        "one.orca",
+    ];
+    assert_eq!(rt; tried(alloc, &line, &files, &[])?.printed.as_str(), "orca: out of events\n");
+    Ok(())
+}
+
+// What a run prints behind its output is legal, given back; and each other text breaks where docs/proofs/histories.md (Worked endings) says.
+#[test]
+fn histories_given_back(rt: HostRuntime) -> Result<(), Fail> {
+    let alloc = rt.alloc();
+    let files = [("one.orca", ONE)];
+    let whole = tried(alloc, &["run", "--history", "one.orca"], &files, &[])?;
+    let book = whole
+        .printed
+        .as_str()
+        .strip_prefix("6\n")
+        .ok_or("no output")?;
+    let rows = [
+        (book, 0, "legal\n"),
+        ("", 0, "legal\n"),
+        (
+            "0 0 make Cell o0.2 none\n",
+            13,
+            "orca: history breaks at line 1: action\n",
+        ),
+        (
+            "0 0 make Cell o0.1 none",
+            13,
+            "orca: history breaks at line 1: form\n",
+        ),
+        (
+            "0 0 make Cell o0.1 none\n0 2 call Cell$Value o0.1 () guard 0 0\n",
+            13,
+            "orca: history breaks at line 2: call\n",
+        ),
+    ];
+    for (history, status, printed) in rows {
+        let (told, said) = replayed(alloc, history)?;
+        assert_eq!(rt; (told, said.as_str()), (status, printed));
+    }
+    Ok(())
+}
+
+// Files first, the program's before the history; then the program; then the history.
+#[test]
+fn replays_that_are_refused(rt: HostRuntime) -> Result<(), Fail> {
+    let alloc = rt.alloc();
+    let files = [
+        ("one.orca", ONE),
+        ("e.orca", "begin"),
+        ("two.orca", "const two = 2;\nprocess OrcaMain(); begin end;\n"),
+        ("b.txt", "x\n"),
+    ];
+    let rows: [(&[&str], u8, &str); 5] = [
+        (
+            &["replay", "gone.txt", "one.orca"],
+            9,
+            "orca: no file gone.txt\n",
+        ),
+        (
+            &["replay", "gone.txt", "gone.orca"],
+            9,
+            "orca: no file gone.orca\n",
+        ),
+        (
+            &["replay", "b.txt", "e.orca"],
+            1,
+            "orca: e.orca:1:1: unexpected 'begin'\n",
+        ),
+        (
+            &["replay", "b.txt", "one.orca"],
+            13,
+            "orca: history breaks at line 1: form\n",
+        ),
+        // There is no machine for it yet.
+        (
+            &["replay", "b.txt", "two.orca"],
+            15,
+            "orca: two.orca: not yet\n",
+        ),
+    ];
+    for (line, status, printed) in rows {
+        let tried = tried(alloc, line, &files, &[])?;
+        assert_eq!(rt; (tried.ended.status, tried.printed.as_str()), (status, printed));
+        let failed = crate::tried::tried(alloc, line, &files, &[1])?;
+        assert_eq!(rt; (failed.ended.status, failed.printed.as_str()), (WRITE_FAULT, ""));
+    }
+    Ok(())
+}
