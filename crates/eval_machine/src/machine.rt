@@ -34,10 +34,7 @@ impl<'p> TreeMachine<'p> {
     ///
     /// # Errors
     /// The limit that the program passes: of parameters (255), or of tokens and declared names together (100,000); and want of memory.
-    pub fn new(
-        alloc: Global,
-        checked: Checked<'p>,
-    ) -> Result<TreeMachine<'p>, Refusal<PassedLimit>>
+    pub fn new(alloc: Global, checked: Checked<'p>) -> Result<TreeMachine<'p>, Refusal<PassedLimit>>
         ensures program { IfOk result (λ m. m.code.checked ≡ checked.entry) }
         ensures passed { IfBecause result (Passes (sources checked.entry)) }
     {

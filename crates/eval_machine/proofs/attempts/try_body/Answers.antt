@@ -1,4 +1,4 @@
-use Rattle.std.proofs.Common.{◌≡◌, false, refl, subst, ◌∙◌}
+use Rattle.std.proofs.Common.{◌≡◌, false, refl, subst}
 use Rattle.std.specs.Prelude.{IfOk, is_some}
 use Rattle.orca_syntax.specs.Shown.{stmts}
 use Rattle.value_core.specs.declared.meaning.Tried.{Tried}

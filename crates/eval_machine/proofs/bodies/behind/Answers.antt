@@ -1,4 +1,4 @@
-use Rattle.std.proofs.Common.{◌-◌, ◌∙◌, List, ap, drop, map, take}
+use Rattle.std.proofs.Common.{◌-◌, ◌∙◌, List, ap, map, take}
 use Rattle.value_core.specs.Datum.{list_of}
 use Rattle.value_core.specs.View.{datum_of}
 use Rattle.value_core.specs.declared.value.Value.{Value}

@@ -1,4 +1,4 @@
-use Rattle.std.proofs.Common.{◌≡◌, ◌∙◌, List, Option, Some, ap, subst, sym}
+use Rattle.std.proofs.Common.{◌≡◌, ◌∙◌, List, Some, ap, subst, sym}
 use Rattle.std.specs.Prelude.{IfOk, option_map}
 use Rattle.orca_tree.specs.declared.tree.Statement.{Statement}
 use Rattle.orca_syntax.specs.Shown.{stmts}

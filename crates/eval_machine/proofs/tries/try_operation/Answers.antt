@@ -1,11 +1,11 @@
-use Rattle.std.proofs.Common.{◌≡◌, Option, Some, None, sym, ap, ◌∙◌, subst}
+use Rattle.std.proofs.Common.{◌≡◌, Option, sym, ap, ◌∙◌, subst}
 use Rattle.std.specs.Prelude.{IfOk}
 use Rattle.std.specs.Borrow.{Bor}
 use Rattle.value_core.specs.Datum.{Data}
 use Rattle.value_core.specs.declared.action.Reply.TheVariants as reply
 use Rattle.value_core.specs.declared.meaning.Tried.{Tried}
 use Rattle.value_core.specs.declared.meaning.Tried.TheVariants as tried
-use Rattle.meaning_rules.specs.Operations.{tries_of, type_tried}
+use Rattle.meaning_rules.specs.Operations.{type_tried}
 use Rattle.meaning_rules.specs.Programs.{ObjectType, object_type}
 use Rattle.eval_bodies.specs.declared.objects.ObjectCode.{ObjectCode}
 use Rattle.eval_bodies.specs.Matching.{Both}

@@ -1,7 +1,6 @@
 use Rattle.std.proofs.Common.{◌≡◌, List, Option, Some, None, sym, ap, ◌∙◌, subst}
 use Rattle.std.specs.Prelude.{IfOk, option_map, slice_get}
 use Rattle.std.specs.Borrow.{Bor}
-use Rattle.value_core.specs.declared.meaning.Tried.TheVariants as tried
 use Rattle.meaning_rules.specs.Operations.{operation_tried}
 use Rattle.orca_syntax.specs.Syntax.{Operation}
 use Rattle.eval_bodies.specs.declared.objects.OperationCode.{OperationCode}

@@ -8,7 +8,7 @@ use Rattle.eval_machine.proofs.performing.TreeMachinePerformer.try_op.Goals as g
 pub try_operation-requires : goal.try_operation-requires
 try_operation-requires c =
     let m = c.args.self.now in
-    (sound m.laws m.code.checked m.within).states c.requires.0 c.args.kind c.args.state.now c.requires.1.0
+    (sound m.laws m.code.checked m.within).states c.requires.0 c.args.kind c.args.state.now c.requires.1
 
 pub returns : goal.returns
 returns c =
