@@ -1,6 +1,6 @@
 //! What is done to variables: by paths, in a loop, and behind a call.
 
-use crate::reading::{value_of, values_of};
+use crate::reading::{run_over, value_of, values_of};
 use eval_variables::{
     Frame, Passed, Run, Step, Stop, Target, add_name, add_node, delete_node, drop_element,
     drop_name, exchange_frame, hand_back, has_at, held, put, rounds, store, take,
@@ -109,11 +109,7 @@ fn is_text(alloc: Global, value: &Value, text: &str) -> Result<bool, Fail> {
 fn deeds_change_variables(rt: HostRuntime) -> Result<(), Fail> {
     let alloc = rt.alloc();
     let variables = values_of(alloc, VARIABLES)?;
-    let mut run = Run {
-        frame: Frame::over(alloc, Parts::new(alloc), variables.as_slice())?,
-        replies: &[],
-        left: 1,
-    };
+    let mut run = run_over(alloc, &variables, &[], 1)?;
     for (deed, slot, path, with, gives, leaves) in DEEDS {
         let to = target(alloc, slot, path)?;
         let value = given(done(alloc, deed, &to, value_of(alloc, with)?, &mut run))?;
@@ -149,11 +145,7 @@ fn call(alloc: Global, run: &mut Run<'_>) -> Result<(), Stop> {
 fn a_call_hands_back_what_is_lent(rt: HostRuntime) -> Result<(), Fail> {
     let alloc = rt.alloc();
     let variables = values_of(alloc, VARIABLES)?;
-    let mut run = Run {
-        frame: Frame::over(alloc, Parts::new(alloc), variables.as_slice())?,
-        replies: &[],
-        left: 1,
-    };
+    let mut run = run_over(alloc, &variables, &[], 1)?;
     assert!(rt; call(alloc, &mut run).is_ok());
     let left = given(variable(alloc, 0, &run).map(Some))?;
     assert!(rt; is_text(alloc, &left, "8")?);

@@ -1,15 +1,15 @@
 //! The code of a program: what its variables open with, and the values of its expressions.
 
-use crate::reading::{code_of, program_of, value_of, values_of};
+use crate::reading::{code_of, program_of, run_over, value_of, values_of};
 use eval_bodies::{Code, Site};
 use eval_exprs::{Levels, evaluate};
 use eval_tables::Seen;
-use eval_variables::{Frame, Passed, Run, Stop};
+use eval_variables::{Passed, Run, Stop};
 use orca_base::{FaultKind, KindNo};
 use orca_tree::{Expression, Statement};
 use std::alloc::Global;
 use std::test::Fail;
-use value_core::{Action, Parts, Reply, Value};
+use value_core::{Action, Reply, Value};
 
 // A process that writes the values of twenty expressions.
 const TEXTS: [(&str, &str); 1] = [(
@@ -125,11 +125,7 @@ fn comes_to(
     let replies = [Reply::Gave {
         value: Value::Int(6),
     }];
-    let mut run = Run {
-        frame: Frame::over(alloc, Parts::new(alloc), variables.as_slice())?,
-        replies: &replies,
-        left: 10,
-    };
+    let mut run = run_over(alloc, &variables, &replies, 10)?;
     let found = evaluate::<NoCalls>(alloc, site, e, &mut run);
     is_outcome(alloc, &found, wanted)
 }
