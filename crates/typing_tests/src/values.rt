@@ -9,6 +9,7 @@ use orca_base::{FaultKind, KindNo};
 use orca_tree::{Expression, Statement};
 use std::alloc::Global;
 use std::test::Fail;
+use type_rules::DataType;
 use value_core::{Action, Reply, Value};
 
 // A process that writes the values of twenty expressions.
@@ -152,14 +153,24 @@ fn expressions_have_values_fault_or_act(rt: HostRuntime) -> Result<(), Fail> {
     Ok(())
 }
 
+// Whether variables of this type open so.
+fn opens(
+    alloc: Global,
+    code: &Code<'_>,
+    kind: &Option<DataType>,
+    wanted: &str,
+) -> Result<bool, Fail> {
+    let value = code.tables().opening(alloc, Seen::of_known(kind))?;
+    Ok(value.is(&value_of(alloc, wanted)?))
+}
+
 #[test]
 fn variables_open_by_their_types(rt: HostRuntime) -> Result<(), Fail> {
     let program = program_of(rt.alloc(), &TEXTS)?;
     let code = code_of(rt.alloc(), &program)?;
     let main = code.process(code.tables().main_text()).ok_or("no process")?;
     for (kind, wanted) in main.body.names.types.iter().zip(OPENINGS.iter()) {
-        let value = code.tables().opening(rt.alloc(), Seen::of_known(kind))?;
-        assert!(rt; value.is(&value_of(rt.alloc(), wanted)?), "{wanted}");
+        assert!(rt; opens(rt.alloc(), &code, kind, wanted)?, "{wanted}");
     }
     Ok(())
 }
