@@ -1,15 +1,16 @@
 //! The code of a program: what its variables open with, and the values of its expressions.
 
-use crate::reading::{code_of, program_of, value_of, values_of};
+use crate::reading::{code_of, program_of, run_over, value_of, values_of};
 use eval_bodies::{Code, Site};
 use eval_exprs::{Levels, evaluate};
 use eval_tables::Seen;
-use eval_variables::{Frame, Passed, Run, Stop};
+use eval_variables::{Passed, Run, Stop};
 use orca_base::{FaultKind, KindNo};
 use orca_tree::{Expression, Statement};
 use std::alloc::Global;
 use std::test::Fail;
-use value_core::{Action, Parts, Reply, Value};
+use type_rules::DataType;
+use value_core::{Action, Reply, Value};
 
 // A process that writes the values of twenty expressions.
 const TEXTS: [(&str, &str); 1] = [(
@@ -125,11 +126,7 @@ fn comes_to(
     let replies = [Reply::Gave {
         value: Value::Int(6),
     }];
-    let mut run = Run {
-        frame: Frame::over(alloc, Parts::new(alloc), variables.as_slice())?,
-        replies: &replies,
-        left: 10,
-    };
+    let mut run = run_over(alloc, &variables, &replies, 10)?;
     let found = evaluate::<NoCalls>(alloc, site, e, &mut run);
     is_outcome(alloc, &found, wanted)
 }
@@ -156,14 +153,24 @@ fn expressions_have_values_fault_or_act(rt: HostRuntime) -> Result<(), Fail> {
     Ok(())
 }
 
+// Whether variables of this type open so.
+fn opens(
+    alloc: Global,
+    code: &Code<'_>,
+    kind: &Option<DataType>,
+    wanted: &str,
+) -> Result<bool, Fail> {
+    let value = code.tables().opening(alloc, Seen::of_known(kind))?;
+    Ok(value.is(&value_of(alloc, wanted)?))
+}
+
 #[test]
 fn variables_open_by_their_types(rt: HostRuntime) -> Result<(), Fail> {
     let program = program_of(rt.alloc(), &TEXTS)?;
     let code = code_of(rt.alloc(), &program)?;
     let main = code.process(code.tables().main_text()).ok_or("no process")?;
     for (kind, wanted) in main.body.names.types.iter().zip(OPENINGS.iter()) {
-        let value = code.tables().opening(rt.alloc(), Seen::of_known(kind))?;
-        assert!(rt; value.is(&value_of(rt.alloc(), wanted)?), "{wanted}");
+        assert!(rt; opens(rt.alloc(), &code, kind, wanted)?, "{wanted}");
     }
     Ok(())
 }
