@@ -1,9 +1,6 @@
 use Rattle.std.proofs.Common.{[], Some}
 use Rattle.world_tests.proofs.calls.crash_ends_tasks.Given as goal
 
--- the run that is tried
+-- the run that is tried, the same for both
 abbrev pub ghosts-crashed_as : goal.ghosts-crashed_as
 ghosts-crashed_as a = record { machine = Some a.machine.now; settings = a.settings; told = []; scripts = [] }
-
-abbrev pub ghosts-crashed_as-2 : goal.ghosts-crashed_as-2
-ghosts-crashed_as-2 a = record { machine = Some a.machine.now; settings = a.settings; told = []; scripts = [] }
