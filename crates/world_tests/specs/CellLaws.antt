@@ -7,7 +7,6 @@ use Rattle.orca_base.specs.declared.ids.OpNo.{OpNo}
 use Rattle.orca_base.specs.declared.ids.ProcessNo.{ProcessNo}
 use Rattle.orca_base.specs.declared.ids.TextNo.{TextNo}
 use Rattle.value_core.specs.Datum.{Data}
-use Rattle.value_core.specs.Datum as datum
 use Rattle.value_core.specs.Fits.{Kinds}
 use Rattle.value_core.specs.Lawful.{IsLawful, IsLawfulDoing, RepliesFit, own_objects}
 use Rattle.value_core.specs.Lawful.IsKnownObject.{own as knows_own}

@@ -1,4 +1,4 @@
-use Rattle.std.proofs.Common.{◌≡◌, ◌≤◌, ◌∙◌, Bool, true, false, List, [], ap, sym, arith}
+use Rattle.std.proofs.Common.{◌≡◌, ◌∙◌, Bool, true, false, List, ap, sym, arith}
 use Rattle.orca_base.specs.declared.what.Choice.{Choice}
 use Rattle.world_rules.specs.Frame.{chooses_single}
 use Rattle.world_tests.proofs.driving.settings.Goals as goal
