@@ -1,17 +1,7 @@
 -- What was printed, one put on; and how the program ends where it runs nothing.
-use Rattle.std.proofs.Common.{◌≡◌, ◌≢◌, ◌⊎◌, ℕ, suc, ◌+◌, ◌*◌, ◌^◌, ◌<◌, ◌≤◌, true, List, [], ◌∷◌, ◌++◌, length, get_or, take, drop, add-one, drop-cons, Option, Some, None, refl, sym, ap, ◌∙◌, subst, inl, inr, arith, append_assoc, take-append-drop}
-use Rattle.std.specs.List.{All}
-use Rattle.std.proofs.Math.Seq.{take-suc}
-use Rattle.std.specs.Borrow.{Bor}
-use Rattle.std.specs.Prelude.{◌==◌, Result, Ok, Err, IfNone, IfOk, IfSome, MatchOption, OnErr, OnOk, map, option_and_then, option_map}
-use Rattle.std.proofs.lemmas.Bool.Decides.{nat_tests}
-use Rattle.std.proofs.lemmas.List.{append-nil, length-map, map-append, take_all}
-use Rattle.std.proofs.lemmas.List.Elements.{All-head, All-nil, All-push}
+use Rattle.std.proofs.Common.{◌≡◌, ◌≢◌, ℕ, suc, ◌+◌, ◌<◌, List, [], ◌++◌, length, get_or, drop, add-one, drop-cons, Option, Some, None, refl, sym, ap, ◌∙◌, subst, inl, inr}
+use Rattle.std.specs.Prelude.{Result, Ok, Err, IfNone, IfOk, IfSome, MatchOption, OnErr, OnOk, option_and_then, option_map}
 use Rattle.command_line.specs.declared.request.RunOptions.{RunOptions}
-use Rattle.orca_base.specs.declared.limits.TheConstants.{MODULES, SOURCE_BYTES}
-use Rattle.orca_base.specs.declared.refusal.Refusal.{Refusal}
-use Rattle.orca_base.specs.declared.refusal.Refusal.TheVariants.{Because, NoMemory}
-use Rattle.orca_base.specs.Refusal.{IfBecause}
 use Rattle.net_rules.specs.declared.line.ScriptLine.{ScriptLine}
 use Rattle.link_rules.specs.Units.{Source}
 use Rattle.accepted_law.specs.Limits.{IsWithinLimits}
@@ -22,15 +12,11 @@ use Rattle.orca_front.specs.declared.fault.FrontFault.{FrontFault}
 use Rattle.orca_front.specs.declared.fault.FrontFault.TheVariants as fronts
 use Rattle.orca_front.specs.Sources.{IsAccepted, IsFault, IsLinkFault}
 use Rattle.orca_io.specs.declared.sink.SinkFault.{SinkFault}
-use Rattle.orca_io.specs.declared.sink.SinkFault.TheVariants as faults
-use Rattle.orca_io.specs.Causes.{Rose}
-use Rattle.orca_io.specs.Files.{File, content_of}
+use Rattle.orca_io.specs.Files.{File}
 use Rattle.orca_io.specs.Sinks.{Puts}
 use Rattle.value_core.specs.History.{output_by, output_of}
 use Rattle.value_core.specs.declared.action.Line.{Line}
 use Rattle.orca_cli.specs.declared.job.Job.{Job}
-use Rattle.command_files.specs.declared.load_fault.LoadFault.{LoadFault}
-use Rattle.command_files.specs.declared.load_fault.LoadFault.TheVariants as loads
 use Rattle.orca_cli.specs.declared.program.ProgramFault.{ProgramFault}
 use Rattle.orca_cli.specs.declared.program.ProgramFault.TheVariants.{Limited, Refused}
 use Rattle.orca_cli.specs.declared.script.ScriptFault.{ScriptFault}
@@ -41,10 +27,9 @@ use Rattle.orca_cli.specs.Endings.{IsAnswer, IsEnding}
 use Rattle.command_files.specs.Sources.{Word}
 use Rattle.orca_cli.specs.Job.{IsDeedWithin, checks, deed_in, deed_of, files_in, files_of, replays, runs, script_in, script_of}
 use Rattle.command_output.proofs.Putting.{GrewUpTo, grew_fault, grew_put}
-use Rattle.command_files.specs.Loaded.{IsAbsent, IsFailed, IsLoaded, IsLoadFault, IsThere, IsTooLong, Reads, front_status, load_status}
 use Rattle.command_output.specs.Printed.{Grew, WroteOf, Ends, EndsAs}
 use Rattle.orca_cli.specs.Scripts.{HasScript, IsScriptFault, IsScriptOf, IsUnreadable, script_status}
-use Rattle.command_files.specs.Sources.{AreRead, IsRead, StopsAt}
+use Rattle.command_files.specs.Sources.{AreRead}
 use Rattle.orca_cli.specs.Programs.{IsProgram, program_status, units_of}
 use Rattle.command_files.proofs.ReadFiles.{refused_status}
 use Rattle.replay_command.specs.Endings.{IsReplayAnswer}

@@ -1,5 +1,5 @@
 -- What a run leaves is what the headline says of it: from the run that was driven, the law of runs, and what was printed.
-use Rattle.std.proofs.Common.{◌≡◌, ◌∙◌, ◌<◌, ◌≤◌, ℕ, Bool, true, false, List, [], ◌∷◌, ◌++◌, get_or, length, map, set, Option, Some, None, IfNone, IfSome, Result, Ok, Err, OnOk, suc, ap, sym, subst, refl, arith}
+use Rattle.std.proofs.Common.{◌≡◌, ◌≤◌, ℕ, true, false, List, [], ◌∷◌, ◌++◌, get_or, length, map, set, Option, Some, None, IfNone, IfSome, Result, Ok, Err, OnOk, suc, ap, sym, subst, refl, arith}
 use Rattle.std.specs.Prelude.{option_map, slice_get}
 use Rattle.std.specs.List.{All}
 use Rattle.std.proofs.lemmas.List.{length-map}
@@ -24,14 +24,13 @@ use Rattle.world_rules.specs.declared.standing.Standing.{Standing}
 use Rattle.world_rules.specs.declared.standing.Standing.TheVariants.{Going}
 use Rattle.world_rules.specs.Frame.{AreSettings, Frame}
 use Rattle.world_rules.specs.Standings as rules
-use Rattle.world_rules.specs.Worlds.{World}
 use Rattle.world_core.specs.declared.ends.RunEnd.{RunEnd}
 use Rattle.run_loop.specs.Asked.{HaveToldOn, WereUsedSo, asked_since}
 use Rattle.run_loop.specs.Left.{HasRun, run_of}
 use Rattle.meaning_rules.specs.Meanings.{computes_of, performs_of}
 use Rattle.orca_cli.specs.declared.kept.Kept.{Kept}
 use Rattle.command_output.specs.declared.statuses.TheConstants.{NO_MEMORY}
-use Rattle.orca_cli.specs.Headline.{AreLoaded, IsNamed, IsRun, IsProgramRun, IsRunOf, Wires, settings_of, wires_of}
+use Rattle.orca_cli.specs.Headline.{AreLoaded, IsNamed, IsRun, IsProgramRun, IsRunOf, settings_of, wires_of}
 use Rattle.command_files.specs.Sources.{Word}
 use Rattle.orca_cli.specs.Kept.{IsEndOf}
 use Rattle.orca_cli.specs.Laws.{RunLaws}

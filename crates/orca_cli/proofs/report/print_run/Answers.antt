@@ -1,4 +1,3 @@
-use Rattle.std.proofs.Common.{◌∙◌}
 use Rattle.std.proofs.lemmas.Result.{err_from_is_err_and}
 use Rattle.orca_cli.proofs.ReportLemmas.{front_of_both, text_behind}
 use Rattle.orca_cli.proofs.report.print_run.Goals as goal
