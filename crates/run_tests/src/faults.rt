@@ -1,6 +1,6 @@
 //! Runs that end otherwise than by their program, and writes that fail.
 
-use crate::tried::{Counts, ONE, counts, members, one_cell, tried};
+use crate::tried::{Counts, ONE, counted, members, one_cell, outcome};
 use orca_cli::{FINISHED, NO_GROUP, OUT_OF_EVENTS, ProcessStanding, WRITE_FAULT};
 use std::test::Fail;
 
@@ -15,7 +15,7 @@ fn out_of_events(rt: HostRuntime) -> Result<(), Fail> {
     assert_eq!(rt; tried.printed.as_str(), "orca: out of events\n");
     let kept = tried.ended.kept.as_ref().ok_or("nothing kept")?;
     assert_eq!(rt;
-        counts(&kept.events),
+        counted(&kept.events),
         Counts {
             deliveries: 2,
             ..Counts::plain(1, 1, 3)
@@ -55,7 +55,7 @@ fn too_many_crashes(rt: HostRuntime) -> Result<(), Fail> {
     assert_eq!(rt; tried.printed.as_str(), "orca: no group\n");
     let kept = tried.ended.kept.as_ref().ok_or("nothing kept")?;
     assert_eq!(rt;
-        counts(&kept.events),
+        counted(&kept.events),
         Counts {
             ticks: 200,
             crashes: 2,
@@ -89,7 +89,7 @@ fn nobody_lives(rt: HostRuntime) -> Result<(), Fail> {
     assert_eq!(rt; tried.printed.as_str(), "orca: no group\n");
     let kept = tried.ended.kept.as_ref().ok_or("nothing kept")?;
     assert_eq!(rt;
-        counts(&kept.events),
+        counted(&kept.events),
         Counts {
             deliveries: 0,
             crashes: 2,
@@ -113,7 +113,7 @@ fn member_of_main_crashes(rt: HostRuntime) -> Result<(), Fail> {
     assert_eq!(rt; tried.printed.as_str(), "");
     let kept = tried.ended.kept.as_ref().ok_or("nothing kept")?;
     assert_eq!(rt;
-        counts(&kept.events),
+        counted(&kept.events),
         Counts {
             deliveries: 0,
             crashes: 1,
@@ -136,7 +136,7 @@ fn failed_writes(rt: HostRuntime) -> Result<(), Fail> {
     let alloc = rt.alloc();
     let files = [("one.orca", ONE), ("f.txt", "")];
     for (events, failing, printed) in [("14", 1, ""), ("13", 1, ""), ("13", 2, "6\n")] {
-        let tried = tried(
+        let tried = outcome(
             alloc,
             &["run", "--events", events, "--script", "f.txt", "one.orca"],
             &files,

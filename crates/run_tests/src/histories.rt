@@ -1,6 +1,6 @@
 //! Histories: what a run prints behind its output where it is asked for, and what `replay` says of that and of others.
 
-use crate::tried::{ONE, tried};
+use crate::tried::{ONE, outcome};
 use orca_cli::{FINISHED, WRITE_FAULT};
 use std::alloc::Global;
 use std::test::Fail;
@@ -31,7 +31,7 @@ fn first_lines(alloc: Global, count: u64) -> Result<String, Fail> {
 // The status of `replay` for this history of the one cell, and what it prints.
 fn replayed(alloc: Global, history: &str) -> Result<(u8, String), Fail> {
     let files = [("one.orca", ONE), ("h.txt", history)];
-    let tried = tried(alloc, &["replay", "h.txt", "one.orca"], &files, &[])?;
+    let tried = outcome(alloc, &["replay", "h.txt", "one.orca"], &files, &[])?;
     if tried.ended.kept.is_some() {
         return Err(Fail::from("something kept"));
     }
@@ -44,11 +44,11 @@ fn one_cell_with_its_history(rt: HostRuntime) -> Result<(), Fail> {
     let alloc = rt.alloc();
     let files = [("one.orca", ONE)];
     let line = ["run", "--history", "one.orca"];
-    let whole = tried(alloc, &line, &files, &[])?;
+    let whole = outcome(alloc, &line, &files, &[])?;
     assert_eq!(rt; whole.ended.status, FINISHED);
     assert_eq!(rt; whole.printed.as_str(), first_lines(alloc, 5)?.as_str());
     for failing in 1..6u64 {
-        let tried = tried(alloc, &line, &files, &[failing])?;
+        let tried = outcome(alloc, &line, &files, &[failing])?;
         assert_eq!(rt; tried.ended.status, WRITE_FAULT);
         assert_eq!(rt;
             tried.printed.as_str(),
@@ -69,7 +69,7 @@ fn histories_of_runs_that_were_cut_off(rt: HostRuntime) -> Result<(), Fail> {
     let line = ["run", "--history", "--events", "13", "one.orca"];
     let printed = format!(in alloc; "6\n{BOOK}orca: out of events\n")?;
     assert_eq!(rt;
-        tried(alloc, &line, &files, &[])?.printed.as_str(),
+        outcome(alloc, &line, &files, &[])?.printed.as_str(),
         printed.as_str()
     );
     let line = [
@@ -82,7 +82,7 @@ fn histories_of_runs_that_were_cut_off(rt: HostRuntime) -> Result<(), Fail> {
         "one.orca",
     ];
     assert_eq!(rt;
-        tried(alloc, &line, &files, &[])?.printed.as_str(),
+        outcome(alloc, &line, &files, &[])?.printed.as_str(),
         "orca: out of events\n"
     );
     Ok(())
@@ -93,7 +93,7 @@ fn histories_of_runs_that_were_cut_off(rt: HostRuntime) -> Result<(), Fail> {
 fn histories_given_back(rt: HostRuntime) -> Result<(), Fail> {
     let alloc = rt.alloc();
     let files = [("one.orca", ONE)];
-    let whole = tried(alloc, &["run", "--history", "one.orca"], &files, &[])?;
+    let whole = outcome(alloc, &["run", "--history", "one.orca"], &files, &[])?;
     let book = whole
         .printed
         .as_str()
@@ -159,6 +159,7 @@ fn replays_that_are_refused(rt: HostRuntime) -> Result<(), Fail> {
             13,
             "orca: history breaks at line 1: form\n",
         ),
+        // A program with a constant.
         (
             &["replay", "b.txt", "two.orca"],
             13,
@@ -166,12 +167,12 @@ fn replays_that_are_refused(rt: HostRuntime) -> Result<(), Fail> {
         ),
     ];
     for (line, status, printed) in rows {
-        let tried = tried(alloc, line, &files, &[])?;
+        let tried = outcome(alloc, line, &files, &[])?;
         assert_eq!(rt;
             (tried.ended.status, tried.printed.as_str()),
             (status, printed)
         );
-        let failed = crate::tried::tried(alloc, line, &files, &[1])?;
+        let failed = outcome(alloc, line, &files, &[1])?;
         assert_eq!(rt;
             (failed.ended.status, failed.printed.as_str()),
             (WRITE_FAULT, "")

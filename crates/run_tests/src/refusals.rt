@@ -1,6 +1,6 @@
 //! Calls that run nothing: words, files and scripts that are refused.
 
-use crate::tried::{ONE, tried};
+use crate::tried::{ONE, outcome};
 use std::test::Fail;
 
 const USAGE: &str =
@@ -15,7 +15,7 @@ fn is_refused(
     printed: &str,
 ) -> Result<bool, Fail> {
     let files = [("one.orca", ONE), ("f.txt", script), ("e.orca", "begin")];
-    let tried = tried(rt.alloc(), line, &files, &[])?;
+    let tried = outcome(rt.alloc(), line, &files, &[])?;
     Ok(
         tried.ended.status == status
             && tried.printed.as_str() == printed
@@ -118,7 +118,7 @@ fn script_at_its_limit(rt: HostRuntime) -> Result<(), Fail> {
     let line = ["run", "--script", "f.txt", "one.orca"];
     let longest = "#".repeat(alloc, 1_000_000)?;
     let files = [("one.orca", ONE), ("f.txt", longest.as_str())];
-    assert_eq!(rt; tried(alloc, &line, &files, &[])?.printed.as_str(), "6\n");
+    assert_eq!(rt; outcome(alloc, &line, &files, &[])?.printed.as_str(), "6\n");
     let longer = "#".repeat(alloc, 1_000_001)?;
     assert!(rt;
         is_refused(
@@ -145,7 +145,7 @@ fn words_that_run(rt: HostRuntime) -> Result<(), Fail> {
         &["run", "--events", "4000000", "one.orca"],
     ];
     for line in lines {
-        let tried = tried(alloc, line, &[("one.orca", ONE)], &[])?;
+        let tried = outcome(alloc, line, &[("one.orca", ONE)], &[])?;
         assert_eq!(rt; tried.ended.status, 0);
         assert_eq!(rt; tried.printed.as_str(), "6\n");
     }

@@ -1,6 +1,6 @@
 //! Runs without faults, and with faults from which the group recovers.
 
-use crate::tried::{Counts, ONE, counts, lone_wire, members, one_cell, tried, tried_over};
+use crate::tried::{Counts, ONE, counted, lone_wire, members, one_cell, outcome, outcome_over};
 use orca_cli::{FINISHED, ProcessStanding, Step};
 use std::alloc::{AllocError, Global};
 use std::test::Fail;
@@ -35,7 +35,7 @@ fn is_so(rt: &HostRuntime, row: &Row<'_>) -> Result<bool, Fail> {
     Ok(
         tried.ended.status == FINISHED
             && tried.printed.as_str() == "6\n"
-            && counts(&kept.events) == row.counts
+            && counted(&kept.events) == row.counts
             && kept.book.len() == 4
             && kept.nodes.len() == row.nodes
             && same,
@@ -164,7 +164,7 @@ fn lost_last_entry(rt: HostRuntime) -> Result<(), Fail> {
     assert_eq!(rt; tried.printed.as_str(), "6\n");
     let kept = tried.ended.kept.as_ref().ok_or("nothing kept")?;
     assert_eq!(rt;
-        counts(&kept.events),
+        counted(&kept.events),
         Counts {
             deliveries: 5,
             ..Counts::plain(4, 3, 6)
@@ -277,7 +277,7 @@ fn packets_about_swap(events: &[Step]) -> (u64, u64) {
         } else {
             before = before.saturating_add(packets);
         }
-        swapped = swapped || counts(std::slice::from_ref(step)).swaps == 1;
+        swapped = swapped || counted(std::slice::from_ref(step)).swaps == 1;
     }
     (before, behind)
 }
@@ -291,7 +291,7 @@ fn swapped_wire(rt: HostRuntime) -> Result<(), Fail> {
     assert_eq!(rt; tried.printed.as_str(), "6\n");
     let kept = tried.ended.kept.as_ref().ok_or("nothing kept")?;
     assert_eq!(rt;
-        counts(&kept.events),
+        counted(&kept.events),
         Counts {
             deliveries: 19,
             ticks: 1,
@@ -325,7 +325,7 @@ fn acts_passed_over(rt: HostRuntime) -> Result<(), Fail> {
     assert_eq!(rt; tried.printed.as_str(), "6\n");
     let kept = tried.ended.kept.as_ref().ok_or("nothing kept")?;
     assert_eq!(rt;
-        counts(&kept.events),
+        counted(&kept.events),
         Counts {
             crashes: 1,
             ..Counts::plain(4, 3, 6)
@@ -343,7 +343,7 @@ fn acts_passed_over(rt: HostRuntime) -> Result<(), Fail> {
 fn swap_without_a_next_wire(rt: HostRuntime) -> Result<(), Fail> {
     let alloc = rt.alloc();
     let mut wires = lone_wire(alloc)?;
-    let tried = tried_over(
+    let tried = outcome_over(
         alloc,
         &["run", "--script", "f.txt", "one.orca"],
         &[("one.orca", ONE), ("f.txt", "swap entry 2\n")],
@@ -353,7 +353,7 @@ fn swap_without_a_next_wire(rt: HostRuntime) -> Result<(), Fail> {
     assert_eq!(rt; tried.ended.status, FINISHED);
     assert_eq!(rt; tried.printed.as_str(), "6\n");
     let kept = tried.ended.kept.as_ref().ok_or("nothing kept")?;
-    assert_eq!(rt; counts(&kept.events), Counts::plain(4, 3, 6));
+    assert_eq!(rt; counted(&kept.events), Counts::plain(4, 3, 6));
     Ok(())
 }
 
@@ -380,7 +380,7 @@ fn windows_are_crossed(rt: HostRuntime) -> Result<(), Fail> {
         "m.orca",
     ];
     for (script, packets, deliveries) in [("", 5490, 5490), ("drop entry 402\n", 5492, 5491)] {
-        let tried = tried(
+        let tried = outcome(
             alloc,
             &line,
             &[("m.orca", text.as_str()), ("f.txt", script)],
@@ -390,7 +390,7 @@ fn windows_are_crossed(rt: HostRuntime) -> Result<(), Fail> {
         assert_eq!(rt; tried.printed.as_str(), "7\n");
         let kept = tried.ended.kept.as_ref().ok_or("nothing kept")?;
         assert_eq!(rt;
-            counts(&kept.events),
+            counted(&kept.events),
             Counts {
                 deliveries,
                 ..Counts::plain(603, 602, packets)
@@ -419,7 +419,7 @@ fn a_fifth_is_lost(rt: HostRuntime) -> Result<(), Fail> {
         "f.txt",
         "m.orca",
     ];
-    let tried = tried(
+    let tried = outcome(
         alloc,
         &line,
         &[("m.orca", text.as_str()), ("f.txt", "seed 1 20\n")],

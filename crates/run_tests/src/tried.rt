@@ -59,7 +59,7 @@ impl Counts {
 }
 
 /// What a run's events were.
-pub fn counts(events: &[Step]) -> Counts {
+pub fn counted(events: &[Step]) -> Counts {
     let mut found = Counts::plain(0, 0, 0);
     for step in events {
         let one = match step.event {
@@ -127,18 +127,18 @@ pub fn lone_wire(alloc: Global) -> Result<Vec<Box<dyn Wire + Send>>, Fail> {
 }
 
 /// What comes of these words over these files and two wires, where the puts of these numbers fail.
-pub fn tried(
+pub fn outcome(
     alloc: Global,
     line: &[&str],
     files: &[(&str, &str)],
     failing: &[u64],
 ) -> Result<Tried, Fail> {
     let mut wires = wires(alloc)?;
-    tried_over(alloc, line, files, failing, &mut wires)
+    outcome_over(alloc, line, files, failing, &mut wires)
 }
 
 /// The same over these wires.
-pub fn tried_over(
+pub fn outcome_over(
     alloc: Global,
     line: &[&str],
     files: &[(&str, &str)],
@@ -167,7 +167,7 @@ pub fn one_cell(alloc: Global, options: &[&str], script: &str) -> Result<Tried, 
     line.push("--script")?;
     line.push("faults.txt")?;
     line.push("one.orca")?;
-    tried(
+    outcome(
         alloc,
         &line,
         &[("one.orca", ONE), ("faults.txt", script)],
