@@ -1,6 +1,7 @@
 -- What an attempt begins with, and how its guards and bodies end.
-use Rattle.std.proofs.Common.{◌≡◌, ℕ, zero, suc, ◌+◌, ◌<◌, Bool, true, false, List, [], ◌∷◌, ◌++◌, append_assoc, drop, get_or, length, map, Option, Some, None, Result, Ok, Err, refl, sym, ap, ◌∙◌, subst, arith}
+use Rattle.std.proofs.Common.{◌≡◌, ℕ, zero, suc, ◌+◌, ◌<◌, Bool, true, false, cond, List, [], ◌∷◌, ◌++◌, append_assoc, drop, get_or, length, map, Option, Some, None, Result, Ok, Err, refl, sym, ap, ◌∙◌, arith}
 use Rattle.std.specs.Prelude.{◌==◌, if◌then◌else◌}
+use Rattle.std.proofs.Math.Dec.{eqb-suc-zero}
 use Rattle.std.proofs.lemmas.List.{drop_more, length-map}
 use Rattle.orca_base.specs.declared.fault.FaultKind.{FaultKind}
 use Rattle.orca_tree.specs.declared.tree.Guard.{Guard as GuardTree}
@@ -9,19 +10,19 @@ use Rattle.orca_syntax.specs.Syntax.{Expr, Stmts, Operation}
 use Rattle.link_rules.specs.Units.{Source}
 use Rattle.type_rules.specs.declared.types.DataType.{DataType}
 use Rattle.type_rules.specs.Scopes.{Local}
-use Rattle.value_core.specs.Datum.{Data, Datum, list_of}
-use Rattle.value_core.specs.declared.meaning.Making.{Making}
+use Rattle.value_core.specs.Datum.{Data, Datum, data_of, data_of-list_of, list_of}
 use Rattle.value_core.specs.declared.meaning.Making.TheVariants as making
 use Rattle.value_core.specs.declared.meaning.Tried.{Tried}
 use Rattle.value_core.specs.declared.meaning.Tried.TheVariants as tried
-use Rattle.meaning_rules.specs.Functions.{opened}
+use Rattle.meaning_rules.specs.Functions.{all_calls, opened}
 use Rattle.meaning_rules.specs.Loops.{Flow}
 use Rattle.meaning_rules.specs.Openings.{opening}
-use Rattle.meaning_rules.specs.Operations.{begun_with, body_ended, body_tried, chosen, fault_of, guard_tried, guards_tried, operation_start, own_count, start}
+use Rattle.meaning_rules.specs.Operations.{begun_with, body_ended, body_tried, chosen, fault_of, guard_tried, guards_tried, made, operation_start, own_count, start, type_made}
 use Rattle.meaning_rules.specs.Operators.{truth_in}
-use Rattle.meaning_rules.specs.Programs.{ObjectType, operation_variables}
+use Rattle.meaning_rules.specs.Programs.{ObjectType, begin_scope, operation_variables}
 use Rattle.meaning_rules.specs.States.{Goes, Out, State, Stops}
 use Rattle.meaning_rules.specs.States as rules
+use Rattle.meaning_rules.specs.Statements.{run_all}
 use Rattle.eval_variables.specs.declared.stop.Stop.{Stop}
 use Rattle.eval_variables.specs.declared.stop.Stop.TheVariants as stop
 use Rattle.eval_variables.specs.Gives.{Fails, Gives}
@@ -108,10 +109,33 @@ guards_more tests bodies gs i g low read =
 
 -- ---- the output object's type, and the others
 
+by_test : {Z : Type 0} (b : Bool) (x y : Z) → b ≡ false → cond b x y ≡ y
+by_test true x y is = absurd (let turned : true ≡ false = is in cc)
+by_test false x y is = refl
+
 pub if_zero : {Z : Type 0} (n : ℕ) (a b : Z) → n ≡ 0 → (if n == 0 then a else b) ≡ a
 if_zero zero a b is = refl
 if_zero (suc n) a b is = absurd (omega (arith, is))
 
 pub if_other : {Z : Type 0} (n : ℕ) (a b : Z) → (n ≡ 0 → ⊥) → (if n == 0 then a else b) ≡ b
 if_other zero a b apart = absurd (apart refl)
-if_other (suc n) a b apart = refl
+if_other (suc n) a b apart = by_test (suc n == 0) a b (eqb-suc-zero n)
+
+-- ---- makings
+
+pub fields_open : (us : List Source) (t : ObjectType) (ts : List (Option DataType)) (old new : List Datum) →
+    ts ≡ map (λ l. l.type) (begin_scope us t).locals → old ≡ [] → new ≡ old ++ map (opening us) ts → new ≡ opened us (begin_scope us t).locals
+fields_open us t ts old new types none is =
+    is
+    ∙ ap (λ (l : List Datum). l ++ map (opening us) ts) none
+    ∙ ap (λ (l : List (Option DataType)). map (opening us) l) types
+    ∙ types_open us (begin_scope us t).locals
+
+module _ (us : List Source) (t : ObjectType) (all : Data) (fields : list_of all ≡ opened us (begin_scope us t).locals) where
+  pub made_open : None ≡ t.begins → making.Made all ≡ type_made us (Some t)
+  made_open none = ap making.Made (sym (data_of-list_of all) ∙ ap data_of fields) ∙ ap (λ (o : Option Stmts). made us t (opened us (begin_scope us t).locals) o) none
+
+  pub made_begun : (ss : Stmts) → Some ss ≡ t.begins → begun_with (run_all (all_calls us) (begin_scope us t) ss (start (list_of all))) ≡ type_made us (Some t)
+  made_begun ss is =
+      ap (λ (xs : List Datum). begun_with (run_all (all_calls us) (begin_scope us t) ss (start xs))) fields
+      ∙ ap (λ (o : Option Stmts). made us t (opened us (begin_scope us t).locals) o) is

@@ -1,5 +1,5 @@
 -- What code has of an operation by its number.
-use Rattle.std.proofs.Common.{◌≡◌, ℕ, zero, suc, List, [], ◌∷◌, Option, Some, None, refl, subst}
+use Rattle.std.proofs.Common.{◌≡◌, ℕ, zero, suc, List, [], ◌∷◌, Some, None, refl, subst}
 use Rattle.std.specs.Prelude.{slice_get}
 use Rattle.eval_bodies.specs.Matching.{Match}
 

@@ -1,7 +1,9 @@
 -- Values in a row, one further; a front that is taken away; and stops of what comes first.
-use Rattle.std.proofs.Common.{◌≡◌, ℕ, zero, suc, ◌+◌, ◌-◌, ◌<◌, ◌≤◌, List, [], ◌∷◌, ◌++◌, append_assoc, drop, take, get_or, length, map, refl, sym, ap, ◌∙◌, subst, arith}
-use Rattle.std.proofs.lemmas.List.{append-nil, drop_more, length-drop, take_at}
+use Rattle.std.proofs.Common.{◌≡◌, ℕ, ◌+◌, ◌-◌, ◌<◌, ◌≤◌, List, [], ◌∷◌, ◌++◌, append_assoc, drop, take, get_or, length, map, refl, sym, ap, ◌∙◌, subst, arith}
+use Rattle.std.proofs.lemmas.List.{append-nil, drop-map, drop_more, length-drop, take_at}
 use Rattle.value_core.specs.Datum.{Datum}
+use Rattle.value_core.specs.View.{datum_of}
+use Rattle.value_core.specs.declared.value.Value.{Value}
 use Rattle.meaning_rules.specs.States.{State, Out, Goes, Stops, after}
 use Rattle.eval_variables.specs.declared.stop.Stop.{Stop}
 use Rattle.eval_variables.specs.declared.stop.Stop.TheVariants as stop
@@ -29,6 +31,16 @@ viewed_more view old new xs i x y low read seen is =
 -- a front is turned to the end, and taken away
 pub front_goes : {A : Type 0} (n : ℕ) (xs : List A) → n ≤ length xs → take (length xs - n) (drop n xs ++ take n xs) ≡ drop n xs
 front_goes n xs low = take_at (drop n xs) (take n xs) (length xs - n) (length-drop n xs)
+
+pub front_left : (n count : ℕ) (xs taken : List Datum) (values : List Value) → count ≡ length values → n ≤ count → map datum_of values ≡ xs →
+    taken ≡ map datum_of (take (count - n) (drop n values ++ take n values)) → taken ≡ drop n xs
+front_left n count xs taken values many low seen is =
+    let long : n ≤ length values = omega (arith, many, low) in
+    is
+    ∙ ap (λ (k : ℕ). map datum_of (take (k - n) (drop n values ++ take n values))) many
+    ∙ ap (map datum_of) (front_goes n values long)
+    ∙ sym (drop-map datum_of n values)
+    ∙ ap (drop n) seen
 
 -- ---- lists of results, of which a front is there
 

@@ -1,5 +1,5 @@
 -- What processes do, by what code has of their texts.
-use Rattle.std.proofs.Common.{◌≡◌, ℕ, zero, suc, ◌+◌, ◌≤◌, ◌<◌, ◌^◌, List, [], ◌∷◌, ◌++◌, drop, get_or, length, map, Option, Some, None, refl, sym, ap, ◌∙◌, subst}
+use Rattle.std.proofs.Common.{◌≡◌, ℕ, ◌+◌, ◌<◌, ◌^◌, List, [], ◌∷◌, ◌++◌, drop, get_or, length, map, Option, Some, None, refl, sym, ap, ◌∙◌, subst}
 use Rattle.std.specs.Prelude.{false, option_and_then, slice_get}
 use Rattle.std.specs.Borrow.{Bor}
 use Rattle.std.proofs.lemmas.List.{drop-map, drop_more}
@@ -7,7 +7,6 @@ use Rattle.orca_base.specs.declared.ids.KindNo.{KindNo}
 use Rattle.orca_base.specs.declared.ids.ObjectId.{ObjectId}
 use Rattle.orca_base.specs.declared.ids.ProcessNo.{ProcessNo}
 use Rattle.orca_base.specs.declared.ids.TextNo.{TextNo}
-use Rattle.orca_syntax.specs.Syntax.{Block}
 use Rattle.link_rules.specs.Units.{Source}
 use Rattle.type_rules.specs.declared.types.DataType.{DataType}
 use Rattle.type_rules.specs.Scopes.{Local}
@@ -18,7 +17,6 @@ use Rattle.value_core.specs.Datum as datum
 use Rattle.value_core.specs.declared.action.Action.TheVariants as action
 use Rattle.accepted_law.specs.Numbers.{AreNumbers}
 use Rattle.meaning_rules.specs.Functions.{all_calls}
-use Rattle.meaning_rules.specs.Loops.{Flow}
 use Rattle.meaning_rules.specs.Processes.{behind, make, object_type_of, own_object, text_run, variable_made, variables_made, what_run}
 use Rattle.meaning_rules.specs.Programs.{kind_of, process_scope, process_texts}
 use Rattle.meaning_rules.specs.States.{Goes, Out, State, Stops, act, after}
@@ -29,7 +27,7 @@ use Rattle.eval_bodies.specs.declared.blocks.BlockCode.{BlockCode}
 use Rattle.eval_bodies.specs.Blocks.{IsBlockCode, Routine, process_at, process_in, process_of}
 use Rattle.eval_bodies.specs.Matching.{Both}
 use Rattle.eval_machine.proofs.Rows.{fails_then}
-use Rattle.eval_machine.specs.Routines.{next_number, object_type_in, routine_or_busy, routine_run, value_made, values_made}
+use Rattle.eval_machine.specs.Routines.{next_number, object_type_in, routine_or_busy, value_made, values_made}
 
 -- ---- variables, by their types
 

@@ -1,7 +1,10 @@
 -- The turns that a process took, and what its state stands for when it has gone on or has received a reply.
-use Rattle.std.proofs.Common.{◌≡◌, ◌⊎◌, inl, inr, ℕ, ◌+◌, ◌-◌, ◌≤◌, ◌<◌, List, [], ◌∷◌, ◌++◌, Option, Some, None, refl, sym, ap, ◌∙◌, subst, arith}
+use Rattle.std.proofs.Common.{◌≡◌, ◌⊎◌, inl, inr, ℕ, ◌+◌, ◌-◌, ◌≤◌, List, [], ◌∷◌, ◌++◌, Option, Some, None, Result, Ok, Err, sym, ap, ◌∙◌, subst, arith}
+use Rattle.std.specs.Prelude.{IfOk}
+use Rattle.orca_base.specs.declared.refusal.NoMemory.{NoMemory}
 use Rattle.link_rules.specs.Units.{Source}
-use Rattle.value_core.specs.Goes.{Goes, Reaches}
+use Rattle.value_core.specs.Goes.{ForEach, Goes}
+use Rattle.value_core.specs.History.{most_turns}
 use Rattle.value_core.specs.declared.action.Action.{Action}
 use Rattle.value_core.specs.declared.action.Reply.{Reply}
 use Rattle.value_core.specs.declared.meaning.Doing.{Doing}
@@ -18,17 +21,17 @@ use Rattle.eval_machine.specs.Processes.{IsLeftAt, IsOnTheWay, IsReached, Stands
 
 pub told_again : (p : TreeProcess) (w : Told) (turns : ℕ) → p.last ≡ None → kept p ≡ w → told (record p { turns = turns }) ≡ record w { turns = turns }
 told_again p w turns none is =
-    ap (λ (o : Option Reply). record { text = p.text; number = p.number; args = p.args; replies = with_last p.replies.items o; turns = turns }) none
+    ap (λ (o : Option Reply). record { text = p.text; number = p.number; args = p.args; replies = with_last p.replies o; turns = turns }) none
     ∙ ap (λ (v : Told). record v { turns = turns }) is
 
 pub left_at : (us : List Source) (p : TreeProcess) (turns most : ℕ) (act : Action) → p.last ≡ None → doing_by us (kept p) most ≡ doing.At act → IsLeftAt us (record p { turns = turns }) act
 left_at us p turns most act none is =
-    (none, (most, ap (λ (o : Option Reply). next_doing us p.text p.number p.args (with_last p.replies.items o) most) none ∙ is))
+    (none, (most, ap (λ (o : Option Reply). next_doing us p.text p.number p.args (with_last p.replies o) most) none ∙ is))
 
 -- ---- one reply more
 
 kept_is : (s : TreeProcess) → s.last ≡ None → kept s ≡ told s
-kept_is s none = ap (λ (o : Option Reply). record { text = s.text; number = s.number; args = s.args; replies = with_last s.replies.items o; turns = s.turns }) (sym none)
+kept_is s none = ap (λ (o : Option Reply). record { text = s.text; number = s.number; args = s.args; replies = with_last s.replies o; turns = s.turns }) (sym none)
 
 abbrev pub one_more : Told → Reply → Told
 one_more w reply = record w { replies = w.replies ++ reply ∷ [] }
@@ -91,3 +94,18 @@ pub for_each : (us : List Source) (state s : TreeProcess) (budget : ℕ) (h : Ha
     Goes (doing_by us w) (λ n. StandsFor us s (record w { turns = n })) w.turns budget h
 for_each us state s budget h w said stands =
     subst (λ (v : Told). IsOnTheWay us v → Goes (doing_by us v) (λ n. StandsFor us s (record v { turns = n })) v.turns budget h) stands.0 said stands.1
+
+-- and so of whatever comes of it, where there was memory
+pub for_all : (us : List Source) (state : TreeProcess) (budget : ℕ) (r : Result (TreeProcess × Halt) NoMemory) →
+    ForEach (λ text number args replies turns. StandsFor us state (record { text = text; number = number; args = args; replies = replies; turns = turns }))
+    (λ text number args replies turns. turns + budget ≤ most_turns) →
+    (state.turns + budget ≤ most_turns → IsOnTheWay us (told state) →
+    IfOk r (λ x. Goes (doing_by us (told state)) (λ n. StandsFor us x.0 (record (told state) { turns = n })) state.turns budget x.1)) →
+    IfOk r (λ x. ForEach (λ text number args replies turns. StandsFor us state (record { text = text; number = number; args = args; replies = replies; turns = turns }))
+    (λ text number args replies turns. Goes (next_doing us text number args replies)
+    (λ n. StandsFor us x.0 (record { text = text; number = number; args = args; replies = replies; turns = n })) turns budget x.1))
+for_all us state budget (Ok x) room said = λ text number args replies turns stands.
+    let w : Told = record { text = text; number = number; args = args; replies = replies; turns = turns } in
+    let few = subst (λ (v : Told). v.turns + budget ≤ most_turns) (sym stands.0) (room text number args replies turns stands) in
+    for_each us state x.0 budget x.1 w (said few) stands
+for_all us state budget (Err e) room said = tt

@@ -24,11 +24,11 @@ with_last replies None = replies
 with_last replies (Some reply) = replies ++ reply ∷ []
 
 abbrev pub told : TreeProcess → Told
-told s = record { text = s.text; number = s.number; args = s.args; replies = with_last s.replies.items s.last; turns = s.turns }
+told s = record { text = s.text; number = s.number; args = s.args; replies = with_last s.replies s.last; turns = s.turns }
 
 -- without the last one
 abbrev pub kept : TreeProcess → Told
-kept s = record { text = s.text; number = s.number; args = s.args; replies = s.replies.items; turns = s.turns }
+kept s = record { text = s.text; number = s.number; args = s.args; replies = s.replies; turns = s.turns }
 
 -- what such a process does next within so many turns
 abbrev pub doing_by : List Source → Told → ℕ → Doing

@@ -1,7 +1,6 @@
 -- The laws of values on which preservation stands (meaning_rules). A machine keeps a proof of them; and each has one proof.
 use Rattle.std.specs.Prelude.{◌≡◌, ◌+◌, ◌+ℤ◌, ℕ, ℤ, List, pos, Some, Ok}
 use Rattle.std.specs.List.{All}
-use Rattle.orca_base.specs.declared.fault.FaultKind.{FaultKind}
 use Rattle.value_core.specs.Datum.{Datum}
 use Rattle.value_core.specs.Integers.{IsWord}
 use Rattle.value_core.specs.Size.{size_of}

@@ -17,6 +17,7 @@ mod makings;
 mod performing;
 mod process;
 mod processing;
+mod replies;
 mod texts;
 mod tries;
 mod turns;

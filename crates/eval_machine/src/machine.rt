@@ -17,16 +17,15 @@ use type_decls::Checked;
 use value_ops::{elements_law, texts_law};
 use value_paths::paths_law;
 
-/// What performs and computes a checked program, by its trees. Nothing of it changes.
+/// What performs and computes a checked program, by its trees. It keeps that program (`code.checked()`), and nothing of it changes.
 ///
 /// It meets `Performer` and `Processor` with the meanings of the program's sources, `performs_of` and `computes_of` of meaning_rules
-/// (specs/Meanings.antt there), and what fits is that of meaning_rules (specs/Fitting.antt there).
+/// (specs/Meanings.antt there), and what fits is that of meaning_rules too (specs/Fitting.antt there).
 #[derive(Drop)]
 pub struct TreeMachine<'p> {
-    pub checked: &'p Checked<'p>,
-    pub(crate) code: Code<'p>,
-    pub ghost within: { IsWithinLimits (sources checked.now) },
-    pub ghost coded: { ∥ IsCode (sources checked.now) code ∥₁ },
+    pub code: Code<'p>,
+    pub ghost within: { IsWithinLimits (sources code.checked) },
+    pub ghost coded: { ∥ IsCode (sources code.checked) code ∥₁ },
     pub ghost laws: { ValueLaws } by { ValueLaws-prop },
 }
 
@@ -35,12 +34,9 @@ impl<'p> TreeMachine<'p> {
     ///
     /// # Errors
     /// The limit that the program passes: of parameters (255), or of tokens and declared names together (100,000); and want of memory.
-    pub fn new(
-        alloc: Global,
-        checked: &'p Checked<'p>,
-    ) -> Result<TreeMachine<'p>, Refusal<PassedLimit>>
-        ensures program { IfOk result (λ m. m.checked.now ≡ checked.now) }
-        ensures passed { IfBecause result (Passes (sources checked.now)) }
+    pub fn new(alloc: Global, checked: Checked<'p>) -> Result<TreeMachine<'p>, Refusal<PassedLimit>>
+        ensures program { IfOk result (λ m. m.code.checked ≡ checked.entry) }
+        ensures passed { IfBecause result (Passes (sources checked.entry)) }
     {
         within_limits(alloc, checked.program)?;
         let code = Code::new(alloc, checked)?;
@@ -48,6 +44,6 @@ impl<'p> TreeMachine<'p> {
         graphs_law();
         paths_law();
         texts_law();
-        Ok(TreeMachine { checked, code })
+        Ok(TreeMachine { code })
     }
 }

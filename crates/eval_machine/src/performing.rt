@@ -17,46 +17,46 @@ impl Performer for TreeMachine<'_> {
     ghost use Rattle.eval_machine.specs.MachineLaws.{preserved, sound};
     ghost use Rattle.eval_machine.specs.ReadsKept.{read_keeps};
 
-    ghost performs = { λ m. performs_of (sources m.checked.now) };
+    ghost performs = { λ m. performs_of (sources m.code.checked) };
 
-    ghost fits_state = { λ m. FitsState (sources m.checked.now) };
+    ghost fits_state = { λ m. FitsState (sources m.code.checked) };
 
-    ghost fits_args = { λ m. FitsArgs (sources m.checked.now) };
+    ghost fits_args = { λ m. FitsArgs (sources m.code.checked) };
 
-    ghost fits_text = { λ m. FitsText (sources m.checked.now) };
+    ghost fits_text = { λ m. FitsText (sources m.code.checked) };
 
-    ghost fits_reply = { λ m. FitsReply (sources m.checked.now) };
+    ghost fits_reply = { λ m. FitsReply (sources m.code.checked) };
 
     ghost output_fits = { λ m kinds. refl };
 
-    ghost made_fits = { λ m. (preserved m.laws m.checked.now m.within).makings };
+    ghost made_fits = { λ m. (preserved m.laws m.code.checked m.within).makings };
 
-    ghost keeps_fit = { λ m. (preserved m.laws m.checked.now m.within).states };
+    ghost keeps_fit = { λ m. (preserved m.laws m.code.checked m.within).states };
 
-    ghost replies_fit = { λ m. (preserved m.laws m.checked.now m.within).replies };
+    ghost replies_fit = { λ m. (preserved m.laws m.code.checked m.within).replies };
 
     ghost reads_keep = { λ m kinds kind op state args reads fits given.
-        read_keeps (sources m.checked.now) kinds kind op state args reads fits given };
+        read_keeps (sources m.code.checked) kinds kind op state args reads fits given };
 
     ghost state_stays_fit = { λ m kinds more kind state extends fits.
-        state_more (sources m.checked.now) kinds more extends kind state fits };
+        state_more (sources m.code.checked) kinds more extends kind state fits };
 
     ghost args_stay_fit = { λ m kinds more kind op args extends fits.
-        args_more (sources m.checked.now) kinds more extends kind op args fits };
+        args_more (sources m.code.checked) kinds more extends kind op args fits };
 
     ghost text_stays_fit = { λ m kinds more text args extends fits.
-        text_more (sources m.checked.now) kinds more extends text args fits };
+        text_more (sources m.code.checked) kinds more extends text args fits };
 
-    ghost state_sound = { λ m. (sound m.laws m.checked.now m.within).states };
+    ghost state_sound = { λ m. (sound m.laws m.code.checked m.within).states };
 
-    ghost args_sound = { λ m. (sound m.laws m.checked.now m.within).arguments };
+    ghost args_sound = { λ m. (sound m.laws m.code.checked m.within).arguments };
 
-    ghost text_sound = { λ m. (sound m.laws m.checked.now m.within).texts };
+    ghost text_sound = { λ m. (sound m.laws m.code.checked m.within).texts };
 
-    ghost reply_sound = { λ m. (sound m.laws m.checked.now m.within).replies };
+    ghost reply_sound = { λ m. (sound m.laws m.code.checked m.within).replies };
 
     fn class(&self, kind: KindNo, op: OpNo) -> Class {
-        class_of(self.checked, kind, op)
+        class_of(self.code.checked(), kind, op)
     }
 
     fn make(&self, alloc: Global, kind: KindNo) -> Result<Making, NoMemory> {

@@ -3,6 +3,7 @@
 ghost use Rattle.std.specs.Prelude.{◌≡◌, ◌↔◌, [], None, Some, IfOk, IsTrue};
 ghost use Rattle.eval_machine.specs.Processes.{kept, told};
 
+use crate::replies::Replies;
 use orca_base::{NoMemory, ProcessNo, TextNo};
 use std::alloc::Global;
 use value_core::{Parts, Reply};
@@ -14,20 +15,9 @@ pub struct TreeProcess {
     pub(crate) text: TextNo,
     pub(crate) number: ProcessNo,
     pub(crate) args: Parts,
-    pub(crate) replies: Vec<Reply>,
+    pub(crate) replies: Replies,
     pub(crate) last: Option<Reply>,
     pub(crate) turns: u64,
-}
-
-// Equal replies.
-fn copy_replies(alloc: Global, replies: &[Reply]) -> Result<Vec<Reply>, NoMemory>
-    ensures { IfOk result (λ all. all.items ≡ replies.now) }
-{
-    let mut all = Vec::new(alloc);
-    'replies: for reply in replies {
-        all.push(reply.copy(alloc)?)?;
-    }
-    Ok(all)
 }
 
 // An equal reply, where there is one.
@@ -38,21 +28,6 @@ fn copy_last(alloc: Global, last: &Option<Reply>) -> Result<Option<Reply>, NoMem
         None => Ok(None),
         Some(reply) => Ok(Some(reply.copy(alloc)?)),
     }
-}
-
-// Whether the replies are the same.
-fn same_replies(one: &[Reply], other: &[Reply]) -> bool
-    ensures { IsTrue result ↔ (one.now ≡ other.now) }
-{
-    if one.len() != other.len() {
-        return false;
-    }
-    'replies: for (place, reply) in one.iter().enumerate() {
-        if !reply.is(&other[place]) {
-            return false;
-        }
-    }
-    true
 }
 
 // Whether both are the same.
@@ -80,7 +55,7 @@ impl TreeProcess {
             text,
             number,
             args: args.copy(alloc)?,
-            replies: Vec::new(alloc),
+            replies: Replies::new(alloc),
             last: None,
             turns: 0,
         })
@@ -95,7 +70,7 @@ impl TreeProcess {
         match process.last.take() {
             None => Ok(process),
             Some(reply) => {
-                process.replies.push(reply)?;
+                process.replies.add(reply)?;
                 Ok(process)
             }
         }
@@ -126,7 +101,7 @@ impl TreeProcess {
             text: self.text,
             number: self.number,
             args: self.args.copy(alloc)?,
-            replies: copy_replies(alloc, &self.replies)?,
+            replies: self.replies.copy(alloc)?,
             last: copy_last(alloc, &self.last)?,
             turns: self.turns,
         })
@@ -139,7 +114,7 @@ impl TreeProcess {
         self.text == other.text
             && self.number == other.number
             && self.args.is(&other.args)
-            && same_replies(&self.replies, &other.replies)
+            && self.replies.is(&other.replies)
             && same_last(&self.last, &other.last)
             && self.turns == other.turns
     }

@@ -17,18 +17,18 @@ impl Processor for TreeMachine<'_> {
 
     type State = TreeProcess;
 
-    ghost computes = { λ m. computes_of (sources m.checked.now) };
+    ghost computes = { λ m. computes_of (sources m.code.checked) };
 
-    ghost stands = { λ m s text number args replies turns. StandsFor (sources m.checked.now) s
+    ghost stands = { λ m s text number args replies turns. StandsFor (sources m.code.checked) s
         (record { text = text; number = number; args = args; replies = replies; turns = turns }) };
 
-    ghost halted = { λ m s act. IsLeftAt (sources m.checked.now) s act };
+    ghost halted = { λ m s act. IsLeftAt (sources m.code.checked) s act };
 
-    ghost main_fits = { λ m. (preserved m.laws m.checked.now m.within).main };
+    ghost main_fits = { λ m. (preserved m.laws m.code.checked m.within).main };
 
-    ghost settled = { λ m. is_settled (sources m.checked.now) };
+    ghost settled = { λ m. is_settled (sources m.code.checked) };
 
-    ghost lawful = { λ m. (preserved m.laws m.checked.now m.within).processes };
+    ghost lawful = { λ m. (preserved m.laws m.code.checked m.within).processes };
 
     fn main_text(&self) -> TextNo {
         self.code.tables().main_text()

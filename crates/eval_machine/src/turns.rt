@@ -21,7 +21,7 @@ fn next(
     process: &TreeProcess,
     turns: u64,
 ) -> Result<Next, NoMemory>
-    ensures doing { IfOk result (λ next. next.doing ≡ doing_by (sources machine.now.checked.now) (kept process.now) turns) }
+    ensures doing { IfOk result (λ next. next.doing ≡ doing_by (sources machine.now.code.checked) (kept process.now) turns) }
     ensures left { IfOk result (λ next. next.left ≤ turns) }
 {
     let text = process.text;
@@ -33,7 +33,7 @@ fn next(
         text,
         number,
         args,
-        &process.replies,
+        process.replies.as_slice(),
         turns,
     )
 }
@@ -46,7 +46,7 @@ fn is_busy(
     turns: u64,
 ) -> Result<bool, NoMemory>
     ensures { IfOk result (λ busy.
-        IsTrue busy ↔ (doing_by (sources machine.now.checked.now) (kept process.now) turns ≡ doings.Busy)) }
+        IsTrue busy ↔ (doing_by (sources machine.now.code.checked) (kept process.now) turns ≡ doings.Busy)) }
 {
     let Next { doing, .. } = next(alloc, machine, process, turns)?;
     match doing {
@@ -66,7 +66,7 @@ fn down(
     ensures low { IfOk result (λ used. process.now.turns ≤ used) }
     ensures high { IfOk result (λ used. used ≤ guess) }
     ensures busy { IfOk result (λ used. (used ≡ process.now.turns) ⊎
-        (doing_by (sources machine.now.checked.now) (kept process.now) used ≡ doings.Busy)) }
+        (doing_by (sources machine.now.code.checked) (kept process.now) used ≡ doings.Busy)) }
 {
     let mut used = guess;
     'turns: while used > process.turns {
@@ -88,9 +88,9 @@ fn up(
 ) -> Result<u64, NoMemory>
     requires low { process.now.turns ≤ first }
     requires busy { (first ≡ process.now.turns) ⊎
-        (doing_by (sources machine.now.checked.now) (kept process.now) first ≡ doings.Busy) }
+        (doing_by (sources machine.now.code.checked) (kept process.now) first ≡ doings.Busy) }
     ensures { first ≤ last →
-        IfOk result (IsReached (doing_by (sources machine.now.checked.now) (kept process.now)) process.now.turns last) }
+        IfOk result (IsReached (doing_by (sources machine.now.code.checked) (kept process.now)) process.now.turns last) }
 {
     let mut used = first;
     'turns: while used < last {
@@ -125,7 +125,7 @@ fn turns_taken(
     guess: u64,
 ) -> Result<u64, NoMemory>
     ensures { process.now.turns ≤ last →
-        IfOk result (IsReached (doing_by (sources machine.now.checked.now) (kept process.now)) process.now.turns last) }
+        IfOk result (IsReached (doing_by (sources machine.now.code.checked) (kept process.now)) process.now.turns last) }
 {
     let guess = within(process.turns, last, guess);
     let first = down(alloc, machine, process, guess)?;
@@ -141,10 +141,10 @@ pub fn go(
     budget: u32,
 ) -> Result<(TreeProcess, Halt), NoMemory>
     requires { 1 ≤ budget }
-    ensures goes { state.turns + budget ≤ most_turns → IsOnTheWay (sources machine.now.checked.now) (told state) → IfOk result (λ r.
-        Goes (doing_by (sources machine.now.checked.now) (told state))
-        (λ used. StandsFor (sources machine.now.checked.now) r.0 (record (told state) { turns = used })) state.turns budget r.1) }
-    ensures left { IfOk result (λ r. IfAt r.1 (IsLeftAt (sources machine.now.checked.now) r.0)) }
+    ensures goes { state.turns + budget ≤ most_turns → IsOnTheWay (sources machine.now.code.checked) (told state) → IfOk result (λ r.
+        Goes (doing_by (sources machine.now.code.checked) (told state))
+        (λ used. StandsFor (sources machine.now.code.checked) r.0 (record (told state) { turns = used })) state.turns budget r.1) }
+    ensures left { IfOk result (λ r. IfAt r.1 (IsLeftAt (sources machine.now.code.checked) r.0)) }
 {
     let process = state.gathered()?;
     let most = process.turns.saturating_add(u64::from(budget));

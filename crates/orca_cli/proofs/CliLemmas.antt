@@ -155,7 +155,7 @@ link_fault_is sources (fronts.Mistyped error) h = absurd h
 
 -- why it is none ends with no status of a write fault
 pub program_apart : (fault : ProgramFault) → program_status fault ≢ WRITE_FAULT
-program_apart (Refused fault) = refused_status fault
+program_apart (Refused fault) h = refused_status fault h
 program_apart (Limited passed) h = absurd cc
 
 pub is_program : (told : Option (List File)) (files : List Word) (sources : List File) (units : List Source) → AreRead told files sources → IsAccepted sources units → IsWithinLimits units → IsProgram told files units

@@ -1,7 +1,6 @@
 -- What is kept of a run is a history with its processes and copies: by the law of runs, where each object is at every member.
-use Rattle.std.proofs.Common.{◌≡◌, ◌∙◌, ◌<◌, ◌≤◌, ◌⊎◌, ⊎_elim, inl, inr, ℕ, zero, suc, Bool, true, false, not, List, [], ◌∷◌, ◌++◌, length, map, Option, Some, None, ap, sym, subst, refl, arith}
+use Rattle.std.proofs.Common.{◌≡◌, ◌∙◌, ◌<◌, ◌≤◌, ℕ, zero, suc, Bool, true, false, not, List, [], ◌∷◌, ◌++◌, length, Option, Some, None, ap, sym, subst, refl, arith}
 use Rattle.std.specs.Prelude.{MatchOption, slice_get, option_map}
-use Rattle.std.proofs.lemmas.Bool.{cases_lt}
 use Rattle.std.proofs.lemmas.List.{length-map}
 use Rattle.std.proofs.lemmas.Option.{slice_get-map, slice_get_past, slice_get_within}
 use Rattle.orca_base.specs.declared.ids.ObjectId.{ObjectId}
@@ -18,15 +17,12 @@ use Rattle.value_core.specs.declared.meaning.Doing.{Doing}
 use Rattle.orca_base.specs.declared.ids.TextNo.{TextNo}
 use Rattle.book_law.specs.Promise.{AtMostOneMore}
 use Rattle.guard_queue.specs.Shown.{or_else}
-use Rattle.world_rules.specs.declared.settings.Settings.{Settings}
 use Rattle.world_rules.specs.Frame.{Frame, chooses_single}
 use Rattle.world_rules.specs.Played.{Played}
-use Rattle.world_rules.specs.Processes.{Begun, single_by, singles_of}
+use Rattle.world_rules.specs.Processes.{Begun, single_by}
 use Rattle.world_rules.specs.Standings.{process_count}
-use Rattle.world_rules.specs.Steps.{Replays}
 use Rattle.world_rules.specs.Worlds.{Book, World, home_of, played_in, places, processes_of, singles_in}
-use Rattle.world_book.specs.Processes.{IsKnownAs, IsOfBook}
-use Rattle.world_book.specs.Promise as promise
+use Rattle.world_book.specs.Processes.{IsKnownAs}
 use Rattle.world_book.specs.Promise.{IsKept, applied_book}
 use Rattle.world_facts.specs.Ends as facts
 use Rattle.world_facts.specs.Ends.{EndsStand, Stand, StandsBy, end_of, process_end, process_ends, replies_in}

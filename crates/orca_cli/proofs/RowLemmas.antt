@@ -1,5 +1,5 @@
 -- What each standing says of what is kept: row by row.
-use Rattle.std.proofs.Common.{◌≡◌, ◌∙◌, ◌<◌, ◌≤◌, ◌+◌, ◌⊎◌, ⊎_elim, inl, inr, ◌||◌, ℕ, zero, suc, Bool, true, false, if◌then◌else◌, not, List, [], ◌∷◌, ◌++◌, length, map, Option, Some, None, ap, sym, subst, refl, arith}
+use Rattle.std.proofs.Common.{◌≡◌, ◌∙◌, ◌<◌, ◌≤◌, ◌+◌, ◌⊎◌, ⊎_elim, inl, inr, ◌||◌, ℕ, zero, suc, Bool, true, false, if◌then◌else◌, not, List, [], ◌∷◌, length, Option, Some, None, ap, sym, subst, refl, arith}
 use Rattle.std.specs.Prelude.{slice_get}
 use Rattle.std.specs.List.{count_by}
 use Rattle.std.proofs.lemmas.List.{length-map}
@@ -15,7 +15,6 @@ use Rattle.value_core.specs.declared.action.Action.{Action}
 use Rattle.value_core.specs.declared.action.Action.TheVariants as action
 use Rattle.value_core.specs.declared.action.Line.{Line}
 use Rattle.value_core.specs.declared.action.Reply.{Reply}
-use Rattle.value_core.specs.declared.meaning.Doing.{Doing}
 use Rattle.group_rules.specs.Sets.{count}
 use Rattle.run_law.specs.Spent.{SpentBusy}
 use Rattle.world_rules.specs.declared.standing.Standing.{Standing}
@@ -26,8 +25,8 @@ use Rattle.world_rules.specs.Played.Stage.{Computing, Acting, Submitted, Reading
 use Rattle.world_rules.specs.Standings as rules
 use Rattle.world_rules.specs.Standings.{is_over_run, process_count}
 use Rattle.world_rules.specs.declared.event.Step.{Step}
-use Rattle.world_rules.specs.Steps.{Leads, Replays}
-use Rattle.world_rules.specs.Worlds.{Book, World, opening_world, home_of, played_in, processes_of}
+use Rattle.world_rules.specs.Steps.{Leads}
+use Rattle.world_rules.specs.Worlds.{World, opening_world, home_of, played_in, processes_of}
 use Rattle.world_book.specs.Processes.{IsKnownAs, IsPlayedAs}
 use Rattle.world_book.specs.Promise.{AllStuck, IsKept}
 use Rattle.world_facts.specs.Counted.{AllCounted}
@@ -37,7 +36,7 @@ use Rattle.world_facts.specs.Processes.{IsPlayed, ProcessesStand, is_last}
 use Rattle.world_facts.specs.Processes as played
 use Rattle.world_facts.specs.Rows as rows
 use Rattle.world_facts.specs.Rows.{AllRead, IsBegun}
-use Rattle.world_core.specs.Telling.{AreNodeEnds, AreProcessEnds, on_process_end, on_standing}
+use Rattle.world_core.specs.Telling.{on_process_end, on_standing}
 use Rattle.world_core.specs.declared.ends.NodeEnd.{NodeEnd}
 use Rattle.world_core.specs.declared.ends.ProcessEnd.{ProcessEnd}
 use Rattle.world_core.specs.declared.ends.ProcessStanding.{ProcessStanding}

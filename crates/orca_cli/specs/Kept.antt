@@ -1,5 +1,5 @@
 -- What is kept of a run, in plain words: of its history, its processes and its members.
-use Rattle.std.specs.Prelude.{◌≡◌, ◌++◌, ℕ, List, Some, None, Bool, MatchOption, true, false, slice_get}
+use Rattle.std.specs.Prelude.{◌≡◌, ◌++◌, ℕ, List, Some, None, MatchOption, true, false, slice_get}
 use Rattle.orca_base.specs.declared.ids.ObjectId.{ObjectId}
 use Rattle.orca_base.specs.declared.ids.ProcessNo.{ProcessNo}
 use Rattle.value_core.specs.History.{Legal, Process, object_at, objects_of, processes_of}

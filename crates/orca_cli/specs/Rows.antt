@@ -1,5 +1,5 @@
 -- What each standing says of what is kept: the table of statuses, row by row (docs/FORMATS.md, Statuses).
-use Rattle.std.specs.Prelude.{◌≡◌, ◌⊎◌, ◌<◌, ◌||◌, ℕ, List, Some, true, length, slice_get}
+use Rattle.std.specs.Prelude.{◌≡◌, ◌⊎◌, ◌<◌, ◌||◌, ℕ, Some, true, length, slice_get}
 use Rattle.std.specs.List.{count_by}
 use Rattle.orca_base.specs.declared.fault.FaultKind.{FaultKind}
 use Rattle.orca_base.specs.declared.ids.ProcessNo.{ProcessNo}

@@ -1,8 +1,7 @@
 -- The script of a run: what the text in its file says, or nothing where there is none (docs/RUNTIME.md, Fault scripts).
-use Rattle.std.specs.Prelude.{◌≡◌, ℕ, List, [], Option, None, Some, Result, Ok, Err, codes}
+use Rattle.std.specs.Prelude.{◌≡◌, ℕ, List, [], Option, None, Some, codes}
 use Rattle.fault_scripts.specs.Says.{IsScript}
 use Rattle.fault_scripts.specs.Script.{IsRefusal}
-use Rattle.fault_scripts.specs.declared.error.ScriptError.{ScriptError}
 use Rattle.net_rules.specs.declared.line.ScriptLine.{ScriptLine}
 use Rattle.orca_base.specs.declared.limits.TheConstants.{SCRIPT_BYTES}
 use Rattle.orca_io.specs.Files.{File}

@@ -17,10 +17,10 @@ mod report;
 mod script;
 mod top;
 
+pub use command_output::{
+    ABSENT, BAD_SCRIPT, BLOCKED, FAULTED, FINISHED, LIMIT, NO_GROUP, NO_MEMORY, OUT_OF_EVENTS,
+    OUT_OF_TURNS, READ_FAULT, REFUSED, USAGE, WRITE_FAULT,
+};
 pub use kept::{Ended, Kept};
 pub use run_loop::{NodeEnd, ProcessEnd, ProcessStanding, Step};
-pub use command_output::{
-    ABSENT, BAD_SCRIPT, BLOCKED, FAULTED, FINISHED, LIMIT, NO_GROUP, NO_MEMORY,
-    OUT_OF_EVENTS, OUT_OF_TURNS, READ_FAULT, REFUSED, USAGE, WRITE_FAULT,
-};
 pub use top::orca_main;

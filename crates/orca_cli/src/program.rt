@@ -24,13 +24,9 @@ use type_decls::Checked;
 #[derive(Debug, Drop)]
 pub enum ProgramFault {
     /// Some text is no unit, or the units don't link, or break a rule of typing.
-    Refused {
-        fault: FrontFault,
-    },
+    Refused { fault: FrontFault },
     /// They would be one, and pass this limit.
-    Limited {
-        passed: PassedLimit,
-    },
+    Limited { passed: PassedLimit },
 }
 
 impl ProgramFault {

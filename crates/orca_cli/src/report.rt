@@ -14,11 +14,11 @@ use crate::lines::{
     blocked_line, events_line, faulted_line, no_group_line, run_limit_line, turns_line,
 };
 use crate::names::awaited_name;
+use command_line::RunOptions;
 use command_output::{
     BLOCKED, FAULTED, FINISHED, LIMIT, NO_GROUP, NO_MEMORY, OUT_OF_EVENTS, OUT_OF_TURNS,
     WRITE_FAULT,
 };
-use command_line::RunOptions;
 use history_commands::print_lines;
 use history_text::Names;
 use orca_base::{FaultKind, KindNo, NoMemory};
@@ -202,11 +202,7 @@ fn fault_of(standing: &ProcessStanding) -> Option<FaultKind>
 }
 
 // Of the lowest process that waits.
-fn wait_said(
-    alloc: Global,
-    names: &Names,
-    ends: &[ProcessEnd],
-) -> Result<Vec<u8>, NoMemory>
+fn wait_said(alloc: Global, names: &Names, ends: &[ProcessEnd]) -> Result<Vec<u8>, NoMemory>
     ensures { IfOk result (λ line. line.items ≡ wait_said (awaited_name names.now) (first_waiting ends.now)) }
 {
     match first_waiting(ends) {

@@ -1,6 +1,6 @@
 //! The top call.
 
-ghost use Rattle.std.specs.Prelude.{◌≡◌, ◌⊎◌, ◌<◌, ◌≤◌, [], ℕ, List, None, IfNone, IfOk, IfSome, OnOk, Option, Some, length, map, option_map, slice_index_or, string_bytes};
+ghost use Rattle.std.specs.Prelude.{◌≡◌, ◌⊎◌, ◌<◌, ◌≤◌, ℕ, List, None, IfNone, IfSome, OnOk, Option, Some, length, map, option_map, string_bytes};
 ghost use Rattle.command_line.specs.Asked.{IsRunWithin};
 ghost use Rattle.orca_base.specs.Refusal.{IfBecause};
 ghost use Rattle.orca_io.specs.Causes.{Rose};
@@ -35,8 +35,8 @@ use crate::replay::replay;
 use crate::report::report;
 use crate::script::{ScriptFault, script_of};
 use command_files::{LoadFault, sources};
-use command_output::{FINISHED, NO_MEMORY, READ_FAULT, USAGE, WRITE_FAULT};
 use command_line::RunOptions;
+use command_output::{FINISHED, NO_MEMORY, READ_FAULT, USAGE, WRITE_FAULT};
 use eval_machine::TreeMachine;
 use fault_scripts::Script;
 use history_text::{Names, lines_fit};
@@ -387,16 +387,20 @@ pub fn orca_main<F: Shelf, K: Sink>(
     ensures refused { IfNone result.kept (IsAnswer (map string_bytes words.now) (F.told shelf.old)
         (Rose (F.faults shelf.old) (F.faults shelf.new)) (K.told out.old) (K.told out.new) result.status) }
     ensures untouched { IfNone result.kept (AreUntouched result.status
-        (wires_of (λ b. told b) (λ b. told_script b) (λ b. loaded b) wires.old.items)
-        (wires_of (λ b. told b) (λ b. told_script b) (λ b. loaded b) wires.new.items)) }
+        (wires_of (λ b. (Wire-box b).told b.value) (λ b. (Wire-box b).told_script b.value) (λ b. (Wire-box b).loaded b.value)
+        wires.old.items)
+        (wires_of (λ b. (Wire-box b).told b.value) (λ b. (Wire-box b).told_script b.value) (λ b. (Wire-box b).loaded b.value)
+        wires.new.items)) }
 
     // A kept run is one of the program that the words name, by their numbers: a history of it in the source's meaning, whose replies and copies
     // its members have; what it writes was printed, and its own text, where that is asked for, which is read back and is legal. Its network was
     // really used, by the script that the words name.
     ensures headline { IfSome result.kept (λ k. IsRunOf (map string_bytes words.now) (F.told shelf.old) k result.status
         (K.told out.old) (K.told out.new)
-        (wires_of (λ b. told b) (λ b. told_script b) (λ b. loaded b) wires.old.items)
-        (wires_of (λ b. told b) (λ b. told_script b) (λ b. loaded b) wires.new.items)) }
+        (wires_of (λ b. (Wire-box b).told b.value) (λ b. (Wire-box b).told_script b.value) (λ b. (Wire-box b).loaded b.value)
+        wires.old.items)
+        (wires_of (λ b. (Wire-box b).told b.value) (λ b. (Wire-box b).told_script b.value) (λ b. (Wire-box b).loaded b.value)
+        wires.new.items)) }
 
     // A write fault is told only where the sink's count of faults rose; and where it rose, that or want of memory is told.
     ensures write_fault { result.status ≡ WRITE_FAULT → Rose (K.faults out.old) (K.faults out.new) }

@@ -20,7 +20,11 @@ fn all_hold(kept: &Kept, number: i64) -> bool {
         number: 1,
     };
     kept.nodes.iter().all(|node| match node.copies.get(object) {
-        Some(held) => held.state.as_slice().iter().all(|field| field.is(&Value::Int(number))),
+        Some(held) => held
+            .state
+            .as_slice()
+            .iter()
+            .all(|field| field.is(&Value::Int(number))),
         None => false,
     })
 }
@@ -43,7 +47,10 @@ fn blocked_await(rt: HostRuntime) -> Result<(), Fail> {
     let main = "process OrcaMain();\n  X: Flag;\nbegin X$Await(9); end;\n";
     let answer = run(rt.alloc(), &[], FLAG, main)?;
     assert_eq!(rt; answer.status, BLOCKED);
-    assert_eq!(rt; answer.printed.as_str(), "orca: blocked: process 0 waits for Flag$Await\n");
+    assert_eq!(rt;
+        answer.printed.as_str(),
+        "orca: blocked: process 0 waits for Flag$Await\n"
+    );
     assert_eq!(rt; counts(&kept(&answer)?.events), Counts::plain(2, 2, 2));
     assert_eq!(rt; kept(&answer)?.book.len(), 1);
     Ok(())
@@ -57,7 +64,10 @@ fn overflow_leaves_object(rt: HostRuntime) -> Result<(), Fail> {
 process OrcaMain();\n  X: Pair;\nbegin fork Worker(X) on 1; X$Two(); WriteLine(9); end;\n";
     let answer = run(rt.alloc(), &["--nodes", "2"], PAIR, rest)?;
     assert_eq!(rt; answer.status, FAULTED);
-    assert_eq!(rt; answer.printed.as_str(), "0\norca: process 0 faulted: Overflow\n");
+    assert_eq!(rt;
+        answer.printed.as_str(),
+        "0\norca: process 0 faulted: Overflow\n"
+    );
     assert_eq!(rt; counts(&kept(&answer)?.events), Counts::plain(6, 4, 5));
     assert_eq!(rt; kept(&answer)?.book.len(), 5);
     assert!(rt; all_hold(kept(&answer)?, 0));
@@ -70,7 +80,10 @@ fn overflow_on_three_members(rt: HostRuntime) -> Result<(), Fail> {
     let main = "process OrcaMain();\n  X: Pair;\nbegin X$Two(); WriteLine(9); end;\n";
     let answer = run(rt.alloc(), &[], PAIR, main)?;
     assert_eq!(rt; answer.status, FAULTED);
-    assert_eq!(rt; answer.printed.as_str(), "orca: process 0 faulted: Overflow\n");
+    assert_eq!(rt;
+        answer.printed.as_str(),
+        "orca: process 0 faulted: Overflow\n"
+    );
     assert_eq!(rt; counts(&kept(&answer)?.events), Counts::plain(3, 2, 4));
     assert_eq!(rt; kept(&answer)?.book.len(), 2);
     assert!(rt; all_hold(kept(&answer)?, 0));
@@ -87,7 +100,9 @@ object implementation Stall;\n  x: integer;
         (10_000, FINISHED, "", 1),
         (10_001, FAULTED, "orca: process 0 faulted: TooLong\n", 0),
     ] {
-        let main = format!(in rt.alloc(); "process OrcaMain();\n  X: Stall;\nbegin X$Wait({rounds}); end;\n")?;
+        let main = format!(in rt.alloc();
+            "process OrcaMain();\n  X: Stall;\nbegin X$Wait({rounds}); end;\n"
+        )?;
         let answer = run(rt.alloc(), &[], text, main.as_str())?;
         assert_eq!(rt; answer.status, status);
         assert_eq!(rt; answer.printed.as_str(), line);
@@ -139,12 +154,29 @@ process Takes();\n  s: set of integer;\nbegin WriteLine(from(s)); end;
 process OrcaMain();\nbegin fork Takes(); fork Divides(); WriteLine(\"forked\"); end;\n";
     let answer = run(rt.alloc(), &[], text, "")?;
     assert_eq!(rt; answer.status, FAULTED);
-    assert_eq!(rt; answer.printed.as_str(), "forked\norca: process 1 faulted: FromEmpty\n");
+    assert_eq!(rt;
+        answer.printed.as_str(),
+        "forked\norca: process 1 faulted: FromEmpty\n"
+    );
     match kept(&answer)?.processes.as_slice() {
         [main, one, two] => {
             assert!(rt; matches!(main.standing, ProcessStanding::Ended));
-            assert!(rt; matches!(one.standing, ProcessStanding::Faulted { fault: FaultKind::FromEmpty }));
-            assert!(rt; matches!(two.standing, ProcessStanding::Faulted { fault: FaultKind::DivideByZero }));
+            assert!(rt;
+                matches!(
+                    one.standing,
+                    ProcessStanding::Faulted {
+                        fault: FaultKind::FromEmpty
+                    }
+                )
+            );
+            assert!(rt;
+                matches!(
+                    two.standing,
+                    ProcessStanding::Faulted {
+                        fault: FaultKind::DivideByZero
+                    }
+                )
+            );
         }
         _ => return Err("not three processes".into()),
     }
@@ -165,7 +197,10 @@ end;
 ";
     let answer = run(rt.alloc(), &[], text, "")?;
     assert_eq!(rt; answer.status, FAULTED);
-    assert_eq!(rt; answer.printed.as_str(), "7\norca: process 0 faulted: IndexOutside\n");
+    assert_eq!(rt;
+        answer.printed.as_str(),
+        "7\norca: process 0 faulted: IndexOutside\n"
+    );
     Ok(())
 }
 
@@ -201,7 +236,10 @@ process Putter(p: shared Pool);\nbegin p$Put(7); end;
 process OrcaMain();\n  P: Pool;\nbegin fork Taker(P); fork Putter(P); WriteLine(P$Take()); end;\n";
     let answer = run(rt.alloc(), &["--nodes", "1"], POOL, rest)?;
     assert_eq!(rt; answer.status, BLOCKED);
-    assert_eq!(rt; answer.printed.as_str(), "7\norca: blocked: process 0 waits for Pool$Take\n");
+    assert_eq!(rt;
+        answer.printed.as_str(),
+        "7\norca: blocked: process 0 waits for Pool$Take\n"
+    );
     assert_eq!(rt; counts(&kept(&answer)?.events), Counts::plain(9, 7, 0));
     assert_eq!(rt; kept(&answer)?.book.len(), 6);
     Ok(())
@@ -232,7 +270,10 @@ fn a_making_that_faults(rt: HostRuntime) -> Result<(), Fail> {
     let main = "process OrcaMain();\n  X: Cell;\nbegin WriteLine(X$Value()); end;\n";
     let answer = run(rt.alloc(), &[], objects.as_str(), main)?;
     assert_eq!(rt; answer.status, FAULTED);
-    assert_eq!(rt; answer.printed.as_str(), "orca: process 0 faulted: DivideByZero\n");
+    assert_eq!(rt;
+        answer.printed.as_str(),
+        "orca: process 0 faulted: DivideByZero\n"
+    );
     assert_eq!(rt; kept(&answer)?.book.len(), 1);
     Ok(())
 }

@@ -72,8 +72,17 @@ fn parameters(rt: HostRuntime) -> Result<(), Fail> {
 fn typing_before_limits(rt: HostRuntime) -> Result<(), Fail> {
     let alloc = rt.alloc();
     let parameters = listed(alloc, 256, "a", ": integer", "; ")?;
-    let text = format!(in alloc; "process OrcaMain(); begin y := 1; end;\nprocess P({parameters}); begin end;\n")?;
-    assert!(rt; both_say(alloc, text.as_str(), REFUSED, "orca: program.orca:1:27: type rule 2\n")?);
+    let text = format!(in alloc;
+        "process OrcaMain(); begin y := 1; end;\nprocess P({parameters}); begin end;\n"
+    )?;
+    assert!(rt;
+        both_say(
+            alloc,
+            text.as_str(),
+            REFUSED,
+            "orca: program.orca:1:27: type rule 2\n"
+        )?
+    );
     Ok(())
 }
 
@@ -82,7 +91,8 @@ fn typing_before_limits(rt: HostRuntime) -> Result<(), Fail> {
 #[test]
 fn tokens_and_names(rt: HostRuntime) -> Result<(), Fail> {
     let alloc = rt.alloc();
-    let main = "process OrcaMain();\n  a: integer; b: integer; c: integer; d: integer; e: integer;\nbegin end;\n";
+    let main =
+        "process OrcaMain();\n  a: integer; b: integer; c: integer; d: integer; e: integer;\nbegin end;\n";
     for (count, status, line) in [
         (16_661, FINISHED, ""),
         (16_662, LIMIT, "orca: limit of code length: 2000000\n"),
@@ -110,7 +120,10 @@ fn processes(rt: HostRuntime) -> Result<(), Fail> {
     let text = "process W();\nbegin end;
 process OrcaMain();\nbegin for k in 1..256 do fork W(); od; end;\n";
     let answer = run(rt.alloc(), &[], text, "")?;
-    assert_eq!(rt; limited(&answer, "orca: limit of processes: 256\n")?, (0, 255, 0));
+    assert_eq!(rt;
+        limited(&answer, "orca: limit of processes: 256\n")?,
+        (0, 255, 0)
+    );
 
     let one_less = "process W();\nbegin end;
 process OrcaMain();\nbegin for k in 1..255 do fork W(); od; end;\n";
@@ -132,7 +145,10 @@ process OrcaMain();\nbegin for k in 1..{makers} do fork Maker(); od; end;\n"
         )?;
         let answer = run(alloc, &["--nodes", "1"], CELL, rest.as_str())?;
         if full {
-            assert_eq!(rt; limited(&answer, "orca: limit of objects: 4096\n")?, (4096, 17, 0));
+            assert_eq!(rt;
+                limited(&answer, "orca: limit of objects: 4096\n")?,
+                (4096, 17, 0)
+            );
         } else {
             assert_eq!(rt; answer.status, FINISHED);
         }

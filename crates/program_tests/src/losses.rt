@@ -130,7 +130,9 @@ fn each_packet_lost(rt: HostRuntime) -> Result<(), Fail> {
         let script = format!(in alloc; "drop any {lost}\n")?;
         let answer = run_over(alloc, &["--resilience", "1"], CELL, TWO, script.as_str())?;
         let kept = answer.kept.as_ref().ok_or("nothing kept")?;
-        let is_so = answer.status == FINISHED && answer.printed.as_str() == "6\n" && kept.book.len() == 5;
+        let is_so = answer.status == FINISHED
+            && answer.printed.as_str() == "6\n"
+            && kept.book.len() == 5;
         assert!(rt; is_so, "{lost}");
     }
     Ok(())

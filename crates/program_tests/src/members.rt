@@ -8,7 +8,12 @@ use std::test::Fail;
 use value_core::{Action, Reply, Value};
 
 // Whether the pool's run has these events, a log of 12 entries, and a book of a make, two forks, four puts and four takes, and a write.
-fn is_pool(alloc: Global, options: &[&str], script: &str, counted: Option<Counts>) -> Result<bool, Fail> {
+fn is_pool(
+    alloc: Global,
+    options: &[&str],
+    script: &str,
+    counted: Option<Counts>,
+) -> Result<bool, Fail> {
     let answer = run_over(alloc, options, POOL, PRODUCERS, script)?;
     let kept = answer.kept.as_ref().ok_or("nothing kept")?;
     let main = kept.nodes.first().ok_or("no member")?;
@@ -32,19 +37,42 @@ fn is_pool(alloc: Global, options: &[&str], script: &str, counted: Option<Counts
 fn pool_of_three(rt: HostRuntime) -> Result<(), Fail> {
     let alloc = rt.alloc();
     assert!(rt; is_pool(alloc, &[], "", Some(Counts::plain(15, 12, 28)))?);
-    assert!(rt; is_pool(alloc, &["--resilience", "1"], "", Some(Counts::plain(15, 12, 64)))?);
+    assert!(rt;
+        is_pool(
+            alloc,
+            &["--resilience", "1"],
+            "",
+            Some(Counts::plain(15, 12, 64))
+        )?
+    );
     Ok(())
 }
 
-// On any number of members: on one no packet is sent, and on two and sixteen each message is told to one and to fifteen others. Of two members member
-// 1 has both producers, but member 2 modulo 2 is the first.
+// On any number of members: on one no packet is sent; on two and sixteen each message is told to one and to fifteen others. Of two members the second
+// producer is on the first, so two messages are asked for. With seven that may be lost each entry is acknowledged by seven, and then all are told: 8
+// times 37 and 4 times 38.
 #[test]
 fn pool_of_others(rt: HostRuntime) -> Result<(), Fail> {
     let alloc = rt.alloc();
     assert!(rt; is_pool(alloc, &["--nodes", "1"], "", Some(Counts::plain(15, 12, 0)))?);
-    assert!(rt; is_pool(alloc, &["--nodes", "2"], "", Some(Counts::plain(15, 12, 14)))?);
-    assert!(rt; is_pool(alloc, &["--nodes", "16"], "", Some(Counts::plain(15, 12, 184)))?);
-    assert!(rt; is_pool(alloc, &["--nodes", "16", "--resilience", "7"], "", None)?);
+    assert!(rt;
+        is_pool(
+            alloc,
+            &["--nodes", "2"],
+            "",
+            Some(Counts::plain(15, 12, 14))
+        )?
+    );
+    assert!(rt;
+        is_pool(
+            alloc,
+            &["--nodes", "16"],
+            "",
+            Some(Counts::plain(15, 12, 184))
+        )?
+    );
+    let resilient = ["--nodes", "16", "--resilience", "7"];
+    assert!(rt; is_pool(alloc, &resilient, "", Some(Counts::plain(15, 12, 448)))?);
     Ok(())
 }
 
@@ -64,7 +92,10 @@ fn a_fifth_is_lost(rt: HostRuntime) -> Result<(), Fail> {
     let alloc = rt.alloc();
     for seed in 1..11u32 {
         let script = format!(in alloc; "seed {seed} 20\n")?;
-        assert!(rt; is_pool(alloc, &["--resilience", "1"], script.as_str(), None)?, "{seed}");
+        assert!(rt;
+            is_pool(alloc, &["--resilience", "1"], script.as_str(), None)?,
+            "{seed}"
+        );
     }
     Ok(())
 }
@@ -85,7 +116,13 @@ begin fork Setter(X) on 1; while X$Value() = 0 do od; WriteLine(X$Value()); end;
     assert_eq!(rt; kept.book.len(), 6);
     let mut last = 0i64;
     for line in &kept.book {
-        if let (Action::Call { .. }, Reply::Gave { value: Value::Int(read) }) = (&line.action, &line.reply) {
+        if let (
+            Action::Call { .. },
+            Reply::Gave {
+                value: Value::Int(read),
+            },
+        ) = (&line.action, &line.reply)
+        {
             assert!(rt; last <= *read);
             last = *read;
         }

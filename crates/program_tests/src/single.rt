@@ -59,8 +59,12 @@ fn ran(alloc: Global, script: &str) -> Result<Ran, Fail> {
     }
     let program = pool_program(alloc)?;
     let checked = accepted(alloc, &program).ok().ok_or("not accepted")?;
-    let machine = TreeMachine::new(alloc, checked).ok().ok_or("beyond a limit")?;
-    let script = read_script(alloc, script.as_bytes()).ok().ok_or("no script")?;
+    let machine = TreeMachine::new(alloc, checked)
+        .ok()
+        .ok_or("beyond a limit")?;
+    let script = read_script(alloc, script.as_bytes())
+        .ok()
+        .ok_or("no script")?;
     let mut wire = ScriptWire::new(alloc)?;
     wire.load(alloc, &script)?;
     let mut wires = Vec::new(alloc);

@@ -1,8 +1,7 @@
 -- A run goes on as it is driven: what each call knows after it.
-use Rattle.std.proofs.Common.{◌≡◌, ◌∙◌, ◌<◌, ◌≤◌, ◌+◌, ◌⊎◌, ⊎_elim, inl, inr, ℕ, zero, suc, Bool, true, false, cond, List, [], ◌∷◌, ◌++◌, length, length-append, map, Option, Some, None, ap, sym, subst, refl, arith, append-nil}
+use Rattle.std.proofs.Common.{◌≡◌, ◌∙◌, ◌<◌, ◌≤◌, ◌+◌, ◌⊎◌, inl, inr, ℕ, zero, suc, false, cond, List, [], ◌∷◌, ◌++◌, length, length-append, map, Option, Some, None, ap, sym, subst, refl, arith, append-nil}
 use Rattle.std.specs.Prelude.{slice_index_or, slice_set}
-use Rattle.std.specs.List.{AllByRecursion as Each, count_by}
-use Rattle.std.proofs.lemmas.Bool.{cases_eq}
+use Rattle.std.specs.List.{AllByRecursion as Each}
 use Rattle.std.proofs.lemmas.List.{append_cancel_left, length-set, set-get_or}
 use Rattle.std.proofs.lemmas.List.Recursion.{is_count_by}
 use Rattle.group_rules.specs.Sets.{In, entry_at}
@@ -17,14 +16,14 @@ use Rattle.world_rules.specs.declared.event.Event.TheVariants as event
 use Rattle.world_rules.specs.declared.event.Step.{Step}
 use Rattle.world_rules.specs.declared.standing.Standing.{Standing}
 use Rattle.world_rules.specs.declared.standing.Standing.TheVariants.{Limit, OutOfTurns, OutOfEvents, NoGroup, Faulted, Blocked, Finished, Going}
-use Rattle.world_rules.specs.Acts.{AreAccounted, IsAccounted, WereUsed, acts_in, packets_in, before, event_of, is_burst, is_passed_over, last_answer, swaps_by, swaps_in, wire_before}
+use Rattle.world_rules.specs.Acts.{AreAccounted, IsAccounted, WereUsed, acts_in, packets_in, event_of, is_burst, last_answer, swaps_by, swaps_in, wire_before}
 use Rattle.world_rules.specs.Frame.{AreSettings, Frame}
 use Rattle.world_rules.specs.Standings.{standing}
-use Rattle.world_rules.specs.Steps.{Leads, Next, Replays, asked_of}
+use Rattle.world_rules.specs.Steps.{Leads, Next, Replays}
 use Rattle.world_rules.specs.Worlds.{Told, World, opening_world}
 use Rattle.world_facts.specs.Counted.{AllCounted, count_swaps, is_swap}
 use Rattle.world_facts.specs.Rows.{AllRead}
-use Rattle.world_parts.specs.Seen.{Of, Seen, tasks_out}
+use Rattle.world_parts.specs.Seen.{Seen, tasks_out}
 use Rattle.world_core.specs.Stepping.{HasComputed, IsRefused, Stepped, told_so}
 use Rattle.run_loop.specs.Asked.{HaveToldOn, NoneAskedBehind, WereUsedSo, asked_since}
 use Rattle.run_loop.specs.Driven.{AreUpTo, HasAnswered, HasStopped, IsDriven, IsDue, IsGoing, MayGoOn, WentOn, told_more}

@@ -1,7 +1,6 @@
 -- A run from its opening to what is kept of it.
-use Rattle.std.proofs.Common.{◌≡◌, ◌∙◌, ◌≢◌, ℕ, List, [], length, map, Option, Some, None, IfSome, Result, Ok, Err, IfOk, OnErr, OnOk, ap, sym, subst}
+use Rattle.std.proofs.Common.{◌≡◌, ◌∙◌, ◌≢◌, ℕ, List, [], length, IfSome, Result, Ok, Err, IfOk, OnErr, OnOk, ap, sym, subst}
 use Rattle.std.specs.Result.{result_ok}
-use Rattle.std.proofs.lemmas.List.{length-map}
 use Rattle.net_rules.specs.declared.asked.Asked.{Asked}
 use Rattle.orca_base.specs.declared.refusal.NoMemory.{NoMemory}
 use Rattle.world_rules.specs.declared.settings.Settings.{Settings}

@@ -1,5 +1,5 @@
 -- What a step of the world is to the run, as each call of drive.rt sees it.
-use Rattle.std.proofs.Common.{◌≡◌, ◌∙◌, ◌<◌, ◌≤◌, ◌+◌, ◌-◌, ℕ, suc, Bool, true, false, nat_lt, List, [], ◌∷◌, get_or, length, map, set, Option, Some, None, IfNone, IfSome, Result, Ok, Err, OnErr, OnOk, ap, sym, subst, refl, arith}
+use Rattle.std.proofs.Common.{◌≡◌, ◌∙◌, ◌<◌, ◌≤◌, ◌+◌, ◌-◌, ℕ, suc, true, false, nat_lt, List, [], ◌∷◌, get_or, length, map, set, Option, Some, None, IfNone, IfSome, Result, Ok, Err, OnErr, OnOk, ap, sym, subst, arith}
 use Rattle.std.specs.Prelude.{option_map, slice_index_or}
 use Rattle.std.proofs.lemmas.Bool.{ltb-true}
 use Rattle.std.proofs.lemmas.List.{length-map, length-set}
@@ -13,7 +13,7 @@ use Rattle.world_rules.specs.declared.event.Event.{Event}
 use Rattle.world_rules.specs.declared.event.Event.TheVariants as event
 use Rattle.world_rules.specs.declared.event.Step.{Step}
 use Rattle.world_rules.specs.Acts.{event_of, swaps_by}
-use Rattle.world_rules.specs.Frame.{AreSettings, Frame}
+use Rattle.world_rules.specs.Frame.{Frame}
 use Rattle.world_rules.specs.Standings.{process_count}
 use Rattle.world_rules.specs.Steps.{Known, Next, Possible}
 use Rattle.world_rules.specs.Worlds.{World}

@@ -1,8 +1,8 @@
 -- That the network was used, as a wire is asked once more, and as a step more is done.
-use Rattle.std.proofs.Common.{◌≡◌, ◌∙◌, ◌<◌, ◌≤◌, ◌⊎◌, ⊎_elim, inl, inr, ◌==◌, ℕ, zero, suc, Bool, true, false, if◌then◌else◌, List, [], ◌∷◌, ◌++◌, take, length, map, Option, Some, None, ap, sym, subst, refl, arith, append-nil, append_assoc}
+use Rattle.std.proofs.Common.{◌≡◌, ◌∙◌, ◌≤◌, ◌⊎◌, ⊎_elim, inl, inr, ◌==◌, ℕ, zero, suc, Bool, true, false, if◌then◌else◌, List, [], ◌∷◌, ◌++◌, length, map, Option, Some, None, ap, sym, subst, refl, arith, append-nil}
 use Rattle.std.specs.Prelude.{slice_get}
 use Rattle.std.specs.List.{AllByRecursion as Each}
-use Rattle.std.proofs.Math.Seq.{take-append_seam, take-length}
+use Rattle.std.proofs.Math.Seq.{take-length}
 use Rattle.std.proofs.lemmas.Bool.{cases_eq, eq-eqb, ne_eqb}
 use Rattle.std.proofs.lemmas.List.{take-append-le}
 use Rattle.std.proofs.lemmas.Option.{slice_get_within}
@@ -12,7 +12,7 @@ use Rattle.net_rules.specs.declared.asked.Asked.{Asked}
 use Rattle.net_rules.specs.declared.asked.Asked.TheVariants.{Act, Packet}
 use Rattle.net_rules.specs.declared.fate.WireAct.{WireAct}
 use Rattle.world_rules.specs.declared.event.Step.{Step}
-use Rattle.world_rules.specs.Acts.{AreAccounted, IsAccounted, IsEvent, WasPassedOver, WereUsed, acts_in, swaps_in as swaps_before, before, event_of, is_burst, last_answer, or_later, packets_in, wire_before}
+use Rattle.world_rules.specs.Acts.{AreAccounted, IsAccounted, WereUsed, acts_in, swaps_in as swaps_before, before, event_of, is_burst, last_answer, or_later, packets_in, wire_before}
 use Rattle.world_rules.specs.Frame.{Frame}
 use Rattle.world_rules.specs.Steps.{Replays, asked_of}
 use Rattle.world_rules.specs.Worlds.{Told, World}

@@ -50,7 +50,10 @@ fn one_cell_with_its_history(rt: HostRuntime) -> Result<(), Fail> {
     for failing in 1..6u64 {
         let tried = tried(alloc, &line, &files, &[failing])?;
         assert_eq!(rt; tried.ended.status, WRITE_FAULT);
-        assert_eq!(rt; tried.printed.as_str(), first_lines(alloc, failing.wrapping_sub(1))?.as_str());
+        assert_eq!(rt;
+            tried.printed.as_str(),
+            first_lines(alloc, failing.wrapping_sub(1))?.as_str()
+        );
         let kept = tried.ended.kept.as_ref().ok_or("nothing kept")?;
         assert_eq!(rt; kept.book.len(), 4);
     }
@@ -65,7 +68,10 @@ fn histories_of_runs_that_were_cut_off(rt: HostRuntime) -> Result<(), Fail> {
     let files = [("one.orca", ONE)];
     let line = ["run", "--history", "--events", "13", "one.orca"];
     let printed = format!(in alloc; "6\n{BOOK}orca: out of events\n")?;
-    assert_eq!(rt; tried(alloc, &line, &files, &[])?.printed.as_str(), printed.as_str());
+    assert_eq!(rt;
+        tried(alloc, &line, &files, &[])?.printed.as_str(),
+        printed.as_str()
+    );
     let line = [
         "run",
         "--history",
@@ -75,7 +81,10 @@ fn histories_of_runs_that_were_cut_off(rt: HostRuntime) -> Result<(), Fail> {
         "4",
         "one.orca",
     ];
-    assert_eq!(rt; tried(alloc, &line, &files, &[])?.printed.as_str(), "orca: out of events\n");
+    assert_eq!(rt;
+        tried(alloc, &line, &files, &[])?.printed.as_str(),
+        "orca: out of events\n"
+    );
     Ok(())
 }
 
@@ -123,7 +132,10 @@ fn replays_that_are_refused(rt: HostRuntime) -> Result<(), Fail> {
     let files = [
         ("one.orca", ONE),
         ("e.orca", "begin"),
-        ("two.orca", "const two = 2;\nprocess OrcaMain(); begin end;\n"),
+        (
+            "two.orca",
+            "const two = 2;\nprocess OrcaMain(); begin end;\n",
+        ),
         ("b.txt", "x\n"),
     ];
     let rows: [(&[&str], u8, &str); 5] = [
@@ -147,18 +159,23 @@ fn replays_that_are_refused(rt: HostRuntime) -> Result<(), Fail> {
             13,
             "orca: history breaks at line 1: form\n",
         ),
-        // There is no machine for it yet.
         (
             &["replay", "b.txt", "two.orca"],
-            15,
-            "orca: two.orca: not yet\n",
+            13,
+            "orca: history breaks at line 1: form\n",
         ),
     ];
     for (line, status, printed) in rows {
         let tried = tried(alloc, line, &files, &[])?;
-        assert_eq!(rt; (tried.ended.status, tried.printed.as_str()), (status, printed));
+        assert_eq!(rt;
+            (tried.ended.status, tried.printed.as_str()),
+            (status, printed)
+        );
         let failed = crate::tried::tried(alloc, line, &files, &[1])?;
-        assert_eq!(rt; (failed.ended.status, failed.printed.as_str()), (WRITE_FAULT, ""));
+        assert_eq!(rt;
+            (failed.ended.status, failed.printed.as_str()),
+            (WRITE_FAULT, "")
+        );
     }
     Ok(())
 }

@@ -1,6 +1,6 @@
 //! What is done to variables: by paths, in a loop, and behind a call.
 
-use crate::reading::{value_of, values_of};
+use crate::reading::{run_over, value_of, values_of};
 use eval_variables::{
     Frame, Passed, Run, Step, Stop, Target, add_name, add_node, delete_node, drop_element,
     drop_name, exchange_frame, hand_back, has_at, held, put, rounds, store, take,
@@ -14,7 +14,7 @@ use value_core::{Parts, Value};
 const VARIABLES: &str = "(5 [(7 e2) (8 e1) (9 e0)] {2 3 5} <c97 c97 c98> (3 {(1 10) (2 20)}))";
 
 // What is done at a place.
-#[derive(Clone, Copy, Debug)]
+#[derive(Clone, Copy)]
 enum Deed {
     Store,
     Put,
@@ -28,9 +28,18 @@ const SECOND_FIELD: [Step; 2] = [Step::Index { low: -2, index: -1 }, Step::Field
 
 const NODE_2: [Step; 1] = [Step::Node { name: 2 }];
 
-// Deeds, one after the other: at which variable and path and with which value, what each gives, 0 where it gives nothing, and what the
-// variable is then.
-const DEEDS: [(Deed, usize, &[Step], &str, &str, &str); 10] = [
+// A deed: at which variable and path and with which value, what it gives, 0 where it gives nothing, and what the variable is then.
+type Row = (
+    Deed,
+    usize,
+    &'static [Step],
+    &'static str,
+    &'static str,
+    &'static str,
+);
+
+// One after the other.
+const DEEDS: [Row; 10] = [
     (Deed::Store, 0, &[], "12", "0", "12"),
     (
         Deed::Store,
@@ -45,14 +54,7 @@ const DEEDS: [(Deed, usize, &[Step], &str, &str, &str); 10] = [
     (Deed::Put, 3, &[], "c97", "0", "<c97 c97 c97 c98>"),
     (Deed::Delete, 2, &[], "3", "0", "{2 4 5}"),
     (Deed::Take, 3, &[], "0", "c97", "<c97 c97 c98>"),
-    (
-        Deed::AddNode,
-        4,
-        &[],
-        "0",
-        "3",
-        "(4 {(1 10) (2 20) (3 0)})",
-    ),
+    (Deed::AddNode, 4, &[], "0", "3", "(4 {(1 10) (2 20) (3 0)})"),
     (Deed::DeleteNode, 4, &[], "1", "0", "(4 {(2 20) (3 0)})"),
     (Deed::Store, 4, &NODE_2, "21", "0", "(4 {(2 21) (3 0)})"),
 ];
@@ -65,6 +67,14 @@ fn target(alloc: Global, slot: usize, path: &[Step]) -> Result<Target, NoMemory>
     })
 }
 
+// A value, or 0 in place of none.
+fn or_zero(given: Option<Value>) -> Value {
+    match given {
+        Some(value) => value,
+        None => Value::Int(0),
+    }
+}
+
 // Does it, and tells what it gives.
 fn done(
     alloc: Global,
@@ -72,39 +82,40 @@ fn done(
     to: &Target,
     value: Value,
     run: &mut Run<'_>,
-) -> Result<Option<Value>, Stop> {
+) -> Result<Value, Stop> {
     match deed {
         Deed::Store => {
             store(alloc, to, value, run)?;
-            Ok(None)
+            Ok(Value::Int(0))
         }
         Deed::Put => {
             put(alloc, to, value, run)?;
-            Ok(None)
+            Ok(Value::Int(0))
         }
         Deed::Delete => {
             drop_element(alloc, to, &value, run)?;
-            Ok(None)
+            Ok(Value::Int(0))
         }
-        Deed::Take => Ok(Some(take(alloc, to, run)?)),
-        Deed::AddNode => add_node(alloc, to, value, run),
-        Deed::DeleteNode => delete_node(alloc, to, &value, run),
+        Deed::Take => take(alloc, to, run),
+        Deed::AddNode => Ok(or_zero(add_node(alloc, to, value, run)?)),
+        Deed::DeleteNode => Ok(or_zero(delete_node(alloc, to, &value, run)?)),
     }
 }
 
-// What a variable is.
-fn variable(alloc: Global, slot: usize, run: &Run<'_>) -> Result<Value, Stop> {
+// Does it at a path of a variable, and tells what it gives and what the variable is then.
+fn done_at(
+    alloc: Global,
+    deed: Deed,
+    slot: usize,
+    path: &[Step],
+    value: Value,
+    run: &mut Run<'_>,
+) -> Result<(Value, Value), Stop> {
+    let to = target(alloc, slot, path)?;
+    let given = done(alloc, deed, &to, value, run)?;
     let whole = target(alloc, slot, &[])?;
-    held(alloc, &whole, run)
-}
-
-// What came of a deed, where it didn't stop.
-fn given(result: Result<Option<Value>, Stop>) -> Result<Value, Fail> {
-    match result {
-        Ok(Some(value)) => Ok(value),
-        Ok(None) => Ok(Value::Int(0)),
-        Err(_) => Err("stopped".into()),
-    }
+    let left = held(alloc, &whole, run)?;
+    Ok((given, left))
 }
 
 // Whether this is the value that a text spells.
@@ -112,34 +123,37 @@ fn is_text(alloc: Global, value: &Value, text: &str) -> Result<bool, Fail> {
     Ok(value.is(&value_of(alloc, text)?))
 }
 
+// Whether a deed gives and leaves what it should.
+fn is_done(alloc: Global, row: Row, run: &mut Run<'_>) -> Result<bool, Fail> {
+    let (deed, slot, path, with, gives, leaves) = row;
+    let value = value_of(alloc, with)?;
+    match done_at(alloc, deed, slot, path, value, run) {
+        Ok((given, left)) => {
+            Ok(is_text(alloc, &given, gives)? && is_text(alloc, &left, leaves)?)
+        }
+        Err(_) => Err("stopped".into()),
+    }
+}
+
 #[test]
 fn deeds_change_variables(rt: HostRuntime) -> Result<(), Fail> {
-    let alloc = rt.alloc();
-    let variables = values_of(alloc, VARIABLES)?;
-    let mut run = Run {
-        frame: Frame::over(alloc, Parts::new(alloc), variables.as_slice())?,
-        replies: &[],
-        left: 1,
-    };
-    for (deed, slot, path, with, gives, leaves) in DEEDS {
-        let to = target(alloc, slot, path)?;
-        let value = given(done(alloc, deed, &to, value_of(alloc, with)?, &mut run))?;
-        assert!(rt; is_text(alloc, &value, gives)?, "{deed:?} gives {gives}");
-        let left = given(variable(alloc, slot, &run).map(Some))?;
-        assert!(rt; is_text(alloc, &left, leaves)?, "{deed:?} leaves {leaves}");
+    let variables = values_of(rt.alloc(), VARIABLES)?;
+    let mut run = run_over(rt.alloc(), &variables, &[], 1)?;
+    for row in DEEDS {
+        assert!(rt; is_done(rt.alloc(), row, &mut run)?);
     }
     Ok(())
 }
 
+// What the call passes: the value 4, and a place.
+fn passed(alloc: Global, to: Target) -> Result<Vec<Passed>, NoMemory> {
+    let value = Value::Int(4);
+    Ok(vec![in alloc; Passed::Given { value }, Passed::Lent { to }]?)
+}
+
 // A call whose second variable is for `out`, into the caller's first: in a loop it becomes 8.
 fn call(alloc: Global, run: &mut Run<'_>) -> Result<(), Stop> {
-    let mut passed = Vec::new(alloc);
-    passed.push(Passed::Given {
-        value: Value::Int(4),
-    })?;
-    passed.push(Passed::Lent {
-        to: target(alloc, 0, &[])?,
-    })?;
+    let passed = passed(alloc, target(alloc, 0, &[])?)?;
     let mut own = Parts::new(alloc);
     own.push(Value::Int(4))?;
     own.push(Value::Int(6))?;
@@ -154,17 +168,11 @@ fn call(alloc: Global, run: &mut Run<'_>) -> Result<(), Stop> {
 
 #[test]
 fn a_call_hands_back_what_is_lent(rt: HostRuntime) -> Result<(), Fail> {
-    let alloc = rt.alloc();
-    let variables = values_of(alloc, VARIABLES)?;
-    let mut run = Run {
-        frame: Frame::over(alloc, Parts::new(alloc), variables.as_slice())?,
-        replies: &[],
-        left: 1,
-    };
-    assert!(rt; call(alloc, &mut run).is_ok());
-    let left = given(variable(alloc, 0, &run).map(Some))?;
-    assert!(rt; is_text(alloc, &left, "8")?);
-    let set = target(alloc, 2, &[])?;
+    let variables = values_of(rt.alloc(), VARIABLES)?;
+    let mut run = run_over(rt.alloc(), &variables, &[], 1)?;
+    assert!(rt; call(rt.alloc(), &mut run).is_ok());
+    assert!(rt; matches!(run.frame.get(0), Some(Value::Int(8))));
+    let set = target(rt.alloc(), 2, &[])?;
     assert!(rt; matches!(has_at(&set, &Value::Int(3), &run), Ok(true)));
     assert!(rt; matches!(has_at(&set, &Value::Int(4), &run), Ok(false)));
     Ok(())

@@ -1,4 +1,4 @@
-//! Units, programs, code and values of texts.
+//! Units, programs, code and values of texts, and runs over values.
 
 ghost use Rattle.std.specs.Prelude.{IfOk};
 ghost use Rattle.std.specs.List.{All};
@@ -7,8 +7,9 @@ ghost use Rattle.orca_syntax.specs.TextSyntax.{IsOfText};
 ghost use Rattle.value_core.specs.Sound.{AreSound};
 
 use eval_bodies::Code;
+use eval_variables::{Frame, Run};
 use link_rules::NamedUnit;
-use orca_base::Text;
+use orca_base::{NoMemory, Text};
 use orca_lexer::{Token, tokens};
 use orca_modules::{Program, link};
 use orca_tree::Unit;
@@ -16,7 +17,7 @@ use parse_units::parse;
 use std::alloc::Global;
 use std::test::Fail;
 use type_decls::check;
-use value_core::{Parts, Value};
+use value_core::{Parts, Reply, Value};
 use value_texts::{read_value, values_in_front};
 
 // No text of values has more bytes.
@@ -97,4 +98,21 @@ pub fn values_of(alloc: Global, text: &str) -> Result<Parts, Fail>
         Ok((values, _)) => Ok(values),
         Err(_) => Err("no values".into()),
     }
+}
+
+/// A run over variables that are lent, with so many turns left.
+pub fn run_over<'a>(
+    alloc: Global,
+    variables: &'a Parts,
+    replies: &'a [Reply],
+    left: u64,
+) -> Result<Run<'a>, NoMemory>
+    requires { AreSound variables.now }
+{
+    let frame = Frame::over(alloc, Parts::new(alloc), variables.as_slice())?;
+    Ok(Run {
+        frame,
+        replies,
+        left,
+    })
 }

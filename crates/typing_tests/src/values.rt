@@ -1,15 +1,16 @@
 //! The code of a program: what its variables open with, and the values of its expressions.
 
-use crate::reading::{code_of, program_of, value_of, values_of};
+use crate::reading::{code_of, program_of, run_over, value_of, values_of};
 use eval_bodies::{Code, Site};
 use eval_exprs::{Levels, evaluate};
 use eval_tables::Seen;
-use eval_variables::{Frame, Passed, Run, Stop};
+use eval_variables::{Passed, Run, Stop};
 use orca_base::{FaultKind, KindNo};
 use orca_tree::{Expression, Statement};
 use std::alloc::Global;
 use std::test::Fail;
-use value_core::{Action, Parts, Reply, Value};
+use type_rules::DataType;
+use value_core::{Action, Reply, Value};
 
 // A process that writes the values of twenty expressions.
 const TEXTS: [(&str, &str); 1] = [(
@@ -32,10 +33,11 @@ const TEXTS: [(&str, &str); 1] = [(
 )];
 
 // The values of the process's variables, where its expressions are evaluated.
-const VARIABLES: &str = "(5 [(7 e2) (8 e1) (9 e0)] {2 3 5} <c97 c97 c98> \"ab\" (3 {(1 10) (2 20)}) 2 o1.1)";
+const VARIABLES: &str =
+    "(5 [(7 e2) (8 e1) (9 e0)] {2 3 5} <c97 c97 c98> \"ab\" (3 {(1 10) (2 20)}) 2 o1.1)";
 
 // What comes of an expression: a value, a fault, or a call of an operation with these arguments.
-#[derive(Debug)]
+#[derive(Clone, Copy, Debug)]
 enum Outcome {
     Gives(&'static str),
     Faults(FaultKind),
@@ -97,11 +99,7 @@ impl Levels for NoCalls {
 }
 
 // Whether this is the outcome.
-fn is_outcome(
-    alloc: Global,
-    found: &Result<Value, Stop>,
-    wanted: &Outcome,
-) -> Result<bool, Fail> {
+fn is_outcome(alloc: Global, found: &Result<Value, Stop>, wanted: &Outcome) -> Result<bool, Fail> {
     match (found, wanted) {
         (Ok(value), Outcome::Gives(text)) => Ok(value.is(&value_of(alloc, text)?)),
         (Err(Stop::Faults { fault }), Outcome::Faults(wanted)) => Ok(*fault == *wanted),
@@ -128,11 +126,7 @@ fn comes_to(
     let replies = [Reply::Gave {
         value: Value::Int(6),
     }];
-    let mut run = Run {
-        frame: Frame::over(alloc, Parts::new(alloc), variables.as_slice())?,
-        replies: &replies,
-        left: 10,
-    };
+    let mut run = run_over(alloc, &variables, &replies, 10)?;
     let found = evaluate::<NoCalls>(alloc, site, e, &mut run);
     is_outcome(alloc, &found, wanted)
 }
@@ -149,9 +143,7 @@ fn written(statements: &[Statement]) -> &[Expression] {
 fn expressions_have_values_fault_or_act(rt: HostRuntime) -> Result<(), Fail> {
     let program = program_of(rt.alloc(), &TEXTS)?;
     let code = code_of(rt.alloc(), &program)?;
-    let main = code
-        .process(code.tables().main_text())
-        .ok_or("no process")?;
+    let main = code.process(code.tables().main_text()).ok_or("no process")?;
     let given = written(main.statements);
     assert_eq!(rt; given.len(), WANTED.len());
     for (e, wanted) in given.iter().zip(WANTED.iter()) {
@@ -161,18 +153,24 @@ fn expressions_have_values_fault_or_act(rt: HostRuntime) -> Result<(), Fail> {
     Ok(())
 }
 
+// Whether variables of this type open so.
+fn opens(
+    alloc: Global,
+    code: &Code<'_>,
+    kind: &Option<DataType>,
+    wanted: &str,
+) -> Result<bool, Fail> {
+    let value = code.tables().opening(alloc, Seen::of_known(kind))?;
+    Ok(value.is(&value_of(alloc, wanted)?))
+}
+
 #[test]
 fn variables_open_by_their_types(rt: HostRuntime) -> Result<(), Fail> {
     let program = program_of(rt.alloc(), &TEXTS)?;
     let code = code_of(rt.alloc(), &program)?;
-    let main = code
-        .process(code.tables().main_text())
-        .ok_or("no process")?;
+    let main = code.process(code.tables().main_text()).ok_or("no process")?;
     for (kind, wanted) in main.body.names.types.iter().zip(OPENINGS.iter()) {
-        let value = code
-            .tables()
-            .opening(rt.alloc(), Seen::of_known(kind))?;
-        assert!(rt; value.is(&value_of(rt.alloc(), wanted)?), "{wanted}");
+        assert!(rt; opens(rt.alloc(), &code, kind, wanted)?, "{wanted}");
     }
     Ok(())
 }
@@ -188,14 +186,5 @@ fn code_has_functions_and_object_types(rt: HostRuntime) -> Result<(), Fail> {
     assert!(rt; code.object_type(KindNo(0)).is_none());
     assert!(rt; matches!(code.object_type(KindNo(1)), Some(cell) if cell.operations.len() == 1));
     assert!(rt; code.object_type(KindNo(2)).is_none());
-    Ok(())
-}
-
-// Asks that values of this type may be read by several threads at once.
-fn may_be_shared<T: Sync>() {}
-
-#[test]
-fn code_may_be_shared(_rt: HostRuntime) -> Result<(), Fail> {
-    may_be_shared::<Code<'static>>();
     Ok(())
 }

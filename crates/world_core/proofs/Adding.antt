@@ -1,6 +1,6 @@
 -- A member's part joins those of the members before it: of members, letters, tasks, and whether anything stirred.
-use Rattle.std.proofs.Common.{◌≡◌, ◌≤◌, ◌<◌, ◌+◌, ◌-◌, ◌∙◌, ◌⊎◌, inl, inr, ⊎_elim, ◌&&◌, ◌||◌, ◌==◌, not, ℕ, zero, suc, Bool, true, false, cond, List, [], ◌∷◌, ◌++◌, Option, Some, None, slice_get, slice_set, ap, sym, subst, refl, arith, map, length, length-append, append_assoc, append-nil}
-use Rattle.std.proofs.lemmas.Bool.{eq-eqb, ne_eqb, eqb-true, eqb-false}
+use Rattle.std.proofs.Common.{◌≡◌, ◌≤◌, ◌<◌, ◌+◌, ◌-◌, ◌∙◌, ◌⊎◌, inl, inr, ⊎_elim, ◌&&◌, ◌||◌, ◌==◌, not, ℕ, zero, suc, Bool, true, false, cond, List, [], ◌∷◌, ◌++◌, Some, slice_get, slice_set, ap, sym, subst, refl, arith, map, length, length-append}
+use Rattle.std.proofs.lemmas.Bool.{eq-eqb, ne_eqb, eqb-true}
 use Rattle.std.specs.List.{AllByRecursion as Each}
 use Rattle.object_manager.specs.Viewed.{Viewed}
 use Rattle.value_core.specs.declared.action.Reply.{Reply}
@@ -15,7 +15,6 @@ use Rattle.world_rules.specs.Nodes as nodes
 use Rattle.world_rules.specs.Nodes.{NodeWork, aside_of, mails_of}
 use Rattle.world_rules.specs.Steps.{AtWork, after_part, has_stirred, has_stirred_at, has_stirred_below}
 use Rattle.world_rules.specs.Worlds.{World}
-use Rattle.node_core.specs.Keeping.{KeepsTasks}
 use Rattle.node_core.specs.Pieces.{resident_at}
 use Rattle.node_core.specs.Shown.{Left, Stood}
 use Rattle.node_core.specs.Stands.{StandsAs, sent}

@@ -1,12 +1,11 @@
 -- What the calls of a step ask, and which errors it answers.
-use Rattle.std.proofs.Common.{◌≡◌, ◌≤◌, ◌<◌, ◌+◌, ◌-◌, ◌*◌, ◌^◌, ◌∙◌, ◌⊎◌, inl, inr, ltb, ◌&&◌, ℕ, Bool, true, false, List, [], ◌∷◌, Option, None, Some, is_some, option_map, slice_get, map, Result, Ok, Err, ap, sym, subst, refl, arith, length}
+use Rattle.std.proofs.Common.{◌≡◌, ◌<◌, ◌+◌, ◌-◌, ◌^◌, ◌∙◌, ◌⊎◌, inl, inr, ltb, ℕ, Bool, true, false, List, [], ◌∷◌, Option, None, Some, is_some, option_map, slice_get, map, Result, Err, ap, sym, subst, refl, arith, length}
 use Rattle.std.proofs.lemmas.Bool.{ltb-true}
 use Rattle.std.specs.List.{AllByRecursion as Each}
 use Rattle.net_rules.proofs.Travelling.{seen_ready_copy}
 use Rattle.net_rules.specs.Flights.{ready_copy, seen}
 use Rattle.net_rules.specs.declared.flight.Flight.{Flight}
 use Rattle.book_law.specs.Performed.{Performed}
-use Rattle.world_facts.specs.Possible.{MayStep}
 use Rattle.world_law.specs.Holds.{Holds}
 use Rattle.world_rules.specs.declared.event.Event.{Event}
 use Rattle.world_rules.specs.declared.event.Event.TheVariants as event
@@ -14,7 +13,7 @@ use Rattle.world_rules.specs.declared.event.Step.{Step}
 use Rattle.world_rules.specs.declared.standing.Standing.{Standing}
 use Rattle.world_rules.specs.declared.standing.Standing.TheVariants.{Blocked, Faulted, Finished, Going, Limit, NoGroup, OutOfEvents, OutOfTurns}
 use Rattle.world_rules.specs.Frame.{Frame}
-use Rattle.world_rules.specs.Mail.{Carried, Mail}
+use Rattle.world_rules.specs.Mail.{Mail}
 use Rattle.world_rules.specs.Standings.{standing}
 use Rattle.world_rules.specs.Steps.{Known, Replays, happens}
 use Rattle.world_rules.specs.Worlds.{World, agreed, singles_in}
@@ -22,7 +21,7 @@ use Rattle.node_core.specs.Shown.{Left, Stood}
 use Rattle.node_core.specs.declared.node.Node.{Node}
 use Rattle.world_parts.proofs.Worlds.{is_world}
 use Rattle.world_parts.specs.Seen.{all_outs, tasks_out}
-use Rattle.world_parts.specs.Standing.{HasNumbers, Is, IsWorld, Stands, outs_of, seen_of, spelled}
+use Rattle.world_parts.specs.Standing.{HasNumbers, IsWorld, Stands, outs_of, seen_of, spelled}
 use Rattle.world_parts.specs.declared.parts.Numbers.{Numbers}
 use Rattle.world_parts.specs.declared.parts.Parts.{Parts}
 use Rattle.world_core.specs.Closing.{HasLeft, HasRoomMade, MayEnd, MayLeave, flights_after}

@@ -1,9 +1,8 @@
 -- A process computes in one go: the last step is its burst, and the tasks that are out stay so.
-use Rattle.std.proofs.Common.{◌≡◌, ◌≤◌, ◌<◌, ◌+◌, ◌-◌, ◌∙◌, ◌==◌, not, ℕ, zero, suc, Bool, true, false, List, [], ◌∷◌, ◌++◌, Option, Some, None, get_or, is_some, slice_get, slice_set, map, ap, sym, subst, refl, arith, length, append-nil}
+use Rattle.std.proofs.Common.{◌≡◌, ◌≤◌, ◌<◌, ◌+◌, ◌-◌, ◌∙◌, ◌==◌, not, ℕ, zero, suc, false, List, [], ◌∷◌, ◌++◌, Option, Some, None, get_or, is_some, slice_get, slice_set, map, ap, sym, subst, refl, arith, length, append-nil}
 use Rattle.orca_base.specs.declared.ids.ProcessNo.{ProcessNo}
 use Rattle.object_manager.specs.After.{Copied}
 use Rattle.book_law.specs.Performed.{placed}
-use Rattle.net_rules.specs.declared.fate.Fate.{Fate}
 use Rattle.world_facts.specs.Ends.{turns_in}
 use Rattle.world_law.specs.Holds.{Holds}
 use Rattle.world_rules.specs.Bursts.{last_turn}
@@ -13,7 +12,6 @@ use Rattle.world_rules.specs.declared.event.Step.{Step}
 use Rattle.world_rules.specs.declared.standing.Standing.TheVariants.{Going}
 use Rattle.world_rules.specs.Frame.{Frame}
 use Rattle.world_rules.specs.Parts.{computes}
-use Rattle.world_rules.specs.Played.{Played}
 use Rattle.world_rules.specs.Standings.{standing}
 use Rattle.world_rules.specs.Steps.{Burst, IsBurst, Next, Replays, after_part, after_step, bursts, untouched}
 use Rattle.world_rules.specs.Worlds.{World, home_of, played_in}
@@ -35,7 +33,7 @@ use Rattle.world_core.proofs.CheckingOut.{Ready, set_same}
 use Rattle.world_core.proofs.Computed.{burst_leaves}
 use Rattle.world_core.proofs.Doing.{Here}
 use Rattle.world_core.proofs.Handing.{got_map, map_set}
-use Rattle.world_core.proofs.Running.{Bursts, applied_low, ran_least, ran_so, ran_there, viewed_now, viewing}
+use Rattle.world_core.proofs.Running.{Bursts, applied_low, ran_so, ran_there, viewed_now, viewing}
 use Rattle.world_core.proofs.Stepped.{Changed, Leaves, outgoing_count, step_world}
 use Rattle.world_core.proofs.StayOut.{out_none}
 

@@ -1,17 +1,13 @@
 -- A burst is checked in: the last step now, with one task fewer.
-use Rattle.std.proofs.Common.{◌≡◌, ◌≤◌, ◌<◌, ◌+◌, ◌-◌, ◌^◌, ◌∙◌, ◌⊎◌, ⊎_elim, ◌==◌, ◌&&◌, not, ℕ, suc, Bool, true, false, cond, List, [], ◌∷◌, ◌++◌, Option, None, Some, is_some, option_map, slice_get, slice_set, map, ap, sym, subst, refl, arith, length, append-nil}
+use Rattle.std.proofs.Common.{◌≡◌, ◌<◌, ◌+◌, ◌-◌, ◌∙◌, ⊎_elim, ◌==◌, ◌&&◌, not, ℕ, Bool, true, false, cond, List, [], ◌∷◌, ◌++◌, Option, None, Some, is_some, option_map, slice_get, slice_set, map, ap, sym, subst, refl, arith, length, append-nil}
 use Rattle.std.proofs.lemmas.Bool.{cases_eq}
 use Rattle.std.proofs.lemmas.Option.{slice_get_within}
 use Rattle.std.specs.Vec.{with_item}
-use Rattle.orca_base.specs.declared.ids.ProcessNo.{ProcessNo}
 use Rattle.value_core.specs.declared.action.Line.{Line}
 use Rattle.object_manager.specs.Viewed.{Viewed}
 use Rattle.book_law.specs.Performed.{placed}
 use Rattle.group_rules.specs.Sets.{with_at}
-use Rattle.net_rules.specs.declared.fate.Fate.{Fate}
-use Rattle.world_facts.proofs.Counted.{event_works}
 use Rattle.world_facts.specs.Ends.{turns_in}
-use Rattle.world_rules.specs.declared.event.Event.{Event}
 use Rattle.world_rules.specs.declared.event.Event.TheVariants as event
 use Rattle.world_rules.specs.declared.event.Step.{Step}
 use Rattle.world_rules.specs.declared.standing.Standing.TheVariants.{Going}

@@ -1,5 +1,5 @@
 -- A task is handed out: the run stands for the same world, with one task more.
-use Rattle.std.proofs.Common.{◌≡◌, ◌≤◌, ◌<◌, ◌+◌, ◌-◌, ◌∙◌, ◌⊎◌, ⊎_elim, ◌==◌, ◌&&◌, not, min, ℕ, zero, suc, Bool, true, false, cond, List, [], ◌∷◌, Option, None, Some, Result, Ok, Err, OnErr, slice_get, slice_set, slice_index_or, get_or, is_some, map, ap, sym, subst, refl, arith, length}
+use Rattle.std.proofs.Common.{◌≡◌, ◌≤◌, ◌+◌, ◌-◌, ◌∙◌, ⊎_elim, ◌==◌, ◌&&◌, not, min, ℕ, zero, suc, Bool, true, false, cond, List, [], ◌∷◌, Option, None, Some, Result, Ok, Err, OnErr, slice_get, slice_set, is_some, map, ap, sym, subst, refl, arith, length}
 use Rattle.std.proofs.lemmas.Bool.{cases_eq}
 use Rattle.std.proofs.lemmas.Option.{slice_get_within}
 use Rattle.std.specs.Vec.{with_item}
@@ -21,7 +21,7 @@ use Rattle.world_rules.specs.Steps.{Replays, objects_after}
 use Rattle.world_rules.specs.Worlds.{World, agreed, home_of, played_in, singles_in}
 use Rattle.world_rules.specs.declared.event.Step.{Step}
 use Rattle.book_law.specs.Performed.{Performed}
-use Rattle.node_core.specs.CheckingIn.{HandsOut, HasChanged, MayHandOut}
+use Rattle.node_core.specs.CheckingIn.{HandsOut, MayHandOut}
 use Rattle.node_core.specs.Pieces.{resident_at}
 use Rattle.node_core.specs.Shown.{IsPlayed, IsPlayedIf, Left, Stood, on_stage}
 use Rattle.node_core.specs.Stands.{StandsAlike, StandsAs}

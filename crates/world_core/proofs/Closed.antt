@@ -1,12 +1,10 @@
 -- What the calls of a step leave, one after the other, is the world after it.
-use Rattle.std.proofs.Common.{◌≡◌, ◌≤◌, ◌<◌, ◌+◌, ◌-◌, ◌^◌, ◌∙◌, ◌⊎◌, ⊎_elim, ◌||◌, ℕ, Bool, true, false, cond, List, [], ◌∷◌, ◌++◌, Option, None, Some, slice_get, slice_set, map, ap, sym, subst, refl, arith, length}
+use Rattle.std.proofs.Common.{◌≡◌, ◌≤◌, ◌<◌, ◌+◌, ◌-◌, ◌^◌, ◌∙◌, ⊎_elim, ◌||◌, ℕ, Bool, true, false, cond, List, [], ◌∷◌, ◌++◌, Option, None, Some, slice_get, slice_set, map, ap, sym, subst, refl, arith, length}
 use Rattle.std.proofs.lemmas.Option.{slice_get_within}
 use Rattle.std.specs.List.{AllByRecursion as Each}
-use Rattle.group_rules.specs.Sets.{with_at}
 use Rattle.net_rules.specs.Flights.{ready_copy, ticked, without}
 use Rattle.net_rules.specs.declared.asked.Asked.{Asked}
 use Rattle.net_rules.specs.declared.fate.Fate.{Fate}
-use Rattle.net_rules.specs.declared.flight.Flight.{Flight}
 use Rattle.object_manager.specs.Viewed.{Viewed}
 use Rattle.world_facts.proofs.Counted.{Works, event_works, posts_is}
 use Rattle.world_rules.specs.declared.event.Event.{Event}
@@ -15,7 +13,7 @@ use Rattle.world_rules.specs.declared.event.Step.{Step}
 use Rattle.world_rules.specs.declared.standing.Standing.TheVariants.{Going}
 use Rattle.world_rules.specs.Frame.{Frame}
 use Rattle.world_rules.specs.Standings.{standing}
-use Rattle.world_rules.specs.Steps.{Known, Next, Possible, Replays, after_step, happens, idle_after, posts_all, untouched}
+use Rattle.world_rules.specs.Steps.{Known, Possible, Replays, after_step, happens, idle_after, posts_all, untouched}
 use Rattle.world_rules.specs.Worlds.{Told, World}
 use Rattle.node_core.specs.Pieces.{resident_at}
 use Rattle.node_core.specs.Shown.{Left, Stood}
@@ -32,7 +30,6 @@ use Rattle.world_core.specs.Closing.{HasClosed, HasEnded, HasLeft, HasLost, HasR
 use Rattle.world_core.specs.Drafting.{AreNodes, Drafts, IsDraft, KeepTasks, out_in, taken}
 use Rattle.world_core.specs.Stepping.{KeepsOut, Leads, OutBefore, Stepped, is_burst_of, is_crash_of, told_so}
 use Rattle.world_core.specs.declared.draft.Draft.{Draft}
-use Rattle.world_core.specs.declared.letters.Outgoing.{Outgoing}
 use Rattle.world_core.proofs.Adding.{got_set, set_length, with_other}
 use Rattle.world_core.proofs.Doing.{Here}
 use Rattle.world_core.proofs.Fewer.{tasks_fewer}

@@ -1,5 +1,5 @@
 -- A copy of a packet comes: what its bytes are, and whether it is whole.
-use Rattle.std.proofs.Common.{◌≡◌, ◌≤◌, ◌<◌, ◌+◌, ◌-◌, ◌^◌, ◌∙◌, ◌&&◌, ℕ, Bool, true, false, min, List, [], ◌∷◌, ◌++◌, Option, None, Some, option_map, take, drop, ap, sym, subst, refl, arith, length, append-nil, cond, leb}
+use Rattle.std.proofs.Common.{◌≡◌, ◌≤◌, ◌<◌, ◌-◌, ◌^◌, ◌∙◌, ℕ, Bool, true, false, List, [], ◌++◌, Option, None, Some, option_map, drop, ap, sym, refl, arith, length, append-nil}
 use Rattle.std.proofs.lemmas.Bool.{leb-false, leb-true}
 use Rattle.std.proofs.lemmas.List.{length-drop, length-take, take-append-drop, take_all}
 use Rattle.value_core.specs.Lengths.{answer_length, message_length, told_length}
@@ -12,7 +12,6 @@ use Rattle.net_rules.specs.declared.flight.Flight.{Flight}
 use Rattle.packet_bytes.specs.Sound.{IsPacket}
 use Rattle.packet_bytes.specs.Spelling.{packet_spelling}
 use Rattle.world_law.proofs.Flying.{each_found}
-use Rattle.world_law.specs.Holds.{Holds}
 use Rattle.world_law.specs.Packets.{IsNumbered}
 use Rattle.world_rules.specs.Frame.{Frame}
 use Rattle.world_rules.specs.Mail.{Carried, Mail, bytes_in, is_whole, is_whole_at, posted, receiver_of}

@@ -1,5 +1,5 @@
 -- A burst that is checked in leaves this.
-use Rattle.std.proofs.Common.{◌≡◌, ◌≤◌, ◌<◌, ◌+◌, ◌∙◌, ◌⊎◌, ⊎_elim, ◌||◌, ◌==◌, not, ℕ, zero, suc, Bool, true, false, List, [], ◌∷◌, ◌++◌, take, ap, sym, subst, refl, arith, length, append-nil, append_assoc}
+use Rattle.std.proofs.Common.{◌≡◌, ◌≤◌, ◌<◌, ◌∙◌, ⊎_elim, ◌||◌, ◌==◌, not, ℕ, zero, suc, Bool, false, List, [], ◌∷◌, ◌++◌, take, ap, sym, subst, refl, arith, length, append-nil, append_assoc}
 use Rattle.std.proofs.lemmas.Bool.{cases_eq, ne_eqb}
 use Rattle.value_core.specs.declared.action.Line.{Line}
 use Rattle.value_core.specs.declared.message.Message.{Message}
@@ -18,7 +18,7 @@ use Rattle.world_rules.specs.Nodes.Deed.{Performs}
 use Rattle.world_rules.specs.Parts.{computes, performs_all}
 use Rattle.world_rules.specs.Played.{Played}
 use Rattle.world_rules.specs.Processes.{processes_in, singles_of}
-use Rattle.world_rules.specs.Steps.{AtWork, Burst, after_part, bursts, has_stirred, has_stirred_at, untouched}
+use Rattle.world_rules.specs.Steps.{AtWork, Burst, bursts, has_stirred, has_stirred_at, untouched}
 use Rattle.world_rules.specs.Worlds.{World, agreed, applied_at, home_of, longer_of, longest, singles_in}
 use Rattle.world_parts.specs.Standing.{IsWorld}
 use Rattle.world_parts.specs.declared.parts.Parts.{Parts}

@@ -1,26 +1,25 @@
 -- A copy of a packet comes to its receiver, or nothing happens but that it is gone.
-use Rattle.std.proofs.Common.{◌≡◌, ◌<◌, ◌^◌, ◌∙◌, ◌&&◌, ℕ, Bool, true, false, cond, List, Option, None, Some, is_some, slice_get, ap, sym, subst, refl, arith, length}
+use Rattle.std.proofs.Common.{◌≡◌, ◌<◌, ◌^◌, ◌∙◌, ℕ, Bool, true, false, cond, List, Option, None, Some, is_some, slice_get, ap, sym, subst, refl, arith, length}
 use Rattle.value_core.specs.declared.action.Reply.{Reply}
 use Rattle.value_core.specs.declared.message.Message.{Message}
 use Rattle.group_packets.specs.declared.packet.Packet.{Packet}
 use Rattle.group_rules.specs.OnWire.{Posted}
-use Rattle.net_rules.specs.Flights.{ready_copy, seen, without}
+use Rattle.net_rules.specs.Flights.{ready_copy, without}
 use Rattle.net_rules.specs.declared.flight.Flight.{Flight}
 use Rattle.node_rules.specs.Conditions.{Fitness}
 use Rattle.node_rules.specs.Laws.{PartsAreWalks}
 use Rattle.node_rules.specs.Starts.{EventFits, part}
 use Rattle.node_rules.specs.Starts.Start.{Comes}
 use Rattle.run_law.specs.Parts.{InParts}
-use Rattle.world_rules.specs.declared.event.Event.{Event}
 use Rattle.world_rules.specs.declared.event.Event.TheVariants as event
 use Rattle.world_rules.specs.declared.standing.Standing.TheVariants.{Going}
 use Rattle.world_rules.specs.Frame.{Frame}
-use Rattle.world_rules.specs.Mail.{Carried, Mail, is_whole, posted, receiver_of}
+use Rattle.world_rules.specs.Mail.{Carried, is_whole, posted, receiver_of}
 use Rattle.world_rules.specs.Standings.{standing}
-use Rattle.world_rules.specs.Steps.{AtWork, after_part, comes, comes_whole, happens, lives_in, untouched}
+use Rattle.world_rules.specs.Steps.{after_part, comes, comes_whole, happens, lives_in, untouched}
 use Rattle.world_rules.specs.Worlds.{World}
 use Rattle.node_core.specs.Shown.{Left, Stood}
-use Rattle.node_core.specs.Stands.{IsPostOf, StandsAs}
+use Rattle.node_core.specs.Stands.{IsPostOf}
 use Rattle.node_core.specs.declared.node.Node.{Node}
 use Rattle.world_parts.specs.Standing.{IsWorld, Stands}
 use Rattle.world_parts.specs.declared.parts.Parts.{Parts}

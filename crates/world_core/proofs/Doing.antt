@@ -1,5 +1,5 @@
 -- Events in which no member does a part, and those in which one does.
-use Rattle.std.proofs.Common.{◌≡◌, ◌≤◌, ◌<◌, ◌+◌, ◌^◌, ◌∙◌, ◌&&◌, ltb, ℕ, Bool, true, false, List, [], Some, slice_get, ap, sym, subst, refl, arith, length}
+use Rattle.std.proofs.Common.{◌≡◌, ◌≤◌, ◌<◌, ◌^◌, ◌&&◌, ltb, ℕ, Bool, true, false, Some, slice_get, ap, sym, subst, refl, arith, length}
 use Rattle.std.proofs.lemmas.Bool.{ltb-true}
 use Rattle.std.specs.List.{AllByRecursion as Each}
 use Rattle.book_law.proofs.Processes.{get_some}

@@ -1,9 +1,8 @@
 -- What is so of each possible event of a run that is going: of its letters, of its numbers, and of the members that do their parts.
-use Rattle.std.proofs.Common.{◌≡◌, ◌≤◌, ◌<◌, ◌+◌, ◌*◌, ◌^◌, ◌∙◌, ℕ, zero, suc, All, List, [], ◌∷◌, ◌++◌, Some, slice_get, slice_index_or, take, ap, sym, subst, refl, arith, length}
-use Rattle.std.proofs.lemmas.List.{length-take, length-take-le}
+use Rattle.std.proofs.Common.{◌≡◌, ◌≤◌, ◌<◌, ◌+◌, ◌^◌, ◌∙◌, ℕ, suc, All, List, [], ◌∷◌, ◌++◌, Some, slice_get, ap, sym, subst, refl, arith, length}
+use Rattle.std.proofs.lemmas.List.{length-take-le}
 use Rattle.std.proofs.lemmas.Option.{get_or_from_slice_get, slice_get_within}
 use Rattle.std.specs.List.{AllByRecursion as Each}
-use Rattle.object_manager.specs.After.{Copied}
 use Rattle.value_core.specs.declared.message.Message.{Message}
 use Rattle.book_law.specs.declared.placing.Placed.{Placed}
 use Rattle.net_rules.specs.declared.fate.Fate.{Fate}
@@ -18,7 +17,6 @@ use Rattle.run_law.specs.Sending.{SendsOwn}
 use Rattle.group_rules.specs.Sets.{In}
 use Rattle.group_rules.specs.World.{Past}
 use Rattle.world_law.specs.Grouped.{Submits}
-use Rattle.world_law.specs.Lists.{OneList}
 use Rattle.world_law.specs.SoundPackets.{IsSoundMail, SaidSound}
 use Rattle.world_rules.specs.declared.event.Event.{Event}
 use Rattle.world_rules.specs.declared.event.Event.TheVariants as event
@@ -29,7 +27,7 @@ use Rattle.world_rules.specs.Mail.{Mail, posted}
 use Rattle.world_rules.specs.Nodes as nodes
 use Rattle.world_rules.specs.Nodes.{aside_of, entries_of, mails_of}
 use Rattle.world_rules.specs.Standings.{standing}
-use Rattle.world_rules.specs.Steps.{AtWork, Known, Leads, Next, Possible, Replays, after_step, happens, posts, posts_all}
+use Rattle.world_rules.specs.Steps.{Known, Leads, Next, Possible, Replays, after_step, happens, posts, posts_all}
 use Rattle.world_rules.specs.Worlds.{World, agreed, applied_at}
 use Rattle.node_core.specs.Shown.{Left, Stood}
 use Rattle.node_core.specs.Stands.{StandsAs}

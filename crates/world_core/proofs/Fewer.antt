@@ -1,5 +1,5 @@
 -- An event leaves no more tasks out than there were.
-use Rattle.std.proofs.Common.{◌≡◌, ◌≤◌, ◌<◌, ◌+◌, ◌∙◌, ℕ, zero, suc, Bool, true, false, cond, List, [], ◌∷◌, Option, Some, None, slice_get, slice_index_or, get_or, is_some, map, ap, sym, subst, refl, arith, length}
+use Rattle.std.proofs.Common.{◌≡◌, ◌≤◌, ◌∙◌, ℕ, zero, suc, Bool, true, false, cond, List, [], ◌∷◌, Option, Some, None, slice_index_or, get_or, is_some, map, ap, sym, refl, arith, length}
 use Rattle.object_manager.specs.Viewed.{Viewed}
 use Rattle.node_core.specs.Pieces.{resident_at}
 use Rattle.node_core.specs.declared.node.Node.{Node}

@@ -1,5 +1,5 @@
 -- The entries and lines of members' parts, joined, are what an event adds to the list and to what was performed.
-use Rattle.std.proofs.Common.{◌≡◌, ◌≤◌, ◌<◌, ◌+◌, ◌-◌, ◌∙◌, ◌⊎◌, inl, inr, ⊎_elim, ◌==◌, ℕ, zero, suc, Bool, true, false, cond, ltb, List, [], ◌∷◌, ◌++◌, Some, None, slice_get, take, drop, ap, sym, subst, refl, arith, length, length-append, append_assoc, append-nil}
+use Rattle.std.proofs.Common.{◌≡◌, ◌≤◌, ◌<◌, ◌+◌, ◌-◌, ◌∙◌, ◌⊎◌, inl, inr, ⊎_elim, ◌==◌, ℕ, zero, suc, Bool, true, false, cond, ltb, List, [], ◌∷◌, ◌++◌, Some, slice_get, take, drop, ap, sym, subst, refl, arith, length, length-append, append_assoc, append-nil}
 use Rattle.std.proofs.lemmas.Bool.{cases_lt, le-ltb, lt-ltb, ne_eqb}
 use Rattle.std.proofs.Math.Seq.{drop-append-add, take-append_seam}
 use Rattle.std.proofs.lemmas.List.{drop_all, length-take-le, take_all, take-append-drop, take-append-le}
@@ -10,7 +10,7 @@ use Rattle.book_law.specs.Book.{aside_at}
 use Rattle.book_law.specs.Performed.{Performed, placed}
 use Rattle.book_law.specs.declared.placing.Placed.{Placed}
 use Rattle.book_law.proofs.Books.{placed_here, placed_there}
-use Rattle.run_law.specs.Growing.{IsNew, ListGrows, PerformedGrows, TellsPart, lines_at}
+use Rattle.run_law.specs.Growing.{ListGrows, PerformedGrows, lines_at}
 use Rattle.world_rules.specs.Frame.{Frame}
 use Rattle.world_rules.specs.Worlds.{World, agreed, singles_in}
 use Rattle.world_core.specs.Drafting.{behind, lines_behind}

@@ -1,5 +1,5 @@
 -- One process of one member changes, and so may how many tasks are out.
-use Rattle.std.proofs.Common.{◌≡◌, ◌≤◌, ◌<◌, ◌+◌, ◌∙◌, ◌⊎◌, ⊎_elim, ◌==◌, ◌&&◌, ℕ, zero, suc, Bool, true, false, cond, List, [], ◌∷◌, Option, Some, None, slice_get, slice_set, slice_index_or, get_or, is_some, option_map, map, ap, sym, subst, refl, arith, length}
+use Rattle.std.proofs.Common.{◌≡◌, ◌<◌, ◌+◌, ◌∙◌, ⊎_elim, ◌==◌, ◌&&◌, ℕ, zero, suc, Bool, cond, List, [], ◌∷◌, Option, Some, None, slice_get, slice_set, slice_index_or, get_or, is_some, option_map, map, ap, sym, refl, arith, length}
 use Rattle.std.proofs.lemmas.Bool.{cases_eq, eq-eqb, ne_eqb}
 use Rattle.object_manager.specs.Viewed.{Viewed}
 use Rattle.group_rules.specs.Sets.{with_at}

@@ -1,5 +1,5 @@
 -- What is kept of a member's entries, one after the other.
-use Rattle.std.proofs.Common.{◌≡◌, ◌≤◌, ◌<◌, ◌+◌, ◌∙◌, ℕ, zero, suc, Bool, true, false, cond, ltb, List, [], ◌∷◌, ◌++◌, ap, sym, subst, refl, arith, length, append_assoc}
+use Rattle.std.proofs.Common.{◌≡◌, ◌∙◌, ℕ, suc, Bool, true, false, cond, ltb, List, [], ◌∷◌, ◌++◌, ap, sym, subst, refl, append_assoc}
 use Rattle.book_law.specs.Performed.{placed}
 use Rattle.book_law.specs.declared.placing.Placed.{Placed}
 use Rattle.value_core.specs.declared.action.Line.{Line}

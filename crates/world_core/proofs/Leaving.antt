@@ -1,24 +1,18 @@
 -- The world that a step leaves, by the parts of a run that did it.
-use Rattle.std.proofs.Common.{◌≡◌, ◌≤◌, ◌<◌, ◌+◌, ◌*◌, ◌^◌, ◌∙◌, ◌&&◌, ℕ, zero, suc, Bool, true, false, cond, List, [], ◌∷◌, ◌++◌, Option, Some, None, slice_get, map, ap, sym, subst, refl, arith, length, length-append}
-use Rattle.std.proofs.lemmas.List.{length_push}
-use Rattle.std.specs.List.{AllByRecursion as Each}
-use Rattle.object_manager.specs.Viewed.{Viewed}
+use Rattle.std.proofs.Common.{◌≡◌, ◌∙◌, ℕ, zero, suc, Bool, true, false, cond, List, Option, Some, None, map, ap, sym, subst, refl}
 use Rattle.value_core.specs.declared.message.Message.{Message}
 use Rattle.book_law.specs.Performed.{Performed}
 use Rattle.book_law.specs.declared.placing.Placed.{Placed}
-use Rattle.group_rules.specs.Sets.{with_at}
 use Rattle.net_rules.proofs.Travelling.{seen_ticked, seen_without}
 use Rattle.net_rules.specs.Flights.{ready_copy, seen, ticked, without}
-use Rattle.net_rules.specs.declared.fate.Fate.{Fate}
 use Rattle.net_rules.specs.declared.flight.Flight.{Flight}
-use Rattle.world_facts.proofs.Counted.{posts_is}
 use Rattle.world_rules.specs.declared.event.Event.{Event}
 use Rattle.world_rules.specs.declared.event.Event.TheVariants as event
 use Rattle.world_rules.specs.Frame.{Frame}
 use Rattle.world_rules.specs.Mail.{Carried, Mail, is_whole, receiver_of}
 use Rattle.world_rules.specs.Nodes as nodes_of
 use Rattle.world_rules.specs.Processes.{processes_in, singles_of}
-use Rattle.world_rules.specs.Steps.{AtWork, Known, comes, comes_whole, happens, lives_in, posts_all, ticks_at, ticks_below, untouched}
+use Rattle.world_rules.specs.Steps.{AtWork, Known, comes, comes_whole, happens, lives_in, ticks_below, untouched}
 use Rattle.world_rules.specs.Worlds.{World, agreed, applied_at, longer_of, longest, singles_in}
 use Rattle.world_core.specs.Closing.{flights_after}
 

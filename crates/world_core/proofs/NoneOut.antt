@@ -1,5 +1,5 @@
 -- What a task that is out is, that in a quiet moment none is, and each member as its node has it.
-use Rattle.std.proofs.Common.{◌≡◌, ◌≤◌, ◌<◌, ◌+◌, ◌∙◌, ◌++◌, ◌&&◌, not, ℕ, suc, Bool, true, false, List, [], ◌∷◌, Option, Some, None, IfSome, is_some, option_map, slice_get, get_or, take, drop, map, ap, sym, subst, refl, arith, length, length-append}
+use Rattle.std.proofs.Common.{◌≡◌, ◌≤◌, ◌<◌, ◌∙◌, ◌&&◌, not, ℕ, suc, Bool, true, false, List, [], ◌∷◌, Option, Some, None, IfSome, is_some, option_map, slice_get, get_or, take, drop, map, ap, sym, subst, refl, arith, length, length-append}
 use Rattle.std.proofs.lemmas.List.{take-append-drop, take_all}
 use Rattle.std.proofs.lemmas.Option.{slice_get_within}
 use Rattle.value_core.specs.declared.message.Message.{Message}

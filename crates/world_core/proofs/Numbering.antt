@@ -1,8 +1,8 @@
 -- Numbers of packets in flight: none is above so many.
-use Rattle.std.proofs.Common.{◌≡◌, ◌≤◌, ◌<◌, ◌∙◌, ◌||◌, ◌==◌, ℕ, suc, Bool, true, false, cond, List, [], ◌∷◌, ◌++◌, map, ap, refl, arith}
-use Rattle.std.proofs.lemmas.Bool.{cond_both, ltb-false, ltb-true, ne_eqb}
+use Rattle.std.proofs.Common.{◌≡◌, ◌≤◌, ◌∙◌, ◌||◌, ℕ, suc, Bool, false, List, [], ◌∷◌, ◌++◌, map, ap, refl, arith}
+use Rattle.std.proofs.lemmas.Bool.{cond_both, ne_eqb}
 use Rattle.std.specs.List.{AllByRecursion as Each}
-use Rattle.net_rules.specs.Flights.{copies, joined, ready_copy, seen, ticked, travels, without}
+use Rattle.net_rules.specs.Flights.{copies, joined, seen, ticked, travels}
 use Rattle.net_rules.specs.Script.{without_first}
 use Rattle.net_rules.specs.declared.fate.Fate.{Fate}
 use Rattle.net_rules.specs.declared.fate.Fate.TheVariants as fate

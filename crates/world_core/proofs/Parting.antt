@@ -1,5 +1,5 @@
 -- A member's part of an event, done by a copy of it.
-use Rattle.std.proofs.Common.{◌≡◌, ◌≤◌, ◌<◌, ◌+◌, ◌^◌, ◌∙◌, All, ℕ, zero, suc, List, [], ◌∷◌, get_or, map, ap, sym, subst, refl, arith, length, length-append}
+use Rattle.std.proofs.Common.{◌≡◌, ◌<◌, ◌+◌, ◌^◌, All, ℕ, zero, suc, List, [], ◌∷◌, get_or, map, ap, sym, subst, arith, length, length-append}
 use Rattle.std.specs.List.{AllByRecursion as Each}
 use Rattle.value_core.specs.Sound.{IsSoundMessage, IsSoundReply}
 use Rattle.value_core.specs.declared.action.Reply.{Reply}

@@ -1,12 +1,10 @@
 -- A draft, while the members of an event do their parts one after the other, and once they are done.
-use Rattle.std.proofs.Common.{◌≡◌, ◌≤◌, ◌<◌, ◌+◌, ◌∙◌, ◌⊎◌, inl, inr, ⊎_elim, ◌&&◌, ◌||◌, ◌==◌, not, ℕ, zero, suc, Bool, true, false, cond, None, List, [], ◌∷◌, ◌++◌, Some, slice_get, slice_set, take, map, ap, sym, subst, refl, arith, length, length-append, append_assoc, append-nil}
+use Rattle.std.proofs.Common.{◌≡◌, ◌≤◌, ◌<◌, ◌+◌, ◌∙◌, ◌⊎◌, inl, inr, ⊎_elim, ◌&&◌, ◌||◌, ◌==◌, not, ℕ, zero, suc, Bool, false, cond, None, List, [], ◌∷◌, ◌++◌, Some, slice_get, slice_set, take, ap, sym, subst, refl, arith, length, length-append, append_assoc, append-nil}
 use Rattle.std.proofs.lemmas.Bool.{cases_eq, eq-eqb}
 use Rattle.std.specs.List.{AllByRecursion as Each}
 use Rattle.value_core.specs.declared.action.Line.{Line}
 use Rattle.value_core.specs.declared.message.Message.{Message}
 use Rattle.object_manager.specs.After.{Copied}
-use Rattle.object_manager.specs.Viewed.{Viewed}
-use Rattle.book_law.specs.Performed.{Performed}
 use Rattle.book_law.specs.declared.placing.Placed.{Placed}
 use Rattle.group_rules.specs.Steps.{is_empty}
 use Rattle.node_rules.specs.Entries.{told_lines}
@@ -18,7 +16,7 @@ use Rattle.world_rules.specs.Mail.{Mail, posted}
 use Rattle.world_rules.specs.Nodes as nodes
 use Rattle.world_rules.specs.Nodes.{NodeWork, aside_of, entries_of, mails_of}
 use Rattle.world_rules.specs.Steps.{AtWork, after_part, has_stirred, has_stirred_at, has_stirred_below, untouched}
-use Rattle.world_rules.specs.Worlds.{World, agreed, singles_in}
+use Rattle.world_rules.specs.Worlds.{World, agreed}
 use Rattle.node_core.specs.Keeping.{KeepsTasks}
 use Rattle.node_core.specs.Shown.{Left, Stood}
 use Rattle.node_core.specs.Stands.{IsDone, StandsAs}
@@ -26,7 +24,6 @@ use Rattle.node_core.specs.declared.moved.Moved.{Moved}
 use Rattle.node_core.specs.declared.node.Node.{Node}
 use Rattle.world_parts.specs.Recorded.{of_pieces}
 use Rattle.world_parts.specs.Standing.{IsWorld}
-use Rattle.world_parts.specs.declared.ledger.Piece.{Piece}
 use Rattle.world_parts.specs.declared.parts.Parts.{Parts}
 use Rattle.world_core.specs.Drafting.{AreNodes, AreOutgoing, HasAdded, HasSpelled, IsDraft, KeepTasks, behind, has_moved, lines_behind, out_in, taken}
 use Rattle.world_core.specs.Growing.{HasDrafted, Progress}
@@ -34,7 +31,7 @@ use Rattle.world_core.specs.Stepping.{is_burst_of}
 use Rattle.world_core.specs.declared.draft.Draft.{Draft}
 use Rattle.world_core.specs.declared.draft.Part.{Part}
 use Rattle.world_core.specs.declared.letters.Outgoing.{Outgoing}
-use Rattle.world_core.proofs.Adding.{letters_added, nodes_added, set_length, stays_at, stirred_added, taken_length, taken_push, tasks_added, with_other, with_own}
+use Rattle.world_core.proofs.Adding.{letters_added, nodes_added, stays_at, stirred_added, taken_length, taken_push, tasks_added, with_other, with_own}
 use Rattle.world_core.proofs.Handing.{seen_there}
 use Rattle.world_core.proofs.StayOut.{OutComputes, outs_kept, still_out}
 use Rattle.world_core.proofs.Growing.{Fronts, Tells, drafted_all, drafted_first, drafted_list, drafted_on, fronts_on}

@@ -1,19 +1,17 @@
 -- With no task out the parts of a run stand for the same world.
-use Rattle.std.proofs.Common.{◌≡◌, ◌≤◌, ◌<◌, ◌+◌, ◌∙◌, ◌⊎◌, ⊎_elim, ℕ, zero, suc, Bool, true, false, cond, List, [], ◌∷◌, Option, Some, None, slice_get, slice_set, slice_index_or, is_some, ap, sym, subst, refl, arith, map, length}
+use Rattle.std.proofs.Common.{◌≡◌, ◌≤◌, ◌<◌, ◌∙◌, ⊎_elim, ℕ, zero, suc, List, [], ◌∷◌, Option, Some, None, slice_get, slice_set, slice_index_or, ap, sym, subst, refl, arith, map, length}
 use Rattle.std.proofs.lemmas.Bool.{cases_lt}
 use Rattle.std.proofs.lemmas.Option.{slice_get_within}
-use Rattle.object_manager.specs.Viewed.{Viewed}
 use Rattle.world_rules.specs.Frame.{Frame}
-use Rattle.world_rules.specs.Worlds.{World}
 use Rattle.node_core.specs.CheckingIn.{HasRecalled, recalled}
 use Rattle.node_core.specs.Pieces.{resident_at}
 use Rattle.node_core.specs.Shown.{Left, Stood}
-use Rattle.node_core.specs.Stands.{StandsAlike, StandsAs}
+use Rattle.node_core.specs.Stands.{StandsAlike}
 use Rattle.node_core.specs.declared.node.Node.{Node}
 use Rattle.node_core.specs.declared.resident.Resident.{Resident}
 use Rattle.world_parts.proofs.Opening.{nobody_out}
 use Rattle.world_parts.specs.Seen.{tasks_out}
-use Rattle.world_parts.specs.Standing.{IsWorld, Stands, outs_of, seen_of}
+use Rattle.world_parts.specs.Standing.{IsWorld, Stands, seen_of}
 use Rattle.world_parts.specs.declared.parts.Parts.{Parts}
 use Rattle.world_core.specs.Recalling.{AreRecalled, IsRecalled}
 use Rattle.world_core.proofs.Adding.{got_set, set_length}

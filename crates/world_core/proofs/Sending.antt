@@ -1,5 +1,5 @@
 -- The packets that an event sends, in bytes and as letters.
-use Rattle.std.proofs.Common.{◌≡◌, ◌∙◌, ℕ, suc, List, [], ◌∷◌, ◌++◌, Some, None, take, map, ap, sym, subst, refl, arith, length, append-nil, append_assoc}
+use Rattle.std.proofs.Common.{◌≡◌, ◌∙◌, ℕ, suc, List, [], ◌∷◌, ◌++◌, take, map, ap, sym, refl, arith, length, append-nil, append_assoc}
 use Rattle.std.specs.List.{AllByRecursion as Each}
 use Rattle.group_packets.specs.Packet.{kind_of}
 use Rattle.group_packets.specs.declared.packet.PacketKind.{PacketKind}
@@ -12,7 +12,7 @@ use Rattle.net_rules.specs.declared.fate.Fate.TheVariants as fate
 use Rattle.net_rules.specs.declared.flight.Flight.{Flight}
 use Rattle.packet_bytes.specs.Spelling.{packet_spelling}
 use Rattle.world_rules.specs.Frame.{Frame}
-use Rattle.world_rules.specs.Mail.{Carried, Mail, carried, cut_to, posted}
+use Rattle.world_rules.specs.Mail.{Mail, carried, cut_to, posted}
 use Rattle.world_rules.specs.Steps.{posts, posts_all, told_of}
 use Rattle.world_rules.specs.Worlds.{Told, World}
 use Rattle.world_parts.specs.Standing.{spelled}

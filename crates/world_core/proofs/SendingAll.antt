@@ -1,7 +1,6 @@
 -- Packets are sent one after the other.
-use Rattle.std.proofs.Common.{◌≡◌, ◌≤◌, ◌<◌, ◌+◌, ◌^◌, ◌∙◌, ℕ, suc, List, [], ◌∷◌, ◌++◌, take, ap, sym, subst, refl, arith, length, length-append, append-nil, append_assoc}
+use Rattle.std.proofs.Common.{◌≡◌, ◌+◌, ◌∙◌, ℕ, suc, List, [], ◌∷◌, ◌++◌, take, ap, sym, subst, refl, arith, length, append-nil, append_assoc}
 use Rattle.std.proofs.lemmas.List.{length_push}
-use Rattle.std.specs.List.{AllByRecursion as Each}
 use Rattle.net_rules.specs.Asked.{packet_asked}
 use Rattle.net_rules.specs.Flights.{copies, joined}
 use Rattle.net_rules.specs.declared.asked.Asked.{Asked}

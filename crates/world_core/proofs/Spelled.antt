@@ -1,5 +1,5 @@
 -- Letters in bytes, one after the other.
-use Rattle.std.proofs.Common.{◌≡◌, ◌<◌, ◌∙◌, All, ℕ, zero, suc, List, [], ◌∷◌, ◌++◌, Some, slice_get, take, ap, sym, subst, refl, arith, length, append_assoc, append-nil}
+use Rattle.std.proofs.Common.{◌≡◌, ◌∙◌, All, ℕ, zero, suc, List, [], ◌∷◌, ◌++◌, Some, slice_get, take, ap, sym, subst, append_assoc, append-nil}
 use Rattle.value_core.specs.Sound.{IsSoundMessage, IsSoundReply}
 use Rattle.value_core.specs.declared.action.Reply.{Reply}
 use Rattle.value_core.specs.declared.message.Message.{Message}

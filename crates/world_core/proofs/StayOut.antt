@@ -1,5 +1,5 @@
 -- The tasks that are out stay so while a member does its part.
-use Rattle.std.proofs.Common.{◌≡◌, ◌≤◌, ◌<◌, ◌∙◌, ◌⊎◌, ⊎_elim, ◌==◌, ◌&&◌, ℕ, Bool, true, false, cond, List, [], Option, Some, None, slice_get, slice_set, get_or, is_some, option_map, map, ap, sym, refl, arith, length}
+use Rattle.std.proofs.Common.{◌≡◌, ◌≤◌, ◌<◌, ◌∙◌, ⊎_elim, ◌==◌, ◌&&◌, ℕ, Bool, true, false, cond, List, [], Option, Some, None, slice_get, slice_set, get_or, is_some, option_map, map, ap, sym, refl, arith, length}
 use Rattle.std.proofs.lemmas.Bool.{cases_eq, cases_lt, eq-eqb, ne_eqb}
 use Rattle.std.proofs.lemmas.Option.{slice_get_within}
 use Rattle.object_manager.specs.Viewed.{Viewed}

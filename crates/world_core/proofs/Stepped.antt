@@ -1,5 +1,5 @@
 -- The parts of a run after a step stand for the world after it.
-use Rattle.std.proofs.Common.{◌≡◌, ◌≤◌, ◌<◌, ◌+◌, ◌*◌, ◌^◌, ◌∙◌, ◌⊎◌, ⊎_elim, if◌then◌else◌, ℕ, zero, suc, Bool, true, false, cond, List, [], ◌∷◌, ◌++◌, Option, Some, None, slice_get, slice_set, map, ap, sym, subst, refl, arith, length}
+use Rattle.std.proofs.Common.{◌≡◌, ◌≤◌, ◌<◌, ◌+◌, ◌^◌, ◌∙◌, ⊎_elim, ℕ, zero, suc, Bool, true, false, cond, List, [], ◌∷◌, ◌++◌, Option, Some, None, slice_get, slice_set, map, ap, sym, subst, refl, arith, length}
 use Rattle.std.proofs.lemmas.List.{length-map, length_push}
 use Rattle.std.specs.List.{AllByRecursion as Each}
 use Rattle.object_manager.specs.Viewed.{Viewed}
@@ -15,7 +15,7 @@ use Rattle.world_rules.specs.declared.event.Event.{Event}
 use Rattle.world_rules.specs.declared.event.Event.TheVariants as event
 use Rattle.world_rules.specs.declared.event.Step.{Step}
 use Rattle.world_rules.specs.Frame.{Frame}
-use Rattle.world_rules.specs.Mail.{Carried, Mail, is_whole, posted, receiver_of}
+use Rattle.world_rules.specs.Mail.{Carried, Mail, is_whole, receiver_of}
 use Rattle.world_rules.specs.Nodes as nodes_of
 use Rattle.world_rules.specs.Steps.{AtWork, Known, Next, Replays, after_step, comes, comes_whole, happens, has_stirred, idle_after, lives_in, posts_all, ticks_below, untouched}
 use Rattle.value_core.specs.declared.message.Message.{Message}
@@ -27,10 +27,10 @@ use Rattle.node_core.specs.declared.node.Node.{Node}
 use Rattle.node_core.specs.declared.resident.Resident.{Resident}
 use Rattle.world_parts.specs.Recorded.{of_pieces}
 use Rattle.world_parts.specs.Seen.{tasks_out}
-use Rattle.world_parts.specs.Standing.{CanBeRead, IsTask, IsWorld, Stands, seen_of, spelled}
+use Rattle.world_parts.specs.Standing.{CanBeRead, IsTask, IsWorld, seen_of, spelled}
 use Rattle.world_parts.specs.declared.parts.Parts.{Parts}
 use Rattle.world_core.specs.Closing.{flights_after, lives_after, sent_all, swaps_after}
-use Rattle.world_core.specs.Drafting.{AreNodes, AreOutgoing, IsDraft, IsOutgoing}
+use Rattle.world_core.specs.Drafting.{AreNodes, AreOutgoing, IsDraft}
 use Rattle.world_core.specs.declared.draft.Draft.{Draft}
 use Rattle.world_core.specs.declared.letters.Outgoing.{Outgoing}
 use Rattle.world_core.proofs.Adding.{got_set, set_length, with_other, with_own}

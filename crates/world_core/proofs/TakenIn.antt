@@ -1,8 +1,6 @@
 -- A burst that is checked in is a step of the run.
-use Rattle.std.proofs.Common.{◌≡◌, ◌≤◌, ◌<◌, ◌+◌, ◌-◌, ◌∙◌, ◌⊎◌, ⊎_elim, ◌==◌, not, ℕ, suc, Bool, true, false, cond, List, [], ◌∷◌, ◌++◌, Option, Some, None, slice_get, slice_set, slice_index_or, is_some, map, ap, sym, subst, refl, arith, length}
-use Rattle.object_manager.specs.Viewed.{Viewed}
+use Rattle.std.proofs.Common.{◌≡◌, ◌≤◌, ◌+◌, ◌-◌, ◌∙◌, ℕ, true, Option, Some, None, slice_get, ap, sym, subst, refl, arith}
 use Rattle.value_core.specs.History.{Objects}
-use Rattle.orca_base.specs.declared.ids.ProcessNo.{ProcessNo}
 use Rattle.world_rules.specs.Bursts.{Ran, last_turn}
 use Rattle.world_rules.specs.declared.standing.Standing.TheVariants.{Going}
 use Rattle.world_rules.specs.Frame.{Frame}
@@ -12,14 +10,13 @@ use Rattle.world_rules.specs.Standings.{standing}
 use Rattle.world_rules.specs.Steps.{Burst, IsBurst, objects_after}
 use Rattle.world_rules.specs.Worlds.{World, home_of}
 use Rattle.node_core.specs.CheckingIn.{HasCheckedIn}
-use Rattle.node_core.specs.Pieces.{resident_at}
 use Rattle.node_core.specs.Shown.{IsPlayed, IsPlayedIf, Left, Stood, on_stage}
 use Rattle.node_core.specs.Stands.{StandsAs}
-use Rattle.node_core.specs.Tasks.{Computed, HasEnded}
+use Rattle.node_core.specs.Tasks.{Computed}
 use Rattle.node_core.specs.declared.node.Node.{Node}
 use Rattle.node_core.specs.declared.resident.Resident.{Resident}
 use Rattle.node_core.specs.declared.task.CheckedIn.{CheckedIn}
-use Rattle.world_parts.specs.Standing.{IsTask, IsWorld, Stands}
+use Rattle.world_parts.specs.Standing.{IsWorld, Stands}
 use Rattle.world_parts.specs.declared.parts.Parts.{Parts}
 
 -- the process that is here, as the world has it

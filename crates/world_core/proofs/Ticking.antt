@@ -1,8 +1,7 @@
 -- A tick, member by member.
-use Rattle.std.proofs.Common.{◌≡◌, ◌≤◌, ◌<◌, ◌+◌, ◌^◌, ◌∙◌, ◌⊎◌, inl, inr, ⊎_elim, ℕ, zero, suc, Bool, true, false, cond, List, [], ◌∷◌, ◌++◌, Some, slice_get, ap, sym, subst, refl, arith, length, length-append}
+use Rattle.std.proofs.Common.{◌≡◌, ◌≤◌, ◌<◌, ◌^◌, ◌∙◌, ⊎_elim, ℕ, zero, suc, Bool, true, false, cond, List, [], ◌∷◌, ◌++◌, ap, sym, subst, refl, arith, length}
 use Rattle.std.proofs.lemmas.Bool.{cases_eq, cases_lt}
 use Rattle.std.specs.List.{AllByRecursion as Each}
-use Rattle.book_law.proofs.Processes.{get_some}
 use Rattle.node_rules.specs.Conditions.{Fitness}
 use Rattle.node_rules.specs.Laws.{PartsAreWalks}
 use Rattle.node_rules.specs.Moments.{at_work}
@@ -11,8 +10,6 @@ use Rattle.node_rules.specs.Starts.Start.{Ticks}
 use Rattle.run_law.specs.Growing.{ListGrows}
 use Rattle.run_law.specs.Parts.{TicksApart}
 use Rattle.world_calls.specs.Law.{ticking}
-use Rattle.world_law.specs.SoundPackets.{IsSoundMail}
-use Rattle.world_rules.specs.declared.event.Event.TheVariants as event
 use Rattle.world_rules.specs.Frame.{Frame}
 use Rattle.world_rules.specs.Mail.{Mail}
 use Rattle.world_rules.specs.Nodes as nodes

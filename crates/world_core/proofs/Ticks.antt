@@ -1,7 +1,5 @@
 -- A member's part of a tick joins the draft of those before it.
-use Rattle.std.proofs.Common.{◌≡◌, ◌≤◌, ◌<◌, ◌+◌, ◌^◌, ◌∙◌, ℕ, suc, Bool, true, false, Some, slice_get, ap, sym, subst, refl, arith, length, length-append}
-use Rattle.std.specs.List.{AllByRecursion as Each}
-use Rattle.book_law.proofs.Processes.{get_some}
+use Rattle.std.proofs.Common.{◌≡◌, ◌<◌, ◌^◌, ℕ, suc, true, false, Some, slice_get, ap, sym, subst, refl, arith, length, length-append}
 use Rattle.node_rules.specs.Conditions.{Fitness}
 use Rattle.node_rules.specs.Laws.{PartsAreWalks}
 use Rattle.node_rules.specs.Starts.{EventFits, part}
@@ -11,10 +9,9 @@ use Rattle.world_law.specs.SoundPackets.{IsSoundMail}
 use Rattle.world_rules.specs.declared.event.Event.TheVariants as event
 use Rattle.world_rules.specs.declared.standing.Standing.TheVariants.{Going}
 use Rattle.world_rules.specs.Frame.{Frame}
-use Rattle.world_rules.specs.Nodes as nodes
 use Rattle.world_rules.specs.Standings.{is_quiet, standing}
 use Rattle.world_rules.specs.Steps.{AtWork}
-use Rattle.world_rules.specs.Worlds.{World, agreed}
+use Rattle.world_rules.specs.Worlds.{World}
 use Rattle.node_core.specs.Shown.{Left, Stood}
 use Rattle.node_core.specs.Stands.{IsDone, StandsAs}
 use Rattle.node_core.specs.declared.node.Node.{Node}

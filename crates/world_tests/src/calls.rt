@@ -27,7 +27,7 @@ fn burst(place: u64, turns: u32) -> Event {
 
 // What the opening world refuses: of these events how many, and how many steps there are then; and whether a burst of no turn is done.
 #[derive(Drop)]
-struct Refusals {
+struct Refused {
     refused: u64,
     steps: usize,
     enabled: bool,
@@ -38,7 +38,7 @@ fn refusals_as<T: RunName<Cells>>(
     alloc: Global,
     machine: &Cells,
     settings: Settings,
-) -> Result<Refusals, NoMemory>
+) -> Result<Refused, NoMemory>
     requires machine { T.machine ≡ Some machine.now }
     requires settings { settings ≡ T.settings }
     requires ranges { AreSettings settings }
@@ -47,7 +47,7 @@ fn refusals_as<T: RunName<Cells>>(
     refusals(alloc, &machine, settings)
 }
 
-fn refusals<P: OneRun>(alloc: Global, machine: &P, settings: Settings) -> Result<Refusals, NoMemory>
+fn refusals<P: OneRun>(alloc: Global, machine: &P, settings: Settings) -> Result<Refused, NoMemory>
     requires settings { settings ≡ P.run.frame.settings }
     requires ranges { AreSettings settings }
 {
@@ -71,7 +71,7 @@ fn refusals<P: OneRun>(alloc: Global, machine: &P, settings: Settings) -> Result
     }
     let steps = world.steps().len();
     let enabled = world.step(alloc, machine, burst(0, 0), &mut wire).is_ok();
-    Ok(Refusals {
+    Ok(Refused {
         refused,
         steps,
         enabled,
@@ -136,7 +136,7 @@ fn four_events(rt: HostRuntime) -> Result<(), Fail> {
 // What becomes of tasks that are out: how many are, and whether process 0 is ready, after each event in turn; how many came back astray; and
 // how many steps there are then.
 #[derive(Drop)]
-struct Tasks {
+struct Seen {
     out: Vec<(u16, bool)>,
     astray: u64,
     steps: usize,
@@ -147,7 +147,7 @@ fn tasks_as<T: RunName<Cells>>(
     alloc: Global,
     machine: &Cells,
     settings: Settings,
-) -> Result<Tasks, NoMemory>
+) -> Result<Seen, NoMemory>
     requires machine { T.machine ≡ Some machine.now }
     requires settings { settings ≡ T.settings }
     requires ranges { AreSettings settings }
@@ -156,12 +156,12 @@ fn tasks_as<T: RunName<Cells>>(
     tasks(alloc, &machine, settings)
 }
 
-fn tasks<P: OneRun>(alloc: Global, machine: &P, settings: Settings) -> Result<Tasks, NoMemory>
+fn tasks<P: OneRun>(alloc: Global, machine: &P, settings: Settings) -> Result<Seen, NoMemory>
     requires settings { settings ≡ P.run.frame.settings }
     requires ranges { AreSettings settings }
 {
     let mut world = World::new(alloc, machine, settings)?;
-    let mut seen = Tasks {
+    let mut seen = Seen {
         out: Vec::new(alloc),
         astray: 0,
         steps: 0,
@@ -173,7 +173,7 @@ fn tasks<P: OneRun>(alloc: Global, machine: &P, settings: Settings) -> Result<Ta
 }
 
 // How many tasks are out, and whether process 0 is ready.
-fn note<P: OneRun>(world: &World<P>, seen: &mut Tasks) -> Result<(), NoMemory> {
+fn note<P: OneRun>(world: &World<P>, seen: &mut Seen) -> Result<(), NoMemory> {
     let one = (world.tasks_out(), world.is_ready(ProcessNo::MAIN));
     seen.out.push(one)?;
     Ok(())
@@ -184,7 +184,7 @@ fn recalled<P: OneRun>(
     alloc: Global,
     machine: &P,
     world: &mut World<P>,
-    seen: &mut Tasks,
+    seen: &mut Seen,
 ) -> Result<(), NoMemory> {
     let Some(task) = hands_out(alloc, machine, world, ProcessNo::MAIN)? else {
         return Ok(());
@@ -204,7 +204,7 @@ fn overtaken<P: OneRun>(
     alloc: Global,
     machine: &P,
     world: &mut World<P>,
-    seen: &mut Tasks,
+    seen: &mut Seen,
     event: Event,
 ) -> Result<(), NoMemory> {
     let Some(task) = hands_out(alloc, machine, world, ProcessNo::MAIN)? else {
@@ -239,7 +239,7 @@ fn crashed_as<T: RunName<Cells>>(
     machine: &Cells,
     settings: Settings,
     event: Event,
-) -> Result<Tasks, NoMemory>
+) -> Result<Seen, NoMemory>
     requires machine { T.machine ≡ Some machine.now }
     requires settings { settings ≡ T.settings }
     requires ranges { AreSettings settings }
@@ -253,12 +253,12 @@ fn crashed<P: OneRun>(
     machine: &P,
     settings: Settings,
     event: Event,
-) -> Result<Tasks, NoMemory>
+) -> Result<Seen, NoMemory>
     requires settings { settings ≡ P.run.frame.settings }
     requires ranges { AreSettings settings }
 {
     let mut world = World::new(alloc, machine, settings)?;
-    let mut seen = Tasks {
+    let mut seen = Seen {
         out: Vec::new(alloc),
         astray: 0,
         steps: 0,
@@ -332,7 +332,7 @@ fn computed_at_once(rt: HostRuntime) -> Result<(), Fail> {
 // What a wire with no memory lets be: the answers of an action that sends and of a crash, and how many steps there are then; and whether the
 // action is done over another wire.
 #[derive(Drop)]
-struct Room {
+struct NoRoom {
     sends: Result<(), StepError>,
     crashes: Result<(), StepError>,
     steps: usize,
@@ -343,7 +343,7 @@ fn room_as<T: RunName<Cells>>(
     alloc: Global,
     machine: &Cells,
     settings: Settings,
-) -> Result<Room, NoMemory>
+) -> Result<NoRoom, NoMemory>
     requires machine { T.machine ≡ Some machine.now }
     requires settings { settings ≡ T.settings }
     requires ranges { AreSettings settings }
@@ -352,7 +352,7 @@ fn room_as<T: RunName<Cells>>(
     room(alloc, &machine, settings)
 }
 
-fn room<P: OneRun>(alloc: Global, machine: &P, settings: Settings) -> Result<Room, NoMemory>
+fn room<P: OneRun>(alloc: Global, machine: &P, settings: Settings) -> Result<NoRoom, NoMemory>
     requires settings { settings ≡ P.run.frame.settings }
     requires ranges { AreSettings settings }
 {
@@ -367,7 +367,7 @@ fn room<P: OneRun>(alloc: Global, machine: &P, settings: Settings) -> Result<Roo
     let done = world
         .step(alloc, machine, Event::Act { process }, &mut plain)
         .is_ok();
-    Ok(Room {
+    Ok(NoRoom {
         sends,
         crashes,
         steps,

@@ -14,7 +14,7 @@ use world_core::{Event, RunEnd, Settings, Standing, StepError, World};
 
 /// What a run left: how it stands, how many wires were given up, and all that is kept of it.
 #[derive(Drop)]
-pub struct Ran {
+pub struct Run {
     pub standing: Standing,
     pub swaps: u16,
     pub end: RunEnd,
@@ -47,7 +47,7 @@ pub fn ran<M: Processor, W: Wire>(
     machine: &M,
     settings: Settings,
     wires: &mut [W],
-) -> Result<Ran, NoMemory>
+) -> Result<Run, NoMemory>
     requires { AreSettings settings }
 {
     ran_as::<Brand, M, W>(alloc, machine, settings, wires)
@@ -59,7 +59,7 @@ fn ran_as<T: RunName<M>, M: Processor, W: Wire>(
     machine: &M,
     settings: Settings,
     wires: &mut [W],
-) -> Result<Ran, NoMemory>
+) -> Result<Run, NoMemory>
     requires machine { T.machine ≡ Some machine.now }
     requires settings { settings ≡ T.settings }
     requires ranges { AreSettings settings }
@@ -74,7 +74,7 @@ fn ran_tied<P: OneRun, W: Wire>(
     machine: &P,
     settings: Settings,
     wires: &mut [W],
-) -> Result<Ran, NoMemory>
+) -> Result<Run, NoMemory>
     requires settings { settings ≡ P.run.frame.settings }
     requires ranges { AreSettings settings }
 {
@@ -87,7 +87,7 @@ fn ran_tied<P: OneRun, W: Wire>(
     let standing = world.standing();
     let swaps = world.swaps();
     let end = world.into_end(alloc)?;
-    Ok(Ran {
+    Ok(Run {
         standing,
         swaps,
         end,

@@ -3,7 +3,7 @@
 ghost use Rattle.std.specs.Prelude.{◌≤◌};
 
 use crate::cells::Cells;
-use crate::driving::{Ran, ran, settings};
+use crate::driving::{Run, ran, settings};
 use bag_processes::Scripts;
 use fault_scripts::read_script;
 use lossy_net::PlainWire;
@@ -26,7 +26,7 @@ fn scripted(alloc: Global, text: &[u8]) -> Result<ScriptWire, Fail> {
 }
 
 // A run of the cell's process on three members over one wire with this script.
-fn ran_by(alloc: Global, resilience: u8, text: &[u8]) -> Result<(Ran, u64), Fail>
+fn ran_by(alloc: Global, resilience: u8, text: &[u8]) -> Result<(Run, u64), Fail>
     requires { resilience ≤ 1 }
 {
     let mut wires = Vec::new(alloc);

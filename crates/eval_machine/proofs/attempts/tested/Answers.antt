@@ -14,7 +14,7 @@ pub returns : goal.returns
 returns c = λ us t o is.
     let v = operation_scope us t o true in
     let e = expr c.args.test.now in
-    let s0 = state_of c.in_ok-run.run in
+    let s0 = state_of c.in_ok-run.run' in
     subst (λ (s : State). GivesSome datum_of c.evaluate.result (eval (all_calls us) v e s)) ((c.in_ok-run.ensures {u = tt}) us t o is)
     (in_some_state datum_of c.evaluate.result (state_of c.evaluate.new.run) (eval (all_calls us) v e s0)
     (c.evaluate.ensures.gives v (c.new-site.ensures v is.code (is.operation.body true) refl)))

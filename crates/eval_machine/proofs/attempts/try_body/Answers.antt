@@ -1,7 +1,7 @@
-use Rattle.std.proofs.Common.{◌≡◌, false, refl, subst, ◌∙◌}
-use Rattle.std.specs.Prelude.{is_some}
-use Rattle.std.proofs.lemmas.Result.{IfOk-weaker}
+use Rattle.std.proofs.Common.{◌≡◌, false, refl, subst}
+use Rattle.std.specs.Prelude.{IfOk, is_some}
 use Rattle.orca_syntax.specs.Shown.{stmts}
+use Rattle.value_core.specs.declared.meaning.Tried.{Tried}
 use Rattle.meaning_rules.specs.Functions.{all_calls}
 use Rattle.meaning_rules.specs.Operations.{own_count}
 use Rattle.meaning_rules.specs.Programs.{operation_scope}
@@ -22,8 +22,8 @@ returns-in-Ok c = λ us t o is.
     let flow = flow_of c.in-Ok.flow in
     let goes = subst (λ (s : State). run_all (all_calls us) v ss s ≡ Goes flow s1) ((c.in_ok-run.ensures {u = tt}) us t o is)
     ((c.in-Ok.ensures {u = tt}).gives v (c.new-site.ensures v is.code (is.operation.body false) refl)) in
-    IfOk-weaker c.ended.result _ _
-    (λ it said. said ∙ body_goes c.args.guard c.own_count-own.result (own_count us t o a.args.now) a.operation.now.has_result (is_some o.head.result) flow s1
+    subst (λ (x : Tried). IfOk c.ended.result (λ it. it ≡ x))
+    (body_goes c.args.guard c.own_count-own.result (own_count us t o a.args.now) a.operation.now.has_result (is_some o.head.result) flow s1
     (run_all (all_calls us) v ss (begins a us t o)) (c.own_count-own.ensures us t o is) is.operation.has_result goes)
     c.ended.ensures
 

@@ -1,4 +1,4 @@
-use Rattle.std.proofs.Common.{◌≡◌, List, Option, sym, ap, ◌∙◌, subst}
+use Rattle.std.proofs.Common.{List, Option, sym, ap, ◌∙◌, subst}
 use Rattle.std.specs.Prelude.{slice_get}
 use Rattle.std.specs.Borrow.{Bor}
 use Rattle.link_rules.specs.Units.{Source}
@@ -23,8 +23,8 @@ returns-in-None-clause-gives c = λ us is numbers.
     let gone = nothing_there IsLent (process_at us c.args.text) (subst (λ (o : Option (Bor BlockCode)). Both IsLent o (process_at us c.args.text)) c.in-None.is (c.process.ensures us is)) in
     by_routine us number args (slice_get (process_texts us) c.args.text.0) s0 ∙ ap (λ (o : Option Routine). routine_or_busy number args o s0) gone
 
-pub returns-clause-gives : goal.returns-clause-gives
-returns-clause-gives c = λ us is numbers.
+pub returns-in-Some-clause-gives : goal.returns-in-Some-clause-gives
+returns-in-Some-clause-gives c = λ us is numbers.
     let number = c.args.number in
     let args = c.args.args.now in
     let s0 = state_of c.args.run.now in

@@ -1,11 +1,11 @@
-use Rattle.std.proofs.Common.{◌≡◌, Option, Some, None, sym, ap, ◌∙◌, subst}
+use Rattle.std.proofs.Common.{◌≡◌, Option, sym, ap, ◌∙◌, subst}
 use Rattle.std.specs.Prelude.{IfOk}
 use Rattle.std.specs.Borrow.{Bor}
 use Rattle.value_core.specs.Datum.{Data}
 use Rattle.value_core.specs.declared.action.Reply.TheVariants as reply
 use Rattle.value_core.specs.declared.meaning.Tried.{Tried}
 use Rattle.value_core.specs.declared.meaning.Tried.TheVariants as tried
-use Rattle.meaning_rules.specs.Operations.{tries_of, type_tried}
+use Rattle.meaning_rules.specs.Operations.{type_tried}
 use Rattle.meaning_rules.specs.Programs.{ObjectType, object_type}
 use Rattle.eval_bodies.specs.declared.objects.ObjectCode.{ObjectCode}
 use Rattle.eval_bodies.specs.Matching.{Both}
@@ -14,8 +14,8 @@ use Rattle.eval_machine.proofs.Attempting.{if_other, if_zero}
 use Rattle.eval_machine.proofs.Texting.{nothing_there, something_there}
 use Rattle.eval_machine.proofs.tries.try_operation.Goals as goal
 
-pub returns-in_ok-state-then-kind-eq0 : goal.returns-in_ok-state-then-kind-eq0
-returns-in_ok-state-then-kind-eq0 c = λ us is numbers.
+pub returns-then-kind-eq0 : goal.returns-then-kind-eq0
+returns-then-kind-eq0 c = λ us is numbers.
     ap (λ (w : Data). tried.Did 0 w reply.Done) (c.in_ok-state.ensures {u = tt})
     ∙ sym (if_zero c.args.kind.0 (tried.Did 0 c.args.state.now reply.Done) (type_tried us c.args.op c.args.state.now c.args.args.now (object_type us c.args.kind)) c.if-kind-eq0.true)
 

@@ -1,7 +1,6 @@
 use Rattle.std.proofs.Common.{◌≡◌, List, Option, Some, None, sym, ap, ◌∙◌, subst}
 use Rattle.std.specs.Prelude.{IfOk, option_map, slice_get}
 use Rattle.std.specs.Borrow.{Bor}
-use Rattle.value_core.specs.declared.meaning.Tried.TheVariants as tried
 use Rattle.meaning_rules.specs.Operations.{operation_tried}
 use Rattle.orca_syntax.specs.Syntax.{Operation}
 use Rattle.eval_bodies.specs.declared.objects.OperationCode.{OperationCode}
@@ -22,7 +21,7 @@ returns-in-None c = λ us kind t is numbers type fits.
 pub returns-in-Some : goal.returns-in-Some
 returns-in-Some c = λ us kind t is numbers type fits.
     let of = c.args.of.now in
-    let own = c.in-Some.operation in
+    let own = c.in-Some.operation.now in
     let there : slice_get of.operations.items c.args.op.0 ≡ Some own =
     ap (λ (l : List OperationCode). slice_get l c.args.op.0) (sym c.deref.ensures.value) ∙ sym c.operation_at.ensures ∙ ap now_of c.in-Some.is in
     let found = some_at (IsOperationCode us t) of.operations.items t.operations c.args.op.0 own fits.operations there in

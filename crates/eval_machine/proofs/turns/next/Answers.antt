@@ -14,9 +14,9 @@ pub returns-clause-doing : goal.returns-clause-doing
 returns-clause-doing c =
     let m = c.args.machine.now in
     let p = c.args.process.now in
-    let us = sources m.checked.now in
+    let us = sources m.code.checked in
     let r = c.next_doing.result in
     ∥∥₁_elim m.coded (doing_once r (λ (n : Next). n.doing) (doing_by us (kept p) c.args.turns))
     (λ is.
-    subst (λ (l : List Reply). IfOk r (λ n. n.doing ≡ next_doing us p.text p.number p.args l c.args.turns)) c.deref.ensures.value
-    (c.next_doing.ensures.doing us is (numbers_of m.checked.now m.within)))
+    subst (λ (l : List Reply). IfOk r (λ n. n.doing ≡ next_doing us p.text p.number p.args l c.args.turns)) c.as_slice.ensures
+    (c.next_doing.ensures.doing us is (numbers_of m.code.checked m.within)))

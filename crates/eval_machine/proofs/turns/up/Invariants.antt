@@ -8,7 +8,7 @@ abbrev pub invariant-turns : goal.invariant-turns
 invariant-turns l = record {
   low : l.process.turns ≤ l.used;
   high : l.first ≤ l.last → l.used ≤ l.last;
-  busy : (l.used ≡ l.process.turns) ⊎ (doing_by (sources l.machine.checked.now) (kept l.process) l.used ≡ doing.Busy);
+  busy : (l.used ≡ l.process.turns) ⊎ (doing_by (sources l.machine.code.checked) (kept l.process) l.used ≡ doing.Busy);
 }
 
 abbrev pub decreases-turns : goal.decreases-turns

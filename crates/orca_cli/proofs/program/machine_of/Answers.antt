@@ -6,12 +6,12 @@ use Rattle.orca_cli.proofs.CliLemmas.{if_any, machine_units}
 use Rattle.orca_cli.proofs.program.machine_of.Goals as goal
 
 pub returns-in-Ok-clause-of : goal.returns-in-Ok-clause-of
-returns-in-Ok-clause-of g c = machine_units c.checked_machine.result c.in-Ok.checked _ (ap (λ (p : Program). map source p.units.items) c.in-Ok.ensures.program) c.checked_machine.ensures.of
+returns-in-Ok-clause-of c = machine_units c.checked_machine.result c.in-Ok.checked _ (ap (λ (p : Program). map source p.units.items) c.in-Ok.ensures.program) c.checked_machine.ensures.of
 
 pub returns-in-Ok-clause-accepted : goal.returns-in-Ok-clause-accepted
-returns-in-Ok-clause-accepted g c = λ files are. if_any c.checked_machine.result _ (c.in-Ok.ensures.accepted files are)
+returns-in-Ok-clause-accepted c = λ files are. if_any c.checked_machine.result _ (c.in-Ok.ensures.accepted files are)
 
 pub returns-in-Ok-clause-refused : goal.returns-in-Ok-clause-refused
-returns-in-Ok-clause-refused g c = λ files are.
+returns-in-Ok-clause-refused c = λ files are.
     let same = ap (λ (p : Program). map source p.units.items) c.in-Ok.ensures.program in
     c.checked_machine.ensures.refused files (subst (IsAccepted files) (sym same) (c.in-Ok.ensures.accepted files are))

@@ -6,4 +6,4 @@ returns-in-Refused-clause-said g c = λ told before now history files sources te
 pub returns-in-Limited-clause-said : goal.returns-in-Limited-clause-said
 returns-in-Limited-clause-said g c = λ told before now history files sources text read is.
     let limited = rw c.in-Limited.is at is in
-    c.say_limited.ensures.said told before now history files sources text limited.0 read limited.1.0 limited.1.1
+    c.say_limited.ensures.said told before now history files sources text limited.0 read limited.1 limited.2

@@ -5,8 +5,8 @@ use Rattle.orca_cli.proofs.report.print_run.Goals as goal
 
 pub returns-in_err-print_book-clause-wrote : goal.returns-in_err-print_book-clause-wrote
 returns-in_err-print_book-clause-wrote g c =
-    let p = err_from_is_err_and c.from_residual-in_err-print_book.result c.from_residual-in_err-print_book.ensures.1 in
-    rw (p.1, p.2) (front_of_both _ _ _ _ _ (rw c.deref.ensures.value at c.in_err-print_book.ensures.wrote))
+    let p = err_from_is_err_and c.from_residual.result c.from_residual.ensures.1 in
+    rw (p.1, p.2) (front_of_both _ _ _ _ p.0 (rw c.deref.ensures.value at c.in_err-print_book.ensures.wrote))
 
 pub returns-clause-wrote : goal.returns-clause-wrote
 returns-clause-wrote g c = text_behind _ _ _ _ _ _ (rw c.deref.ensures.value at c.in_ok-print_book.ensures.wrote) c.print_behind.ensures.wrote

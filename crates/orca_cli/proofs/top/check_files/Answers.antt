@@ -13,7 +13,7 @@ pub returns-in-Ok-judged_sources-clause-said : goal.returns-in-Ok-judged_sources
 returns-in-Ok-judged_sources-clause-said g c = λ words asked.
     let accepted = rw c.deref.ensures.value at c.in-Ok-judged_sources.ensures.accepted in
     answer_of (λ l. l.items) c.ok_line.result words _ _ _ _ 0 _ lines.ok_line c.ok_line.ensures c.said.ensures.printed c.said.ensures.silent c.said.ensures.status
-    (because.accepted _ accepted.0 asked (is_program _ _ (map file_of c.in-Ok.sources.items) accepted.0 c.in-Ok.ensures.read accepted.1.0 accepted.1.1))
+    (because.accepted _ accepted.0 asked (is_program _ _ (map file_of c.in-Ok.sources.items) accepted.0 c.in-Ok.ensures.read accepted.1 accepted.2))
 
 pub returns-in-Err-Because-judged_sources-clause-said : goal.returns-in-Err-Because-judged_sources-clause-said
 returns-in-Err-Because-judged_sources-clause-said g c = λ words asked.

@@ -1,6 +1,7 @@
 use Rattle.std.proofs.Common.{◌≡◌, ⊎_elim, inr, map, arith, refl, subst, sym}
 use Rattle.orca_front.specs.Sources.{IsAccepted, file_of}
 use Rattle.orca_io.specs.Causes.{Rose}
+use Rattle.orca_cli.specs.Scripts.{IsUnreadable}
 use Rattle.command_files.proofs.ReadFiles.{only_left}
 use Rattle.orca_cli.specs.Programs.{units_of}
 use Rattle.orca_cli.proofs.CliLemmas.{files_run, has_script, if_none, is_program, unscripted_run}
@@ -9,37 +10,45 @@ use Rattle.orca_cli.proofs.top.run_files.Goals as goal
 
 pub returns-in-Err-Because-clause-refused : goal.returns-in-Err-Because-clause-refused
 returns-in-Err-Because-clause-refused g c = λ words asked.
-    if_none _ _ (c.said_unread.ensures.said words _ _ _ _ (files_run words _ c.args.options _ asked) (rw c.in-Err-Because.field-0-is at c.in-Err-Because.ensures.refused))
+    if_none _ _
+    (c.said_unread.ensures.said words (g.F.Shelf.told c.args.shelf.now) (g.F.Shelf.faults c.args.shelf.now) (g.F.Shelf.faults c.sources.new.shelf) (map (λ f. f.now) c.args.files.now)
+    (files_run words _ c.args.options _ asked) (rw c.in-Err-Because.field-0-is (rw c.in-Err-Because.field-0-is at c.in-Err-Because.ensures.refused)))
 
 pub returns-in-Err-Because-script_of-clause-refused : goal.returns-in-Err-Because-script_of-clause-refused
 returns-in-Err-Because-script_of-clause-refused g c = λ words asked.
     let told = g.F.Shelf.told c.args.shelf.now in
-    let rose = Rose (g.F.Shelf.faults c.args.shelf.now) (g.F.Shelf.faults c.script_of.new.shelf) in
+    let before = g.F.Shelf.faults c.args.shelf.now in
+    let now = g.F.Shelf.faults c.script_of.new.shelf in
     let quiet = only_left c.in-Ok.ensures.quiet in
     if_none _ _
-    (unscripted_run words _ c.args.options _ told rose c.in-Err-Because-script_of.cause _ asked
+    (unscripted_run words _ c.args.options _ told (Rose before now) c.in-Err-Because-script_of.cause _ asked
     (rw (c.sources.ensures.same, quiet, c.in-Err-Because-script_of.field-0-is) at c.in-Err-Because-script_of.ensures.refused)
-    (λ name named fault. c.said_unscripted.ensures.said words told _ _ _ (map file_of c.in-Ok.sources.items) name (files_run words _ c.args.options _ asked) c.in-Ok.ensures.read named fault))
+    (λ name named fault. c.said_unscripted.ensures.said words told before now (map (λ f. f.now) c.args.files.now) (map file_of c.in-Ok.sources.items) name (files_run words _ c.args.options _ asked) c.in-Ok.ensures.read named
+    (rw c.in-Err-Because-script_of.field-0-is fault)))
 
 pub returns-in-Err-Because-script_of-clause-read_fault : goal.returns-in-Err-Because-script_of-clause-read_fault
 returns-in-Err-Because-script_of-clause-read_fault g c = λ rose.
     let quiet = only_left c.in-Ok.ensures.quiet in
     ⊎_elim
     (λ (same : g.F.Shelf.faults c.script_of.new.shelf ≡ g.F.Shelf.faults c.sources.new.shelf). absurd (omega (arith, rose, same, quiet)))
-    (λ failed. c.said_unscripted.ensures.status failed)
+    (λ (failed : IsUnreadable c.in-Err-Because-script_of.cause). c.said_unscripted.ensures.status (rw c.in-Err-Because-script_of.field-0-is failed))
     (rw c.in-Err-Because-script_of.field-0-is at c.in-Err-Because-script_of.ensures.quiet)
 
 pub returns-in-Err-Because-linked_program-clause-refused : goal.returns-in-Err-Because-linked_program-clause-refused
 returns-in-Err-Because-linked_program-clause-refused g c = λ words asked.
-    if_none _ _ (c.said_refused.ensures.said words _ _ _ _ (map file_of c.in-Ok.sources.items) (files_run words _ c.args.options _ asked) c.in-Ok.ensures.read
-    (has_script words _ _ c.args.options _ c.in-Ok-script_of.script asked (rw c.sources.ensures.same at c.in-Ok-script_of.ensures.script))
-    (rw (c.deref.ensures.value, c.in-Err-Because-linked_program.field-0-is) at c.in-Err-Because-linked_program.ensures.refused))
+    let told = g.F.Shelf.told c.args.shelf.now in
+    if_none _ _
+    (c.said_refused.ensures.said words told (g.F.Shelf.faults c.args.shelf.now) (g.F.Shelf.faults c.script_of.new.shelf) (map (λ f. f.now) c.args.files.now) (map file_of c.in-Ok.sources.items)
+    (files_run words _ c.args.options _ asked) c.in-Ok.ensures.read (has_script words _ _ c.args.options _ c.in-Ok-script_of.script asked (rw c.sources.ensures.same at c.in-Ok-script_of.ensures.script))
+    (rw c.in-Err-Because-linked_program.field-0-is (rw (c.deref.ensures.value, c.in-Err-Because-linked_program.field-0-is) at c.in-Err-Because-linked_program.ensures.refused)))
 
 pub returns-in-Err-Because-machine_of-clause-refused : goal.returns-in-Err-Because-machine_of-clause-refused
 returns-in-Err-Because-machine_of-clause-refused g c = λ words asked.
-    if_none _ _ (c.said_refused-in-Err-Because-machine_of.ensures.said words _ _ _ _ (map file_of c.in-Ok.sources.items) (files_run words _ c.args.options _ asked) c.in-Ok.ensures.read
-    (has_script words _ _ c.args.options _ c.in-Ok-script_of.script asked (rw c.sources.ensures.same at c.in-Ok-script_of.ensures.script))
-    (rw c.in-Err-Because-machine_of.field-0-is at c.in-Err-Because-machine_of.ensures.refused (map file_of c.in-Ok.sources.items) (rw c.deref.ensures.value at c.in-Ok-linked_program.ensures.program)))
+    let told = g.F.Shelf.told c.args.shelf.now in
+    if_none _ _
+    (c.said_refused-in-Err-Because-machine_of.ensures.said words told (g.F.Shelf.faults c.args.shelf.now) (g.F.Shelf.faults c.script_of.new.shelf) (map (λ f. f.now) c.args.files.now) (map file_of c.in-Ok.sources.items)
+    (files_run words _ c.args.options _ asked) c.in-Ok.ensures.read (has_script words _ _ c.args.options _ c.in-Ok-script_of.script asked (rw c.sources.ensures.same at c.in-Ok-script_of.ensures.script))
+    (rw c.in-Err-Because-machine_of.field-0-is (rw c.in-Err-Because-machine_of.field-0-is at c.in-Err-Because-machine_of.ensures.refused (map file_of c.in-Ok.sources.items) (rw c.deref.ensures.value at c.in-Ok-linked_program.ensures.program))))
 
 pub returns-clause-refused : goal.returns-clause-refused
 returns-clause-refused g c = λ words asked. none_as c.run_program.result.kept (λ lacked. inr lacked) c.run_program.ensures.none

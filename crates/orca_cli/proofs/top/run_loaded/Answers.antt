@@ -1,6 +1,7 @@
 use Rattle.std.proofs.Common.{ap, length, map}
 use Rattle.meaning_rules.specs.Meanings.{computes_of, performs_of}
 use Rattle.world_rules.specs.declared.settings.Settings.{Settings}
+use Rattle.run_loop.specs.Left.{HasRun, run_of}
 use Rattle.orca_cli.specs.Programs.{units_of}
 use Rattle.orca_cli.specs.Standings.{awaited_name, history_said}
 use Rattle.orca_cli.proofs.HeadlineLemmas.{book_back, book_printable, is_run_by, ranges_as, some_is}
@@ -15,20 +16,29 @@ run-ran-requires-clause-wires g c = ap (λ (s : Settings). s.wires) c.settings_o
 pub lines_fit-requires : goal.lines_fit-requires
 lines_fit-requires g c =
     let units = units_of c.args.machine.now in
+    let before = map g.W.Wire.told c.args.wires.now in
+    let after = map g.W.Wire.told c.run-ran.new.wires in
     rw c.deref.ensures.value
-    (book_printable (performs_of units) (computes_of units) c.settings_of-settings.result c.args.names.now c.run-ran.result.standing _ _ c.in-Some.end (some_is c.run-ran.result.end c.in-Some.end _ c.in-Some.is c.run-ran.ensures.run)
+    (book_printable (performs_of units) (computes_of units) c.settings_of-settings.result c.args.names.now c.run-ran.result.standing before after c.in-Some.end (some_is c.run-ran.result.end c.in-Some.end (HasRun (run_of (performs_of units) (computes_of units) c.settings_of-settings.result) c.run-ran.result.standing before after) c.in-Some.is
+    c.run-ran.ensures.run)
     c.laws_of_runs.ensures.sound (ranges_as c.args.options (length c.args.wires.now) c.settings_of-settings.result c.settings_of-settings.ensures c.requires.options c.requires.wires) c.requires.named)
 
 pub report-status-requires-clause-lines : goal.report-status-requires-clause-lines
 report-status-requires-clause-lines g c =
     let units = units_of c.args.machine.now in
-    book_printable (performs_of units) (computes_of units) c.settings_of-settings.result c.args.names.now c.run-ran.result.standing _ _ c.in-Some.end (some_is c.run-ran.result.end c.in-Some.end _ c.in-Some.is c.run-ran.ensures.run)
+    let before = map g.W.Wire.told c.args.wires.now in
+    let after = map g.W.Wire.told c.run-ran.new.wires in
+    book_printable (performs_of units) (computes_of units) c.settings_of-settings.result c.args.names.now c.run-ran.result.standing before after c.in-Some.end (some_is c.run-ran.result.end c.in-Some.end (HasRun (run_of (performs_of units) (computes_of units) c.settings_of-settings.result) c.run-ran.result.standing before after) c.in-Some.is
+    c.run-ran.ensures.run)
     c.laws_of_runs.ensures.sound (ranges_as c.args.options (length c.args.wires.now) c.settings_of-settings.result c.settings_of-settings.ensures c.requires.options c.requires.wires) c.requires.named
 
 pub returns-clause-back : goal.returns-clause-back
 returns-clause-back g c =
     let units = units_of c.args.machine.now in
-    book_back (performs_of units) (computes_of units) c.settings_of-settings.result c.args.names.now c.run-ran.result.standing _ _ c.in-Some.end (some_is c.run-ran.result.end c.in-Some.end _ c.in-Some.is c.run-ran.ensures.run)
+    let before = map g.W.Wire.told c.args.wires.now in
+    let after = map g.W.Wire.told c.run-ran.new.wires in
+    book_back (performs_of units) (computes_of units) c.settings_of-settings.result c.args.names.now c.run-ran.result.standing before after c.in-Some.end (some_is c.run-ran.result.end c.in-Some.end (HasRun (run_of (performs_of units) (computes_of units) c.settings_of-settings.result) c.run-ran.result.standing before after) c.in-Some.is
+    c.run-ran.ensures.run)
     (rw c.deref.ensures.value at c.lines_fit.ensures)
 
 pub returns-clause-kept : goal.returns-clause-kept
@@ -41,5 +51,6 @@ returns-clause-kept g c =
     (g.K.Sink.told c.args.out.now) (g.K.Sink.told c.report-status.new.out) before after
     c.laws_of_runs.ensures c.settings_of-settings.ensures
     (ranges_as c.args.options (length c.args.wires.now) c.settings_of-settings.result c.settings_of-settings.ensures c.requires.options c.requires.wires)
-    (some_is c.run-ran.result.end c.in-Some.end _ c.in-Some.is c.run-ran.ensures.run) c.run-ran.ensures.told
+    (some_is c.run-ran.result.end c.in-Some.end (HasRun (run_of (performs_of units) (computes_of units) c.settings_of-settings.result) c.run-ran.result.standing before after) c.in-Some.is
+    c.run-ran.ensures.run) c.run-ran.ensures.told
     (record { ends = says.ends; lacked = says.lacked; printed = says.printed })

@@ -1,8 +1,7 @@
-use Rattle.std.proofs.Common.{◌≡◌, ◌+◌, ◌∙◌, List, ap, length, refl, arith}
+use Rattle.std.proofs.Common.{◌+◌, ◌∙◌, ap, length, refl, arith}
 use Rattle.std.proofs.lemmas.List.{take_all}
 use Rattle.std.proofs.lemmas.Option.{slice_get_read}
 use Rattle.world_parts.specs.Recorded.{of_pieces}
-use Rattle.world_parts.specs.declared.ledger.Piece.{Piece}
 use Rattle.world_core.proofs.Books.{pieces_next}
 use Rattle.world_core.proofs.book.copied.Goals as goal
 

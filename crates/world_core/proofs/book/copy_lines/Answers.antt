@@ -1,4 +1,4 @@
-use Rattle.std.proofs.Common.{◌≡◌, ◌+◌, ◌∙◌, ◌++◌, List, ap, sym, length, refl, arith, append-nil}
+use Rattle.std.proofs.Common.{◌+◌, ◌∙◌, ◌++◌, List, ap, sym, length, refl, arith, append-nil}
 use Rattle.std.proofs.lemmas.List.{take_all}
 use Rattle.std.proofs.lemmas.Option.{slice_get_read}
 use Rattle.value_core.specs.declared.action.Line.{Line}

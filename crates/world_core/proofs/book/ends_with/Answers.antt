@@ -1,8 +1,8 @@
-use Rattle.std.proofs.Common.{◌≡◌, ◌+◌, ◌∙◌, List, [], length, map, ap, sym, subst, refl, rules, arith}
+use Rattle.std.proofs.Common.{◌≡◌, ◌+◌, List, length, map, ap, sym, subst, rules, arith}
 use Rattle.std.specs.Vec.Iter.{into_iter_items}
-use Rattle.node_core.proofs.Reaching.{empty_left, none_left, some_left}
+use Rattle.node_core.proofs.Reaching.{some_left}
 use Rattle.world_core.specs.declared.ends.ProcessEnd.{ProcessEnd}
-use Rattle.world_core.proofs.Books.{EndedTo, processes_first, processes_next, processes_over, replies_there}
+use Rattle.world_core.proofs.Books.{EndedTo, processes_first, processes_next, replies_there}
 use Rattle.world_core.proofs.book.ends_with.Goals as goal
 
 pub processes-init : goal.processes-init

@@ -1,5 +1,4 @@
-use Rattle.std.proofs.Common.{◌∙◌, ap}
-use Rattle.world_parts.specs.Recorded.{Recorded}
+use Rattle.std.proofs.Common.{◌∙◌}
 use Rattle.world_core.proofs.Books.{book_is}
 use Rattle.world_core.proofs.book.into_end.Goals as goal
 

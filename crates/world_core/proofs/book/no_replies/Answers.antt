@@ -1,7 +1,5 @@
-use Rattle.std.proofs.Common.{◌≡◌, ◌<◌, ◌+◌, ◌∙◌, ◌++◌, ◌∷◌, [], List, map, ap, sym, refl, arith}
-use Rattle.std.proofs.lemmas.List.{map-append}
-use Rattle.value_core.specs.declared.action.Reply.{Reply}
-use Rattle.world_core.proofs.Books.{hear_first, replicate_next}
+use Rattle.std.proofs.Common.{map, arith}
+use Rattle.world_core.proofs.Books.{hear_first}
 use Rattle.world_core.proofs.book.no_replies.Goals as goal
 
 pub returns : goal.returns

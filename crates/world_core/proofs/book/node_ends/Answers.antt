@@ -1,4 +1,4 @@
-use Rattle.std.proofs.Common.{◌≡◌, ◌<◌, ◌+◌, ◌∙◌, [], refl, rules, arith}
+use Rattle.std.proofs.Common.{◌≡◌, ◌<◌, ◌+◌, ◌∙◌, [], rules, arith}
 use Rattle.world_parts.proofs.Ruling.{lives_within}
 use Rattle.world_core.proofs.Books.{ended_first, ended_next}
 use Rattle.world_core.proofs.book.node_ends.Goals as goal

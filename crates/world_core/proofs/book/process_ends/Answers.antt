@@ -1,4 +1,4 @@
-use Rattle.std.proofs.Common.{◌≡◌, ◌∙◌, List, map, subst}
+use Rattle.std.proofs.Common.{◌∙◌, List, map, subst}
 use Rattle.value_core.specs.declared.action.Line.{Line}
 use Rattle.world_core.specs.Telling.{HasHeard}
 use Rattle.world_core.proofs.book.process_ends.Goals as goal

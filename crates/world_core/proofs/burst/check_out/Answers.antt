@@ -1,4 +1,4 @@
-use Rattle.std.proofs.Common.{◌≡◌, ◌≤◌, ◌<◌, ◌+◌, ◌∙◌, ap, sym, refl, arith, length, slice_set}
+use Rattle.std.proofs.Common.{◌<◌, ◌∙◌, ap, sym, refl, arith, length, slice_set}
 use Rattle.std.proofs.lemmas.Option.{slice_get_read}
 use Rattle.node_core.specs.Stands.{fitness_of}
 use Rattle.world_parts.proofs.Worlds.{home_within}

@@ -1,4 +1,4 @@
-use Rattle.std.proofs.Common.{◌≡◌, ◌≤◌, ◌<◌, ◌+◌, ◌-◌, ◌∙◌, ap, refl, arith, length}
+use Rattle.std.proofs.Common.{◌-◌, ap, refl, arith}
 use Rattle.world_rules.specs.declared.event.Event.TheVariants as event
 use Rattle.world_parts.proofs.Worlds.{home_within}
 use Rattle.world_parts.specs.Recorded.{Recorded}

@@ -1,4 +1,4 @@
-use Rattle.std.proofs.Common.{◌≡◌, refl}
+use Rattle.std.proofs.Common.{refl}
 use Rattle.world_core.proofs.Recalls.{recalled_stands}
 use Rattle.world_core.proofs.burst.recall.Goals as goal
 

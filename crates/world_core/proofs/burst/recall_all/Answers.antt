@@ -1,4 +1,4 @@
-use Rattle.std.proofs.Common.{◌≡◌, ◌<◌, ◌≤◌, ◌∙◌, refl, arith, length}
+use Rattle.std.proofs.Common.{◌<◌, refl, arith, length}
 use Rattle.std.proofs.lemmas.Option.{slice_get_read}
 use Rattle.world_core.proofs.Recalls.{recalled_first, recalled_next, recalled_over}
 use Rattle.world_core.proofs.burst.recall_all.Goals as goal

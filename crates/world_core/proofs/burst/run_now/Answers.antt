@@ -1,4 +1,4 @@
-use Rattle.std.proofs.Common.{◌≡◌, ◌<◌, ◌∙◌, ap, sym, subst, refl, arith}
+use Rattle.std.proofs.Common.{◌∙◌, ap, sym, subst, arith}
 use Rattle.object_manager.specs.Viewed.{Viewed}
 use Rattle.object_manager.specs.declared.copies.Copies.{Copies}
 use Rattle.node_core.specs.CheckingIn.{MayHandOut}

@@ -1,6 +1,5 @@
-use Rattle.std.proofs.Common.{sym}
 use Rattle.node_core.specs.Stands.{fitness_of}
-use Rattle.world_core.proofs.Running.{hand_copy, out_for, ran_on}
+use Rattle.world_core.proofs.Running.{hand_copy, ran_on}
 use Rattle.world_core.proofs.burst.run_on.Goals as goal
 
 pub task_on-requires : goal.task_on-requires

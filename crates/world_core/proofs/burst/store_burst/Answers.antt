@@ -1,4 +1,4 @@
-use Rattle.std.proofs.Common.{◌≡◌, ◌≤◌, ◌-◌, ◌∙◌, ◌++◌, ◌∷◌, [], List, ap, refl, arith}
+use Rattle.std.proofs.Common.{◌-◌, ◌∙◌, ◌++◌, ◌∷◌, [], List, ap, refl, arith}
 use Rattle.book_law.specs.declared.placing.Placed.{Placed}
 use Rattle.net_rules.specs.declared.fate.Fate.{Fate}
 use Rattle.world_parts.specs.Recorded.{Recorded}

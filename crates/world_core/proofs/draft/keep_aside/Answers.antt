@@ -1,4 +1,4 @@
-use Rattle.std.proofs.Common.{◌≡◌, ◌∙◌, ◌++◌, ◌∷◌, [], List, ap, sym, refl, arith, rules, length, append-nil, append_assoc}
+use Rattle.std.proofs.Common.{◌≡◌, ◌∙◌, ◌++◌, ◌∷◌, [], List, ap, sym, arith, rules, append-nil, append_assoc}
 use Rattle.std.specs.Vec.Iter.{into_iter_items}
 use Rattle.book_law.specs.declared.placing.Placed.{Placed}
 use Rattle.node_core.proofs.Reaching.{empty_left, none_left, some_left}

@@ -1,4 +1,4 @@
-use Rattle.std.proofs.Common.{◌≡◌, ◌∙◌, ◌++◌, [], Bool, ap, sym, if◌then◌else◌}
+use Rattle.std.proofs.Common.{◌∙◌, ◌++◌, [], Bool, ap, sym, if◌then◌else◌}
 use Rattle.std.proofs.lemmas.Bool.{lt-ltb}
 use Rattle.book_law.specs.Performed.{placed}
 use Rattle.world_parts.proofs.Keeping.{one_more}

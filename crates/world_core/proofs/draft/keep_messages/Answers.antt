@@ -1,4 +1,4 @@
-use Rattle.std.proofs.Common.{◌≡◌, ◌<◌, ◌+◌, ◌∙◌, ◌++◌, List, ap, sym, refl, arith, rules, length, append-nil}
+use Rattle.std.proofs.Common.{◌≡◌, ◌+◌, ◌∙◌, ◌++◌, List, ap, sym, arith, rules, length, append-nil}
 use Rattle.std.specs.Vec.Iter.{into_iter_items}
 use Rattle.value_core.specs.declared.message.Message.{Message}
 use Rattle.node_core.proofs.Reaching.{empty_left, none_left, some_left}

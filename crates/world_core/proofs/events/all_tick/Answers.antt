@@ -1,4 +1,4 @@
-use Rattle.std.proofs.Common.{◌≡◌, ◌<◌, ◌≤◌, ◌+◌, ◌∙◌, ℕ, suc, ap, sym, subst, refl, arith}
+use Rattle.std.proofs.Common.{◌≡◌, ◌+◌, ℕ, suc, ap, subst, refl, arith}
 use Rattle.net_rules.specs.Flights.{ticked}
 use Rattle.world_calls.specs.Law.{ticking}
 use Rattle.world_rules.specs.declared.event.Event.TheVariants as event

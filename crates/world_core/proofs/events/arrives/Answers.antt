@@ -1,4 +1,4 @@
-use Rattle.std.proofs.Common.{◌≡◌, ◌<◌, ◌∙◌, ℕ, List, Option, None, Some, ap, sym, subst, refl, arith, length}
+use Rattle.std.proofs.Common.{◌∙◌, None, Some, ap, sym, arith, length}
 use Rattle.node_core.specs.Stands.{fitness_of}
 use Rattle.world_rules.specs.declared.event.Event.TheVariants as event
 use Rattle.world_parts.specs.Recorded.{of_pieces}

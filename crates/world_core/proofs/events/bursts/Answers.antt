@@ -1,4 +1,4 @@
-use Rattle.std.proofs.Common.{◌≡◌, ◌∙◌, sym}
+use Rattle.std.proofs.Common.{◌∙◌, sym}
 use Rattle.world_core.proofs.Running.{no_burst}
 use Rattle.world_core.proofs.events.bursts.Goals as goal
 

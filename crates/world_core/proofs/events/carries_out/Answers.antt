@@ -1,7 +1,6 @@
-use Rattle.std.proofs.Common.{◌≡◌, ◌<◌, ◌∙◌, ap, sym, subst, refl, arith, Some, slice_get}
+use Rattle.std.proofs.Common.{◌∙◌, ap, sym, refl, arith, slice_get}
 use Rattle.node_core.specs.Stands.{fitness_of}
 use Rattle.node_rules.specs.Starts.Start.{Acts}
-use Rattle.world_rules.specs.Steps.{happens}
 use Rattle.world_rules.specs.Worlds.{home_of}
 use Rattle.world_rules.specs.declared.event.Event.TheVariants as event
 use Rattle.world_parts.proofs.Worlds.{home_within}

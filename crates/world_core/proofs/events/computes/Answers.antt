@@ -1,8 +1,7 @@
-use Rattle.std.proofs.Common.{◌≡◌, ◌<◌, ◌≤◌, ◌∙◌, ℕ, ap, sym, subst, refl, arith}
+use Rattle.std.proofs.Common.{◌≤◌, ℕ, sym, subst, arith}
 use Rattle.node_core.specs.Stands.{fitness_of}
 use Rattle.world_parts.proofs.Worlds.{home_within}
-use Rattle.world_rules.specs.Worlds.{home_of}
-use Rattle.world_core.proofs.Running.{Bursts, Drafted, burst_drafts, burst_refused, bursts_by, may_hand, ran_least}
+use Rattle.world_core.proofs.Running.{Drafted, burst_drafts, burst_refused, bursts_by, may_hand, ran_least}
 use Rattle.world_core.proofs.events.computes.Goals as goal
 
 pub member_of-before-requires-clause-within : goal.member_of-before-requires-clause-within

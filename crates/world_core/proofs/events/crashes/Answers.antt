@@ -1,4 +1,4 @@
-use Rattle.std.proofs.Common.{◌≡◌, ◌∙◌, ap, sym, refl, false}
+use Rattle.std.proofs.Common.{◌∙◌, ap, sym, refl, false}
 use Rattle.group_rules.specs.Sets.{with_at}
 use Rattle.world_rules.specs.declared.event.Event.TheVariants as event
 use Rattle.world_parts.specs.Recorded.{of_pieces}

@@ -1,4 +1,4 @@
-use Rattle.std.proofs.Common.{◌≡◌, ◌∙◌, ap, is_some}
+use Rattle.std.proofs.Common.{◌∙◌, ap, is_some}
 use Rattle.net_rules.specs.Flights.{ready_copy}
 use Rattle.world_parts.specs.Standing.{spelled}
 use Rattle.world_core.proofs.Asking.{ready_here, ready_there}

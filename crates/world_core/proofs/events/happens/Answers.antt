@@ -1,4 +1,4 @@
-use Rattle.std.proofs.Common.{◌≡◌, sym, subst}
+use Rattle.std.proofs.Common.{sym, subst}
 use Rattle.world_rules.specs.declared.event.Event.{Event}
 use Rattle.world_core.specs.Drafting.{MayNotBe}
 use Rattle.world_core.proofs.events.happens.Goals as goal

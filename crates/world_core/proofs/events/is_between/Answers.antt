@@ -1,4 +1,3 @@
-use Rattle.std.proofs.Common.{◌∙◌}
 use Rattle.world_rules.specs.Worlds.{home_of, played_in}
 use Rattle.world_core.proofs.Running.{between_none, between_there}
 use Rattle.world_core.proofs.events.is_between.Goals as goal

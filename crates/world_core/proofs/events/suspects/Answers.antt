@@ -1,10 +1,7 @@
-use Rattle.std.proofs.Common.{◌≡◌, ◌<◌, ◌∙◌, ap, sym, subst, refl, arith, Some, slice_get}
+use Rattle.std.proofs.Common.{◌∙◌, ap, sym, refl}
 use Rattle.node_core.specs.Stands.{fitness_of}
 use Rattle.node_rules.specs.Starts.Start.{Suspects}
-use Rattle.world_rules.specs.Steps.{happens}
-use Rattle.world_rules.specs.Worlds.{home_of}
 use Rattle.world_rules.specs.declared.event.Event.TheVariants as event
-use Rattle.world_parts.proofs.Worlds.{home_within}
 use Rattle.world_parts.specs.Recorded.{of_pieces}
 use Rattle.world_core.proofs.Doing.{Here, not_both, one_comes, one_draft, one_may, within_of}
 use Rattle.world_core.proofs.events.suspects.Goals as goal

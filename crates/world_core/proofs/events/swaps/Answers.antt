@@ -1,4 +1,4 @@
-use Rattle.std.proofs.Common.{◌≡◌, ◌∙◌, ap, sym, refl, suc}
+use Rattle.std.proofs.Common.{◌∙◌, ap, sym, refl, suc}
 use Rattle.world_rules.specs.declared.event.Event.TheVariants as event
 use Rattle.world_parts.specs.Recorded.{of_pieces}
 use Rattle.world_core.proofs.Doing.{not_both, quiet_draft}

@@ -1,10 +1,7 @@
-use Rattle.std.proofs.Common.{◌≡◌, ◌<◌, ◌∙◌, ◌^◌, ℕ, suc, ap, sym, subst, refl, arith, length}
+use Rattle.std.proofs.Common.{◌∙◌, sym}
 use Rattle.node_core.specs.Stands.{fitness_of}
-use Rattle.world_calls.specs.Law.{ticking}
 use Rattle.world_parts.proofs.Ruling.{lives_within}
-use Rattle.world_rules.specs.Steps.{AtWork}
 use Rattle.world_rules.specs.declared.event.Event.TheVariants as event
-use Rattle.world_core.specs.Growing.{Progress}
 use Rattle.world_core.proofs.Ticks.{tick_done, tick_may, tick_past}
 use Rattle.world_core.proofs.events.tick.Goals as goal
 

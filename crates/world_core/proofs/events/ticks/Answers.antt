@@ -1,4 +1,4 @@
-use Rattle.std.proofs.Common.{◌≡◌, ◌∙◌, sym}
+use Rattle.std.proofs.Common.{◌∙◌, sym}
 use Rattle.world_core.proofs.Doing.{not_both}
 use Rattle.world_core.proofs.events.ticks.Goals as goal
 

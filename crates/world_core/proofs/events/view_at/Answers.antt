@@ -1,8 +1,7 @@
-use Rattle.std.proofs.Common.{◌≡◌, ◌≤◌, ◌∙◌, ap, sym, arith, length, take}
+use Rattle.std.proofs.Common.{◌≤◌, ◌∙◌, ap, sym, arith, length, take}
 use Rattle.std.proofs.lemmas.List.{length-take-le}
 use Rattle.object_manager.specs.declared.copies.Copies.{Copies}
 use Rattle.node_core.specs.Stands.{fitness_of}
-use Rattle.object_manager.specs.After.{Copied}
 use Rattle.world_core.proofs.Running.{applied_low, may_view, viewed_again, viewed_now, viewing, where_ok}
 use Rattle.world_core.proofs.events.view_at.Goals as goal
 

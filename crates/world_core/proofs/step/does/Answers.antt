@@ -1,15 +1,12 @@
-use Rattle.std.proofs.Common.{◌≡◌, ◌≤◌, ◌<◌, ◌+◌, ◌-◌, ◌^◌, ◌∙◌, inl, inr, ◌++◌, ◌∷◌, [], List, ap, sym, refl, arith, length}
+use Rattle.std.proofs.Common.{◌-◌, ◌∙◌, ◌++◌, ◌∷◌, [], List, ap, refl, arith, length}
 use Rattle.net_rules.specs.declared.asked.Asked.{Asked}
 use Rattle.net_rules.specs.declared.fate.Fate.{Fate}
-use Rattle.world_rules.specs.declared.event.Step.{Step}
-use Rattle.world_parts.specs.Recorded.{Recorded}
 use Rattle.world_parts.specs.declared.parts.Parts.{Parts}
 use Rattle.world_core.specs.Closing.{asked_all}
 use Rattle.world_core.proofs.Adding.{taken_length}
-use Rattle.world_core.proofs.Asking.{MayClose, done_possible, either_error, idle_small, may_close, may_end, may_leave, refused_by, room_seen, room_stands}
+use Rattle.world_core.proofs.Asking.{MayClose, done_possible, idle_small, may_close, may_end, may_leave, room_stands}
 use Rattle.world_core.proofs.Closed.{Calls, done_as, ended_others, step_done, step_fewer, step_keeps, step_outs, step_stands}
 use Rattle.world_core.proofs.Doing.{Here}
-use Rattle.world_core.proofs.Handing.{out_same}
 use Rattle.world_core.proofs.step.does.Goals as goal
 
 pub idle_after-idle-requires : goal.idle_after-idle-requires

@@ -1,4 +1,4 @@
-use Rattle.std.proofs.Common.{◌≡◌, ◌<◌, sym, subst, refl, length}
+use Rattle.std.proofs.Common.{◌<◌, sym, subst, refl, length}
 use Rattle.std.proofs.lemmas.Option.{slice_get_read}
 use Rattle.world_rules.specs.declared.event.Event.{Event}
 use Rattle.world_core.specs.Closing.{HasEnded, HasLost, MayEnd}

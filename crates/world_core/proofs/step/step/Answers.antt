@@ -1,4 +1,4 @@
-use Rattle.std.proofs.Common.{◌≡◌, ◌∙◌, inl, refl, sym, ap}
+use Rattle.std.proofs.Common.{◌∙◌, inl, refl, sym, ap}
 use Rattle.world_parts.specs.Standing.{seen_of}
 use Rattle.world_core.specs.Stepping.{is_going}
 use Rattle.world_core.proofs.Asking.{going_of, not_going, refused_still}

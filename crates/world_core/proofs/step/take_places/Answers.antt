@@ -1,7 +1,7 @@
 use Rattle.std.proofs.Common.{◌≡◌, refl, arith, rules}
 use Rattle.std.specs.Vec.Iter.{into_iter_items}
 use Rattle.node_core.proofs.Reaching.{empty_left, none_left, some_left}
-use Rattle.world_core.proofs.Storing.{taken_first, taken_low, taken_more, taken_over}
+use Rattle.world_core.proofs.Storing.{taken_first, taken_more, taken_over}
 use Rattle.world_core.proofs.step.take_places.Goals as goal
 
 pub members-init : goal.members-init

@@ -7,5 +7,5 @@ use Rattle.eval_machine.proofs.performing.TreeMachinePerformer.make.Goals as goa
 pub returns : goal.returns
 returns c =
     let m = c.args.self.now in
-    let us = sources m.checked.now in
+    let us = sources m.code.checked in
     ∥∥₁_elim m.coded (making_once c.make_object.result (making_of us c.args.kind)) (c.make_object.ensures us)

@@ -10,6 +10,6 @@ use Rattle.eval_machine.proofs.processing.TreeMachineProcessor.main_text.Goals a
 pub returns : goal.returns
 returns c =
     let m = c.args.self.now in
-    let us = sources m.checked.now in
+    let us = sources m.code.checked in
     ∥∥₁_elim m.coded (text_once c.main_text.result (main_text us))
     (λ is. c.main_text.ensures us (subst (λ (t : CodeTables). IsTables us t) (sym c.tables.ensures) is.tables))

@@ -1,4 +1,4 @@
-use Rattle.std.proofs.Common.{◌+◌, Err, Some, ap, map}
+use Rattle.std.proofs.Common.{Err, ap, map}
 use Rattle.run_loop.proofs.Stepping.{act_by, none_given, passed_by, some_given, stopped_asked_by}
 use Rattle.run_loop.proofs.Telling.{kept_at}
 use Rattle.run_loop.proofs.drive.Driver.does.Goals as goal

@@ -1,4 +1,4 @@
-use Rattle.std.proofs.Common.{◌≡◌, ◌∙◌, ◌++◌, List, ap}
+use Rattle.std.proofs.Common.{◌∙◌, ◌++◌, List, ap}
 use Rattle.book_law.specs.declared.placing.Placed.{Placed}
 use Rattle.world_parts.proofs.Keeping.{one_more}
 use Rattle.world_parts.specs.Recorded.{of_pieces}

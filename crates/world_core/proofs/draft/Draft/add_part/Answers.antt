@@ -1,4 +1,4 @@
-use Rattle.std.proofs.Common.{◌≡◌, ◌∙◌, ◌+◌, ◌++◌, ◌∷◌, [], ◌||◌, ◌&&◌, ◌==◌, not, ℕ, Bool, List, ap, sym, subst, arith, length, append_assoc}
+use Rattle.std.proofs.Common.{◌≡◌, ◌∙◌, ◌+◌, ◌++◌, ◌∷◌, [], ◌||◌, ◌&&◌, ◌==◌, not, ℕ, Bool, List, ap, subst, arith, length, append_assoc}
 use Rattle.value_core.specs.declared.action.Reply.{Reply}
 use Rattle.value_core.specs.declared.message.Message.{Message}
 use Rattle.group_member.specs.declared.member.Member.{Member}

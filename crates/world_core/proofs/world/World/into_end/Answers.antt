@@ -1,4 +1,4 @@
-use Rattle.std.proofs.Common.{◌≡◌, refl, subst}
+use Rattle.std.proofs.Common.{refl, subst}
 use Rattle.world_rules.specs.Steps.{Replays}
 use Rattle.world_parts.specs.Seen.{Seen}
 use Rattle.world_core.proofs.world.World.into_end.Goals as goal

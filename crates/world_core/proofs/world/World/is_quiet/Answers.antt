@@ -1,4 +1,4 @@
-use Rattle.std.proofs.Common.{◌≡◌, ◌∙◌, ℕ, subst, sym}
+use Rattle.std.proofs.Common.{◌≡◌, ◌∙◌, subst, sym}
 use Rattle.world_parts.proofs.Worlds.{is_world}
 use Rattle.world_parts.specs.Seen.{Seen, tasks_out}
 use Rattle.world_core.proofs.NoneOut.{quiet_out}

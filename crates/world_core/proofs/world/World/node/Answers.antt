@@ -1,4 +1,4 @@
-use Rattle.std.proofs.Common.{◌≡◌, ◌<◌, ◌∙◌, ap, is_some, sym}
+use Rattle.std.proofs.Common.{◌∙◌, ap, is_some, sym}
 use Rattle.world_parts.proofs.Worlds.{is_world}
 use Rattle.world_core.proofs.NoneOut.{node_stands, some_node}
 use Rattle.world_core.proofs.world.World.node.Goals as goal

@@ -1,4 +1,4 @@
-use Rattle.std.proofs.Common.{◌≡◌, subst}
+use Rattle.std.proofs.Common.{subst}
 use Rattle.world_rules.specs.Steps.{Replays}
 use Rattle.world_parts.specs.Seen.{Seen}
 use Rattle.world_core.proofs.world.World.steps.Goals as goal

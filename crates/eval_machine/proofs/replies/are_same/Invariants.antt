@@ -1,5 +1,5 @@
 use Rattle.std.proofs.Common.{◌≡◌, take}
-use Rattle.eval_machine.proofs.process.same_replies.Given as goal
+use Rattle.eval_machine.proofs.replies.are_same.Given as goal
 
 -- those that were compared are the same
 abbrev pub invariant-replies : goal.invariant-replies
