@@ -1,11 +1,12 @@
 //! The one cell: its program, its history, and its names.
 
-ghost use Rattle.std.specs.Prelude.{◌≡◌, ◌∷◌, [], IfOk};
-ghost use Rattle.history_text.specs.Sound.{AreLines, AreTables};
+ghost use Rattle.std.specs.Prelude.{◌≡◌, ◌∷◌, [], All, IfOk};
+ghost use Rattle.history_text.specs.Sound.{AreTables, IsPrintable};
 
-use history_text::{BadLine, Names, Operations, read_history};
+use history_text::{Names, Operations, read_history};
 use orca_base::{NoMemory, Refusal, Text};
 use std::alloc::Global;
+use std::test::Fail;
 use value_core::Line;
 
 /// A cell is made, assigned 6 and read, and what was read is written.
@@ -71,13 +72,18 @@ pub fn cell_names(alloc: Global) -> Result<Names, NoMemory>
     })
 }
 
-/// The lines of a short text.
-pub fn lines_of(alloc: Global, names: &Names, text: &str) -> Result<Vec<Line>, Refusal<BadLine>>
+/// The lines of a short text. Want of memory is the test's error.
+#[tactic(auto, using(crate::proofs::Given::given))]
+pub fn lines_of(alloc: Global, names: &Names, text: &str) -> Result<Vec<Line>, Fail>
     requires { AreTables names.now }
-    ensures { IfOk result (λ lines. AreLines names.now lines.items) }
+    ensures { IfOk result (λ lines. All (IsPrintable names.now) lines.items) }
 {
     if text.len() > MOST {
-        return Err(Refusal::NoMemory);
+        return Err(Fail::from("too long a text"));
     }
-    read_history(alloc, names, text.as_bytes())
+    match read_history(alloc, names, text.as_bytes()) {
+        Ok(lines) => Ok(lines),
+        Err(Refusal::Because { .. }) => Err(Fail::from("no history")),
+        Err(Refusal::NoMemory) => Err(Fail::from("no memory")),
+    }
 }

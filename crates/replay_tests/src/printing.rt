@@ -62,7 +62,7 @@ fn first_lines(alloc: Global, count: u64) -> Result<Vec<u8>, Fail> {
 fn one_cell_with_a_failing_write(rt: HostRuntime) -> Result<(), Fail> {
     let alloc = rt.alloc();
     let names = cell_names(alloc)?;
-    let lines = lines_of(alloc, &names, BOOK).ok().ok_or("no history")?;
+    let lines = lines_of(alloc, &names, BOOK)?;
     for failing in 1..6u64 {
         let mut out = MemorySink::new(alloc, vec![in alloc; failing; 1]?);
         assert!(rt; !is_printed(alloc, &mut out, &names, &lines)?);
@@ -80,7 +80,7 @@ fn one_cell_with_a_failing_write(rt: HostRuntime) -> Result<(), Fail> {
 fn one_cell_cut_at_each_byte(rt: HostRuntime) -> Result<(), Fail> {
     let alloc = rt.alloc();
     let names = cell_names(alloc)?;
-    let lines = lines_of(alloc, &names, BOOK).ok().ok_or("no history")?;
+    let lines = lines_of(alloc, &names, BOOK)?;
     let mut front = Vec::new(alloc);
     for byte in PRINTED.as_bytes() {
         let mut out = CutSink::new(alloc, front.len());
@@ -99,7 +99,7 @@ fn one_cell_cut_at_each_byte(rt: HostRuntime) -> Result<(), Fail> {
 fn what_is_printed_is_legal(rt: HostRuntime) -> Result<(), Fail> {
     let alloc = rt.alloc();
     let names = cell_names(alloc)?;
-    let lines = lines_of(alloc, &names, BOOK).ok().ok_or("no history")?;
+    let lines = lines_of(alloc, &names, BOOK)?;
     let mut out = MemorySink::new(alloc, Vec::new(alloc));
     assert!(rt; is_printed(alloc, &mut out, &names, &lines)?);
     let bytes = Vec::from_slice(alloc, out.bytes())?;
