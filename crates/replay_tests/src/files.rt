@@ -126,11 +126,11 @@ fn sizes_before_texts(rt: HostRuntime) -> Result<(), Fail> {
         },
         TestFile {
             name: "long.orca",
-            text: &source,
+            text: source.as_slice(),
         },
         TestFile {
             name: "long.txt",
-            text: &spaces,
+            text: spaces.as_slice(),
         },
     ];
     let sure = Failing {
