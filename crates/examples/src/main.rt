@@ -118,7 +118,10 @@ fn prints_its_history<F: Shelf>(
     ))?;
     let mut memory = MemoryShelf::new(kept, Vec::new(alloc));
     let words = words_of(alloc, &["replay", "h.txt", file.as_str()])?;
-    Ok(!history.is_empty() && printed(alloc, &mut memory, &words)?.as_slice() == b"legal\n")
+    Ok(
+        !history.is_empty()
+            && printed(alloc, &mut memory, &words)?.as_slice() == b"legal\n".as_slice(),
+    )
 }
 
 // What is said of an example.

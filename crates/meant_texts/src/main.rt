@@ -48,6 +48,11 @@ fn answer(alloc: Global, options: &str, text: &str) -> Result<String, AllocError
     format!(in alloc; "{}\n{printed}", ended.status)
 }
 
+// Prints a program that is answered otherwise.
+fn print_other(rt: &HostRuntime, wanted: &str, found: &str, text: &str) -> io::Result<()> {
+    println!(rt; "wanted {wanted}found {found}of\n{text}")
+}
+
 // Tries each program of a table.
 fn try_all(rt: &HostRuntime, table: &str) -> io::Result<()> {
     let mut tried = 0u32;
@@ -60,7 +65,7 @@ fn try_all(rt: &HostRuntime, table: &str) -> io::Result<()> {
         if found.as_str() == wanted {
             same = same.saturating_add(1);
         } else {
-            println!(rt; "wanted {wanted}found {found}of\n{text}")?;
+            print_other(rt, wanted, found.as_str(), text)?;
         }
         tried = tried.saturating_add(1);
     }
