@@ -16,6 +16,9 @@ use world_core::{Event, ProcessStanding, Standing, Step};
 
 // A wire with this script.
 fn scripted(alloc: Global, text: &[u8]) -> Result<ScriptWire, Fail> {
+    if text.len() > 1_000 {
+        return Err("too long".into());
+    }
     let mut wire = ScriptWire::new(alloc)?;
     match read_script(alloc, text) {
         Ok(script) => wire.load(alloc, &script)?,
