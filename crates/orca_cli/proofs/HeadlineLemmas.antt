@@ -99,6 +99,7 @@ is_run f name says end standing status old new before after laws settings none h
       told = told;
       used = subst (λ (s : Standing). WereUsedSo s f end.steps.items w (asked_since before after)) left.stands h.used;
       unused = h.unused;
+      in_time = h.in_time;
     }
 
 -- by the settings of the words
