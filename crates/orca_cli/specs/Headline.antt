@@ -66,16 +66,31 @@ pub record Wires : Type 0 where
 abbrev pub wires_of : {W : Type 0} → (W → List Asked) → (W → List ScriptLine) → (W → ℕ) → List W → Wires
 wires_of told script loaded wires = record { told = map told wires; scripts = map script wires; loaded = map loaded wires }
 
+-- the wires behind the first kept their scripts, each loaded when it was
+pub record KeepScripts (old new : Wires) : Type 0 where
+  pub scripts : (wire : ℕ) → slice_get new.scripts (suc wire) ≡ slice_get old.scripts (suc wire)
+  pub loaded : (wire : ℕ) → slice_get new.loaded (suc wire) ≡ slice_get old.loaded (suc wire)
+
 -- the first wire was loaded with these lines, before the run asked it anything; the other wires kept their scripts
 pub record AreLoaded (lines : List ScriptLine) (old new : Wires) : Type 0 where
   pub script : slice_get new.scripts 0 ≡ Some lines
   pub since : slice_get new.loaded 0 ≡ option_map length (slice_get old.told 0)
-  pub scripts : (wire : ℕ) → slice_get new.scripts (suc wire) ≡ slice_get old.scripts (suc wire)
-  pub loaded : (wire : ℕ) → slice_get new.loaded (suc wire) ≡ slice_get old.loaded (suc wire)
+  pub others : KeepScripts old new
 
--- nothing was run: the wires are as they were; or memory lacked, and they tell what they told, and maybe more
-abbrev pub AreUntouched : ℕ → Wires → Wires → Type 0
-AreUntouched status old new = (new ≡ old) ⊎ ((status ≡ NO_MEMORY) × HaveToldOn old.told new.told)
+-- the words ask for a run
+abbrev pub AskRun : List Word → Type 0
+AskRun words = (options : RunOptions) × (script : Option Word) × (files : List Word) × (deed_in words ≡ Some (runs options script files))
+
+-- memory lacked for a run, or for what is kept of it: the wires tell what they told, and maybe more, and those behind the first kept their
+-- scripts
+pub record HasLacked (code : ℕ) (old new : Wires) : Type 0 where
+  pub status : code ≡ NO_MEMORY
+  pub told : HaveToldOn old.told new.told
+  pub others : KeepScripts old new
+
+-- nothing was run: the wires are as they were; or the words ask for a run, and memory lacked
+abbrev pub AreUntouched : List Word → ℕ → Wires → Wires → Type 0
+AreUntouched words status old new = (new ≡ old) ⊎ (AskRun words × HasLacked status old new)
 
 -- ---- the run
 
