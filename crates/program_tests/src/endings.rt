@@ -1,42 +1,20 @@
 //! How programs end: each status of a run, by its cause.
 
-use crate::running::{Answer, Counts, counts, run};
+use crate::calls::run;
 use crate::texts::{CELL, FLAG, PAIR, POOL};
-use orca_base::{FaultKind, ObjectId};
-use orca_cli::{BLOCKED, FAULTED, FINISHED, Kept, OUT_OF_TURNS, ProcessStanding};
+use run_outcomes::{
+    BLOCKED, Counts, FAULTED, FINISHED, FaultKind, NoOutcome, OUT_OF_TURNS, Process, Standing,
+};
 use std::alloc::Global;
 use std::test::Fail;
-use value_core::Value;
-
-// What a run left.
-fn kept(answer: &Answer) -> Result<&Kept, Fail> {
-    Ok(answer.kept.as_ref().ok_or("nothing kept")?)
-}
-
-// Whether each member has the first object of process 0, and all its fields are this integer.
-fn all_hold(kept: &Kept, number: i64) -> bool {
-    let object = ObjectId {
-        process: 0,
-        number: 1,
-    };
-    kept.nodes.iter().all(|node| match node.copies.get(object) {
-        Some(held) => held
-            .state
-            .as_slice()
-            .iter()
-            .all(|field| field.is(&Value::Int(number))),
-        None => false,
-    })
-}
 
 // The first burst finds the end.
 #[test]
 fn empty_main(rt: HostRuntime) -> Result<(), Fail> {
     let answer = run(rt.alloc(), &[], "process OrcaMain(); begin end;\n", "")?;
-    assert_eq!(rt; answer.status, FINISHED);
-    assert_eq!(rt; answer.printed.as_str(), "");
-    assert_eq!(rt; counts(&kept(&answer)?.events), Counts::plain(1, 0, 0));
-    assert_eq!(rt; kept(&answer)?.book.len(), 0);
+    assert_eq!(rt; (answer.status, answer.printed.as_str()), (FINISHED, ""));
+    assert_eq!(rt; answer.counts(), Some(Counts::plain(1, 0, 0)));
+    assert_eq!(rt; answer.book(), Some(0));
     Ok(())
 }
 
@@ -51,8 +29,8 @@ fn blocked_await(rt: HostRuntime) -> Result<(), Fail> {
         answer.printed.as_str(),
         "orca: blocked: process 0 waits for Flag$Await\n"
     );
-    assert_eq!(rt; counts(&kept(&answer)?.events), Counts::plain(2, 2, 2));
-    assert_eq!(rt; kept(&answer)?.book.len(), 1);
+    assert_eq!(rt; answer.counts(), Some(Counts::plain(2, 2, 2)));
+    assert_eq!(rt; answer.book(), Some(1));
     Ok(())
 }
 
@@ -68,9 +46,12 @@ process OrcaMain();\n  X: Pair;\nbegin fork Worker(X) on 1; X$Two(); WriteLine(9
         answer.printed.as_str(),
         "0\norca: process 0 faulted: Overflow\n"
     );
-    assert_eq!(rt; counts(&kept(&answer)?.events), Counts::plain(6, 4, 5));
-    assert_eq!(rt; kept(&answer)?.book.len(), 5);
-    assert!(rt; all_hold(kept(&answer)?, 0));
+    assert_eq!(rt; answer.counts(), Some(Counts::plain(6, 4, 5)));
+    assert_eq!(rt; answer.book(), Some(5));
+    assert_eq!(rt;
+        answer.fields.as_slice(),
+        [(0, 0), (0, 0), (1, 0), (1, 0)].as_slice()
+    );
     Ok(())
 }
 
@@ -84,9 +65,12 @@ fn overflow_on_three_members(rt: HostRuntime) -> Result<(), Fail> {
         answer.printed.as_str(),
         "orca: process 0 faulted: Overflow\n"
     );
-    assert_eq!(rt; counts(&kept(&answer)?.events), Counts::plain(3, 2, 4));
-    assert_eq!(rt; kept(&answer)?.book.len(), 2);
-    assert!(rt; all_hold(kept(&answer)?, 0));
+    assert_eq!(rt; answer.counts(), Some(Counts::plain(3, 2, 4)));
+    assert_eq!(rt; answer.book(), Some(2));
+    assert_eq!(rt;
+        answer.fields.as_slice(),
+        [(0, 0), (0, 0), (1, 0), (1, 0), (2, 0), (2, 0)].as_slice()
+    );
     Ok(())
 }
 
@@ -106,8 +90,11 @@ object implementation Stall;\n  x: integer;
         let answer = run(rt.alloc(), &[], text, main.as_str())?;
         assert_eq!(rt; answer.status, status);
         assert_eq!(rt; answer.printed.as_str(), line);
-        assert_eq!(rt; counts(&kept(&answer)?.events), Counts::plain(3, 2, 4));
-        assert!(rt; all_hold(kept(&answer)?, state));
+        assert_eq!(rt; answer.counts(), Some(Counts::plain(3, 2, 4)));
+        assert_eq!(rt;
+            answer.fields.as_slice(),
+            [(0, state), (1, state), (2, state)].as_slice()
+        );
     }
     Ok(())
 }
@@ -117,15 +104,13 @@ object implementation Stall;\n  x: integer;
 fn out_of_turns(rt: HostRuntime) -> Result<(), Fail> {
     let main = "process OrcaMain();\nbegin while true do od; end;\n";
     let answer = run(rt.alloc(), &["--turns", "50000"], main, "")?;
-    assert_eq!(rt; answer.status, OUT_OF_TURNS);
-    assert_eq!(rt; answer.printed.as_str(), "orca: process 0 out of turns\n");
-    let kept = kept(&answer)?;
-    assert_eq!(rt; counts(&kept.events), Counts::plain(5, 0, 0));
-    assert_eq!(rt; kept.book.len(), 0);
-    match kept.processes.as_slice() {
-        [main] => assert_eq!(rt; main.turns, 50_000),
-        _ => return Err("not one process".into()),
-    }
+    assert_eq!(rt;
+        (answer.status, answer.printed.as_str()),
+        (OUT_OF_TURNS, "orca: process 0 out of turns\n")
+    );
+    assert_eq!(rt; answer.counts(), Some(Counts::plain(5, 0, 0)));
+    assert_eq!(rt; answer.book(), Some(0));
+    assert!(rt; matches!(answer.processes.as_slice(), [Process { turns: 50_000, .. }]));
     Ok(())
 }
 
@@ -158,28 +143,29 @@ process OrcaMain();\nbegin fork Takes(); fork Divides(); WriteLine(\"forked\"); 
         answer.printed.as_str(),
         "forked\norca: process 1 faulted: FromEmpty\n"
     );
-    match kept(&answer)?.processes.as_slice() {
-        [main, one, two] => {
-            assert!(rt; matches!(main.standing, ProcessStanding::Ended));
-            assert!(rt;
-                matches!(
-                    one.standing,
-                    ProcessStanding::Faulted {
+    assert!(rt;
+        matches!(
+            answer.processes.as_slice(),
+            [
+                Process {
+                    standing: Standing::Ended,
+                    ..
+                },
+                Process {
+                    standing: Standing::Faulted {
                         fault: FaultKind::FromEmpty
-                    }
-                )
-            );
-            assert!(rt;
-                matches!(
-                    two.standing,
-                    ProcessStanding::Faulted {
+                    },
+                    ..
+                },
+                Process {
+                    standing: Standing::Faulted {
                         fault: FaultKind::DivideByZero
-                    }
-                )
-            );
-        }
-        _ => return Err("not three processes".into()),
-    }
+                    },
+                    ..
+                },
+            ]
+        )
+    );
     Ok(())
 }
 
@@ -206,7 +192,7 @@ end;
 
 // Process 1 takes before process 2 does, and each before the main process puts; so 7 goes to process 1, and 8 to process 2. Each process's burst
 // comes as soon as it is forked, since it computed none yet.
-fn takes_in_order(alloc: Global, nodes: &str, counted: Counts) -> Result<bool, Fail> {
+fn takes_in_order(alloc: Global, nodes: &str, counts: Counts) -> Result<bool, NoOutcome> {
     let rest = "process Taker(p: shared Pool; name: integer);
 begin WriteLine(name, \" \", p$Take()); end;
 process OrcaMain();\n  P: Pool;
@@ -215,8 +201,8 @@ begin fork Taker(P, 1); fork Taker(P, 2); P$Put(7); P$Put(8); end;\n";
     Ok(
         answer.status == FINISHED
             && answer.printed.as_str() == "1 7\n2 8\n"
-            && counts(&kept(&answer)?.events) == counted
-            && kept(&answer)?.book.len() == 9,
+            && answer.counts() == Some(counts)
+            && answer.book() == Some(9),
     )
 }
 
@@ -240,8 +226,8 @@ process OrcaMain();\n  P: Pool;\nbegin fork Taker(P); fork Putter(P); WriteLine(
         answer.printed.as_str(),
         "7\norca: blocked: process 0 waits for Pool$Take\n"
     );
-    assert_eq!(rt; counts(&kept(&answer)?.events), Counts::plain(9, 7, 0));
-    assert_eq!(rt; kept(&answer)?.book.len(), 6);
+    assert_eq!(rt; answer.counts(), Some(Counts::plain(9, 7, 0)));
+    assert_eq!(rt; answer.book(), Some(6));
     Ok(())
 }
 
@@ -255,11 +241,19 @@ process OrcaMain();
 begin fork Parent() on -1; fork Child() on 4; fork Child() on 3; fork Child(); end;\n";
     let answer = run(rt.alloc(), &[], text, "")?;
     assert_eq!(rt; answer.status, FINISHED);
-    let mut nodes = Vec::new(rt.alloc());
-    for end in &kept(&answer)?.processes {
-        nodes.push(end.node)?;
-    }
-    assert_eq!(rt; nodes.as_slice(), [0u8, 2, 2, 1, 0, 0].as_slice());
+    assert!(rt;
+        matches!(
+            answer.processes.as_slice(),
+            [
+                Process { node: 0, .. },
+                Process { node: 2, .. },
+                Process { node: 2, .. },
+                Process { node: 1, .. },
+                Process { node: 0, .. },
+                Process { node: 0, .. },
+            ]
+        )
+    );
     Ok(())
 }
 
@@ -274,6 +268,6 @@ fn a_making_that_faults(rt: HostRuntime) -> Result<(), Fail> {
         answer.printed.as_str(),
         "orca: process 0 faulted: DivideByZero\n"
     );
-    assert_eq!(rt; kept(&answer)?.book.len(), 1);
+    assert_eq!(rt; answer.book(), Some(1));
     Ok(())
 }
