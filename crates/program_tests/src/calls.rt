@@ -3,20 +3,15 @@
 use run_outcomes::{NoOutcome, Outcome, Wires, outcome_of};
 use std::alloc::Global;
 
-/// What comes of this command on a text, which stands in `program.orca`, with a script in `faults.txt`.
-pub fn answer(
+/// What comes of these words, where a text stands in `program.orca`, and a script in `faults.txt`.
+pub fn answer<'a>(
     alloc: Global,
     command: &[&str],
-    text: &str,
-    script: &str,
+    text: &'a str,
+    script: &'a str,
 ) -> Result<Outcome, NoOutcome> {
-    let mut words = Vec::new(alloc);
-    for word in command {
-        words.push(*word)?;
-    }
-    words.push("program.orca")?;
     let files = [("program.orca", text), ("faults.txt", script)];
-    outcome_of(alloc, &words, &files, &[], Wires::One)
+    outcome_of(alloc, command, &files, &[], Wires::One)
 }
 
 /// What comes of a run of a program of these two parts with these options.
@@ -44,6 +39,7 @@ pub fn run_over(
     for option in options {
         command.push(*option)?;
     }
+    command.push("program.orca")?;
     let text = format!(in alloc; "{objects}{rest}")?;
     answer(alloc, &command, text.as_str(), script)
 }

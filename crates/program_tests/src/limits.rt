@@ -27,14 +27,12 @@ fn listed(
 
 // Whether both `check` and `run` answer a text by this line and status; `check` says `ok` where the line is empty.
 fn both_say(alloc: Global, text: &str, status: u8, line: &str) -> Result<bool, NoOutcome> {
-    let checked = answer(alloc, &["check"], text, "")?;
-    let ran = answer(alloc, &["run"], text, "")?;
+    let checked = answer(alloc, &["check", "program.orca"], text, "")?;
+    let ran = answer(alloc, &["run", "program.orca"], text, "")?;
     let wanted = if line.is_empty() { "ok\n" } else { line };
     Ok(
-        checked.status == status
-            && checked.printed.as_str() == wanted
-            && ran.status == status
-            && ran.printed.as_str() == line
+        checked.says(status, wanted)
+            && ran.says(status, line)
             && ran.is_kept() == (status == FINISHED),
     )
 }
@@ -126,7 +124,7 @@ process OrcaMain();\nbegin for k in 1..256 do fork W(); od; end;\n";
     let one_less = "process W();\nbegin end;
 process OrcaMain();\nbegin for k in 1..255 do fork W(); od; end;\n";
     let answer = run(rt.alloc(), &["--nodes", "1"], one_less, "")?;
-    assert_eq!(rt; answer.status, FINISHED);
+    assert!(rt; answer.status == FINISHED);
     Ok(())
 }
 
@@ -145,7 +143,7 @@ process OrcaMain();\nbegin for k in 1..{makers} do fork Maker(); od; end;\n"
         if full {
             assert!(rt; is_limited(&answer, "orca: limit of objects: 4096\n", 4096, 17));
         } else {
-            assert_eq!(rt; answer.status, FINISHED);
+            assert!(rt; answer.status == FINISHED);
         }
     }
     Ok(())

@@ -26,11 +26,8 @@ struct End<'a> {
 fn ends_so(alloc: Global, script: &str, end: &End<'_>) -> Result<bool, NoOutcome> {
     let answer = run_over(alloc, &["--resilience", "1"], CELL, TWO, script)?;
     Ok(
-        answer.status == end.status
-            && answer.printed.as_str() == end.printed
-            && answer.counts() == Some(end.counts)
-            && answer.book() == Some(end.book)
-            && answer.members.as_slice() == end.members.as_slice(),
+        answer.ended(end.status, end.printed, end.counts, end.book)
+            && answer.has_members(&end.members),
     )
 }
 
@@ -150,10 +147,10 @@ fn each_packet_lost(rt: HostRuntime) -> Result<(), Fail> {
     for lost in 1..23u32 {
         let script = format!(in alloc; "drop any {lost}\n")?;
         let answer = run_over(alloc, &["--resilience", "1"], CELL, TWO, script.as_str())?;
-        let is_so = answer.status == FINISHED
-            && answer.printed.as_str() == "6\n"
-            && answer.book() == Some(5);
-        assert!(rt; is_so, "{lost}");
+        assert!(rt;
+            answer.says(FINISHED, "6\n") && answer.book() == Some(5),
+            "{lost}"
+        );
     }
     Ok(())
 }

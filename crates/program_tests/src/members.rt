@@ -23,8 +23,7 @@ fn is_pool(
 ) -> Result<bool, NoOutcome> {
     let answer = run_over(alloc, options, POOL, PRODUCERS, script)?;
     Ok(
-        answer.status == FINISHED
-            && answer.printed.as_str() == "66\n"
+        answer.says(FINISHED, "66\n")
             && matches!(answer.members.as_slice(), [main, ..] if main.applied == 12)
             && answer.lines() == Some(POOL_LINES)
             && (counts.is_none() || answer.counts() == counts),
@@ -110,10 +109,8 @@ fn reads_never_go_back(rt: HostRuntime) -> Result<(), Fail> {
 process OrcaMain();\n  X: Cell;
 begin fork Setter(X) on 1; while X$Value() = 0 do od; WriteLine(X$Value()); end;\n";
     let answer = run(alloc, &["--nodes", "2"], CELL, rest)?;
-    assert_eq!(rt; (answer.status, answer.printed.as_str()), (FINISHED, "1\n"));
-    assert_eq!(rt; answer.counts(), Some(Counts::plain(6, 4, 5)));
-    assert_eq!(rt; answer.book(), Some(6));
-    assert_eq!(rt; answer.given.as_slice(), [1, 1].as_slice());
+    assert!(rt; answer.ended(FINISHED, "1\n", Counts::plain(6, 4, 5), 6));
+    assert!(rt; answer.given.as_slice() == [1, 1].as_slice());
     Ok(())
 }
 
@@ -133,8 +130,8 @@ fn body_and_order(rt: HostRuntime) -> Result<(), Fail> {
     };
     for (script, counts) in [("", Counts::plain(4, 2, 6)), ("drop body 2\n", lossy)] {
         let answer = run_over(alloc, &[], text.as_str(), "", script)?;
-        assert_eq!(rt; (answer.status, &answer.printed), (FINISHED, &wanted));
-        assert_eq!(rt; answer.counts(), Some(counts));
+        assert!(rt; answer.says(FINISHED, wanted.as_str()));
+        assert!(rt; answer.counts() == Some(counts));
     }
     Ok(())
 }
@@ -151,7 +148,7 @@ fn longest_request(rt: HostRuntime) -> Result<(), Fail> {
             "process W();\nbegin WriteLine(\"{long}\"); end;\nprocess OrcaMain();\nbegin fork W() on 1; end;\n"
         )?;
         let answer = run(alloc, &[], text.as_str(), "")?;
-        assert_eq!(rt; answer.counts(), Some(Counts::plain(4, 2, packets)));
+        assert!(rt; answer.counts() == Some(Counts::plain(4, 2, packets)));
     }
     Ok(())
 }

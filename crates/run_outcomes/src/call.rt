@@ -1,7 +1,5 @@
 //! One call of the top over memory.
 
-ghost use Rattle.std.specs.Prelude.{◌≤◌, ◌×◌, IfOk, length};
-
 use crate::outcome::{NoOutcome, Outcome};
 use crate::told::told;
 use orca_base::NoMemory;
@@ -42,8 +40,12 @@ fn ended(
     out: &mut MemorySink,
     wires: Wires,
 ) -> Result<Ended, NoMemory> {
-    let mut wires = boxed(alloc, wires)?;
-    Ok(orca_main(alloc, words, shelf, out, &mut wires))
+    let mut boxed: Vec<Box<dyn Wire + Send>> = Vec::new(alloc);
+    boxed.push(Box::new(alloc, ScriptWire::new(alloc)?)?)?;
+    if wires == Wires::Two {
+        boxed.push(Box::new(alloc, PlainWire::new(alloc))?)?;
+    }
+    Ok(orca_main(alloc, words, shelf, out, &mut boxed))
 }
 
 // The words of a command line.
@@ -65,16 +67,4 @@ fn shelf(alloc: Global, files: &[(&str, &str)]) -> Result<MemoryShelf, NoMemory>
         ))?;
     }
     Ok(MemoryShelf::new(told, Vec::new(alloc)))
-}
-
-// The wires, in boxes.
-fn boxed(alloc: Global, wires: Wires) -> Result<Vec<Box<dyn Wire + Send>>, NoMemory>
-    ensures { IfOk result (λ w. (1 ≤ length w.items) × (length w.items ≤ 1000)) }
-{
-    let mut boxed: Vec<Box<dyn Wire + Send>> = Vec::new(alloc);
-    boxed.push(Box::new(alloc, ScriptWire::new(alloc)?)?)?;
-    if wires == Wires::Two {
-        boxed.push(Box::new(alloc, PlainWire::new(alloc))?)?;
-    }
-    Ok(boxed)
 }

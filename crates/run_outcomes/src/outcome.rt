@@ -1,6 +1,6 @@
 //! An outcome.
 
-use crate::ends::{Member, Process};
+use crate::ends::{Member, Process, Standing};
 use crate::events::Counts;
 use crate::lines::Lines;
 use orca_base::NoMemory;
@@ -26,6 +26,43 @@ pub struct Outcome {
 }
 
 impl Outcome {
+    /// Whether the call ended with this status, and printed this.
+    pub fn says(&self, status: u8, printed: &str) -> bool {
+        self.status == status && self.printed.as_str() == printed
+    }
+
+    /// Whether the call did so, and kept a run with these events and so many lines of history.
+    pub fn ended(&self, status: u8, printed: &str, counts: Counts, book: usize) -> bool {
+        self.says(status, printed) && self.counts() == Some(counts) && self.book() == Some(book)
+    }
+
+    /// Whether the kept run had these members.
+    pub fn has_members(&self, members: &[Member]) -> bool {
+        self.members.as_slice() == members
+    }
+
+    /// Whether the kept run had one process, which received so many replies and stands so.
+    pub fn has_main(&self, replies: usize, standing: Standing) -> bool {
+        match self.processes.as_slice() {
+            [main] => main.replies == replies && main.standing == standing,
+            _ => false,
+        }
+    }
+
+    /// Whether the kept run's processes were at these members, by their numbers.
+    pub fn has_homes(&self, nodes: &[u8]) -> bool {
+        let mut same = self.processes.len() == nodes.len();
+        for (process, node) in self.processes.iter().zip(nodes) {
+            same = same && process.node == *node;
+        }
+        same
+    }
+
+    /// Whether the first object that process 0 made had these integer fields, each behind the number of a member.
+    pub fn has_fields(&self, fields: &[(usize, i64)]) -> bool {
+        self.fields.as_slice() == fields
+    }
+
     /// Whether a run was kept.
     pub fn is_kept(&self) -> bool {
         self.tally.is_some()

@@ -28,6 +28,19 @@ pub fn called(
     outcome_of(alloc, line, files, failing, Wires::Two)
 }
 
+/// Whether such a call ends with this status, and prints this.
+pub fn says(
+    alloc: Global,
+    line: &[&str],
+    files: &[(&str, &str)],
+    failing: &[u64],
+    status: u8,
+    printed: &str,
+) -> Result<bool, NoOutcome> {
+    let call = called(alloc, line, files, failing)?;
+    Ok(call.says(status, printed))
+}
+
 /// What comes of a run of the one cell with these options and this script.
 pub fn one_cell(alloc: Global, options: &[&str], script: &str) -> Result<Outcome, NoOutcome> {
     let mut line = Vec::new(alloc);

@@ -1,9 +1,7 @@
 //! Runs that end otherwise than by their program, and writes that fail.
 
 use crate::cell::{ONE, called, one_cell};
-use run_outcomes::{
-    Counts, FINISHED, Member, NO_GROUP, OUT_OF_EVENTS, Process, Standing, WRITE_FAULT,
-};
+use run_outcomes::{Counts, FINISHED, Member, NO_GROUP, OUT_OF_EVENTS, Standing, WRITE_FAULT};
 use std::test::Fail;
 
 const RESILIENT: [&str; 2] = ["--resilience", "1"];
@@ -13,24 +11,12 @@ const RESILIENT: [&str; 2] = ["--resilience", "1"];
 fn out_of_events(rt: HostRuntime) -> Result<(), Fail> {
     let options = ["--resilience", "1", "--events", "4"];
     let run = one_cell(rt.alloc(), &options, "")?;
-    assert_eq!(rt; run.status, OUT_OF_EVENTS);
-    assert_eq!(rt; run.printed.as_str(), "orca: out of events\n");
     let counts = Counts {
         deliveries: 2,
         ..Counts::plain(1, 1, 3)
     };
-    assert_eq!(rt; run.counts(), Some(counts));
-    assert_eq!(rt; run.book(), Some(0));
-    assert!(rt;
-        matches!(
-            run.processes.as_slice(),
-            [Process {
-                replies: 0,
-                standing: Standing::Waits,
-                ..
-            }]
-        )
-    );
+    assert!(rt; run.ended(OUT_OF_EVENTS, "orca: out of events\n", counts, 0));
+    assert!(rt; run.has_main(0, Standing::Waits));
     Ok(())
 }
 
@@ -42,42 +28,30 @@ fn one_event_more(rt: HostRuntime) -> Result<(), Fail> {
         ("14", FINISHED, "6\n"),
     ] {
         let run = one_cell(rt.alloc(), &["--events", events], "")?;
-        assert_eq!(rt; (run.status, run.printed.as_str()), (status, printed));
+        assert!(rt; run.says(status, printed), "{events}");
     }
     Ok(())
 }
 
-// Members 1 and 2 crash before the make is acknowledged. Member 0 tells what is accepted at five ticks, and from the sixth on invites.
+// Members 1 and 2 crash before the make is acknowledged. Member 0 tells what is accepted at five ticks, and from the sixth on invites. The process
+// is never answered.
 #[test]
 fn too_many_crashes(rt: HostRuntime) -> Result<(), Fail> {
     let run = one_cell(rt.alloc(), &RESILIENT, "crash 1 entry 2\ncrash 2 entry 2\n")?;
-    assert_eq!(rt; run.status, NO_GROUP);
-    assert_eq!(rt; run.printed.as_str(), "orca: no group\n");
     let counts = Counts {
         ticks: 200,
         crashes: 2,
         ..Counts::plain(1, 1, 402)
     };
-    assert_eq!(rt; run.counts(), Some(counts));
-    assert_eq!(rt; run.book(), Some(0));
-    assert_eq!(rt;
-        run.members.as_slice(),
-        [
+    assert!(rt; run.ended(NO_GROUP, "orca: no group\n", counts, 0));
+    assert!(rt;
+        run.has_members(&[
             Member::living(0, 0),
             Member::crashed(0, 0),
-            Member::crashed(0, 0)
-        ]
-        .as_slice()
+            Member::crashed(0, 0),
+        ])
     );
-    assert!(rt;
-        matches!(
-            run.processes.as_slice(),
-            [Process {
-                standing: Standing::Waits,
-                ..
-            }]
-        )
-    );
+    assert!(rt; run.has_main(0, Standing::Waits));
     Ok(())
 }
 
@@ -86,19 +60,13 @@ fn too_many_crashes(rt: HostRuntime) -> Result<(), Fail> {
 fn nobody_lives(rt: HostRuntime) -> Result<(), Fail> {
     let script = "crash 1 entry 1\ncrash 0 entry 1\n";
     let run = one_cell(rt.alloc(), &["--nodes", "2"], script)?;
-    assert_eq!(rt; run.status, NO_GROUP);
-    assert_eq!(rt; run.printed.as_str(), "orca: no group\n");
     let counts = Counts {
         deliveries: 0,
         crashes: 2,
         ..Counts::plain(1, 1, 1)
     };
-    assert_eq!(rt; run.counts(), Some(counts));
-    assert_eq!(rt; run.book(), Some(1));
-    assert_eq!(rt;
-        run.members.as_slice(),
-        [Member::crashed(1, 0), Member::crashed(0, 0)].as_slice()
-    );
+    assert!(rt; run.ended(NO_GROUP, "orca: no group\n", counts, 1));
+    assert!(rt; run.has_members(&[Member::crashed(1, 0), Member::crashed(0, 0)]));
     Ok(())
 }
 
@@ -106,25 +74,13 @@ fn nobody_lives(rt: HostRuntime) -> Result<(), Fail> {
 #[test]
 fn member_of_main_crashes(rt: HostRuntime) -> Result<(), Fail> {
     let run = one_cell(rt.alloc(), &[], "crash 0 entry 2\n")?;
-    assert_eq!(rt; run.status, FINISHED);
-    assert_eq!(rt; run.printed.as_str(), "");
     let counts = Counts {
         deliveries: 0,
         crashes: 1,
         ..Counts::plain(1, 1, 2)
     };
-    assert_eq!(rt; run.counts(), Some(counts));
-    assert_eq!(rt; run.book(), Some(1));
-    assert!(rt;
-        matches!(
-            run.processes.as_slice(),
-            [Process {
-                replies: 1,
-                standing: Standing::Crashed,
-                ..
-            }]
-        )
-    );
+    assert!(rt; run.ended(FINISHED, "", counts, 1));
+    assert!(rt; run.has_main(1, Standing::Crashed));
     Ok(())
 }
 
@@ -133,14 +89,13 @@ fn member_of_main_crashes(rt: HostRuntime) -> Result<(), Fail> {
 fn failed_writes(rt: HostRuntime) -> Result<(), Fail> {
     let files = [("one.orca", ONE), ("f.txt", "")];
     for (events, failing, printed) in [("14", 1, ""), ("13", 1, ""), ("13", 2, "6\n")] {
-        let run = called(
-            rt.alloc(),
-            &["run", "--events", events, "--script", "f.txt", "one.orca"],
-            &files,
-            &[failing],
-        )?;
-        assert_eq!(rt; (run.status, run.printed.as_str()), (WRITE_FAULT, printed));
-        assert_eq!(rt; (run.book(), run.events()), (Some(4), Some(13)));
+        let line = ["run", "--events", events, "--script", "f.txt", "one.orca"];
+        let run = called(rt.alloc(), &line, &files, &[failing])?;
+        assert!(rt; run.says(WRITE_FAULT, printed), "{events}");
+        assert!(rt;
+            run.book() == Some(4) && run.events() == Some(13),
+            "{events}"
+        );
     }
     Ok(())
 }

@@ -1,7 +1,7 @@
 //! Histories: what a run prints behind its output where it is asked for, and what `replay` says of that and of others.
 
-use crate::cell::{ONE, called};
-use run_outcomes::{FINISHED, NoOutcome, Outcome, WRITE_FAULT};
+use crate::cell::{ONE, called, says};
+use run_outcomes::{FINISHED, NoOutcome, OUT_OF_EVENTS, WRITE_FAULT};
 use std::alloc::Global;
 use std::test::Fail;
 
@@ -28,10 +28,11 @@ fn first_lines(alloc: Global, count: u64) -> Result<String, NoOutcome> {
     Ok(front)
 }
 
-// What comes of `replay` for this history of the one cell.
-fn replayed(alloc: Global, history: &str) -> Result<Outcome, NoOutcome> {
+// Whether `replay` for this history of the one cell ends with this status, prints this, and keeps nothing.
+fn is_replayed(alloc: Global, history: &str, status: u8, printed: &str) -> Result<bool, NoOutcome> {
     let files = [("one.orca", ONE), ("h.txt", history)];
-    called(alloc, &["replay", "h.txt", "one.orca"], &files, &[])
+    let replay = called(alloc, &["replay", "h.txt", "one.orca"], &files, &[])?;
+    Ok(replay.says(status, printed) && !replay.is_kept())
 }
 
 // Whether the one cell with its history, where these puts fail, ends with this status, prints so many lines, and is kept whole.
@@ -39,7 +40,7 @@ fn has_printed(alloc: Global, failing: &[u64], status: u8, lines: u64) -> Result
     let printed = first_lines(alloc, lines)?;
     let files = [("one.orca", ONE)];
     let run = called(alloc, &["run", "--history", "one.orca"], &files, failing)?;
-    Ok(run.status == status && run.printed == printed && run.book() == Some(4))
+    Ok(run.says(status, printed.as_str()) && run.book() == Some(4))
 }
 
 // The output is a write, and so is each line; where the i-th fails, the lines in front of it stand there, and what is kept is whole.
@@ -81,8 +82,11 @@ fn histories_of_runs_that_were_cut_off(rt: HostRuntime) -> Result<(), Fail> {
         ),
     ];
     for (line, printed) in rows {
-        let run = called(alloc, line, &[("one.orca", ONE)], &[])?;
-        assert_eq!(rt; run.printed.as_str(), printed);
+        let files = [("one.orca", ONE)];
+        assert!(rt;
+            says(alloc, line, &files, &[], OUT_OF_EVENTS, printed)?,
+            "{printed}"
+        );
     }
     Ok(())
 }
@@ -118,11 +122,7 @@ fn histories_given_back(rt: HostRuntime) -> Result<(), Fail> {
         ),
     ];
     for (history, status, printed) in rows {
-        let replay = replayed(alloc, history)?;
-        assert_eq!(rt;
-            (replay.status, replay.printed.as_str(), replay.is_kept()),
-            (status, printed, false)
-        );
+        assert!(rt; is_replayed(alloc, history, status, printed)?, "{printed}");
     }
     Ok(())
 }
@@ -169,13 +169,14 @@ fn replays_that_are_refused(rt: HostRuntime) -> Result<(), Fail> {
         ),
     ];
     for (line, status, printed) in rows {
-        let refused = called(alloc, line, &files, &[])?;
-        assert_eq!(rt;
-            (refused.status, refused.printed.as_str()),
-            (status, printed)
+        assert!(rt;
+            says(alloc, line, &files, &[], status, printed)?,
+            "{printed}"
         );
-        let failed = called(alloc, line, &files, &[1])?;
-        assert_eq!(rt; (failed.status, failed.printed.as_str()), (WRITE_FAULT, ""));
+        assert!(rt;
+            says(alloc, line, &files, &[1], WRITE_FAULT, "")?,
+            "{printed}"
+        );
     }
     Ok(())
 }

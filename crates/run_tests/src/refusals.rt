@@ -1,6 +1,6 @@
 //! Calls that run nothing: words, files and scripts that are refused.
 
-use crate::cell::{ONE, called};
+use crate::cell::{ONE, called, says};
 use run_outcomes::NoOutcome;
 use std::alloc::Global;
 use std::test::Fail;
@@ -18,7 +18,7 @@ fn is_refused(
 ) -> Result<bool, NoOutcome> {
     let files = [("one.orca", ONE), ("f.txt", script), ("e.orca", "begin")];
     let call = called(alloc, line, &files, &[])?;
-    Ok(call.status == status && call.printed.as_str() == printed && !call.is_kept())
+    Ok(call.says(status, printed) && !call.is_kept())
 }
 
 #[test]
@@ -116,8 +116,7 @@ fn script_at_its_limit(rt: HostRuntime) -> Result<(), Fail> {
     let line = ["run", "--script", "f.txt", "one.orca"];
     let longest = "#".repeat(alloc, 1_000_000)?;
     let files = [("one.orca", ONE), ("f.txt", longest.as_str())];
-    let run = called(alloc, &line, &files, &[])?;
-    assert_eq!(rt; run.printed.as_str(), "6\n");
+    assert!(rt; says(alloc, &line, &files, &[], 0, "6\n")?);
     let longer = "#".repeat(alloc, 1_000_001)?;
     assert!(rt;
         is_refused(
@@ -144,8 +143,7 @@ fn words_that_run(rt: HostRuntime) -> Result<(), Fail> {
         &["run", "--events", "4000000", "one.orca"],
     ];
     for line in lines {
-        let run = called(alloc, line, &[("one.orca", ONE)], &[])?;
-        assert_eq!(rt; (run.status, run.printed.as_str()), (0, "6\n"));
+        assert!(rt; says(alloc, line, &[("one.orca", ONE)], &[], 0, "6\n")?);
     }
     Ok(())
 }

@@ -1,9 +1,7 @@
 //! Runs without faults, and with faults from which the group recovers.
 
 use crate::cell::{ONE, called, one_cell};
-use run_outcomes::{
-    Counts, FINISHED, Member, NoOutcome, Outcome, Process, Standing, Wires, outcome_of,
-};
+use run_outcomes::{Counts, FINISHED, Member, NoOutcome, Outcome, Standing, Wires, outcome_of};
 use std::alloc::{AllocError, Global};
 use std::test::Fail;
 
@@ -27,14 +25,7 @@ fn is_so(alloc: Global, row: &Row<'_>) -> Result<bool, NoOutcome> {
     for member in &run.members {
         same = same && *member == Member::living(3, row.incarnation);
     }
-    Ok(
-        run.status == FINISHED
-            && run.printed.as_str() == "6\n"
-            && run.counts() == Some(row.counts)
-            && run.book() == Some(4)
-            && run.members.len() == row.nodes
-            && same,
-    )
+    Ok(run.ended(FINISHED, "6\n", row.counts, 4) && run.members.len() == row.nodes && same)
 }
 
 // The make, the assignment and the write are three entries, each behind a burst and an act, and a last burst finds the end; the read is
@@ -149,20 +140,17 @@ fn lost_entry(rt: HostRuntime) -> Result<(), Fail> {
 #[test]
 fn lost_last_entry(rt: HostRuntime) -> Result<(), Fail> {
     let run = one_cell(rt.alloc(), &[], "drop entry 6\n")?;
-    assert_eq!(rt; (run.status, run.printed.as_str()), (FINISHED, "6\n"));
     let counts = Counts {
         deliveries: 5,
         ..Counts::plain(4, 3, 6)
     };
-    assert_eq!(rt; run.counts(), Some(counts));
-    assert_eq!(rt;
-        run.members.as_slice(),
-        [
+    assert!(rt; run.ended(FINISHED, "6\n", counts, 4));
+    assert!(rt;
+        run.has_members(&[
             Member::living(3, 0),
             Member::living(3, 0),
-            Member::living(2, 0)
-        ]
-        .as_slice()
+            Member::living(2, 0),
+        ])
     );
     Ok(())
 }
@@ -255,15 +243,14 @@ fn suspected_sequencer(rt: HostRuntime) -> Result<(), Fail> {
 #[test]
 fn swapped_wire(rt: HostRuntime) -> Result<(), Fail> {
     let run = one_cell(rt.alloc(), &RESILIENT, "drop any all\nswap entry 2\n")?;
-    assert_eq!(rt; (run.status, run.printed.as_str()), (FINISHED, "6\n"));
     let counts = Counts {
         deliveries: 19,
         ticks: 1,
         swaps: 1,
         ..Counts::plain(4, 3, 21)
     };
-    assert_eq!(rt; run.counts(), Some(counts));
-    assert_eq!(rt; run.packets_about_swap(), Some((2, 19)));
+    assert!(rt; run.ended(FINISHED, "6\n", counts, 4));
+    assert!(rt; run.packets_about_swap() == Some((2, 19)));
     Ok(())
 }
 
@@ -284,20 +271,17 @@ fn acts_passed_over(rt: HostRuntime) -> Result<(), Fail> {
         )?
     );
     let run = one_cell(alloc, &[], "crash 1 entry 2\nsuspect 1 entry 2\n")?;
-    assert_eq!(rt; (run.status, run.printed.as_str()), (FINISHED, "6\n"));
     let counts = Counts {
         crashes: 1,
         ..Counts::plain(4, 3, 6)
     };
-    assert_eq!(rt; run.counts(), Some(counts));
-    assert_eq!(rt;
-        run.members.as_slice(),
-        [
+    assert!(rt; run.ended(FINISHED, "6\n", counts, 4));
+    assert!(rt;
+        run.has_members(&[
             Member::living(3, 0),
             Member::crashed(0, 0),
-            Member::living(3, 0)
-        ]
-        .as_slice()
+            Member::living(3, 0),
+        ])
     );
     Ok(())
 }
@@ -312,8 +296,7 @@ fn swap_without_a_next_wire(rt: HostRuntime) -> Result<(), Fail> {
         &[],
         Wires::One,
     )?;
-    assert_eq!(rt; (run.status, run.printed.as_str()), (FINISHED, "6\n"));
-    assert_eq!(rt; run.counts(), Some(Counts::plain(4, 3, 6)));
+    assert!(rt; run.ended(FINISHED, "6\n", Counts::plain(4, 3, 6), 4));
     Ok(())
 }
 
@@ -323,9 +306,8 @@ fn many(alloc: Global, calls: usize) -> Result<String, AllocError> {
     ONE.replace(alloc, "X$Assign(6); ", all.as_str())
 }
 
-// What comes of it on five members with one acknowledger, with this script.
-fn many_called(alloc: Global, calls: usize, script: &str) -> Result<Outcome, NoOutcome> {
-    let text = many(alloc, calls)?;
+// What comes of this text on five members with one acknowledger, with this script.
+fn called_on_five<'a>(alloc: Global, text: &'a str, script: &'a str) -> Result<Outcome, NoOutcome> {
     called(
         alloc,
         &[
@@ -338,7 +320,7 @@ fn many_called(alloc: Global, calls: usize, script: &str) -> Result<Outcome, NoO
             "f.txt",
             "m.orca",
         ],
-        &[("m.orca", text.as_str()), ("f.txt", script)],
+        &[("m.orca", text), ("f.txt", script)],
         &[],
     )
 }
@@ -347,17 +329,16 @@ fn many_called(alloc: Global, calls: usize, script: &str) -> Result<Outcome, NoO
 // two packets.
 #[test]
 fn windows_are_crossed(rt: HostRuntime) -> Result<(), Fail> {
+    let text = many(rt.alloc(), 600)?;
     for (script, packets, deliveries) in [("", 5490, 5490), ("drop entry 402\n", 5492, 5491)] {
-        let run = many_called(rt.alloc(), 600, script)?;
-        assert_eq!(rt; (run.status, run.printed.as_str()), (FINISHED, "7\n"));
+        let run = called_on_five(rt.alloc(), text.as_str(), script)?;
         let counts = Counts {
             deliveries,
             ..Counts::plain(603, 602, packets)
         };
-        assert_eq!(rt; run.counts(), Some(counts));
-        assert_eq!(rt; run.book(), Some(603));
+        assert!(rt; run.ended(FINISHED, "7\n", counts, 603), "{packets}");
         for member in &run.members {
-            assert_eq!(rt; (member.applied, member.outside), (602, false));
+            assert!(rt; member.applied == 602 && !member.outside, "{packets}");
         }
     }
     Ok(())
@@ -366,18 +347,9 @@ fn windows_are_crossed(rt: HostRuntime) -> Result<(), Fail> {
 // A fifth of all packets is lost by chance: the history is whole all the same.
 #[test]
 fn a_fifth_is_lost(rt: HostRuntime) -> Result<(), Fail> {
-    let run = many_called(rt.alloc(), 100, "seed 1 20\n")?;
-    assert_eq!(rt; (run.status, run.printed.as_str()), (FINISHED, "7\n"));
-    assert_eq!(rt; run.book(), Some(103));
-    assert!(rt;
-        matches!(
-            run.processes.as_slice(),
-            [Process {
-                replies: 103,
-                standing: Standing::Ended,
-                ..
-            }]
-        )
-    );
+    let text = many(rt.alloc(), 100)?;
+    let run = called_on_five(rt.alloc(), text.as_str(), "seed 1 20\n")?;
+    assert!(rt; run.says(FINISHED, "7\n") && run.book() == Some(103));
+    assert!(rt; run.has_main(103, Standing::Ended));
     Ok(())
 }
