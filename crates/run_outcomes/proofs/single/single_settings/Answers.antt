@@ -1,5 +1,5 @@
 use Rattle.std.proofs.Common.{refl, arith}
-use Rattle.program_tests.proofs.single.single_pool.Goals as goal
+use Rattle.run_outcomes.proofs.single.single_settings.Goals as goal
 
 pub returns-clause-ranges : goal.returns-clause-ranges
 returns-clause-ranges c = record {
