@@ -110,7 +110,7 @@ fn is_limited(answer: &Outcome, line: &str, makes: u64, forks: u64) -> bool {
         calls: 0,
         others: 0,
     };
-    answer.status == LIMIT && answer.printed.as_str() == line && answer.lines() == Some(lines)
+    answer.says(LIMIT, line) && answer.lines() == Some(lines)
 }
 
 // The main process counts among the 256, and the 257th stops the run.
