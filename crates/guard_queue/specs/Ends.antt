@@ -1,5 +1,5 @@
 -- Where settling ends, as a relation: rounds, in each of which the oldest call that isn't blocked is performed or faults, lead to
--- where each call is blocked (Bal, Kaashoek, Tanenbaum 1992, section 3; docs/LANGUAGE.md, Guards).
+-- where each call is blocked (Bal, Kaashoek, Tanenbaum 1992, section 3; docs/LANGUAGE.md, Operations and makings).
 use Rattle.std.specs.Prelude.{◌≡◌, List, [], ◌∷◌, ◌++◌}
 use Rattle.value_core.specs.declared.meaning.Tried.TheVariants as tried
 use Rattle.value_core.specs.Meaning.{Performs}

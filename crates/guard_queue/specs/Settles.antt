@@ -1,5 +1,5 @@
 -- How suspended calls settle: repeatedly the oldest one whose try isn't blocked is performed or faults and leaves the queue,
--- until each is blocked (Bal, Kaashoek, Tanenbaum 1992, section 3; docs/LANGUAGE.md, Guards).
+-- until each is blocked (Bal, Kaashoek, Tanenbaum 1992, section 3; docs/LANGUAGE.md, Operations and makings).
 use Rattle.std.specs.Prelude.{◌≡◌, ℕ, Bool, true, false, not, List, [], ◌∷◌, ◌++◌, length, map, Option, None, Some, slice_get, remove, zero, suc, IfSome, Vec}
 use Rattle.std.specs.declared.alloc.Global.{Global}
 use Rattle.std.specs.List.{All, position_from}

@@ -1,4 +1,4 @@
--- Calls (docs/LANGUAGE.md, Functions; Operations and actions): what is passed, and what is called.
+-- Calls (docs/LANGUAGE.md, Functions; Operations and makings): what is passed, and what is called.
 use Rattle.std.specs.Prelude.{ℕ, pos, List, [], ◌∷◌, map, unwrap_or, Option, option_map, option_and_then, Result, Ok, ℤ}
 use Rattle.orca_base.specs.declared.fault.FaultKind.{FaultKind}
 use Rattle.orca_base.specs.declared.fault.FaultKind.TheVariants.{NoReturn}

@@ -1,14 +1,12 @@
-//! The limits of texts, programs and runs, each with its reason. One that no crate uses yet says so.
+//! The limits of texts, programs and runs, each with its reason.
 
 /// Bytes of one source text, so that places and spans fit 32 bits with room to spare.
 pub const SOURCE_BYTES: u32 = 1_000_000;
 
 /// Bytes of one script.
-/// Nothing uses it yet.
 pub const SCRIPT_BYTES: u32 = 1_000_000;
 
 /// Bytes of a history that is replayed: the most lines of a run, at 32 bytes each.
-/// Nothing uses it yet.
 pub const HISTORY_BYTES: u32 = 64_000_000;
 
 /// Files, and so modules, of one program.

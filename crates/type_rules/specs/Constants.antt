@@ -1,4 +1,4 @@
--- The values of constants and of array bounds (docs/LANGUAGE.md, Constants).
+-- The values of constants and of array bounds (docs/LANGUAGE.md, Typing).
 use Rattle.std.specs.Prelude.{ℕ, zero, suc, ℤ, neg_ℤ, List, length, if◌then◌else◌, slice_get, Option, Some, None}
 use Rattle.orca_tree.specs.declared.tree.Name.{Name}
 use Rattle.orca_tree.specs.declared.tree.Bound.{Bound}
