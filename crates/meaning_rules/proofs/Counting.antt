@@ -15,10 +15,10 @@ use Rattle.meaning_rules.proofs.Closed.{Closed, IsRound, Makes, of_while, of_unt
 
 -- ---- so many turns are within those that are used, or behind them
 
-abbrev Within : ℕ → ℕ → Type 0
+abbrev pub Within : ℕ → ℕ → Type 0
 Within used n = (1 ≤ used) × (n ≤ used)
 
-abbrev Behind : ℕ → ℕ → Type 0
+abbrev pub Behind : ℕ → ℕ → Type 0
 Behind used n = (m : ℕ) × (n ≡ used + m) × IsEnough used m
 
 raised : (u n : ℕ) → (n ≤ u) ⊎ ((m : ℕ) × (n ≡ u + suc m)) → (suc n ≤ suc u) ⊎ ((m : ℕ) × (suc n ≡ suc u + suc m))
@@ -35,7 +35,7 @@ by_order : (u n : ℕ) → (n ≤ suc u) ⊎ ((m : ℕ) × (n ≡ suc u + suc m)
 by_order u n (inl less) = inl (omega arith, less)
 by_order u n (inr h) = inr (suc h.0, h.1, λ some. omega arith)
 
-split : (used n : ℕ) → Within used n ⊎ Behind used n
+pub split : (used n : ℕ) → Within used n ⊎ Behind used n
 split zero n = inr (n, omega arith, λ some. absurd (omega arith))
 split (suc used) n = by_order used n (order (suc used) n)
 
@@ -110,13 +110,13 @@ turn_counted = record { counted = λ s. turn_counted_to s.frame s.replies s.left
 -- ---- one evaluation and then another
 
 -- where so many are too few for both, and enough for the first, the second uses some
-second_uses : (one two m n : ℕ) → 1 ≤ one + two → n ≤ one + two → n ≡ one + m → IsEnough one m → 1 ≤ two
+pub second_uses : (one two m n : ℕ) → 1 ≤ one + two → n ≤ one + two → n ≡ one + m → IsEnough one m → 1 ≤ two
 second_uses one (suc two) m n some less is last = omega arith
 second_uses zero zero m n some less is last = absurd (omega arith)
 second_uses (suc one) zero m n some less is last = let k : 1 ≤ m = last (omega arith) in absurd (omega arith)
 
 -- what both leave is enough for both
-both_last : (one two middle left : ℕ) → IsEnough one middle → IsEnough two left → middle ≡ two + left → IsEnough (one + two) left
+pub both_last : (one two middle left : ℕ) → IsEnough one middle → IsEnough two left → middle ≡ two + left → IsEnough (one + two) left
 both_last one (suc two) middle left first second is some = second (omega arith)
 both_last zero zero middle left first second is some = absurd (omega arith)
 both_last (suc one) zero middle left first second is some = let k : 1 ≤ middle = first (omega arith) in omega arith
@@ -220,7 +220,7 @@ lowers f s (Stops (Faults fault)) h = tt
 lowers f s (Stops Busy) h = tt
 
 -- and fewer, where rounds go on
-abbrev Falls : ℕ → Out Round → Type 0
+abbrev pub Falls : ℕ → Out Round → Type 0
 Falls n (Goes Again s) = s.left < n
 Falls n (Goes Over s) = Unit {0}
 Falls n (Goes (Leave x) s) = Unit {0}
@@ -269,7 +269,7 @@ module _ (test : State → Out Datum) (body : State → Out Flow) (tests : Count
       begun_falls (λ s1. after (body s1) (until test))
       (λ n s1 less. until_falls_behind n s1.left (body s1) less (lowers body s1 (body s1) (bodies.counted s1))) s.left s.left s (omega arith)
 
-round_falls : (round : State → Out Round) → IsRound Counted round → (s : State) → Falls s.left (round s)
+pub round_falls : (round : State → Out Round) → IsRound Counted round → (s : State) → Falls s.left (round s)
 round_falls round (of_while test body tests bodies) = while_falls test body tests bodies
 round_falls round (of_until test body tests bodies) = until_falls test body tests bodies
 
@@ -290,7 +290,11 @@ same_counted f g same s (Stops (Needs action)) h = (h.0, same_counts f g same s 
 same_counted f g same s (Stops (Faults fault)) h = (h.0, same_counts f g same s (λ n. Stops (Faults fault)) h.0 h.1)
 same_counted f g same s (Stops Busy) h = λ n less. same (with_left n s) ∙ h n less
 
-module _ (round : State → Out Round) (h : Counted Round round) (falls : (s : State) → Falls s.left (round s)) where
+-- what follows a round
+abbrev pub again : (State → Out Round) → Round → State → Out Flow
+again round r s = next_round r s (repeated round)
+
+module _ (round : State → Out Round) (falls : (s : State) → Falls s.left (round s)) where
   rounds_agree : (f g : State → Out Flow) (n : ℕ) (o : Out Round) → Falls n o → ((s1 : State) → s1.left < n → f s1 ≡ g s1) →
       after o (λ r s1. next_round r s1 f) ≡ after o (λ r s1. next_round r s1 g)
   rounds_agree f g n (Goes Over s1) less same = refl
@@ -305,25 +309,23 @@ module _ (round : State → Out Round) (h : Counted Round round) (falls : (s : S
   loops_agree (suc j) (suc k) s one two =
       rounds_agree (loop j round) (loop k round) s.left (round s) (falls s) (λ s1 less. loops_agree j k s1 (omega arith) (omega arith))
 
-  abbrev again : Round → State → Out Flow
-  again r s = next_round r s (repeated round)
-
-  by_rounds : (s : State) → repeated round s ≡ after (round s) again
+  pub by_rounds : (s : State) → repeated round s ≡ after (round s) (again round)
   unfolding loop
   by_rounds s = rounds_agree (loop s.left round) (repeated round) s.left (round s) (falls s) (λ s1 less. loops_agree s.left (suc s1.left) s1 less (omega arith))
 
+module _ (round : State → Out Round) (h : Counted Round round) (falls : (s : State) → Falls s.left (round s)) where
   again_counted : (n : ℕ) (r : Round) (s1 : State) → Falls n (Goes r s1) → (s1.left < n → CountedTo (repeated round) s1 (repeated round s1)) →
-      CountedTo (again r) s1 (again r s1)
-  again_counted n Over s1 less others = none_counts (again Over) s1 (λ m. Goes On (with_left m s1)) (λ m. refl)
+      CountedTo (again round r) s1 (again round r s1)
+  again_counted n Over s1 less others = none_counts (again round Over) s1 (λ m. Goes On (with_left m s1)) (λ m. refl)
   again_counted n Again s1 less others = others less
-  again_counted n (Leave x) s1 less others = none_counts (again (Leave x)) s1 (λ m. Goes (Back x) (with_left m s1)) (λ m. refl)
+  again_counted n (Leave x) s1 less others = none_counts (again round (Leave x)) s1 (λ m. Goes (Back x) (with_left m s1)) (λ m. refl)
 
   loop_counted : (k : ℕ) (s : State) → s.left < k → CountedTo (repeated round) s (repeated round s)
   loop_counted zero s less = absurd (omega arith)
   loop_counted (suc k) s less =
-      subst (λ o. CountedTo (repeated round) s o) (sym (by_rounds s))
-      (same_counted (repeated round) (λ t. after (round t) again) by_rounds s (after (round s) again)
-      (after_counted round again s (round s) (h.counted s) (λ r s1 is.
+      subst (λ o. CountedTo (repeated round) s o) (sym (by_rounds round falls s))
+      (same_counted (repeated round) (λ t. after (round t) (again round)) (by_rounds round falls) s (after (round s) (again round))
+      (after_counted round (again round) s (round s) (h.counted s) (λ r s1 is.
       again_counted s.left r s1 (subst (λ o. Falls s.left o) is (falls s)) (λ fewer. loop_counted k s1 (omega arith)))))
 
   pub repeated_counted : Counted Flow (repeated round)
