@@ -1,7 +1,7 @@
 //! Runs a program of many calls on many members, for `bench/run`, which takes the time.
 //!
-//! The words are: how many members the group has, how many of them may be lost, how many calls the program makes, by a hundred processes on member 0,
-//! and what befalls packets:
+//! The words are: how many members the group has, how many of them may be lost, how many calls the program makes, one after the other by its one
+//! process, and what befalls packets:
 //! `plain`, nothing; `lossy`, a fifth is lost by chance; `twice`, each comes twice. It prints the status, and of a run that is kept how many
 //! events there were, how many packets these sent, and how many entries each member applied at least.
 #![tactic(auto)]
@@ -13,8 +13,8 @@ use std::process::ExitCode;
 use std::{env, io};
 use wires::{ScriptWire, Wire};
 
-// A cell, and processes that assign to it. There are many, since what a process does next is found from its beginning.
-const CALLERS: &str = "object specification Cell;
+// A cell, and a process that assigns to it.
+const CALLER: &str = "object specification Cell;
   operation Value(): integer;
   operation Assign(v: integer);
 end;
@@ -23,15 +23,10 @@ object implementation Cell;
   operation Value(): integer; begin return x; end;
   operation Assign(v: integer); begin x := v; end;
 begin x := 0; end;
-process Caller(c: shared Cell; calls: integer);
-begin for k in 1..calls do c$Assign(k); od; end;
 process OrcaMain();
   X: Cell;
-begin for k in 1..100 do fork Caller(X, CALLS); od; end;
+begin for k in 1..CALLS do X$Assign(k); od; end;
 ";
-
-// How many callers there are.
-const MANY: u32 = 100;
 
 /// Why nothing was printed.
 #[derive(Debug, Drop)]
@@ -74,6 +69,8 @@ fn run(rt: &HostRuntime, alloc: Global) -> Result<(), Failed> {
         nodes.as_str(),
         "--resilience",
         resilience.as_str(),
+        "--turns",
+        "10000000",
         "--events",
         "4000000",
         "--script",
@@ -105,10 +102,10 @@ fn script_of(word: &String) -> Option<&'static str> {
     }
 }
 
-// The program that makes so many calls, in hundreds.
+// The program that makes so many calls.
 fn many(alloc: Global, calls: u32) -> Result<String, AllocError> {
-    let each = format!(in alloc; "{}", calls / MANY)?;
-    CALLERS.replace(alloc, "CALLS", each.as_str())
+    let each = format!(in alloc; "{calls}")?;
+    CALLER.replace(alloc, "CALLS", each.as_str())
 }
 
 // What comes of these words over a program and a script.
