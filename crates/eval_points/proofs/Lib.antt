@@ -1,0 +1,4 @@
+mod Moving
+mod Rounds
+mod Placing
+mod Beginning
