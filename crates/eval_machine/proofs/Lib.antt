@@ -1,6 +1,7 @@
 mod Rows
 mod Attempting
 mod Texting
+mod Beyond
 mod Turning
 mod Numbered
 mod Once

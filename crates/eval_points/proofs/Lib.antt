@@ -1,4 +1,5 @@
-mod Moving
+pub mod Moving
 mod Rounds
 mod Placing
 mod Beginning
+mod Leading

@@ -99,10 +99,10 @@ steps_first f first next s x s1 same p = record {
 }
 
 -- so many turns are within those that are used, or behind them: as in Counting of meaning_rules, which keeps it for itself
-abbrev Within : ℕ → ℕ → Type 0
+abbrev pub Within : ℕ → ℕ → Type 0
 Within used n = (1 ≤ used) × (n ≤ used)
 
-abbrev Behind : ℕ → ℕ → Type 0
+abbrev pub Behind : ℕ → ℕ → Type 0
 Behind used n = (m : ℕ) × (n ≡ used + m) × IsEnough used m
 
 raised : (u n : ℕ) → (n ≤ u) ⊎ ((m : ℕ) × (n ≡ u + suc m)) → (suc n ≤ suc u) ⊎ ((m : ℕ) × (suc n ≡ suc u + suc m))
@@ -119,7 +119,7 @@ by_order : (u n : ℕ) → (n ≤ suc u) ⊎ ((m : ℕ) × (n ≡ suc u + suc m)
 by_order u n (inl less) = inl (omega arith, less)
 by_order u n (inr h) = inr (suc h.0, h.1, λ some. omega arith)
 
-split : (used n : ℕ) → Within used n ⊎ Behind used n
+pub split : (used n : ℕ) → Within used n ⊎ Behind used n
 split zero n = inr (n, omega arith, λ some. absurd (omega arith))
 split (suc used) n = by_order used n (order (suc used) n)
 
@@ -128,7 +128,7 @@ second_uses one (suc two) m n some less is last = omega arith
 second_uses zero zero m n some less is last = absurd (omega arith)
 second_uses (suc one) zero m n some less is last = let k : 1 ≤ m = last (omega arith) in absurd (omega arith)
 
-both_last : (one two middle left : ℕ) → IsEnough one middle → IsEnough two left → middle ≡ two + left → IsEnough (one + two) left
+pub both_last : (one two middle left : ℕ) → IsEnough one middle → IsEnough two left → middle ≡ two + left → IsEnough (one + two) left
 both_last one (suc two) middle left first second is some = second (omega arith)
 both_last zero zero middle left first second is some = absurd (omega arith)
 both_last (suc one) zero middle left first second is some = let k : 1 ≤ middle = first (omega arith) in omega arith

@@ -3,3 +3,4 @@ pub mod Places
 pub mod Moves
 pub mod Leads
 pub mod Stepping
+pub mod Advances

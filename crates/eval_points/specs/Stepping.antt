@@ -53,6 +53,13 @@ with_number number last (InArm body) = None
 with_number number last (InWhile body) = None
 with_number number last (InRepeat body test) = None
 
+-- the round of another number takes a turn
+abbrev pub FallsIfNumber : Result Ended Stop → ℕ → ℕ → Type 0
+FallsIfNumber (Ok (ended.Number number last)) before behind = behind < before
+FallsIfNumber (Ok ended.Again) before behind = Unit {0}
+FallsIfNumber (Ok ended.Next) before behind = Unit {0}
+FallsIfNumber (Err why) before behind = Unit {0}
+
 -- the statements inside of one are done: it goes on with that statement again, with the next, or inside with another number
 abbrev pub IsEnded : Calls → Scope → Inside → (State → Out Flow) → (State → Out Flow) → Result Ended Stop → State → State → Type 0
 IsEnded call v i again next (Ok ended.Again) s s1 = Steps (behind call v i again next On) s again s1

@@ -1,6 +1,6 @@
 //! How statements begin: one that holds no other is done at once, and into the others one steps.
 
-ghost use Rattle.std.specs.Prelude.{◌≡◌, ◌≤◌, ◌≤ℤ◌, ℕ};
+ghost use Rattle.std.specs.Prelude.{◌<◌, ◌≤◌, ℕ, IfOk};
 ghost use Rattle.orca_base.specs.declared.place.Place.{Place as TextPlace};
 ghost use Rattle.orca_tree.specs.declared.tree.Name.{Name as NameTree};
 ghost use Rattle.orca_syntax.specs.Shown.{arm as arm_shown, arms as arms_shown, expr, stmt};
@@ -81,6 +81,7 @@ fn begin_repeat(run: &mut Run<'_>) -> Result<Begun, Stop>
 /// Begins the round of a number: a turn, and the loop's variable.
 pub(crate) fn begin_number(number: i64, run: &mut Run<'_>) -> Result<(), Stop>
     ensures left { run.new.left ≤ run.old.left }
+    ensures falls { IfOk result (λ _. run.new.left < run.old.left) }
     ensures gives { Gives (λ u. u) result (state_of run.new)
         (rules.after (rules.turn (state_of run.old)) (λ u s. rules.Goes u (with_name (datum.int number) s))) }
 {

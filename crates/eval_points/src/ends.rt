@@ -12,7 +12,7 @@ ghost use Rattle.eval_variables.specs.Gives.{state_of};
 ghost use Rattle.eval_bodies.specs.Sites.{IsSite};
 ghost use Rattle.eval_points.specs.Leads.{inside_of};
 ghost use Rattle.eval_points.specs.Places.{InFor, InRepeat};
-ghost use Rattle.eval_points.specs.Stepping.{IsEnded};
+ghost use Rattle.eval_points.specs.Stepping.{FallsIfNumber, IsEnded};
 
 use crate::begins::begin_number;
 use crate::inner::Inside;
@@ -52,6 +52,7 @@ fn end_repeat<C: Levels>(
 // A round of `for` is done: its variable goes, and the round of the next number begins, where there is one.
 fn end_number(number: i64, last: i64, run: &mut Run<'_>) -> Result<Ended, Stop>
     ensures left { run.new.left ≤ run.old.left }
+    ensures falls { FallsIfNumber result run.old.left run.new.left }
     ensures ended { (levels : ℕ) (w : Scope) (n : NameTree) (body : Stmts) (again next : State → Out Flow) →
         IsEnded (calls w.program levels) w (InFor n number last body) again next result (state_of run.old) (state_of run.new) }
 {
@@ -75,6 +76,7 @@ pub(crate) fn end<C: Levels>(
     run: &mut Run<'_>,
 ) -> Result<Ended, Stop>
     ensures left { run.new.left ≤ run.old.left }
+    ensures falls { FallsIfNumber result run.old.left run.new.left }
     ensures ended { (w : Scope) → IsSite site.entry w → (again next : State → Out Flow) →
         IsEnded (calls w.program C.levels) w (inside_of inside.entry) again next result (state_of run.old) (state_of run.new) }
 {

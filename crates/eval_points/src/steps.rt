@@ -106,7 +106,8 @@ fn leave<C: Levels>(
     place: &mut Place,
     run: &mut Run<'_>,
 ) -> Result<Step, Stop>
-    requires { level.at < 2 ^ 63 }
+    requires at { level.at < 2 ^ 63 }
+    requires levels { place.old.levels ≡ front_of place.old.levels ++ level ∷ [] }
     ensures left { run.new.left ≤ run.old.left }
     ensures falls { FallsIfGoes result place.old place.new run.old.left run.new.left }
     ensures step { (w : Scope) → IsSite site.entry w → (v : Scope) (ss ss1 : Stmts) →
@@ -176,7 +177,7 @@ fn step_in<'p, C: Levels>(
 ///
 /// # Errors
 /// What the meaning stops with, and want of memory.
-pub fn step<'p, C: Levels>(
+pub fn make_step<'p, C: Levels>(
     alloc: Global,
     code: &Code<'p>,
     routine: &BlockCode<'p>,
