@@ -2,6 +2,7 @@ mod Rows
 mod Attempting
 mod Texting
 mod Beyond
+mod Pointing
 mod Turning
 mod Numbered
 mod Once

@@ -49,9 +49,9 @@ abbrev pub left_of : List Source → TreeProcess → Option Point → State → 
 left_of us s None = text_run us s.number s.args (slice_get (process_texts us) s.text.0)
 left_of us s (Some p) = routine_left (process_at us s.text) p.place
 
-abbrev pub frame_at : Option Point → List Datum
-frame_at None = []
-frame_at (Some p) = list_of p.values
+abbrev pub frame_of : Option Point → List Datum
+frame_of None = []
+frame_of (Some p) = list_of p.values
 
 abbrev pub before_of : Option Point → ℕ
 before_of None = 0
@@ -64,7 +64,7 @@ behind_turns before turns next = if nat_le 1 before && nat_le turns before then 
 -- what it does next within so many turns, where it received these replies since it stood at its point
 abbrev pub doing_with : List Source → TreeProcess → List Reply → ℕ → Doing
 doing_with us s replies turns = behind_turns (before_of s.point) turns (λ left.
-    doing_of (left_of us s s.point (record { frame = frame_at s.point; replies = replies; left = left })))
+    doing_of (left_of us s s.point (record { frame = frame_of s.point; replies = replies; left = left })))
 
 -- without the reply that came last
 abbrev pub doing_here : List Source → TreeProcess → ℕ → Doing

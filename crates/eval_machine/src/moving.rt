@@ -27,14 +27,14 @@ struct First {
 }
 
 // The first point of a process with this code, or `None` where its variables aren't all made yet. They take no turn.
-fn first_point(
+fn first_point<'a, 'p>(
     alloc: Global,
-    code: &Code<'_>,
-    routine: &BlockCode<'_>,
+    code: &'a Code<'p>,
+    routine: &'a BlockCode<'p>,
     process: &TreeProcess,
 ) -> Result<Option<First>, NoMemory>
     ensures { (r : Routine) → IsCode r.scope.program code.now → IsBlockCode routine.now r → length r.scope.locals < 2 ^ 32 →
-        IfOk result (IfSome (λ f. IsFirst process.now.number process.now.args r process.now.since f.point f.since)) }
+        IfOk result (λ o. IfSome o (λ f. IsFirst process.now.number process.now.args r process.now.since f.point f.since)) }
 {
     let mut own = process.args.copy(alloc)?;
     let types = types_behind(&routine.body.names.types, process.args.len());
@@ -60,10 +60,10 @@ fn first_point(
 }
 
 // The process at its first point, if it stands before it and its variables can be made.
-fn begin(
+fn begin<'a, 'p>(
     alloc: Global,
-    code: &Code<'_>,
-    routine: &BlockCode<'_>,
+    code: &'a Code<'p>,
+    routine: &'a BlockCode<'p>,
     process: TreeProcess,
 ) -> Result<TreeProcess, NoMemory>
     requires { process.point ≡ None }
@@ -78,16 +78,16 @@ fn begin(
 }
 
 // What a point that was moved gives: the point, and the replies since.
-fn further(
+fn further<'a, 'p>(
     alloc: Global,
-    code: &Code<'_>,
-    routine: &BlockCode<'_>,
+    code: &'a Code<'p>,
+    routine: &'a BlockCode<'p>,
     process: &TreeProcess,
     point: &Point,
     most: u64,
 ) -> Result<Option<First>, NoMemory>
     ensures { (r : Routine) → IsCode r.scope.program code.now → IsBlockCode routine.now r → r.scope.in_guard ≡ false →
-        IfOk result (IfSome (λ f. Advances (left_at r) point.now process.now.since f.point f.since)) }
+        IfOk result (λ o. IfSome o (λ f. Advances (left_at r) point.now process.now.since f.point f.since)) }
 {
     let left = most.saturating_sub(point.before);
     match advance(alloc, code, routine, point, process.since.as_slice(), left)? {
@@ -100,10 +100,10 @@ fn further(
 }
 
 // The process at the point to which it comes within so many turns, if it has a point.
-fn go_on(
+fn go_on<'a, 'p>(
     alloc: Global,
-    code: &Code<'_>,
-    routine: &BlockCode<'_>,
+    code: &'a Code<'p>,
+    routine: &'a BlockCode<'p>,
     process: TreeProcess,
     most: u64,
 ) -> Result<TreeProcess, NoMemory>

@@ -1,6 +1,6 @@
 //! What processes do, by their texts: they make their objects, and then run their statements.
 
-ghost use Rattle.std.specs.Prelude.{◌≡◌, ◌≤◌, ◌<◌, ◌^◌, [], List, IfOk, None, Some, drop, false, length, slice_get};
+ghost use Rattle.std.specs.Prelude.{◌≡◌, ◌≤◌, ◌<◌, ◌^◌, ◌&&◌, [], List, IfOk, None, Some, drop, false, length, nat_le, slice_get};
 ghost use Rattle.link_rules.specs.Units.{Source};
 ghost use Rattle.type_rules.specs.Types.{object_in as rule_object_in, outside_of};
 ghost use Rattle.value_core.specs.Datum.{list_of};
@@ -16,14 +16,14 @@ ghost use Rattle.eval_bodies.specs.Blocks.{IsBlockCode, Routine, process_at};
 ghost use Rattle.eval_bodies.specs.Codes.{IsCode};
 ghost use Rattle.eval_stmts.specs.Flows.{flow_of};
 ghost use Rattle.eval_points.specs.Stepping.{IsResumed};
-ghost use Rattle.eval_machine.specs.Processes.{before_of, doing_here, frame_at, left_of, routine_left};
+ghost use Rattle.eval_machine.specs.Processes.{before_of, doing_here, frame_of, left_of, routine_left};
 ghost use Rattle.eval_machine.specs.Routines as routines;
 ghost use Rattle.eval_machine.specs.Routines.{routine_run, value_made, values_made, with_front};
 
 use crate::bodies::opening;
 use crate::process::TreeProcess;
 use eval_bodies::{BlockCode, Code, Site};
-use eval_points::{Place, Point, Walk, resume, start};
+use eval_points::{Place, Point, frame_at, resume};
 use eval_stmts::{Flow, Whole, execute_all};
 use eval_tables::Seen;
 use eval_variables::{Frame, Run, Stop, act};
@@ -275,7 +275,14 @@ fn next_from_point(
         (record { frame = list_of point.now.values; replies = process.now.since; left = left }))) }
     ensures left { IfOk result (λ next. next.left ≤ left) }
 {
-    let Walk { place, mut run } = start(alloc, point, process.since.as_slice(), left)?;
+    let place = point.place.copy(alloc)?;
+    let frame = frame_at(alloc, point)?;
+    let replies = process.since.as_slice();
+    let mut run = Run {
+        frame,
+        replies,
+        left,
+    };
     let end = resume_text(alloc, code, process.text, place, &mut run);
     let doing = doing_of(end)?;
     Ok(Next {
@@ -293,7 +300,7 @@ fn next_from(
 ) -> Result<Next, NoMemory>
     ensures doing { (us : List Source) → IsCode us code.now → AreNumbers us → IfOk result (λ next.
         next.doing ≡ rules.doing_of (left_of us process.now process.now.point
-        (record { frame = frame_at process.now.point; replies = process.now.since; left = left }))) }
+        (record { frame = frame_of process.now.point; replies = process.now.since; left = left }))) }
     ensures left { IfOk result (λ next. next.left ≤ left) }
 {
     match &process.point {
@@ -312,6 +319,13 @@ pub fn turns_before(process: &TreeProcess) -> u64
     }
 }
 
+// Whether so many turns were taken before, where there were some.
+fn is_behind(before: u64, turns: u64) -> bool
+    ensures { result ≡ (nat_le 1 before && nat_le turns before) }
+{
+    1 <= before && turns <= before
+}
+
 /// What a process does next within so many turns, after all replies but the last. The only error is want of memory. The cost is that of
 /// the process from its point.
 pub fn next_doing(
@@ -325,11 +339,11 @@ pub fn next_doing(
     ensures left { IfOk result (λ next. next.left ≤ turns) }
 {
     let before = turns_before(process);
-    if 1 <= before && turns <= before {
+    if is_behind(before, turns) {
         return Ok(Next {
             doing: Doing::Busy,
             left: 0,
         });
     }
-    next_from(alloc, code, process, turns - before)
+    next_from(alloc, code, process, turns.saturating_sub(before))
 }

@@ -3,3 +3,5 @@ mod Rounds
 mod Placing
 mod Beginning
 mod Leading
+mod Begun
+mod Routing

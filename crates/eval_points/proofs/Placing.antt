@@ -4,7 +4,8 @@ use Rattle.std.specs.Prelude.{option_map, option_and_then, slice_get}
 use Rattle.std.proofs.Math.ListN.{drop_of_length-le}
 use Rattle.std.proofs.lemmas.List.{append_assoc, append-nil}
 use Rattle.orca_tree.specs.declared.tree.Statement.{Statement}
-use Rattle.orca_syntax.specs.Shown.{stmt, stmts}
+use Rattle.orca_tree.specs.declared.tree.Arm.{Arm as ArmTree}
+use Rattle.orca_syntax.specs.Shown.{arm, arms, stmt, stmts}
 use Rattle.orca_syntax.specs.Syntax as syn
 use Rattle.orca_syntax.specs.Syntax.{Stmt, Stmts}
 use Rattle.type_forms.proofs.Loops.{rest_is}
@@ -15,7 +16,7 @@ use Rattle.meaning_rules.specs.Loops.{Flow, Back, without_name}
 use Rattle.meaning_rules.specs.States.{State, Out, Goes, Stops, Busy, after}
 use Rattle.meaning_rules.specs.Statements.{run_all}
 use Rattle.eval_points.specs.declared.place.Level.{Level}
-use Rattle.eval_points.specs.Places.{Inside, InArm, InWhile, InRepeat, InFor, behind, body_of, first_of, inside, left, left_in, scope_of, stmts_from}
+use Rattle.eval_points.specs.Places.{Inside, InArm, InWhile, InRepeat, InFor, arm_at, arm_body, behind, body_of, first_of, inside, left, left_in, scope_of, stmts_from}
 use Rattle.eval_points.specs.Leads.{LeadsTo}
 
 -- ---- statements from a place on
@@ -38,6 +39,12 @@ first_there [] zero = refl
 first_there [] (suc i) = refl
 first_there (x ∷ xs) zero = refl
 first_there (x ∷ xs) (suc i) = first_there xs i
+
+pub arm_there : (xs : List ArmTree) (i : ℕ) → arm_at i (arms xs) ≡ option_map (λ a. arm_body (arm a)) (slice_get xs i)
+arm_there [] zero = refl
+arm_there [] (suc i) = refl
+arm_there (x ∷ xs) zero = refl
+arm_there (x ∷ xs) (suc i) = arm_there xs i
 
 -- ---- where levels lead
 

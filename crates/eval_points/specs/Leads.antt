@@ -36,4 +36,4 @@ pub record LeadsTo (call : Calls) (v : Scope) (ss : Stmts) (ls : List Level) (v1
 
 abbrev pub IsInner : Calls → Scope → Stmts → List Level → Result Inner Stop → Type 0
 IsInner call v ss ls (Ok inner) = LeadsTo call v ss ls (in_loops (lent_texts inner.names.items) v) (stmts inner.list.now)
-IsInner call v ss ls (Err why) = (done : ℕ) (s : State) → Fails why (left call v ss ls done s)
+IsInner call v ss ls (Err why) = (more : List Level) (done : ℕ) (s : State) → Fails why (left call v ss (ls ++ more) done s)

@@ -1,7 +1,7 @@
 //! Where levels lead.
 
-ghost use Rattle.std.specs.Prelude.{◌≡◌, IfOk, false, option_and_then, option_map};
-ghost use Rattle.orca_syntax.specs.Shown.{arms as arms_shown, stmt, stmts};
+ghost use Rattle.std.specs.Prelude.{◌≡◌, ◌<◌, IfOk, IfSome, false, length, option_and_then, option_map, slice_get};
+ghost use Rattle.orca_syntax.specs.Shown.{arm as arm_shown, arms as arms_shown, stmt, stmts};
 ghost use Rattle.type_rules.specs.Scopes.{Scope};
 ghost use Rattle.meaning_rules.specs.Calls.{Calls};
 ghost use Rattle.eval_bodies.specs.Bodies.{IsBody};
@@ -9,7 +9,7 @@ ghost use Rattle.eval_bodies.specs.Codes.{IsCode};
 ghost use Rattle.eval_bodies.specs.Sites.{IsSite, lent_texts};
 ghost use Rattle.eval_points.specs.Leads.{IsInner, in_loops, inside_of};
 ghost use Rattle.eval_points.specs.Places as places;
-ghost use Rattle.eval_points.specs.Places.{InArm, arm_at, first_of, inside as inside_rule, scope_of, stmts_from};
+ghost use Rattle.eval_points.specs.Places.{InArm, first_of, inside as inside_rule, scope_of, stmts_from};
 ghost use Rattle.eval_points.specs.declared.place.Part.TheVariants as part_rule;
 
 use crate::place::{Level, Part};
@@ -57,11 +57,18 @@ fn arm_body(arm: &Arm) -> &[Statement]
     }
 }
 
+// The arm at this place, if there is one.
+fn arm_at(arms: &[Arm], place: usize) -> Option<&Arm>
+    ensures { option_map (λ a. a.now) result ≡ slice_get arms.now place }
+{
+    arms.get(place)
+}
+
 // The statements of the arm at this place, if there is one.
 fn inside_arms(arms: &[Arm], place: usize) -> Option<Inside<'_>>
-    ensures { option_map inside_of result ≡ option_map InArm (arm_at place (arms_shown arms.now)) }
+    ensures { option_map inside_of result ≡ option_map InArm (places.arm_at place (arms_shown arms.now)) }
 {
-    match arms.get(place) {
+    match arm_at(arms, place) {
         None => None,
         Some(arm) => Some(Inside::Arm {
             body: arm_body(arm),
@@ -116,11 +123,20 @@ fn inside_statement(statement: &Statement, part: Part) -> Option<Inside<'_>>
     }
 }
 
+// The statement at this place, if there is one.
+fn statement_at(list: &[Statement], at: usize) -> Option<&Statement>
+    ensures is { option_map (λ x. x.now) result ≡ slice_get list.now at }
+    ensures low { IfSome result (λ _. at < length list.now) }
+{
+    list.get(at)
+}
+
 /// What one stands in, on a level of this list of statements, if there is such a level.
 pub(crate) fn inside_at(list: &[Statement], level: Level) -> Option<Inside<'_>>
-    ensures { option_map inside_of result ≡ option_and_then (inside_rule level.part) (first_of (stmts_from level.at (stmts list.now))) }
+    ensures is { option_map inside_of result ≡ option_and_then (inside_rule level.part) (first_of (stmts_from level.at (stmts list.now))) }
+    ensures low { IfSome result (λ _. level.at < length list.now) }
 {
-    match list.get(level.at) {
+    match statement_at(list, level.at) {
         None => None,
         Some(statement) => inside_statement(statement, level.part),
     }
@@ -138,6 +154,13 @@ pub(crate) fn body_of(inside: Inside<'_>) -> &[Statement]
     }
 }
 
+// The same names.
+fn copied<'p>(alloc: Global, names: &[&'p str]) -> Result<Vec<&'p str>, NoMemory>
+    ensures { IfOk result (λ all. lent_texts all.items ≡ lent_texts names.now) }
+{
+    Ok(Vec::from_slice(alloc, names)?)
+}
+
 /// The variables of the loops that are open inside, where these are open outside of it.
 pub(crate) fn opened<'p>(
     alloc: Global,
@@ -149,9 +172,9 @@ pub(crate) fn opened<'p>(
 {
     match inside {
         Inside::For { name, .. } => inner_loops(alloc, names, name.text.as_str()),
-        Inside::Arm { .. } | Inside::While { .. } | Inside::Repeat { .. } => {
-            Ok(Vec::from_slice(alloc, names)?)
-        }
+        Inside::Arm { .. } => copied(alloc, names),
+        Inside::While { .. } => copied(alloc, names),
+        Inside::Repeat { .. } => copied(alloc, names),
     }
 }
 
@@ -172,7 +195,8 @@ pub(crate) fn innermost<'p>(
         match inside_at(list, *level) {
             None => return Err(Stop::Busy),
             Some(inside) => {
-                names = opened(alloc, inside, &names)?;
+                let inner = opened(alloc, inside, &names)?;
+                names = inner;
                 list = body_of(inside);
             }
         }

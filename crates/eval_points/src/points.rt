@@ -47,46 +47,32 @@ impl Point {
     }
 }
 
-/// A run from a place.
-#[derive(Drop)]
-pub struct Walk<'a> {
-    pub place: Place,
-    pub run: Run<'a>,
-}
-
-/// A run from a point, on copies, with these replies and turns. The only error is want of memory.
-pub fn start<'a>(
-    alloc: Global,
-    point: &Point,
-    replies: &'a [Reply],
-    left: u64,
-) -> Result<Walk<'a>, NoMemory>
-    ensures place { IfOk result (λ w. w.place ≡ point.now.place) }
-    ensures run { IfOk result (λ w. state_of w.run ≡ record { frame = list_of point.now.values; replies = replies.now; left = left }) }
+/// The variables at a point, copied into a frame. The only error is want of memory.
+pub fn frame_at<'a>(alloc: Global, point: &Point) -> Result<Frame<'a>, NoMemory>
+    ensures { IfOk result (λ f. f ≡ list_of point.now.values) }
 {
-    let place = point.place.copy(alloc)?;
     let values = point.values.copy(alloc)?;
-    let frame = Frame::new(alloc, values)?;
-    let run = Run {
-        frame,
-        replies,
-        left,
-    };
-    Ok(Walk { place, run })
+    Frame::new(alloc, values)
 }
 
 // How many steps one comes forward from a point. It is a guess, and no clause says so.
-fn count_steps(
+fn count_steps<'a, 'p>(
     alloc: Global,
-    code: &Code<'_>,
-    routine: &BlockCode<'_>,
+    code: &'a Code<'p>,
+    routine: &'a BlockCode<'p>,
     point: &Point,
     replies: &[Reply],
     left: u64,
 ) -> Result<u64, NoMemory> {
-    let mut walk = start(alloc, point, replies, left)?;
+    let mut place = point.place.copy(alloc)?;
+    let frame = frame_at(alloc, point)?;
+    let mut run = Run {
+        frame,
+        replies,
+        left,
+    };
     'steps: for steps in 0..u64::MAX {
-        match make_step::<Whole>(alloc, code, routine, &mut walk.place, &mut walk.run) {
+        match make_step::<Whole>(alloc, code, routine, &mut place, &mut run) {
             Ok(Step::Goes) => {}
             _ => return Ok(steps),
         }
@@ -94,29 +80,43 @@ fn count_steps(
     Ok(u64::MAX)
 }
 
+// Where a run stands.
+#[derive(Drop)]
+struct Walk<'a> {
+    place: Place,
+    run: Run<'a>,
+}
+
 // So many steps from a point, if one comes so far.
-fn make_steps<'a>(
+fn make_steps<'a, 'p, 'r>(
     alloc: Global,
-    code: &Code<'_>,
-    routine: &BlockCode<'_>,
+    code: &'a Code<'p>,
+    routine: &'a BlockCode<'p>,
     point: &Point,
-    replies: &'a [Reply],
+    replies: &'r [Reply],
     left: u64,
     steps: u64,
-) -> Result<Option<Walk<'a>>, NoMemory>
-    ensures left { IfOk result (IfSome (λ w. w.run.left ≤ left)) }
+) -> Result<Option<Walk<'r>>, NoMemory>
+    ensures left { IfOk result (λ o. IfSome o (λ w. w.run.left ≤ left)) }
     ensures steps { (r : Routine) → IsCode r.scope.program code.now → IsBlockCode routine.now r → r.scope.in_guard ≡ false →
-        IfOk result (IfSome (λ w. Steps (left_at r point.now.place) (record { frame = list_of point.now.values; replies = replies.now; left = left })
+        IfOk result (λ o. IfSome o (λ w.
+        Steps (left_at r point.now.place) (record { frame = list_of point.now.values; replies = replies.now; left = left })
         (left_at r w.place) (state_of w.run))) }
 {
-    let mut walk = start(alloc, point, replies, left)?;
+    let mut place = point.place.copy(alloc)?;
+    let frame = frame_at(alloc, point)?;
+    let mut run = Run {
+        frame,
+        replies,
+        left,
+    };
     'steps: for _ in 0..steps {
-        match make_step::<Whole>(alloc, code, routine, &mut walk.place, &mut walk.run) {
+        match make_step::<Whole>(alloc, code, routine, &mut place, &mut run) {
             Ok(Step::Goes) => {}
             _ => return Ok(None),
         }
     }
-    Ok(Some(walk))
+    Ok(Some(Walk { place, run }))
 }
 
 /// A point that was moved forward, and the replies that weren't used up to there.
@@ -130,10 +130,10 @@ pub struct Advanced<'a> {
 fn point_of<'a>(alloc: Global, walk: Walk<'a>, left: u64, before: u64) -> Result<Advanced<'a>, NoMemory>
     requires left { walk.run.left ≤ left }
     requires room { before + left < 2 ^ 64 }
-    ensures place { IfOk result (λ a. a.point.place ≡ walk.place) }
-    ensures values { IfOk result (λ a. list_of a.point.values ≡ walk.run.frame) }
-    ensures before { IfOk result (λ a. a.point.before + walk.run.left ≡ before + left) }
-    ensures replies { IfOk result (λ a. a.replies.now ≡ walk.run.replies.now) }
+    ensures place { IfOk result (λ a. a.point.place ≡ walk.entry.place) }
+    ensures values { IfOk result (λ a. list_of a.point.values ≡ walk.entry.run.frame) }
+    ensures before { IfOk result (λ a. a.point.before + walk.entry.run.left ≡ before + left) }
+    ensures replies { IfOk result (λ a. a.replies.now ≡ walk.entry.run.replies.now) }
 {
     let Walk { place, run } = walk;
     let before = before + (left - run.left);
@@ -151,17 +151,17 @@ fn point_of<'a>(alloc: Global, walk: Walk<'a>, left: u64, before: u64) -> Result
 
 /// A point, moved forward as far as one comes with these replies and turns before the process ends, needs an action, faults or is busy; or
 /// `None` where it stands there. It goes over the statements twice, since a stop leaves nothing of a run. The only error is want of memory.
-pub fn advance<'a>(
+pub fn advance<'a, 'p, 'r>(
     alloc: Global,
-    code: &Code<'_>,
-    routine: &BlockCode<'_>,
+    code: &'a Code<'p>,
+    routine: &'a BlockCode<'p>,
     point: &Point,
-    replies: &'a [Reply],
+    replies: &'r [Reply],
     left: u64,
-) -> Result<Option<Advanced<'a>>, NoMemory>
+) -> Result<Option<Advanced<'r>>, NoMemory>
     requires { point.now.before + left < 2 ^ 64 }
     ensures { (r : Routine) → IsCode r.scope.program code.now → IsBlockCode routine.now r → r.scope.in_guard ≡ false →
-        IfOk result (IfSome (λ a. Advances (left_at r) point.now replies.now a.point a.replies.now)) }
+        IfOk result (λ o. IfSome o (λ a. Advances (left_at r) point.now replies.now a.point a.replies.now)) }
 {
     let steps = count_steps(alloc, code, routine, point, replies, left)?;
     if steps == 0 {

@@ -93,8 +93,10 @@ fn begin_at<'p, C: Levels>(
         LeadsTo (calls w.program C.levels) v ss place.old.levels w (stmts list.now) →
         IsStep (left_rule (calls w.program C.levels) v ss) place.old result place.new (state_of run.old) (state_of run.new) }
 {
-    let begun = begin::<C>(alloc, site, &list[place.done], run)?;
-    Ok(go_in(begun, place)?)
+    let at = place.done;
+    let begun = begin::<C>(alloc, site, &list[at], run)?;
+    let step = go_in(begun, place)?;
+    Ok(step)
 }
 
 // Goes out of what one stands in, where the statements there are done.
@@ -142,10 +144,10 @@ fn step_on<'p, C: Levels>(
 }
 
 // A step on this innermost level: in the statements there, or out of what one stands in.
-fn step_in<'p, C: Levels>(
+fn step_in<'a, 'p, C: Levels>(
     alloc: Global,
-    code: &Code<'p>,
-    routine: &BlockCode<'p>,
+    code: &'a Code<'p>,
+    routine: &'a BlockCode<'p>,
     level: Level,
     place: &mut Place,
     run: &mut Run<'_>,
@@ -161,14 +163,13 @@ fn step_in<'p, C: Levels>(
         None => Err(Stop::Busy),
         Some(inside) => {
             let body = body_of(inside);
-            if place.done < body.len() {
-                let names = opened(alloc, inside, &names)?;
+            if place.done >= body.len() {
                 let site = site_in(code, &routine.body, &names);
-                begin_at::<C>(alloc, site, body, place, run)
-            } else {
-                let site = site_in(code, &routine.body, &names);
-                leave::<C>(alloc, site, inside, level, place, run)
+                return leave::<C>(alloc, site, inside, level, place, run);
             }
+            let inner = opened(alloc, inside, &names)?;
+            let site = site_in(code, &routine.body, &inner);
+            begin_at::<C>(alloc, site, body, place, run)
         }
     }
 }
@@ -177,10 +178,10 @@ fn step_in<'p, C: Levels>(
 ///
 /// # Errors
 /// What the meaning stops with, and want of memory.
-pub fn make_step<'p, C: Levels>(
+pub fn make_step<'a, 'p, C: Levels>(
     alloc: Global,
-    code: &Code<'p>,
-    routine: &BlockCode<'p>,
+    code: &'a Code<'p>,
+    routine: &'a BlockCode<'p>,
     place: &mut Place,
     run: &mut Run<'_>,
 ) -> Result<Step, Stop>
@@ -210,10 +211,10 @@ fn behind(list: &[Statement], done: usize) -> &[Statement]
 }
 
 // All that is left of the statements on this innermost level, and then out of what one stands in.
-fn close<'p, C: Levels>(
+fn close<'a, 'p, C: Levels>(
     alloc: Global,
-    code: &Code<'p>,
-    routine: &BlockCode<'p>,
+    code: &'a Code<'p>,
+    routine: &'a BlockCode<'p>,
     level: Level,
     place: &mut Place,
     run: &mut Run<'_>,
@@ -231,10 +232,12 @@ fn close<'p, C: Levels>(
         Some(inside) => {
             let inner = opened(alloc, inside, &names)?;
             let rest = behind(body_of(inside), place.done);
-            match execute_all::<C>(alloc, site_in(code, &routine.body, &inner), rest, run)? {
+            let site = site_in(&*code, &routine.body, &inner);
+            let flow = execute_all::<C>(alloc, site, rest, run)?;
+            match flow {
                 Flow::On => {
-                    let site = site_in(code, &routine.body, &names);
-                    leave::<C>(alloc, site, inside, level, place, run)
+                    let outer = site_in(&*code, &routine.body, &names);
+                    leave::<C>(alloc, outer, inside, level, place, run)
                 }
                 Flow::Back { value } => Ok(Step::Ends {
                     flow: Flow::Back { value },
@@ -248,10 +251,10 @@ fn close<'p, C: Levels>(
 ///
 /// # Errors
 /// What the meaning stops with, and want of memory.
-pub fn resume<'p, C: Levels>(
+pub fn resume<'a, 'p, C: Levels>(
     alloc: Global,
-    code: &Code<'p>,
-    routine: &BlockCode<'p>,
+    code: &'a Code<'p>,
+    routine: &'a BlockCode<'p>,
     place: Place,
     run: &mut Run<'_>,
 ) -> Result<Flow, Stop>
