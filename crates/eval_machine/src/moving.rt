@@ -6,7 +6,7 @@ ghost use Rattle.accepted_law.specs.Numbers.{AreNumbers};
 ghost use Rattle.eval_bodies.specs.Blocks.{IsBlockCode, Routine, process_at};
 ghost use Rattle.eval_bodies.specs.Codes.{IsCode};
 ghost use Rattle.eval_points.specs.Advances.{Advances, left_at};
-ghost use Rattle.eval_machine.specs.First.{IsFirst};
+ghost use Rattle.eval_machine.specs.First.{IsFirst, IsFurther};
 ghost use Rattle.eval_machine.specs.Processes.{IsKept, IsMoved};
 
 use crate::process::TreeProcess;
@@ -59,17 +59,17 @@ fn first_point<'a, 'p>(
     }
 }
 
-// The process at its first point, if it stands before it and its variables can be made.
+// The process at its first point, if its variables can be made. It has no point yet.
 fn begin<'a, 'p>(
     alloc: Global,
     code: &'a Code<'p>,
     routine: &'a BlockCode<'p>,
     process: TreeProcess,
 ) -> Result<TreeProcess, NoMemory>
-    requires { process.point ≡ None }
     ensures kept { IfOk result (λ t. IsKept process t) }
-    ensures moved { (us : List Source) (r : Routine) → process_at us process.text ≡ Some r → IsCode r.scope.program code.now →
-        IsBlockCode routine.now r → length r.scope.locals < 2 ^ 32 → IfOk result (IsMoved us process) }
+    ensures moved { (us : List Source) (r : Routine) → process.point ≡ None → process_at us process.text ≡ Some r →
+        IsCode r.scope.program code.now → IsBlockCode routine.now r → length r.scope.locals < 2 ^ 32 →
+        IfOk result (IsMoved us process) }
 {
     match first_point(alloc, code, routine, &process)? {
         None => Ok(process),
@@ -99,6 +99,23 @@ fn further<'a, 'p>(
     }
 }
 
+// The same of a process that may have no point.
+fn further_of<'a, 'p>(
+    alloc: Global,
+    code: &'a Code<'p>,
+    routine: &'a BlockCode<'p>,
+    process: &TreeProcess,
+    most: u64,
+) -> Result<Option<First>, NoMemory>
+    ensures { (r : Routine) → IsCode r.scope.program code.now → IsBlockCode routine.now r → r.scope.in_guard ≡ false →
+        IfOk result (λ o. IfSome o (λ f. IsFurther r process.now f.point f.since)) }
+{
+    match &process.point {
+        None => Ok(None),
+        Some(point) => further(alloc, code, routine, process, point, most),
+    }
+}
+
 // The process at the point to which it comes within so many turns, if it has a point.
 fn go_on<'a, 'p>(
     alloc: Global,
@@ -111,13 +128,19 @@ fn go_on<'a, 'p>(
     ensures moved { (us : List Source) (r : Routine) → process_at us process.text ≡ Some r → IsCode r.scope.program code.now →
         IsBlockCode routine.now r → r.scope.in_guard ≡ false → IfOk result (IsMoved us process) }
 {
-    let found = match &process.point {
-        None => None,
-        Some(point) => further(alloc, code, routine, &process, point, most)?,
-    };
-    match found {
+    match further_of(alloc, code, routine, &process, most)? {
         None => Ok(process),
         Some(First { point, since }) => Ok(process.with_point(point, since)),
+    }
+}
+
+// Whether a process has a point.
+fn has_point(process: &TreeProcess) -> bool
+    ensures { result ≡ false → process.now.point ≡ None }
+{
+    match &process.point {
+        None => false,
+        Some(_) => true,
     }
 }
 
@@ -134,11 +157,11 @@ pub fn move_on(
     match code.process(process.text) {
         None => Ok(process),
         Some(routine) => {
-            if process.point.is_none() {
-                let begun = begin(alloc, code, routine, process)?;
-                return go_on(alloc, code, routine, begun, most);
+            if has_point(&process) {
+                return go_on(alloc, code, routine, process, most);
             }
-            go_on(alloc, code, routine, process, most)
+            let begun = begin(alloc, code, routine, process)?;
+            go_on(alloc, code, routine, begun, most)
         }
     }
 }

@@ -1,6 +1,7 @@
 -- Where statements come to that begin, and where those inside of one end, exit by exit.
-use Rattle.std.proofs.Common.{◌≡◌, ℕ, ◌+◌, ◌<◌, List, [], ◌∷◌, drop, get_or, length, refl, sym, ap, ◌∙◌, subst}
+use Rattle.std.proofs.Common.{◌≡◌, ℕ, ◌+◌, ◌<◌, ◌≤◌, List, [], ◌∷◌, drop, get_or, length, refl, sym, ap, ◌∙◌, subst}
 use Rattle.std.specs.Prelude.{ℤ, pos, ◌+ℤ◌, ◌≤ℤ◌, ◌<ℤ◌, Bool, true, false, if◌then◌else◌, Option, Some, None, option_map, slice_get, Result, Ok, Err}
+use Rattle.std.proofs.Math.ListN.{drop_of_length-le}
 use Rattle.orca_base.specs.declared.place.Place.{Place}
 use Rattle.orca_tree.specs.declared.tree.Arm.{Arm as ArmTree}
 use Rattle.orca_tree.specs.declared.tree.Name.{Name}
@@ -175,6 +176,11 @@ module _ (levels : ℕ) (w : Scope) where
 
     pub if_first : Steps if_all s (arms_on 0) s
     if_first = steps_same if_all (arms_on 0) s (λ t. refl)
+
+    pub if_over : (i : ℕ) (s1 : State) → length as_ ≤ i → Steps if_all s (arms_on i) s1 → IsBegun all w (syn.If at (arms as_)) xs (Ok begun.Done) s s1
+    if_over i s1 high here =
+        steps_both if_all (arms_on i) (run_all all w xs) s s1 s1 here
+        (steps_same (arms_on i) (run_all all w xs) s1 (λ t. ap (λ (l : List ArmTree). arms_then levels w (run_all all w xs) (arms l) t) (drop_of_length-le as_ high)))
 
     module _ (i : ℕ) (a : ArmTree) (low : i < length as_) (read : a ≡ get_or as_ i a) (s1 : State) (here : Steps if_all s (arms_on i) s1) where
       arms_next : (t : State) → arms_on i t ≡ after (arm_test all w (arm a) t) (λ b s2. either b (body_then levels w (run_all all w xs) (arm_body (arm a))) (arms_on (i + 1)) s2)

@@ -5,3 +5,4 @@ mod Beginning
 mod Leading
 mod Begun
 mod Routing
+mod Advancing

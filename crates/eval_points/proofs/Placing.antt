@@ -46,6 +46,11 @@ arm_there [] (suc i) = refl
 arm_there (x ∷ xs) zero = refl
 arm_there (x ∷ xs) (suc i) = arm_there xs i
 
+pub arm_found : (xs : List ArmTree) (i : ℕ) (a : ArmTree) → i < length xs → a ≡ get_or xs i a → arm_at i (arms xs) ≡ Some (arm_body (arm a))
+arm_found [] i a low is = absurd (omega arith)
+arm_found (x ∷ xs) zero a low is = ap (λ (b : ArmTree). Some (arm_body (arm b))) (sym is)
+arm_found (x ∷ xs) (suc i) a low is = arm_found xs i a (omega arith) is
+
 -- ---- where levels lead
 
 same_out : {A : Type 0} (o : Out A) → o ≡ after o (λ x s. Goes x s)

@@ -147,7 +147,8 @@ fn begin_if<C: Levels>(
         IsBegun (calls w.program C.levels) w (syn.If at (arms_shown arms.now)) xs result (state_of run.old) (state_of run.new) }
 {
     'arms: for (place, arm) in arms.iter().enumerate() {
-        if takes::<C>(alloc, site, arm, run)? {
+        let taken = takes::<C>(alloc, site, arm, run)?;
+        if taken {
             return Ok(Begun::Enters {
                 part: Part::Arm { place },
             });

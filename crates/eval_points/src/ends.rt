@@ -38,6 +38,7 @@ fn end_repeat<C: Levels>(
     run: &mut Run<'_>,
 ) -> Result<Ended, Stop>
     ensures left { run.new.left ≤ run.old.left }
+    ensures falls { FallsIfNumber result run.old.left run.new.left }
     ensures ended { (w : Scope) → IsSite site.entry w → (body : Stmts) (again next : State → Out Flow) →
         IsEnded (calls w.program C.levels) w (InRepeat body (expr test.now)) again next result (state_of run.old) (state_of run.new) }
 {

@@ -169,6 +169,9 @@ pub fn advance<'a, 'p, 'r>(
     }
     match make_steps(alloc, code, routine, point, replies, left, steps)? {
         None => Ok(None),
-        Some(walk) => Ok(Some(point_of(alloc, walk, left, point.before)?)),
+        Some(walk) => {
+            let moved = point_of(alloc, walk, left, point.before)?;
+            Ok(Some(moved))
+        }
     }
 }
