@@ -17,21 +17,21 @@ arms-preserved g c = record {
   left = omega arith;
   steps = λ w s at xs.
       let s2 = state_of c.takes.new.run in
-      if_next g.C.Levels.levels w at c.args.arms.now xs (state_of c.args.run.now) c.arms.place c.arm-item.result c.arms-test.true c.arm-item.is (state_of c.arms.run) (c.arms.invariant.steps w s at xs) s2
+      if_next g.C.Levels.levels w at c.args.arms.now xs (state_of c.args.run.now) c.arms.place c.index-arms-place.result c.arms-test.true c.index-arms-place.is (state_of c.arms.run) (c.arms.invariant.steps w s at xs) s2
       ((c.in_ok-taken.ensures {u = tt}).gives w s ∙ ap (λ (b : Bool). Goes b s2) c.if-taken.false);
 }
 
 pub returns-in_err-taken-clause-begun : goal.returns-in_err-taken-clause-begun
 returns-in_err-taken-clause-begun g c = λ w s at xs.
     let p = err_from_is_err_and c.from_residual.result c.from_residual.ensures.1 in
-    rw (p.1, p.2) (if_stops g.C.Levels.levels w at c.args.arms.now xs (state_of c.args.run.now) c.arms.place c.arm-item.result c.arms-test.true c.arm-item.is (state_of c.arms.run) (c.arms.invariant.steps w s at xs)
+    rw (p.1, p.2) (if_stops g.C.Levels.levels w at c.args.arms.now xs (state_of c.args.run.now) c.arms.place c.index-arms-place.result c.arms-test.true c.index-arms-place.is (state_of c.arms.run) (c.arms.invariant.steps w s at xs)
     c.in_err-taken.field-0.0 ((c.in_err-taken.ensures {u = tt}).gives w s))
 
 pub returns-then-taken-clause-begun : goal.returns-then-taken-clause-begun
 returns-then-taken-clause-begun g c = λ w s at xs.
     let s2 = state_of c.takes.new.run in
-    if_enters g.C.Levels.levels w at c.args.arms.now xs (state_of c.args.run.now) c.arms.place c.arm-item.result c.arms-test.true c.arm-item.is (state_of c.arms.run) (c.arms.invariant.steps w s at xs) s2
-    ((c.in_ok-taken.ensures {u = tt}).gives w s ∙ ap (λ (b : Bool). Goes b s2) c.if-taken.true) (arm_found c.args.arms.now c.arms.place c.arm-item.result c.arms-test.true c.arm-item.is)
+    if_enters g.C.Levels.levels w at c.args.arms.now xs (state_of c.args.run.now) c.arms.place c.index-arms-place.result c.arms-test.true c.index-arms-place.is (state_of c.arms.run) (c.arms.invariant.steps w s at xs) s2
+    ((c.in_ok-taken.ensures {u = tt}).gives w s ∙ ap (λ (b : Bool). Goes b s2) c.if-taken.true) (arm_found c.args.arms.now c.arms.place c.index-arms-place.result c.arms-test.true c.index-arms-place.is)
 
 pub returns-clause-begun : goal.returns-clause-begun
 returns-clause-begun g c = λ w s at xs.
