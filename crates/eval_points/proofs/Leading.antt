@@ -39,6 +39,7 @@ renumbered_arm number last (Some body) j is = absurd cc
 renumbered : (number last : ℤ) (p : Part) (x : Stmt) (j : Inside) → option_and_then (with_number number last) (inside p x) ≡ Some j → inside (part.Number number last) x ≡ Some j
 renumbered number last (part.Number i high) (syn.For at n low up body) j is = is
 renumbered number last (part.Arm k) (syn.If at as_) j is = absurd (renumbered_arm number last (arm_at k as_) j is)
+renumbered number last part.Round (syn.While at test body) j is = absurd cc
 renumbered number last _ _ j is = absurd cc
 
 in_statement : (number last : ℤ) (p : Part) (o : Option Stmt) (i j : Inside) → option_and_then (inside p) o ≡ Some i → with_number number last i ≡ Some j → option_and_then (inside (part.Number number last)) o ≡ Some j

@@ -27,11 +27,11 @@ use Rattle.eval_points.proofs.Moving.{reached, steps_both, steps_same}
 use Rattle.eval_points.proofs.Placing.{leads_nowhere, leads_on}
 
 -- levels, one further, and all of them
-pub levels_more : (xs : List Level) (i : ℕ) (x : Level) → i < length xs → x ≡ get_or xs i x → take (i + 1) xs ≡ take i xs ++ x ∷ []
-levels_more xs i x low is = take_more xs i x low ∙ ap (λ (y : Level). take i xs ++ y ∷ []) (sym is)
+pub levels_more : (xs : List Level) (i : ℕ) (d : Level) → i < length xs → take (i + 1) xs ≡ take i xs ++ get_or xs i d ∷ []
+levels_more xs i d low = take_more xs i d low
 
-pub levels_whole : (xs : List Level) (i : ℕ) (x : Level) → i < length xs → x ≡ get_or xs i x → (take i xs ++ x ∷ []) ++ drop (i + 1) xs ≡ xs
-levels_whole xs i x low is = ap (λ (l : List Level). l ++ drop (i + 1) xs) (sym (levels_more xs i x low is)) ∙ take-append-drop (i + 1) xs
+pub levels_whole : (xs : List Level) (i : ℕ) (d : Level) → i < length xs → (take i xs ++ get_or xs i d ∷ []) ++ drop (i + 1) xs ≡ xs
+levels_whole xs i d low = ap (λ (l : List Level). l ++ drop (i + 1) xs) (sym (levels_more xs i d low)) ∙ take-append-drop (i + 1) xs
 
 -- what is found in code
 pub found_in : (o : Option InsideCode) (f : Option Inside) (i : InsideCode) → option_map inside_of o ≡ f → o ≡ Some i → f ≡ Some (inside_of i)

@@ -39,8 +39,8 @@ returns-in-None-clause-step g c = λ r is code guard.
     (found_none c.inside_at.result (option_and_then (inside level.part) (first_of (stmts_from level.at (stmts it.list.now)))) c.inside_at.ensures.is c.in-None.is) c.requires
 
 -- the statements there are done
-pub returns-then-done-len-in-Some-clause-step : goal.returns-then-done-len-in-Some-clause-step
-returns-then-done-len-in-Some-clause-step g c = λ r is code guard.
+pub returns-then-place-body-clause-step : goal.returns-then-place-body-clause-step
+returns-then-place-body-clause-step g c = λ r is code guard.
     let call = calls r.scope.program g.C.Levels.levels in
     let place = c.args.place.now in
     let level = c.args.level in
@@ -48,18 +48,18 @@ returns-then-done-len-in-Some-clause-step g c = λ r is code guard.
     let w = in_loops (lent_texts it.names.items) r.scope in
     let i = inside_of c.in-Some.inside in
     let s0 = state_of c.args.run.now in
-    let s1 = state_of c.leave-in-Some.new.run in
+    let s1 = state_of c.leave.new.run in
     let leads = inner_as call r.scope r.statements (Ok it) (stmts c.args.routine.now.statements.now) c.outer.result.now (front_of place.levels) code.statements c.outer.ensures ((c.in_ok-names.ensures {u = tt}) call r.scope) in
     let found = found_in c.inside_at.result (option_and_then (inside level.part) (first_of (stmts_from level.at (stmts it.list.now)))) c.in-Some.inside c.inside_at.ensures.is c.in-Some.is in
     let over : stmts_from place.done (body_of i) ≡ syn.no_stmt =
-    ap (λ (zs : Stmts). stmts_from place.done zs) (sym c.body_of.ensures) ∙ from_end c.body_of.result.now place.done (omega arith) in
+    ap (λ (zs : Stmts). stmts_from place.done zs) (sym c.body_of-body.ensures) ∙ from_end c.body_of-body.result.now place.done (omega arith) in
     step_as (left call r.scope r.statements) c.leave.new.place s0 s1 (closing call w (stmts it.list.now) level.at i leads.next) (left call r.scope r.statements place.levels place.done) c.leave.result
     (λ t. ap (λ (ls : List Level). left call r.scope r.statements ls place.done t) c.requires ∙ over_is call r.scope r.statements (front_of place.levels) w (stmts it.list.now) leads level i found place.done over t)
-    (c.leave.ensures.step w (subst (λ (names : List (Bor (List ℕ))). IsSite c.site_in.result (in_loops (lent_texts names) r.scope)) c.deref.ensures.value (c.site_in.ensures r.scope is code.body guard)) r.scope r.statements (stmts it.list.now) leads found)
+    (c.leave.ensures.step w (subst (λ (names : List (Bor (List ℕ))). IsSite c.site_in-site.result (in_loops (lent_texts names) r.scope)) c.deref.ensures.value (c.site_in-site.ensures r.scope is code.body guard)) r.scope r.statements (stmts it.list.now) leads found)
 
 -- a statement more
-pub returns-in_ok-inner-in-Some-clause-step : goal.returns-in_ok-inner-in-Some-clause-step
-returns-in_ok-inner-in-Some-clause-step g c = λ r is code guard.
+pub returns-clause-step : goal.returns-clause-step
+returns-clause-step g c = λ r is code guard.
     let call = calls r.scope.program g.C.Levels.levels in
     let place = c.args.place.now in
     let level = c.args.level in
@@ -70,9 +70,9 @@ returns-in_ok-inner-in-Some-clause-step g c = λ r is code guard.
     let leads = inner_as call r.scope r.statements (Ok it) (stmts c.args.routine.now.statements.now) c.outer.result.now (front_of place.levels) code.statements c.outer.ensures ((c.in_ok-names.ensures {u = tt}) call r.scope) in
     let found = found_in c.inside_at.result (option_and_then (inside level.part) (first_of (stmts_from level.at (stmts it.list.now)))) c.in-Some.inside c.inside_at.ensures.is c.in-Some.is in
     let names = lent_texts inner.items in
-    let there = leads_in call r.scope r.statements (front_of place.levels) place.levels level (lent_texts it.names.items) names it.list.now c.body_of.result.now i leads found c.requires
+    let there = leads_in call r.scope r.statements (front_of place.levels) place.levels level (lent_texts it.names.items) names it.list.now c.body_of-body.result.now i leads found c.requires
     ((c.in_ok-inner-in-Some.ensures {u = tt}) r.scope
-    ∙ ap (λ (ts : List (List ℕ)). scope_of (in_loops ts r.scope) i) (ap lent_texts c.deref-in_not-done-len-in-Some.ensures.value)) c.body_of.ensures in
+    ∙ ap (λ (ts : List (Bor (List ℕ))). scope_of (in_loops (lent_texts ts) r.scope) i) c.deref-in-Some.ensures.value) c.body_of-body.ensures in
     c.begin_at.ensures.step (in_loops names r.scope)
-    (subst (λ (l : List (Bor (List ℕ))). IsSite c.site_in-site-2.result (in_loops (lent_texts l) r.scope)) c.deref-in_ok-inner-in-Some.ensures.value (c.site_in-site-2.ensures r.scope is code.body guard))
+    (subst (λ (l : List (Bor (List ℕ))). IsSite c.site_in-site-in-Some.result (in_loops (lent_texts l) r.scope)) c.deref-in-Some-2.ensures.value (c.site_in-site-in-Some.ensures r.scope is code.body guard))
     r.scope r.statements there
