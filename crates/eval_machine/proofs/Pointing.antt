@@ -33,7 +33,7 @@ use Rattle.eval_points.specs.declared.points.Point.{Point}
 use Rattle.eval_points.proofs.Moving.{Passes, passes, steps_both, steps_first, steps_framed}
 use Rattle.eval_machine.specs.declared.process.TreeProcess.{TreeProcess}
 use Rattle.eval_machine.specs.First.{IsFirst}
-use Rattle.eval_machine.specs.Processes.{IsMoved, before_of, behind_turns, doing_with, frame_of, left_of, routine_left}
+use Rattle.eval_machine.specs.Processes.{IsKept, IsMoved, before_of, behind_turns, doing_with, frame_of, left_of, routine_left}
 use Rattle.eval_machine.specs.Routines.{routine_or_busy, routine_run, values_made, with_front}
 use Rattle.eval_machine.proofs.Beyond.{moved_on}
 use Rattle.eval_machine.proofs.Texting.{by_routine, made_by_types}
@@ -167,3 +167,19 @@ module _ (us : List Source) (s : TreeProcess) (r : Routine) (there : process_at 
   further_moved q some moved =
       is_moved (left_at r q.place) (list_of q.values) moved.used moved.turns q.before moved.moves moved.before moved.replies_are (ap before_of some) (ap frame_of some)
       (λ t. ap (λ (o : Option Point). left_of us s o t) some ∙ ap (λ (o : Option Routine). routine_left o q.place t) there)
+
+-- one move and then another, and none
+pub moved_both : (us : List Source) (s t u : TreeProcess) → IsMoved us s t → IsMoved us t u → IsMoved us s u
+moved_both us s t u one two = record { same = λ more n. two.same more n ∙ one.same more n }
+
+pub moved_none : (us : List Source) (s : TreeProcess) → IsMoved us s s
+moved_none us s = record { same = λ more n. refl }
+
+pub kept_both : (s t u : TreeProcess) → IsKept s t → IsKept t u → IsKept s u
+kept_both s t u one two = record {
+  text = two.text ∙ one.text;
+  number = two.number ∙ one.number;
+  args = two.args ∙ one.args;
+  turns = two.turns ∙ one.turns;
+  last = two.last ∙ one.last;
+}

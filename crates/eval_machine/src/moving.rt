@@ -73,7 +73,10 @@ fn begin<'a, 'p>(
 {
     match first_point(alloc, code, routine, &process)? {
         None => Ok(process),
-        Some(First { point, since }) => Ok(process.with_point(point, since)),
+        Some(first) => {
+            let First { point, since } = first;
+            Ok(process.with_point(point, since))
+        }
     }
 }
 
@@ -130,7 +133,10 @@ fn go_on<'a, 'p>(
 {
     match further_of(alloc, code, routine, &process, most)? {
         None => Ok(process),
-        Some(First { point, since }) => Ok(process.with_point(point, since)),
+        Some(first) => {
+            let First { point, since } = first;
+            Ok(process.with_point(point, since))
+        }
     }
 }
 
