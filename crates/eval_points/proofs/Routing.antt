@@ -9,7 +9,9 @@ use Rattle.type_rules.specs.Scopes.{Scope}
 use Rattle.meaning_rules.specs.Calls.{Calls}
 use Rattle.meaning_rules.specs.Loops.{Flow}
 use Rattle.meaning_rules.specs.States.{State, Out, Stops, Busy}
-use Rattle.eval_variables.specs.Gives.{Fails}
+use Rattle.eval_variables.specs.Gives.{Fails, Gives}
+use Rattle.eval_stmts.specs.Flows.{flow_of}
+use Rattle.eval_stmts.specs.declared.flow.Flow.{Flow as FlowCode}
 use Rattle.eval_variables.specs.declared.stop.Stop.{Stop}
 use Rattle.eval_points.specs.declared.ends.Ended.{Ended}
 use Rattle.eval_points.specs.declared.ends.Ended.TheVariants as ended
@@ -22,7 +24,7 @@ use Rattle.eval_points.specs.declared.steps.Step.TheVariants as step
 use Rattle.eval_points.specs.Fronts.{front_of}
 use Rattle.eval_points.specs.Leads.{IsInner, LeadsTo, in_loops, inside_of}
 use Rattle.eval_points.specs.Places.{Inside, body_of, first_of, inside, left, scope_of, stmts_from}
-use Rattle.eval_points.specs.Stepping.{Closes, FallsIfNumber, HasEnded, IsStepFrom}
+use Rattle.eval_points.specs.Stepping.{Closes, FallsIfNumber, HasEnded, IsResumed, IsStepFrom}
 use Rattle.eval_points.proofs.Moving.{reached, steps_both, steps_same}
 use Rattle.eval_points.proofs.Placing.{leads_nowhere, leads_on}
 
@@ -88,3 +90,8 @@ module _ (left : List Level → ℕ → State → Out Flow) (q : Place) (s s1 : 
   closes_by p f s0 (Ok step.Goes) here h = here ∙ reached f (left q.levels q.done) s s1 h
   closes_by p f s0 (Ok (step.Ends flow)) here h = (h.0, here ∙ h.1)
   closes_by p f s0 (Err why) here h = subst (λ (o : Out Flow). Fails why o) (sym here) h
+
+-- what is given has ended so, in some state
+pub gives_resumed : (r : Result FlowCode Stop) (s : State) (o : Out Flow) → Gives flow_of r s o → IsResumed r o
+gives_resumed (Ok flow) s o is = (s, is)
+gives_resumed (Err why) s o h = h

@@ -1,6 +1,6 @@
 //! Steps: a statement further, into a statement, or out of one; and all that is left.
 
-ghost use Rattle.std.specs.Prelude.{◌≡◌, ◌≤◌, ◌<◌, ◌∷◌, ◌++◌, ◌^◌, [], IfOk, OnOk, Some, false, length, option_and_then};
+ghost use Rattle.std.specs.Prelude.{◌≡◌, ◌≤◌, ◌<◌, ◌∷◌, ◌++◌, ◌^◌, [], IfOk, OnOk, Some, drop, false, length, option_and_then};
 ghost use Rattle.orca_syntax.specs.Shown.{stmts};
 ghost use Rattle.orca_syntax.specs.Syntax.{Stmts};
 ghost use Rattle.type_rules.specs.Scopes.{Scope};
@@ -201,7 +201,7 @@ pub fn make_step<'a, 'p, C: Levels>(
 
 // The statements behind so many.
 fn behind(list: &[Statement], done: usize) -> &[Statement]
-    ensures { stmts result.now ≡ stmts_from done (stmts list.now) }
+    ensures { result.now ≡ drop done list.now }
 {
     if done <= list.len() {
         &list[done..]

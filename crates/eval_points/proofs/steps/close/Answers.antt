@@ -20,6 +20,7 @@ use Rattle.eval_points.specs.Places.{body_of, first_of, inside, left, scope_of, 
 use Rattle.eval_points.specs.Stepping.{closing}
 use Rattle.eval_points.specs.declared.place.Level.{Level}
 use Rattle.eval_points.proofs.Leading.{row_back, row_fails, row_on}
+use Rattle.eval_points.proofs.Placing.{from_drop}
 use Rattle.eval_points.proofs.Routing.{closes_by, found_in, found_none, inner_as, lost}
 use Rattle.eval_points.proofs.steps.close.Goals as goal
 
@@ -57,7 +58,7 @@ returns-in_err-flow-in-Some-clause-closes g c = λ r is code guard.
     let found = found_in c.inside_at.result (option_and_then (inside level.part) (first_of (stmts_from level.at (stmts it.list.now)))) c.in-Some.inside c.inside_at.ensures.is c.in-Some.is in
     let inner = in_loops (lent_texts c.in_ok-inner-in-Some.inner.items) r.scope in
     let scope = (c.in_ok-inner-in-Some.ensures {u = tt}) r.scope ∙ ap (λ (ts : List (Bor (List ℕ))). scope_of (in_loops (lent_texts ts) r.scope) i) c.deref.ensures.value in
-    let rest : stmts c.behind-rest.result.now ≡ stmts_from place.done (body_of i) = c.behind-rest.ensures ∙ ap (λ (zs : Stmts). stmts_from place.done zs) c.body_of.ensures in
+    let rest : stmts c.behind-rest.result.now ≡ stmts_from place.done (body_of i) = ap stmts c.behind-rest.ensures ∙ sym (from_drop place.done c.body_of.result.now) ∙ ap (λ (zs : Stmts). stmts_from place.done zs) c.body_of.ensures in
     let site = subst (λ (l : List (Bor (List ℕ))). IsSite c.site_in-site.result (in_loops (lent_texts l) r.scope)) c.deref-in-Some.ensures.value (c.site_in-site.ensures r.scope is code.body guard) in
     let why = c.in_err-flow-in-Some.field-0.0 in
     let fails = subst (λ (v : Scope). Fails why (run_all call v (stmts_from place.done (body_of i)) s0)) scope
@@ -79,7 +80,7 @@ returns-in-On-clause-closes g c = λ r is code guard.
     let found = found_in c.inside_at.result (option_and_then (inside level.part) (first_of (stmts_from level.at (stmts it.list.now)))) c.in-Some.inside c.inside_at.ensures.is c.in-Some.is in
     let inner = in_loops (lent_texts c.in_ok-inner-in-Some.inner.items) r.scope in
     let scope = (c.in_ok-inner-in-Some.ensures {u = tt}) r.scope ∙ ap (λ (ts : List (Bor (List ℕ))). scope_of (in_loops (lent_texts ts) r.scope) i) c.deref.ensures.value in
-    let rest : stmts c.behind-rest.result.now ≡ stmts_from place.done (body_of i) = c.behind-rest.ensures ∙ ap (λ (zs : Stmts). stmts_from place.done zs) c.body_of.ensures in
+    let rest : stmts c.behind-rest.result.now ≡ stmts_from place.done (body_of i) = ap stmts c.behind-rest.ensures ∙ sym (from_drop place.done c.body_of.result.now) ∙ ap (λ (zs : Stmts). stmts_from place.done zs) c.body_of.ensures in
     let site = subst (λ (l : List (Bor (List ℕ))). IsSite c.site_in-site.result (in_loops (lent_texts l) r.scope)) c.deref-in-Some.ensures.value (c.site_in-site.ensures r.scope is code.body guard) in
     let goes = ap (λ (v : Scope). run_all call v (stmts_from place.done (body_of i)) s0) (sym scope) ∙ ap (λ (zs : Stmts). run_all call inner zs s0) (sym rest)
     ∙ (c.in_ok-flow-in-Some.ensures {u = tt}).gives inner site ∙ ap (λ (f : FlowCode). Goes (flow_of f) s1) c.in-On.is in
@@ -89,8 +90,8 @@ returns-in-On-clause-closes g c = λ r is code guard.
     (c.leave.ensures.step w (subst (λ (l : List (Bor (List ℕ))). IsSite c.site_in-outer.result (in_loops (lent_texts l) r.scope)) c.deref-in-On.ensures.value (c.site_in-outer.ensures r.scope is code.body guard))
     r.scope r.statements (stmts it.list.now) leads found)
 
-pub returns-in-Back-clause-closes : goal.returns-in-Back-clause-closes
-returns-in-Back-clause-closes g c = λ r is code guard.
+pub returns-clause-closes : goal.returns-clause-closes
+returns-clause-closes g c = λ r is code guard.
     let call = calls r.scope.program g.C.Levels.levels in
     let place = c.args.place.now in
     let level = c.args.level in
@@ -103,7 +104,7 @@ returns-in-Back-clause-closes g c = λ r is code guard.
     let found = found_in c.inside_at.result (option_and_then (inside level.part) (first_of (stmts_from level.at (stmts it.list.now)))) c.in-Some.inside c.inside_at.ensures.is c.in-Some.is in
     let inner = in_loops (lent_texts c.in_ok-inner-in-Some.inner.items) r.scope in
     let scope = (c.in_ok-inner-in-Some.ensures {u = tt}) r.scope ∙ ap (λ (ts : List (Bor (List ℕ))). scope_of (in_loops (lent_texts ts) r.scope) i) c.deref.ensures.value in
-    let rest : stmts c.behind-rest.result.now ≡ stmts_from place.done (body_of i) = c.behind-rest.ensures ∙ ap (λ (zs : Stmts). stmts_from place.done zs) c.body_of.ensures in
+    let rest : stmts c.behind-rest.result.now ≡ stmts_from place.done (body_of i) = ap stmts c.behind-rest.ensures ∙ sym (from_drop place.done c.body_of.result.now) ∙ ap (λ (zs : Stmts). stmts_from place.done zs) c.body_of.ensures in
     let site = subst (λ (l : List (Bor (List ℕ))). IsSite c.site_in-site.result (in_loops (lent_texts l) r.scope)) c.deref-in-Some.ensures.value (c.site_in-site.ensures r.scope is code.body guard) in
     let x = option_map datum_of c.in-Back.value in
     let goes = ap (λ (v : Scope). run_all call v (stmts_from place.done (body_of i)) s0) (sym scope) ∙ ap (λ (zs : Stmts). run_all call inner zs s0) (sym rest)
