@@ -30,7 +30,7 @@ pub struct TreeMachine<'p> {
 }
 
 impl<'p> TreeMachine<'p> {
-    /// The machine of a checked program. Its cost is that of the program's text times a logarithm.
+    /// The machine of a checked program. Its cost is that of `Code::new`.
     ///
     /// # Errors
     /// The limit that the program passes: of parameters (255), or of tokens and declared names together (100,000); and want of memory.

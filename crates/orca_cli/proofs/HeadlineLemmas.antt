@@ -1,5 +1,5 @@
 -- What a run leaves is what the headline says of it: from the run that was driven, the law of runs, and what was printed.
-use Rattle.std.proofs.Common.{◌≡◌, ◌≤◌, ℕ, true, false, List, [], ◌∷◌, ◌++◌, get_or, length, map, set, Option, Some, None, IfNone, IfSome, Result, Ok, Err, OnOk, suc, ap, sym, subst, refl, arith}
+use Rattle.std.proofs.Common.{◌≡◌, ◌≤◌, ◌⊎◌, inl, inr, ℕ, true, false, List, [], ◌∷◌, ◌++◌, get_or, length, map, set, Option, Some, None, IfNone, IfSome, Result, Ok, Err, OnOk, suc, ap, sym, subst, refl, arith}
 use Rattle.std.specs.Prelude.{option_map, slice_get}
 use Rattle.std.specs.List.{All}
 use Rattle.std.proofs.lemmas.List.{length-map}
@@ -30,7 +30,7 @@ use Rattle.run_loop.specs.Left.{HasRun, run_of}
 use Rattle.meaning_rules.specs.Meanings.{computes_of, performs_of}
 use Rattle.orca_cli.specs.declared.kept.Kept.{Kept}
 use Rattle.command_output.specs.declared.statuses.TheConstants.{NO_MEMORY}
-use Rattle.orca_cli.specs.Headline.{AreLoaded, IsNamed, IsRun, IsProgramRun, IsRunOf, settings_of, wires_of}
+use Rattle.orca_cli.specs.Headline.{AreLoaded, AreUntouched, AskRun, HasLacked, IsNamed, IsRun, IsProgramRun, IsRunOf, KeepScripts, Wires, settings_of, wires_of}
 use Rattle.command_files.specs.Sources.{Word}
 use Rattle.orca_cli.specs.Kept.{IsEndOf}
 use Rattle.orca_cli.specs.Laws.{RunLaws}
@@ -99,6 +99,7 @@ is_run f name says end standing status old new before after laws settings none h
       told = told;
       used = subst (λ (s : Standing). WereUsedSo s f end.steps.items w (asked_since before after)) left.stands h.used;
       unused = h.unused;
+      in_time = h.in_time;
     }
 
 -- by the settings of the words
@@ -144,11 +145,29 @@ ok_both (Err e) so a b = tt
 
 -- ---- the wires
 
+-- whatever the first wire took, the others keep their scripts
+pub others_keep : {W : Type 0} (told : W → List Asked) (script : W → List ScriptLine) (loaded : W → ℕ) (wires : List W) (wire : W) → KeepScripts (wires_of told script loaded wires) (wires_of told script loaded (set wires 0 wire))
+others_keep told script loaded [] wire = record { scripts = λ n. refl; loaded = λ n. refl }
+others_keep told script loaded (w ∷ wires) wire = record { scripts = λ n. refl; loaded = λ n. refl }
+
+pub still_keep : {W : Type 0} (told : W → List Asked) (script : W → List ScriptLine) (loaded : W → ℕ) (old mid new : List W) → KeepScripts (wires_of told script loaded old) (wires_of told script loaded mid)
+    → map script new ≡ map script mid → map loaded new ≡ map loaded mid → KeepScripts (wires_of told script loaded old) (wires_of told script loaded new)
+still_keep told script loaded old mid new h scripts counts = record {
+  scripts = λ n. subst (λ (l : List (List ScriptLine)). slice_get l (suc n) ≡ slice_get (map script old) (suc n)) (sym scripts) (h.scripts n);
+  loaded = λ n. subst (λ (l : List ℕ). slice_get l (suc n) ≡ slice_get (map loaded old) (suc n)) (sym counts) (h.loaded n);
+}
+
+-- what the words ask for is a run
+pub untouched_run : {K : Type 0} (words : List Word) (o : Option K) (status : ℕ) (old new : Wires) → AskRun words → IfNone o ((new ≡ old) ⊎ HasLacked status old new) → IfNone o (AreUntouched words status old new)
+untouched_run words None status old new asks (inl same) = inl same
+untouched_run words None status old new asks (inr lacked) = inr (asks, lacked)
+untouched_run words (Some k) status old new asks h = tt
+
 -- the first wire took these lines
 pub loaded_first : {W : Type 0} (told : W → List Asked) (script : W → List ScriptLine) (loaded : W → ℕ) (wires : List W) (first wire : W) (lines : List ScriptLine) → 1 ≤ length wires → script wire ≡ lines
     → loaded wire ≡ length (told (get_or wires 0 first)) → AreLoaded lines (wires_of told script loaded wires) (wires_of told script loaded (set wires 0 wire))
 loaded_first told script loaded [] first wire lines some is since = absurd (omega (arith, some))
-loaded_first told script loaded (w ∷ wires) first wire lines some is since = record { script = ap Some is; since = ap Some since; scripts = λ n. refl; loaded = λ n. refl }
+loaded_first told script loaded (w ∷ wires) first wire lines some is since = record { script = ap Some is; since = ap Some since; others = others_keep told script loaded (w ∷ wires) wire }
 
 -- and the run left all scripts
 pub still_loaded : {W : Type 0} (told : W → List Asked) (script : W → List ScriptLine) (loaded : W → ℕ) (old mid new : List W) (lines : List ScriptLine) → AreLoaded lines (wires_of told script loaded old) (wires_of told script loaded mid)
@@ -156,8 +175,7 @@ pub still_loaded : {W : Type 0} (told : W → List Asked) (script : W → List S
 still_loaded told script loaded old mid new lines h scripts counts = record {
   script = subst (λ (l : List (List ScriptLine)). slice_get l 0 ≡ Some lines) (sym scripts) h.script;
   since = subst (λ (l : List ℕ). slice_get l 0 ≡ option_map length (slice_get (map told old) 0)) (sym counts) h.since;
-  scripts = λ n. subst (λ (l : List (List ScriptLine)). slice_get l (suc n) ≡ slice_get (map script old) (suc n)) (sym scripts) (h.scripts n);
-  loaded = λ n. subst (λ (l : List ℕ). slice_get l (suc n) ≡ slice_get (map loaded old) (suc n)) (sym counts) (h.loaded n);
+  others = still_keep told script loaded old mid new h.others scripts counts;
 }
 
 -- ---- the run that the words ask for

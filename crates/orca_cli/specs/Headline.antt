@@ -1,4 +1,4 @@
--- The headline: what a run keeps and prints, and that its network was really used.
+-- The headline: what a run keeps and prints, and that its network was really used, in time.
 use Rattle.std.specs.Prelude.{◌≡◌, ◌⊎◌, ◌++◌, ℕ, suc, List, [], length, map, Option, Some, option_map, slice_get}
 use Rattle.command_line.specs.declared.request.RunOptions.{RunOptions}
 use Rattle.net_rules.specs.declared.asked.Asked.{Asked}
@@ -19,7 +19,7 @@ use Rattle.world_rules.specs.Frame.{Frame}
 use Rattle.world_rules.specs.Standings.{limit, standing}
 use Rattle.world_rules.specs.Worlds.{World}
 use Rattle.world_facts.specs.Rows.{ReadsStanding}
-use Rattle.run_loop.specs.Asked.{HaveToldOn, NoneAskedBehind, WereUsedSo, asked_since}
+use Rattle.run_loop.specs.Asked.{AreInTime, HaveToldOn, NoneAskedBehind, WereUsedSo, asked_since}
 use Rattle.run_loop.specs.Left.{run_of}
 use Rattle.orca_cli.specs.declared.kept.Kept.{Kept}
 use Rattle.command_output.specs.declared.statuses.TheConstants.{NO_MEMORY}
@@ -66,23 +66,39 @@ pub record Wires : Type 0 where
 abbrev pub wires_of : {W : Type 0} → (W → List Asked) → (W → List ScriptLine) → (W → ℕ) → List W → Wires
 wires_of told script loaded wires = record { told = map told wires; scripts = map script wires; loaded = map loaded wires }
 
+-- the wires behind the first kept their scripts, each loaded when it was
+pub record KeepScripts (old new : Wires) : Type 0 where
+  pub scripts : (wire : ℕ) → slice_get new.scripts (suc wire) ≡ slice_get old.scripts (suc wire)
+  pub loaded : (wire : ℕ) → slice_get new.loaded (suc wire) ≡ slice_get old.loaded (suc wire)
+
 -- the first wire was loaded with these lines, before the run asked it anything; the other wires kept their scripts
 pub record AreLoaded (lines : List ScriptLine) (old new : Wires) : Type 0 where
   pub script : slice_get new.scripts 0 ≡ Some lines
   pub since : slice_get new.loaded 0 ≡ option_map length (slice_get old.told 0)
-  pub scripts : (wire : ℕ) → slice_get new.scripts (suc wire) ≡ slice_get old.scripts (suc wire)
-  pub loaded : (wire : ℕ) → slice_get new.loaded (suc wire) ≡ slice_get old.loaded (suc wire)
+  pub others : KeepScripts old new
 
--- nothing was run: the wires are as they were; or memory lacked, and they tell what they told, and maybe more
-abbrev pub AreUntouched : ℕ → Wires → Wires → Type 0
-AreUntouched status old new = (new ≡ old) ⊎ ((status ≡ NO_MEMORY) × HaveToldOn old.told new.told)
+-- the words ask for a run
+abbrev pub AskRun : List Word → Type 0
+AskRun words = (options : RunOptions) × (script : Option Word) × (files : List Word) × (deed_in words ≡ Some (runs options script files))
+
+-- memory lacked for a run, or for what is kept of it: the wires tell what they told, and maybe more, and those behind the first kept their
+-- scripts
+pub record HasLacked (code : ℕ) (old new : Wires) : Type 0 where
+  pub status : code ≡ NO_MEMORY
+  pub told : HaveToldOn old.told new.told
+  pub others : KeepScripts old new
+
+-- nothing was run: the wires are as they were; or the words ask for a run, and memory lacked
+abbrev pub AreUntouched : List Word → ℕ → Wires → Wires → Type 0
+AreUntouched words status old new = (new ≡ old) ⊎ (AskRun words × HasLacked status old new)
 
 -- ---- the run
 
 -- What is kept is the end of the run to which its events lead, and a history with its processes and copies. How that run stands is read off
 -- what is kept (`row`, `only`), in both directions off its world (`reads`), and gives the status. What the history writes was printed, and behind
 -- it what is said of the history and the line of the standing; where a write failed or memory lacked, a front of these was. And the wires, which
--- told `before` and tell `after`, were used in the run; one that was never in use was asked nothing
+-- told `before` and tell `after`, were used in the run; one that was never in use was asked nothing; and each question about an act was put to
+-- the wire in use just before its event
 pub record IsRun (f : Frame) (name : Action → List ℕ) (says : List Line → List ℕ) (k : Kept) (status : ℕ) (old new : Option (List ℕ))
     (before after : List (List Asked)) : Type 0 where
   pub world : World
@@ -101,6 +117,7 @@ pub record IsRun (f : Frame) (name : Action → List ℕ) (says : List Line → 
   pub told : HaveToldOn before after
   pub used : WereUsedSo (standing f world) f k.events.items world (asked_since before after)
   pub unused : NoneAskedBehind world.swaps (asked_since before after)
+  pub in_time : AreInTime f k.events.items (asked_since before after)
 
 -- It is a run of the program with these units, in the source's meaning, by these options. By the program's names its line of a process that is
 -- blocked names the operation, and its history is said, where that is asked for: each call that a process comes to next behind a history has its

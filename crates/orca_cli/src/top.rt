@@ -15,7 +15,7 @@ ghost use Rattle.history_text.specs.Sound.{AreTables};
 ghost use Rattle.run_loop.specs.Asked.{HaveToldOn};
 ghost use Rattle.run_loop.specs.Left.{run_of};
 ghost use Rattle.orca_cli.specs.Endings.{IsAnswer};
-ghost use Rattle.orca_cli.specs.Headline.{AreLoaded, AreUntouched, IsProgramRun, IsRun, IsRunOf, settings_of, wires_of};
+ghost use Rattle.orca_cli.specs.Headline.{AreLoaded, AreUntouched, HasLacked, IsProgramRun, IsRun, IsRunOf, KeepScripts, settings_of, wires_of};
 ghost use Rattle.command_files.specs.Sources.{Word};
 ghost use Rattle.orca_cli.specs.Job.{checks, deed_in, files_in, runs, script_in};
 ghost use Rattle.orca_cli.specs.Laws.{RunLaws};
@@ -153,6 +153,7 @@ fn load_first<W: Wire>(alloc: Global, script: &Script, wires: &mut [W]) -> Resul
     requires { 1 ≤ length wires.old }
     ensures loaded { OnOk result (AreLoaded script.now
         (wires_of W.told W.told_script W.loaded wires.old) (wires_of W.told W.told_script W.loaded wires.new)) }
+    ensures others { KeepScripts (wires_of W.told W.told_script W.loaded wires.old) (wires_of W.told W.told_script W.loaded wires.new) }
     ensures told { map W.told wires.new ≡ map W.told wires.old }
     ensures count { length wires.new ≡ length wires.old }
 {
@@ -261,6 +262,7 @@ fn run_program<K: Sink, W: Wire>(
         (K.told out.old) (K.told out.new) (map W.told wires.old) (map W.told wires.new)) }
     ensures loaded { IfSome result.kept (λ k. AreLoaded script.now
         (wires_of W.told W.told_script W.loaded wires.old) (wires_of W.told W.told_script W.loaded wires.new)) }
+    ensures others { KeepScripts (wires_of W.told W.told_script W.loaded wires.old) (wires_of W.told W.told_script W.loaded wires.new) }
     ensures told { HaveToldOn (map W.told wires.old) (map W.told wires.new) }
     ensures later { K.faults out.old ≤ K.faults out.new }
     ensures failed { result.status ≡ WRITE_FAULT → Rose (K.faults out.old) (K.faults out.new) }
@@ -292,7 +294,8 @@ fn run_files<F: Shelf, K: Sink, W: Wire>(
         deed_in words ≡ Some (runs options (option_map (λ f. f.now) script.entry) (map (λ f. f.now) files.now)) →
         IfSome result.kept (λ k. IsRunOf words (F.told shelf.old) k result.status (K.told out.old) (K.told out.new)
         (wires_of W.told W.told_script W.loaded wires.old) (wires_of W.told W.told_script W.loaded wires.new)) }
-    ensures untouched { IfNone result.kept (AreUntouched result.status
+    ensures untouched { IfNone result.kept (
+        (wires_of W.told W.told_script W.loaded wires.new ≡ wires_of W.told W.told_script W.loaded wires.old) ⊎ HasLacked result.status
         (wires_of W.told W.told_script W.loaded wires.old) (wires_of W.told W.told_script W.loaded wires.new)) }
     ensures same { F.told shelf.new ≡ F.told shelf.old }
     ensures read { F.faults shelf.old ≤ F.faults shelf.new }
@@ -335,7 +338,7 @@ fn does<F: Shelf, K: Sink, W: Wire>(
     requires wires { (1 ≤ length wires.old) × (length wires.old ≤ 1000) }
     ensures refused { IfNone result.kept (IsAnswer (map string_bytes words.now) (F.told shelf.old)
         (Rose (F.faults shelf.old) (F.faults shelf.new)) (K.told out.old) (K.told out.new) result.status) }
-    ensures untouched { IfNone result.kept (AreUntouched result.status
+    ensures untouched { IfNone result.kept (AreUntouched (map string_bytes words.now) result.status
         (wires_of W.told W.told_script W.loaded wires.old) (wires_of W.told W.told_script W.loaded wires.new)) }
     ensures headline { IfSome result.kept (λ k. IsRunOf (map string_bytes words.now) (F.told shelf.old) k result.status
         (K.told out.old) (K.told out.new)
@@ -383,10 +386,11 @@ pub fn orca_main<F: Shelf, K: Sink>(
 ) -> Ended
     requires wires { (1 ≤ length wires.old.items) × (length wires.old.items ≤ 1000) }
 
-    // Nothing was run: an ending by its cause, with its line, or want of memory. The wires are as they were, unless memory lacked.
+    // Nothing was run: an ending by its cause, with its line, or want of memory. The wires are as they were, unless the words ask for a run
+    // and memory lacked.
     ensures refused { IfNone result.kept (IsAnswer (map string_bytes words.now) (F.told shelf.old)
         (Rose (F.faults shelf.old) (F.faults shelf.new)) (K.told out.old) (K.told out.new) result.status) }
-    ensures untouched { IfNone result.kept (AreUntouched result.status
+    ensures untouched { IfNone result.kept (AreUntouched (map string_bytes words.now) result.status
         (wires_of (λ b. (Wire-box b).told b.value) (λ b. (Wire-box b).told_script b.value) (λ b. (Wire-box b).loaded b.value)
         wires.old.items)
         (wires_of (λ b. (Wire-box b).told b.value) (λ b. (Wire-box b).told_script b.value) (λ b. (Wire-box b).loaded b.value)

@@ -1,42 +1,18 @@
 //! How programs end: each status of a run, by its cause.
 
-use crate::running::{Answer, Counts, counts, run};
+use crate::calls::run;
 use crate::texts::{CELL, FLAG, PAIR, POOL};
-use orca_base::{FaultKind, ObjectId};
-use orca_cli::{BLOCKED, FAULTED, FINISHED, Kept, OUT_OF_TURNS, ProcessStanding};
+use run_outcomes::{
+    BLOCKED, Counts, FAULTED, FINISHED, FaultKind, NoOutcome, OUT_OF_TURNS, Standing,
+};
 use std::alloc::Global;
 use std::test::Fail;
-use value_core::Value;
-
-// What a run left.
-fn kept(answer: &Answer) -> Result<&Kept, Fail> {
-    Ok(answer.kept.as_ref().ok_or("nothing kept")?)
-}
-
-// Whether each member has the first object of process 0, and all its fields are this integer.
-fn all_hold(kept: &Kept, number: i64) -> bool {
-    let object = ObjectId {
-        process: 0,
-        number: 1,
-    };
-    kept.nodes.iter().all(|node| match node.copies.get(object) {
-        Some(held) => held
-            .state
-            .as_slice()
-            .iter()
-            .all(|field| field.is(&Value::Int(number))),
-        None => false,
-    })
-}
 
 // The first burst finds the end.
 #[test]
 fn empty_main(rt: HostRuntime) -> Result<(), Fail> {
     let answer = run(rt.alloc(), &[], "process OrcaMain(); begin end;\n", "")?;
-    assert_eq!(rt; answer.status, FINISHED);
-    assert_eq!(rt; answer.printed.as_str(), "");
-    assert_eq!(rt; counts(&kept(&answer)?.events), Counts::plain(1, 0, 0));
-    assert_eq!(rt; kept(&answer)?.book.len(), 0);
+    assert!(rt; answer.ended(FINISHED, "", Counts::plain(1, 0, 0), 0));
     Ok(())
 }
 
@@ -46,13 +22,14 @@ fn empty_main(rt: HostRuntime) -> Result<(), Fail> {
 fn blocked_await(rt: HostRuntime) -> Result<(), Fail> {
     let main = "process OrcaMain();\n  X: Flag;\nbegin X$Await(9); end;\n";
     let answer = run(rt.alloc(), &[], FLAG, main)?;
-    assert_eq!(rt; answer.status, BLOCKED);
-    assert_eq!(rt;
-        answer.printed.as_str(),
-        "orca: blocked: process 0 waits for Flag$Await\n"
+    assert!(rt;
+        answer.ended(
+            BLOCKED,
+            "orca: blocked: process 0 waits for Flag$Await\n",
+            Counts::plain(2, 2, 2),
+            1
+        )
     );
-    assert_eq!(rt; counts(&kept(&answer)?.events), Counts::plain(2, 2, 2));
-    assert_eq!(rt; kept(&answer)?.book.len(), 1);
     Ok(())
 }
 
@@ -63,14 +40,15 @@ fn overflow_leaves_object(rt: HostRuntime) -> Result<(), Fail> {
     let rest = "process Worker(c: shared Pair);\nbegin WriteLine(c$A()); end;
 process OrcaMain();\n  X: Pair;\nbegin fork Worker(X) on 1; X$Two(); WriteLine(9); end;\n";
     let answer = run(rt.alloc(), &["--nodes", "2"], PAIR, rest)?;
-    assert_eq!(rt; answer.status, FAULTED);
-    assert_eq!(rt;
-        answer.printed.as_str(),
-        "0\norca: process 0 faulted: Overflow\n"
+    assert!(rt;
+        answer.ended(
+            FAULTED,
+            "0\norca: process 0 faulted: Overflow\n",
+            Counts::plain(6, 4, 5),
+            5
+        )
     );
-    assert_eq!(rt; counts(&kept(&answer)?.events), Counts::plain(6, 4, 5));
-    assert_eq!(rt; kept(&answer)?.book.len(), 5);
-    assert!(rt; all_hold(kept(&answer)?, 0));
+    assert!(rt; answer.has_fields(&[(0, 0), (0, 0), (1, 0), (1, 0)]));
     Ok(())
 }
 
@@ -79,14 +57,15 @@ process OrcaMain();\n  X: Pair;\nbegin fork Worker(X) on 1; X$Two(); WriteLine(9
 fn overflow_on_three_members(rt: HostRuntime) -> Result<(), Fail> {
     let main = "process OrcaMain();\n  X: Pair;\nbegin X$Two(); WriteLine(9); end;\n";
     let answer = run(rt.alloc(), &[], PAIR, main)?;
-    assert_eq!(rt; answer.status, FAULTED);
-    assert_eq!(rt;
-        answer.printed.as_str(),
-        "orca: process 0 faulted: Overflow\n"
+    assert!(rt;
+        answer.ended(
+            FAULTED,
+            "orca: process 0 faulted: Overflow\n",
+            Counts::plain(3, 2, 4),
+            2
+        )
     );
-    assert_eq!(rt; counts(&kept(&answer)?.events), Counts::plain(3, 2, 4));
-    assert_eq!(rt; kept(&answer)?.book.len(), 2);
-    assert!(rt; all_hold(kept(&answer)?, 0));
+    assert!(rt; answer.has_fields(&[(0, 0), (0, 0), (1, 0), (1, 0), (2, 0), (2, 0)]));
     Ok(())
 }
 
@@ -104,10 +83,9 @@ object implementation Stall;\n  x: integer;
             "process OrcaMain();\n  X: Stall;\nbegin X$Wait({rounds}); end;\n"
         )?;
         let answer = run(rt.alloc(), &[], text, main.as_str())?;
-        assert_eq!(rt; answer.status, status);
-        assert_eq!(rt; answer.printed.as_str(), line);
-        assert_eq!(rt; counts(&kept(&answer)?.events), Counts::plain(3, 2, 4));
-        assert!(rt; all_hold(kept(&answer)?, state));
+        assert!(rt; answer.says(status, line));
+        assert!(rt; answer.counts() == Some(Counts::plain(3, 2, 4)));
+        assert!(rt; answer.has_fields(&[(0, state), (1, state), (2, state)]));
     }
     Ok(())
 }
@@ -117,15 +95,15 @@ object implementation Stall;\n  x: integer;
 fn out_of_turns(rt: HostRuntime) -> Result<(), Fail> {
     let main = "process OrcaMain();\nbegin while true do od; end;\n";
     let answer = run(rt.alloc(), &["--turns", "50000"], main, "")?;
-    assert_eq!(rt; answer.status, OUT_OF_TURNS);
-    assert_eq!(rt; answer.printed.as_str(), "orca: process 0 out of turns\n");
-    let kept = kept(&answer)?;
-    assert_eq!(rt; counts(&kept.events), Counts::plain(5, 0, 0));
-    assert_eq!(rt; kept.book.len(), 0);
-    match kept.processes.as_slice() {
-        [main] => assert_eq!(rt; main.turns, 50_000),
-        _ => return Err("not one process".into()),
-    }
+    assert!(rt;
+        answer.ended(
+            OUT_OF_TURNS,
+            "orca: process 0 out of turns\n",
+            Counts::plain(5, 0, 0),
+            0
+        )
+    );
+    assert!(rt; matches!(answer.processes.as_slice(), [main] if main.turns == 50_000));
     Ok(())
 }
 
@@ -140,10 +118,14 @@ fn a_turn_too_many(rt: HostRuntime) -> Result<(), Fail> {
             "process OrcaMain();\nbegin for k in 1..{rounds} do od; WriteLine(\"done\"); end;\n"
         )?;
         let answer = run(rt.alloc(), &["--turns", "100"], main.as_str(), "")?;
-        assert_eq!(rt; answer.status, status);
-        assert_eq!(rt; answer.printed.as_str(), line);
+        assert!(rt; answer.says(status, line));
     }
     Ok(())
+}
+
+// Where a process stands that ended by this fault.
+fn faulted(fault: FaultKind) -> Standing {
+    Standing::Faulted { fault }
 }
 
 // The lowest process that faulted is named, also where it ended last, and each runs to its end.
@@ -153,33 +135,15 @@ fn the_lowest_faulted_process_is_told(rt: HostRuntime) -> Result<(), Fail> {
 process Takes();\n  s: set of integer;\nbegin WriteLine(from(s)); end;
 process OrcaMain();\nbegin fork Takes(); fork Divides(); WriteLine(\"forked\"); end;\n";
     let answer = run(rt.alloc(), &[], text, "")?;
-    assert_eq!(rt; answer.status, FAULTED);
-    assert_eq!(rt;
-        answer.printed.as_str(),
-        "forked\norca: process 1 faulted: FromEmpty\n"
+    assert!(rt; answer.says(FAULTED, "forked\norca: process 1 faulted: FromEmpty\n"));
+    assert!(rt;
+        matches!(
+            answer.processes.as_slice(),
+            [main, one, two] if main.standing == Standing::Ended
+                && one.standing == faulted(FaultKind::FromEmpty)
+                && two.standing == faulted(FaultKind::DivideByZero)
+        )
     );
-    match kept(&answer)?.processes.as_slice() {
-        [main, one, two] => {
-            assert!(rt; matches!(main.standing, ProcessStanding::Ended));
-            assert!(rt;
-                matches!(
-                    one.standing,
-                    ProcessStanding::Faulted {
-                        fault: FaultKind::FromEmpty
-                    }
-                )
-            );
-            assert!(rt;
-                matches!(
-                    two.standing,
-                    ProcessStanding::Faulted {
-                        fault: FaultKind::DivideByZero
-                    }
-                )
-            );
-        }
-        _ => return Err("not three processes".into()),
-    }
     Ok(())
 }
 
@@ -196,28 +160,19 @@ begin
 end;
 ";
     let answer = run(rt.alloc(), &[], text, "")?;
-    assert_eq!(rt; answer.status, FAULTED);
-    assert_eq!(rt;
-        answer.printed.as_str(),
-        "7\norca: process 0 faulted: IndexOutside\n"
-    );
+    assert!(rt; answer.says(FAULTED, "7\norca: process 0 faulted: IndexOutside\n"));
     Ok(())
 }
 
 // Process 1 takes before process 2 does, and each before the main process puts; so 7 goes to process 1, and 8 to process 2. Each process's burst
 // comes as soon as it is forked, since it computed none yet.
-fn takes_in_order(alloc: Global, nodes: &str, counted: Counts) -> Result<bool, Fail> {
+fn takes_in_order(alloc: Global, nodes: &str, counts: Counts) -> Result<bool, NoOutcome> {
     let rest = "process Taker(p: shared Pool; name: integer);
 begin WriteLine(name, \" \", p$Take()); end;
 process OrcaMain();\n  P: Pool;
 begin fork Taker(P, 1); fork Taker(P, 2); P$Put(7); P$Put(8); end;\n";
     let answer = run(alloc, &["--nodes", nodes], POOL, rest)?;
-    Ok(
-        answer.status == FINISHED
-            && answer.printed.as_str() == "1 7\n2 8\n"
-            && counts(&kept(&answer)?.events) == counted
-            && kept(&answer)?.book.len() == 9,
-    )
+    Ok(answer.ended(FINISHED, "1 7\n2 8\n", counts, 9))
 }
 
 // The main process has 5 actions and each taker 2, and each a burst more. Each of the nine messages is told to the other members.
@@ -235,13 +190,14 @@ fn the_younger_call_waits(rt: HostRuntime) -> Result<(), Fail> {
 process Putter(p: shared Pool);\nbegin p$Put(7); end;
 process OrcaMain();\n  P: Pool;\nbegin fork Taker(P); fork Putter(P); WriteLine(P$Take()); end;\n";
     let answer = run(rt.alloc(), &["--nodes", "1"], POOL, rest)?;
-    assert_eq!(rt; answer.status, BLOCKED);
-    assert_eq!(rt;
-        answer.printed.as_str(),
-        "7\norca: blocked: process 0 waits for Pool$Take\n"
+    assert!(rt;
+        answer.ended(
+            BLOCKED,
+            "7\norca: blocked: process 0 waits for Pool$Take\n",
+            Counts::plain(9, 7, 0),
+            6
+        )
     );
-    assert_eq!(rt; counts(&kept(&answer)?.events), Counts::plain(9, 7, 0));
-    assert_eq!(rt; kept(&answer)?.book.len(), 6);
     Ok(())
 }
 
@@ -254,12 +210,7 @@ process Parent();\nbegin fork Child(); end;
 process OrcaMain();
 begin fork Parent() on -1; fork Child() on 4; fork Child() on 3; fork Child(); end;\n";
     let answer = run(rt.alloc(), &[], text, "")?;
-    assert_eq!(rt; answer.status, FINISHED);
-    let mut nodes = Vec::new(rt.alloc());
-    for end in &kept(&answer)?.processes {
-        nodes.push(end.node)?;
-    }
-    assert_eq!(rt; nodes.as_slice(), [0u8, 2, 2, 1, 0, 0].as_slice());
+    assert!(rt; answer.status == FINISHED && answer.has_homes(&[0, 2, 2, 1, 0, 0]));
     Ok(())
 }
 
@@ -269,11 +220,7 @@ fn a_making_that_faults(rt: HostRuntime) -> Result<(), Fail> {
     let objects = CELL.replace(rt.alloc(), "begin x := 0; end;", "begin x := 1 / 0; end;")?;
     let main = "process OrcaMain();\n  X: Cell;\nbegin WriteLine(X$Value()); end;\n";
     let answer = run(rt.alloc(), &[], objects.as_str(), main)?;
-    assert_eq!(rt; answer.status, FAULTED);
-    assert_eq!(rt;
-        answer.printed.as_str(),
-        "orca: process 0 faulted: DivideByZero\n"
-    );
-    assert_eq!(rt; kept(&answer)?.book.len(), 1);
+    assert!(rt; answer.says(FAULTED, "orca: process 0 faulted: DivideByZero\n"));
+    assert!(rt; answer.book() == Some(1));
     Ok(())
 }

@@ -7,6 +7,8 @@
 #![tactic(auto)]
 
 #[cfg(test)]
+mod calls;
+#[cfg(test)]
 mod endings;
 #[cfg(test)]
 mod limits;
@@ -14,8 +16,6 @@ mod limits;
 mod losses;
 #[cfg(test)]
 mod members;
-#[cfg(test)]
-mod running;
 #[cfg(test)]
 mod single;
 #[cfg(test)]

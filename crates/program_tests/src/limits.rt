@@ -1,8 +1,8 @@
 //! Limits: of a program's parameters, of its tokens and declared names together, and of a run's objects and processes.
 
-use crate::running::{Answer, answer, lines_by_sort, run};
+use crate::calls::{answer, run};
 use crate::texts::CELL;
-use orca_cli::{FINISHED, LIMIT, REFUSED};
+use run_outcomes::{FINISHED, LIMIT, Lines, NoOutcome, Outcome, REFUSED};
 use std::alloc::{AllocError, Global};
 use std::test::Fail;
 
@@ -26,16 +26,14 @@ fn listed(
 }
 
 // Whether both `check` and `run` answer a text by this line and status; `check` says `ok` where the line is empty.
-fn both_say(alloc: Global, text: &str, status: u8, line: &str) -> Result<bool, Fail> {
-    let checked = answer(alloc, &["check"], text, "")?;
-    let ran = answer(alloc, &["run"], text, "")?;
+fn both_say(alloc: Global, text: &str, status: u8, line: &str) -> Result<bool, NoOutcome> {
+    let checked = answer(alloc, &["check", "program.orca"], text, "")?;
+    let ran = answer(alloc, &["run", "program.orca"], text, "")?;
     let wanted = if line.is_empty() { "ok\n" } else { line };
     Ok(
-        checked.status == status
-            && checked.printed.as_str() == wanted
-            && ran.status == status
-            && ran.printed.as_str() == line
-            && ran.kept.is_some() == (status == FINISHED),
+        checked.says(status, wanted)
+            && ran.says(status, line)
+            && ran.is_kept() == (status == FINISHED),
     )
 }
 
@@ -104,14 +102,15 @@ fn tokens_and_names(rt: HostRuntime) -> Result<(), Fail> {
     Ok(())
 }
 
-// How many lines the book of a run has that ended by a limit with this line: makes, forks and others.
-fn limited(answer: &Answer, line: &str) -> Result<(u64, u64, u64), Fail> {
-    if answer.status != LIMIT || answer.printed.as_str() != line {
-        return Err("another end".into());
-    }
-    let kept = answer.kept.as_ref().ok_or("nothing kept")?;
-    let (makes, forks, calls, others) = lines_by_sort(&kept.book);
-    Ok((makes, forks, calls.saturating_add(others)))
+// Whether a run ended by a limit, with this line, and its history has these makes and forks, and nothing else.
+fn is_limited(answer: &Outcome, line: &str, makes: u64, forks: u64) -> bool {
+    let lines = Lines {
+        makes,
+        forks,
+        calls: 0,
+        others: 0,
+    };
+    answer.says(LIMIT, line) && answer.lines() == Some(lines)
 }
 
 // The main process counts among the 256, and the 257th stops the run.
@@ -120,15 +119,12 @@ fn processes(rt: HostRuntime) -> Result<(), Fail> {
     let text = "process W();\nbegin end;
 process OrcaMain();\nbegin for k in 1..256 do fork W(); od; end;\n";
     let answer = run(rt.alloc(), &[], text, "")?;
-    assert_eq!(rt;
-        limited(&answer, "orca: limit of processes: 256\n")?,
-        (0, 255, 0)
-    );
+    assert!(rt; is_limited(&answer, "orca: limit of processes: 256\n", 0, 255));
 
     let one_less = "process W();\nbegin end;
 process OrcaMain();\nbegin for k in 1..255 do fork W(); od; end;\n";
     let answer = run(rt.alloc(), &["--nodes", "1"], one_less, "")?;
-    assert_eq!(rt; answer.status, FINISHED);
+    assert!(rt; answer.status == FINISHED);
     Ok(())
 }
 
@@ -145,12 +141,9 @@ process OrcaMain();\nbegin for k in 1..{makers} do fork Maker(); od; end;\n"
         )?;
         let answer = run(alloc, &["--nodes", "1"], CELL, rest.as_str())?;
         if full {
-            assert_eq!(rt;
-                limited(&answer, "orca: limit of objects: 4096\n")?,
-                (4096, 17, 0)
-            );
+            assert!(rt; is_limited(&answer, "orca: limit of objects: 4096\n", 4096, 17));
         } else {
-            assert_eq!(rt; answer.status, FINISHED);
+            assert!(rt; answer.status == FINISHED);
         }
     }
     Ok(())

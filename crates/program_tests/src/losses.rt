@@ -5,9 +5,9 @@
 //! assignment, 12 and 13 are its Entries, the fifth and sixth of all, 14 the Ack, and 15 and 16 the Accepts, the fifth and sixth. The worker's burst
 //! comes before the main process's last one.
 
-use crate::running::{Counts, counts, members, run_over};
+use crate::calls::run_over;
 use crate::texts::{CELL, TWO};
-use orca_cli::{FINISHED, NO_GROUP};
+use run_outcomes::{Counts, FINISHED, Member, NO_GROUP, NoOutcome};
 use std::alloc::Global;
 use std::test::Fail;
 
@@ -19,19 +19,15 @@ struct End<'a> {
     printed: &'a str,
     counts: Counts,
     book: usize,
-    members: [(u64, u64, bool); 3],
+    members: [Member; 3],
 }
 
 // Whether the run with this script ends so.
-fn ends_so(alloc: Global, script: &str, end: &End<'_>) -> Result<bool, Fail> {
+fn ends_so(alloc: Global, script: &str, end: &End<'_>) -> Result<bool, NoOutcome> {
     let answer = run_over(alloc, &["--resilience", "1"], CELL, TWO, script)?;
-    let kept = answer.kept.as_ref().ok_or("nothing kept")?;
     Ok(
-        answer.status == end.status
-            && answer.printed.as_str() == end.printed
-            && counts(&kept.events) == end.counts
-            && kept.book.len() == end.book
-            && members(alloc, kept)?.as_slice() == end.members.as_slice(),
+        answer.ended(end.status, end.printed, end.counts, end.book)
+            && answer.has_members(&end.members),
     )
 }
 
@@ -43,7 +39,11 @@ fn two_processes(rt: HostRuntime) -> Result<(), Fail> {
         printed: "6\n",
         counts: Counts::plain(6, 4, 22),
         book: 5,
-        members: [(4, 0, false), (4, 0, false), (4, 0, false)],
+        members: [
+            Member::living(4, 0),
+            Member::living(4, 0),
+            Member::living(4, 0),
+        ],
     };
     assert!(rt; ends_so(rt.alloc(), "", &end)?);
     Ok(())
@@ -64,10 +64,16 @@ fn reset_keeps_accepted(rt: HostRuntime) -> Result<(), Fail> {
             deliveries: 41,
             ticks: 7,
             crashes: 1,
+            suspects: 0,
+            swaps: 0,
             packets: 43,
         },
         book: 5,
-        members: [(3, 0, true), (4, 4, false), (4, 4, false)],
+        members: [
+            Member::crashed(3, 0),
+            Member::living(4, 4),
+            Member::living(4, 4),
+        ],
     };
     let script = "drop accept 5\ndrop accept 6\ncrash 0 accept 6\n";
     assert!(rt; ends_so(rt.alloc(), script, &end)?);
@@ -89,10 +95,16 @@ fn reset_drops_unheld(rt: HostRuntime) -> Result<(), Fail> {
             deliveries: 49,
             ticks: 7,
             crashes: 1,
+            suspects: 0,
+            swaps: 0,
             packets: 51,
         },
         book: 5,
-        members: [(2, 0, true), (4, 4, false), (4, 4, false)],
+        members: [
+            Member::crashed(2, 0),
+            Member::living(4, 4),
+            Member::living(4, 4),
+        ],
     };
     let script = "drop entry 5\ndrop entry 6\ncrash 0 entry 6\n";
     assert!(rt; ends_so(rt.alloc(), script, &end)?);
@@ -112,10 +124,16 @@ fn too_many_crashes(rt: HostRuntime) -> Result<(), Fail> {
             deliveries: 406,
             ticks: 200,
             crashes: 2,
+            suspects: 0,
+            swaps: 0,
             packets: 406,
         },
         book: 2,
-        members: [(2, 0, true), (2, 0, true), (2, 0, false)],
+        members: [
+            Member::crashed(2, 0),
+            Member::crashed(2, 0),
+            Member::living(2, 0),
+        ],
     };
     let script = "crash 0 entry 5\ncrash 1 entry 5\n";
     assert!(rt; ends_so(rt.alloc(), script, &end)?);
@@ -129,11 +147,10 @@ fn each_packet_lost(rt: HostRuntime) -> Result<(), Fail> {
     for lost in 1..23u32 {
         let script = format!(in alloc; "drop any {lost}\n")?;
         let answer = run_over(alloc, &["--resilience", "1"], CELL, TWO, script.as_str())?;
-        let kept = answer.kept.as_ref().ok_or("nothing kept")?;
-        let is_so = answer.status == FINISHED
-            && answer.printed.as_str() == "6\n"
-            && kept.book.len() == 5;
-        assert!(rt; is_so, "{lost}");
+        assert!(rt;
+            answer.says(FINISHED, "6\n") && answer.book() == Some(5),
+            "{lost}"
+        );
     }
     Ok(())
 }

@@ -1,32 +1,32 @@
 //! Programs on many members, without losses or with packets that come late or twice.
 
-use crate::running::{Counts, counts, lines_by_sort, run, run_over};
+use crate::calls::{run, run_over};
 use crate::texts::{CELL, POOL, PRODUCERS};
-use orca_cli::FINISHED;
+use run_outcomes::{Counts, FINISHED, Lines, NoOutcome};
 use std::alloc::Global;
 use std::test::Fail;
-use value_core::{Action, Reply, Value};
 
-// Whether the pool's run has these events, a log of 12 entries, and a book of a make, two forks, four puts and four takes, and a write.
+// The lines of the pool's history: a make, two forks, four puts and four takes, and a write.
+const POOL_LINES: Lines = Lines {
+    makes: 1,
+    forks: 2,
+    calls: 8,
+    others: 1,
+};
+
+// Whether the pool's run has these events, a log of 12 entries, and its lines.
 fn is_pool(
     alloc: Global,
     options: &[&str],
     script: &str,
-    counted: Option<Counts>,
-) -> Result<bool, Fail> {
+    counts: Option<Counts>,
+) -> Result<bool, NoOutcome> {
     let answer = run_over(alloc, options, POOL, PRODUCERS, script)?;
-    let kept = answer.kept.as_ref().ok_or("nothing kept")?;
-    let main = kept.nodes.first().ok_or("no member")?;
-    let as_counted = match counted {
-        Some(counted) => counts(&kept.events) == counted,
-        None => true,
-    };
     Ok(
-        answer.status == FINISHED
-            && answer.printed.as_str() == "66\n"
-            && main.applied == 12
-            && lines_by_sort(&kept.book) == (1, 2, 8, 1)
-            && as_counted,
+        answer.says(FINISHED, "66\n")
+            && matches!(answer.members.as_slice(), [main, ..] if main.applied == 12)
+            && answer.lines() == Some(POOL_LINES)
+            && (counts.is_none() || answer.counts() == counts),
     )
 }
 
@@ -109,25 +109,8 @@ fn reads_never_go_back(rt: HostRuntime) -> Result<(), Fail> {
 process OrcaMain();\n  X: Cell;
 begin fork Setter(X) on 1; while X$Value() = 0 do od; WriteLine(X$Value()); end;\n";
     let answer = run(alloc, &["--nodes", "2"], CELL, rest)?;
-    assert_eq!(rt; answer.status, FINISHED);
-    assert_eq!(rt; answer.printed.as_str(), "1\n");
-    let kept = answer.kept.as_ref().ok_or("nothing kept")?;
-    assert_eq!(rt; counts(&kept.events), Counts::plain(6, 4, 5));
-    assert_eq!(rt; kept.book.len(), 6);
-    let mut last = 0i64;
-    for line in &kept.book {
-        if let (
-            Action::Call { .. },
-            Reply::Gave {
-                value: Value::Int(read),
-            },
-        ) = (&line.action, &line.reply)
-        {
-            assert!(rt; last <= *read);
-            last = *read;
-        }
-    }
-    assert_eq!(rt; last, 1);
+    assert!(rt; answer.ended(FINISHED, "1\n", Counts::plain(6, 4, 5), 6));
+    assert!(rt; answer.given.as_slice() == [1, 1].as_slice());
     Ok(())
 }
 
@@ -142,19 +125,13 @@ fn body_and_order(rt: HostRuntime) -> Result<(), Fail> {
     )?;
     let wanted = format!(in alloc; "{long}\n")?;
     let lossy = Counts {
-        bursts: 4,
-        acts: 2,
         deliveries: 7,
-        ticks: 0,
-        crashes: 0,
-        packets: 8,
+        ..Counts::plain(4, 2, 8)
     };
-    for (script, counted) in [("", Counts::plain(4, 2, 6)), ("drop body 2\n", lossy)] {
+    for (script, counts) in [("", Counts::plain(4, 2, 6)), ("drop body 2\n", lossy)] {
         let answer = run_over(alloc, &[], text.as_str(), "", script)?;
-        assert_eq!(rt; answer.status, FINISHED);
-        assert_eq!(rt; answer.printed.as_str(), wanted.as_str());
-        let kept = answer.kept.as_ref().ok_or("nothing kept")?;
-        assert_eq!(rt; counts(&kept.events), counted);
+        assert!(rt; answer.says(FINISHED, wanted.as_str()));
+        assert!(rt; answer.counts() == Some(counts));
     }
     Ok(())
 }
@@ -171,8 +148,7 @@ fn longest_request(rt: HostRuntime) -> Result<(), Fail> {
             "process W();\nbegin WriteLine(\"{long}\"); end;\nprocess OrcaMain();\nbegin fork W() on 1; end;\n"
         )?;
         let answer = run(alloc, &[], text.as_str(), "")?;
-        let kept = answer.kept.as_ref().ok_or("nothing kept")?;
-        assert_eq!(rt; counts(&kept.events), Counts::plain(4, 2, packets));
+        assert!(rt; answer.counts() == Some(Counts::plain(4, 2, packets)));
     }
     Ok(())
 }

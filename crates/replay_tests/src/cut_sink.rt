@@ -1,6 +1,6 @@
 //! A sink that takes so many bytes, and no more.
 
-ghost use Rattle.std.specs.Prelude.{Some};
+ghost use Rattle.std.specs.Prelude.{◌≡◌, ◌++◌, Some, IsErrOf, OnErr, OnOk};
 
 use orca_io::{Sink, SinkFault};
 use std::alloc::Global;
@@ -29,6 +29,16 @@ impl CutSink {
     }
 }
 
+// Appends the piece. Where there is no memory nothing is appended.
+fn append(bytes: &mut Vec<u8>, piece: &[u8]) -> Result<(), SinkFault>
+    ensures ok { OnOk result (bytes.new.items ≡ bytes.old.items ++ piece.now) }
+    ensures err { OnErr result (bytes.new.items ≡ bytes.old.items) }
+    ensures never { IsErrOf result SinkFault.Failed → ⊥ }
+{
+    bytes.extend_from_slice(piece)?;
+    Ok(())
+}
+
 impl Sink for CutSink {
     ghost told = { λ s. Some s.bytes.items };
 
@@ -36,11 +46,11 @@ impl Sink for CutSink {
 
     fn put(&mut self, piece: &[u8]) -> Result<(), SinkFault> {
         if piece.len() <= self.room {
-            self.bytes.extend_from_slice(piece)?;
+            append(&mut self.bytes, piece)?;
             self.room -= piece.len();
             return Ok(());
         }
-        self.bytes.extend_from_slice(&piece[..self.room])?;
+        append(&mut self.bytes, &piece[..self.room])?;
         self.room = 0;
         self.faults = self.faults.saturating_add(1);
         Err(SinkFault::Failed)

@@ -120,18 +120,9 @@ fn sizes_before_texts(rt: HostRuntime) -> Result<(), Fail> {
     let spaces = vec![in alloc; b' '; 64_000_001]?;
     let source = vec![in alloc; b' '; 1_000_001]?;
     let there = [
-        TestFile {
-            name: "e.orca",
-            text: b"begin",
-        },
-        TestFile {
-            name: "long.orca",
-            text: source.as_slice(),
-        },
-        TestFile {
-            name: "long.txt",
-            text: spaces.as_slice(),
-        },
+        TestFile::new("e.orca", b"begin"),
+        TestFile::new("long.orca", source.as_slice()),
+        TestFile::new("long.txt", spaces.as_slice()),
     ];
     let sure = Failing {
         reads: &[],

@@ -25,11 +25,11 @@ use Rattle.world_facts.specs.Counted.{AllCounted, count_swaps, is_swap}
 use Rattle.world_facts.specs.Rows.{AllRead}
 use Rattle.world_parts.specs.Seen.{Seen, tasks_out}
 use Rattle.world_core.specs.Stepping.{HasComputed, IsRefused, Stepped, told_so}
-use Rattle.run_loop.specs.Asked.{HaveToldOn, NoneAskedBehind, WereUsedSo, asked_since}
-use Rattle.run_loop.specs.Driven.{AreUpTo, HasAnswered, HasStopped, IsDriven, IsDue, IsGoing, MayGoOn, WentOn, told_more}
+use Rattle.run_loop.specs.Asked.{AreInTime, AreUpTo, HaveToldOn, NoneAskedBehind, WereUsedSo, asked_since}
+use Rattle.run_loop.specs.Driven.{HasAnswered, HasStopped, IsDriven, IsDue, IsGoing, MayGoOn, WentOn, told_more}
 use Rattle.run_loop.proofs.Due.{refused_passes}
 use Rattle.run_loop.proofs.Telling.{none_since, since_here, since_other, tells_itself, tells_on}
-use Rattle.run_loop.proofs.Using.{AskedAct, AskedPackets, IsUsed, acts_same, all_accounted, answer_is, asked_is, before_next, before_stays, given_asked, is_used, numbers_asked, step_last, still_used, up_to_more, used_asked, used_stepped}
+use Rattle.run_loop.proofs.Using.{AskedAct, AskedPackets, IsUsed, acts_same, all_accounted, answer_is, asked_is, before_next, before_stays, given_asked, in_time_asked, in_time_none, in_time_stepped, is_used, numbers_asked, step_last, still_used, up_to_more, used_asked, used_stepped}
 
 -- ---- steps
 
@@ -85,6 +85,7 @@ opens f s told none idle wires settings = record {
     given = λ wire. subst (λ (l : List Asked). AreAccounted f [] (acts_in l)) (sym (none_since told wire)) tt;
   });
   unused = λ wire lt. none_since told wire;
+  in_time = in_time_none f s.steps (asked_since told told) (none_since told);
   numbers = λ wire. subst (λ (l : List Asked). AreUpTo (suc (length s.steps)) (acts_in l)) (sym (none_since told wire)) tt;
   idle = idle;
   settings = settings;
@@ -116,9 +117,17 @@ module _ {S : Type 0} (f : Frame) (s : Seen S) (in_use : ℕ) (old new : List (L
   pub unused_asked : NoneAskedBehind in_use (asked_since old new)
   unused_asked wire lt = asks.others wire (λ e. absurd (omega (arith, lt, e))) ∙ h.driven.unused wire lt
 
+  -- it was asked in time
+  pub in_time_now : AllCounted → AreInTime f s.steps (asked_since old new)
+  in_time_now count =
+      let d = h.driven in
+      in_time_asked in_use (suc (length s.steps)) answer (asked_since old h.before) (asked_since old new) asks f s.steps d.world refl
+      (d.swaps ∙ (count f s.steps d.world d.replays).swaps ∙ sym (swaps_counted s.steps) ∙ ap swaps_in (sym (before_next s.steps)))
+      d.replays (d.used.packets in_use) (d.numbers in_use) d.in_time
+
   -- where what it gave is accounted for, the run may go on
-  pub goes_on : IsAccounted f s.steps (suc (length s.steps)) answer → MayGoOn f s in_use old new
-  goes_on fine = record {
+  pub goes_on : AllCounted → IsAccounted f s.steps (suc (length s.steps)) answer → MayGoOn f s in_use old new
+  goes_on count fine = record {
     driven = record {
       world = h.driven.world;
       replays = h.driven.replays;
@@ -128,6 +137,7 @@ module _ {S : Type 0} (f : Frame) (s : Seen S) (in_use : ℕ) (old new : List (L
       told = tells_asked;
       used = used_asked in_use (suc (length s.steps)) answer (asked_since old h.before) (asked_since old new) asks f s.steps h.driven.world refl h.driven.used fine;
       unused = unused_asked;
+      in_time = in_time_now count;
       numbers = numbers_asked in_use (suc (length s.steps)) answer (asked_since old h.before) (asked_since old new) asks (suc (length s.steps)) (omega arith) h.driven.numbers;
       idle = h.driven.idle;
       settings = h.driven.settings;
@@ -137,8 +147,8 @@ module _ {S : Type 0} (f : Frame) (s : Seen S) (in_use : ℕ) (old new : List (L
   }
 
   -- memory lacked before its act was done
-  pub stops_asked : IsGoing f s → HasStopped f s old new
-  stops_asked going = record {
+  pub stops_asked : AllCounted → IsGoing f s → HasStopped f s old new
+  stops_asked count going = record {
     world = h.driven.world;
     replays = h.driven.replays;
     going = going h.driven.world h.driven.replays;
@@ -152,16 +162,17 @@ module _ {S : Type 0} (f : Frame) (s : Seen S) (in_use : ℕ) (old new : List (L
       others = λ wire apart. asks.others wire (λ e. apart (e ∙ h.driven.swaps));
     };
     unused = subst (λ k. NoneAskedBehind k (asked_since old new)) h.driven.swaps unused_asked;
+    in_time = in_time_now count;
   }
 
 -- it gave nothing; or what may not be, which is passed over
-pub gives_nothing : {S : Type 0} (f : Frame) (s : Seen S) (in_use : ℕ) (old new : List (List Asked)) → HasAnswered f s in_use old new None → MayGoOn f s in_use old new
-gives_nothing f s in_use old new h = goes_on f s in_use old new None h tt
+pub gives_nothing : {S : Type 0} (f : Frame) (s : Seen S) (in_use : ℕ) (old new : List (List Asked)) → AllCounted → HasAnswered f s in_use old new None → MayGoOn f s in_use old new
+gives_nothing f s in_use old new count h = goes_on f s in_use old new None h count tt
 
-pub passes_over : {S : Type 0} (f : Frame) (s : Seen S) (in_use : ℕ) (old new : List (List Asked)) (act : WireAct) → HasAnswered f s in_use old new (Some act) → IsGoing f s → IsRefused f (event_of act) s → MayGoOn f s in_use old new
-passes_over f s in_use old new act h going refused =
+pub passes_over : {S : Type 0} (f : Frame) (s : Seen S) (in_use : ℕ) (old new : List (List Asked)) (act : WireAct) → AllCounted → HasAnswered f s in_use old new (Some act) → IsGoing f s → IsRefused f (event_of act) s → MayGoOn f s in_use old new
+passes_over f s in_use old new act count h going refused =
     let w = h.driven.world in
-    goes_on f s in_use old new (Some act) h (inr (
+    goes_on f s in_use old new (Some act) h count (inr (
       w,
       subst (λ (l : List Step). Replays f l w) (sym (before_next s.steps)) h.driven.replays,
       refused_passes f w act (going w h.driven.replays) (refused w h.driven.replays),
@@ -183,6 +194,7 @@ stops f s in_use old new d going = record {
     others = λ wire apart. refl;
   };
   unused = subst (λ k. NoneAskedBehind k (asked_since old new)) d.swaps d.unused;
+  in_time = d.in_time;
 }
 
 -- ---- a step was done
@@ -227,8 +239,8 @@ module _ {S : Type 0} (f : Frame) (s after : Seen S) (in_use next_use : ℕ) (ol
 
   pub driven_on : (is_burst step.event ≡ false → (answer : Option WireAct) × In (suc (length s.steps), answer) (acts_in (asked_since old new in_use)))
       → ((act : WireAct) → step.event ≡ event_of act → last_answer (suc (length s.steps)) (acts_in (asked_since old new in_use)) ≡ Some (Some act))
-      → NoneAskedBehind in_use (asked_since old new) → next_use ≡ in_use + swaps_by step.event → next_use < length told → WentOn f s after next_use old told
-  driven_on asked caused unused moves low = record {
+      → NoneAskedBehind in_use (asked_since old new) → AreInTime f s.steps (asked_since old new) → next_use ≡ in_use + swaps_by step.event → next_use < length told → WentOn f s after next_use old told
+  driven_on asked caused unused in_time moves low = record {
     driven = record {
       world = does_it.world;
       replays = subst (λ (l : List Step). Replays f l does_it.world) (sym does_it.steps) led;
@@ -241,6 +253,8 @@ module _ {S : Type 0} (f : Frame) (s after : Seen S) (in_use next_use : ℕ) (ol
           (λ plain. subst (λ k. (answer : Option WireAct) × In (suc (length s.steps), answer) (acts_in (asked_since old new k))) (sym in_use_is) (asked plain))
           (λ act is. subst (λ k. last_answer (suc (length s.steps)) (acts_in (asked_since old new k)) ≡ Some (Some act)) (sym in_use_is) (caused act is)));
       unused = λ wire lt. packets.others wire (λ e. absurd (omega (arith, lt, moves, e))) ∙ unused wire (omega (arith, lt, moves));
+      in_time = subst (λ (l : List Step). AreInTime f l (asked_since old told)) (sym does_it.steps)
+          (in_time_stepped in_use does_it.more (asked_since old new) (asked_since old told) packets f s.steps step in_time);
       numbers = λ wire.
           subst (λ (l : List Step). AreUpTo (suc (length l)) (acts_in (asked_since old told wire))) (sym does_it.steps)
           (subst (λ (l : List (ℕ × Option WireAct)). AreUpTo (suc (length all)) l) (sym (acts_same in_use does_it.more (asked_since old new) (asked_since old told) packets wire))
@@ -341,6 +355,7 @@ due_done f s after in_use old new told what prior now count on due st same put t
     (λ plain. (on.answer, on.asked))
     (λ act is. absurd (due_not_given act (subst IsDue (sym st.event_is ∙ is) due)))
     d.unused
+    d.in_time
     (let none = ap swaps_by st.event_is ∙ due_swaps what due in omega (arith, none))
     (omega (arith, within, length_is))
 
@@ -367,6 +382,7 @@ act_done f s after in_use next_use old new told act prior now count h st same pu
     (λ plain. (Some act, asked_is in_use n (Some act) before_it since asked))
     (λ other is. answer_is in_use n (Some act) before_it since asked ∙ ap (λ (a : WireAct). Some (Some a)) (same_act act other (sym st.event_is ∙ is)))
     (unused_asked f s in_use old new (Some act) h)
+    (in_time_now f s in_use old new (Some act) h count)
     (moves ∙ ap (λ (e : Event). in_use + swaps_by e) (sym st.event_is))
     low
 
@@ -399,6 +415,7 @@ burst_done f s after in_use old new process count on in_it tasks =
     (λ plain. (on.answer, on.asked))
     (λ act is. absurd (burst_not_given act process in_it.place in_it.turns is))
     d.unused
+    d.in_time
     (omega arith)
     d.within
 

@@ -12,10 +12,11 @@ use Rattle.world_rules.specs.Standings as rules
 use Rattle.world_rules.specs.Steps.{Replays}
 use Rattle.world_rules.specs.Worlds.{Book, World}
 use Rattle.world_book.specs.Promise.{AllStuck, IsKept}
+use Rattle.world_parts.specs.Choosing.{longest_log}
 use Rattle.world_parts.specs.Seen.{Of, Seen, tasks_out}
 use Rattle.world_core.specs.Telling.{AreNodeEnds, AreProcessEnds, EndsMean}
 use Rattle.world_core.specs.declared.ends.RunEnd.{RunEnd}
-use Rattle.run_loop.specs.Asked.{HaveToldOn, NoneAskedBehind, WereUsedSo, asked_since}
+use Rattle.run_loop.specs.Asked.{AreInTime, HaveToldOn, NoneAskedBehind, WereUsedSo, asked_since}
 use Rattle.run_loop.specs.Driven.{HasStopped, IsDriven}
 use Rattle.run_loop.specs.Left.{HasRun}
 use Rattle.run_loop.proofs.Driving.{opens, used_over, used_stopped}
@@ -37,6 +38,7 @@ pub record HasGone {S : Type 0} (f : Frame) (s : Seen S) (st : Standing) (old ne
   pub replays : Replays f s.steps world
   pub used : WereUsedSo st f s.steps world (asked_since old new)
   pub unused : NoneAskedBehind world.swaps (asked_since old new)
+  pub in_time : AreInTime f s.steps (asked_since old new)
   pub told : HaveToldOn old new
 
 pub gone : {S T E : Type 0} (f : Frame) (s : Seen S) (in_use : ℕ) (st : Standing) (old new : List (List Asked)) (r : Result T E) → OnOk r (IsDriven f s in_use old new) → OnOk r (Of f s (λ w. rules.standing f w ≢ Going))
@@ -46,6 +48,7 @@ gone f s in_use st old new (Ok x) d over stopped stands = record {
   replays = d.replays;
   used = used_over f s in_use old new st d (stands d.world d.replays) (λ going. over d.world d.replays (sym (stands d.world d.replays) ∙ going));
   unused = subst (λ (k : ℕ). NoneAskedBehind k (asked_since old new)) d.swaps d.unused;
+  in_time = d.in_time;
   told = d.told;
 }
 gone f s in_use st old new (Err e) driven over h stands = record {
@@ -53,20 +56,22 @@ gone f s in_use st old new (Err e) driven over h stands = record {
   replays = h.replays;
   used = used_stopped f s old new st h (stands h.world h.replays);
   unused = h.unused;
+  in_time = h.in_time;
   told = h.told;
 }
 
 -- what is kept of it
 pub ran : {S : Type 0} (f : Frame) (s : Seen S) (st : Standing) (old new : List (List Asked)) (r : Result RunEnd NoMemory) → HasGone f s st old new → Of f s (λ w. st ≡ rules.standing f w) → Of f s (AllStuck f)
-    → IfOk r (λ end. end.steps.items ≡ s.steps) → Of f s (λ w. IfOk r (λ end. end.book.items ≡ Book f w)) → Of f s (λ w. IfOk r (λ end. AreNodeEnds f w end.nodes.items))
+    → IfOk r (λ end. end.steps.items ≡ s.steps) → Of f s (λ w. IfOk r (λ end. end.book.items ≡ Book f w)) → Of f s (λ w. IfOk r (λ end. end.longest ≡ longest_log f w)) → Of f s (λ w. IfOk r (λ end. AreNodeEnds f w end.nodes.items))
     → Of f s (λ w. IfOk r (λ end. AreProcessEnds f w end.processes.items)) → Of f s (EndsMean f) → Of f s (IsKept f) → IfSome (result_ok r) (HasRun f st old new)
-ran f s st old new (Err e) h stands stuck steps book nodes processes mean kept = tt
-ran f s st old new (Ok end) h stands stuck steps book nodes processes mean kept = record {
+ran f s st old new (Err e) h stands stuck steps book longest nodes processes mean kept = tt
+ran f s st old new (Ok end) h stands stuck steps book longest nodes processes mean kept = record {
   world = h.world;
   left = record {
     replays = subst (λ (l : List Step). Replays f l h.world) (sym steps) h.replays;
     stands = stands h.world h.replays;
     book = book h.world h.replays;
+    longest = longest h.world h.replays;
     nodes = nodes h.world h.replays;
     processes = processes h.world h.replays;
     kept = kept h.world h.replays;
@@ -75,4 +80,5 @@ ran f s st old new (Ok end) h stands stuck steps book nodes processes mean kept 
   };
   used = subst (λ (l : List Step). WereUsedSo st f l h.world (asked_since old new)) (sym steps) h.used;
   unused = h.unused;
+  in_time = subst (λ (l : List Step). AreInTime f l (asked_since old new)) (sym steps) h.in_time;
 }

@@ -50,8 +50,8 @@ wire_left f w v does.Swap step in_use is next use_is lt = let few = ltb-true w.s
 -- ---- each call
 
 -- nothing was given
-pub none_given : {S : Type 0} (f : Frame) (s : Seen S) (in_use : ℕ) (old new : List (List Asked)) (act : Option WireAct) → act ≡ None → HasAnswered f s in_use old new act → MayGoOn f s in_use old new
-none_given f s in_use old new act is h = gives_nothing f s in_use old new (subst (HasAnswered f s in_use old new) is h)
+pub none_given : {S : Type 0} (f : Frame) (s : Seen S) (in_use : ℕ) (old new : List (List Asked)) (act : Option WireAct) → AllCounted → act ≡ None → HasAnswered f s in_use old new act → MayGoOn f s in_use old new
+none_given f s in_use old new act count is h = gives_nothing f s in_use old new count (subst (HasAnswered f s in_use old new) is h)
 
 pub some_given : {S : Type 0} (f : Frame) (s : Seen S) (in_use : ℕ) (old new : List (List Asked)) (given : Option WireAct) (act : WireAct) → given ≡ Some act → HasAnswered f s in_use old new given → HasAnswered f s in_use old new (Some act)
 some_given f s in_use old new given act is h = subst (HasAnswered f s in_use old new) is h
@@ -81,17 +81,17 @@ module _ {W S : Type 0} (told : W → List Asked) (wires : List W) (first wire :
       act_done f s after in_use (in_use + swaps) old (map told wires) (map told (set wires in_use wire)) act (told (get_or wires in_use first)) (told wire) count h st
       (there (omega (arith, within, same))) (put_at told wires in_use wire) tasks (ap (λ (n : ℕ). in_use + n) swaps_is) (omega (arith, left, swaps_is, put, same, many))
 
-  pub passed_by : (act : WireAct) (what : Event) → HasAnswered f s in_use old (map told wires) (Some act) → IsGoing f s → what ≡ event_of act → IsRefused f what s → after ≡ s → told wire ≡ (told (get_or wires in_use first))
+  pub passed_by : (act : WireAct) (what : Event) → AllCounted → HasAnswered f s in_use old (map told wires) (Some act) → IsGoing f s → what ≡ event_of act → IsRefused f what s → after ≡ s → told wire ≡ (told (get_or wires in_use first))
       → MayGoOn f after in_use old (map told (set wires in_use wire))
-  passed_by act what h going event_is refused unchanged same =
+  passed_by act what count h going event_is refused unchanged same =
       subst (λ (x : Seen S). MayGoOn f x in_use old (map told (set wires in_use wire))) (sym unchanged)
       (subst (MayGoOn f s in_use old) (sym (kept_at told wires in_use first wire same))
-      (passes_over f s in_use old (map told wires) act h going (subst (λ (e : Event). IsRefused f e s) event_is refused)))
+      (passes_over f s in_use old (map told wires) act count h going (subst (λ (e : Event). IsRefused f e s) event_is refused)))
 
-  pub stopped_asked_by : (answer : Option WireAct) → HasAnswered f s in_use old (map told wires) answer → IsGoing f s → after ≡ s → told wire ≡ (told (get_or wires in_use first)) → HasStopped f after old (map told (set wires in_use wire))
-  stopped_asked_by answer h going unchanged same =
+  pub stopped_asked_by : (answer : Option WireAct) → AllCounted → HasAnswered f s in_use old (map told wires) answer → IsGoing f s → after ≡ s → told wire ≡ (told (get_or wires in_use first)) → HasStopped f after old (map told (set wires in_use wire))
+  stopped_asked_by answer count h going unchanged same =
       subst (λ (x : Seen S). HasStopped f x old (map told (set wires in_use wire))) (sym unchanged)
-      (subst (HasStopped f s old) (sym (kept_at told wires in_use first wire same)) (stops_asked f s in_use old (map told wires) answer h going))
+      (subst (HasStopped f s old) (sym (kept_at told wires in_use first wire same)) (stops_asked f s in_use old (map told wires) answer h count going))
 
   pub stopped_by : MayGoOn f s in_use old (map told wires) → IsGoing f s → after ≡ s → told wire ≡ (told (get_or wires in_use first)) → HasStopped f after old (map told (set wires in_use wire))
   stopped_by on going unchanged same =

@@ -1,5 +1,5 @@
 -- That the network was used, as a wire is asked once more, and as a step more is done.
-use Rattle.std.proofs.Common.{◌≡◌, ◌∙◌, ◌≤◌, ◌⊎◌, ⊎_elim, inl, inr, ◌==◌, ℕ, zero, suc, Bool, true, false, if◌then◌else◌, List, [], ◌∷◌, ◌++◌, length, map, Option, Some, None, ap, sym, subst, refl, arith, append-nil}
+use Rattle.std.proofs.Common.{◌≡◌, ◌∙◌, ◌≤◌, ◌⊎◌, ⊎_elim, inl, inr, ◌==◌, ℕ, zero, suc, Bool, true, false, if◌then◌else◌, List, [], ◌∷◌, ◌++◌, length, length-append, map, Option, Some, None, ap, sym, subst, refl, arith, append-nil}
 use Rattle.std.specs.Prelude.{slice_get}
 use Rattle.std.specs.List.{AllByRecursion as Each}
 use Rattle.std.proofs.Math.Seq.{take-length}
@@ -17,7 +17,7 @@ use Rattle.world_rules.specs.Frame.{Frame}
 use Rattle.world_rules.specs.Steps.{Replays, asked_of}
 use Rattle.world_rules.specs.Worlds.{Told, World}
 use Rattle.world_core.specs.Stepping.{told_so}
-use Rattle.run_loop.specs.Driven.{AreUpTo}
+use Rattle.run_loop.specs.Asked.{AreInTime, AreUpTo, IsInTime}
 
 -- ---- lists
 
@@ -91,6 +91,36 @@ pub up_to_more : (n m : ℕ) (xs : List (ℕ × Option WireAct)) → n ≤ m →
 up_to_more n m [] low h = h
 up_to_more n m (x ∷ xs) low h = let first = h.0 in (omega (arith, low, first), up_to_more n m xs low h.1)
 
+-- ---- a question in what a wire was asked
+
+not_empty : {A : Type 0} (xs ys : List A) (x : A) → [] ≡ xs ++ x ∷ ys → ⊥
+not_empty [] ys x e = cc e
+not_empty (y ∷ xs) ys x e = cc e
+
+-- with one question more, it is that one or an earlier one
+split_last : (xs front back : List Asked) (last one : Asked) → xs ++ last ∷ [] ≡ front ++ one ∷ back → ((rest : List Asked) × (xs ≡ front ++ one ∷ rest)) ⊎ ((front ≡ xs) × (one ≡ last))
+split_last [] [] back last one e = let same : last ≡ one = cc e in inr (refl, sym same)
+split_last [] (y ∷ front) back last one e = absurd (not_empty front back one (cc e))
+split_last (x ∷ xs) [] back last one e = let same : x ≡ one = cc e in inl (xs, ap (λ (z : Asked). z ∷ xs) same)
+split_last (x ∷ xs) (y ∷ front) back last one e =
+    let head : x ≡ y = cc e in
+    let tail : xs ++ last ∷ [] ≡ front ++ one ∷ back = cc e in
+    ⊎_elim
+    (λ (h : (rest : List Asked) × (xs ≡ front ++ one ∷ rest)). inl (h.0, ap (λ (z : Asked). z ∷ xs) head ∙ ap (λ (l : List Asked). y ∷ l) h.1))
+    (λ (h : (front ≡ xs) × (one ≡ last)). inr (ap (λ (l : List Asked). y ∷ l) h.0 ∙ ap (λ (z : Asked). z ∷ xs) (sym head), h.1))
+    (split_last xs front back last one tail)
+
+-- with packets more, it is an earlier one
+split_packets : (xs more front back : List Asked) (n : ℕ) (answer : Option WireAct) → acts_in more ≡ [] → xs ++ more ≡ front ++ Act n answer ∷ back → (rest : List Asked) × (xs ≡ front ++ Act n answer ∷ rest)
+split_packets [] more front back n answer none e =
+    absurd (not_empty (acts_in front) (acts_in back) (n, answer) (sym none ∙ ap acts_in e ∙ acts_append front (Act n answer ∷ back)))
+split_packets (x ∷ xs) more [] back n answer none e = let same : x ≡ Act n answer = cc e in (xs, ap (λ (z : Asked). z ∷ xs) same)
+split_packets (x ∷ xs) more (y ∷ front) back n answer none e =
+    let head : x ≡ y = cc e in
+    let tail : xs ++ more ≡ front ++ Act n answer ∷ back = cc e in
+    let h = split_packets xs more front back n answer none tail in
+    (h.0, ap (λ (z : Asked). z ∷ xs) head ∙ ap (λ (l : List Asked). y ∷ l) h.1)
+
 -- ---- one step more
 
 -- an event is the same, or it is the new one
@@ -141,6 +171,22 @@ all_accounted f steps last (x ∷ xs) low h = (accounted_stays f steps last x.0 
 accounted_append : (f : Frame) (steps : List Step) (xs ys : List (ℕ × Option WireAct)) → AreAccounted f steps xs → AreAccounted f steps ys → AreAccounted f steps (xs ++ ys)
 accounted_append f steps [] ys h k = k
 accounted_append f steps (x ∷ xs) ys h k = (h.0, accounted_append f steps xs ys h.1 k)
+
+-- a question that was in time stays so
+in_time_more : (f : Frame) (steps : List Step) (last : Step) (wire n : ℕ) (earlier : List Asked) → IsInTime f steps wire n earlier → IsInTime f (steps ++ last ∷ []) wire n earlier
+in_time_more f steps last wire n earlier h = record {
+  first = h.first;
+  next = let low = h.next in let longer = length-append steps (last ∷ []) in omega (arith, low, longer);
+  in_use = h.in_use ∙ ap swaps_before (sym (before_stays steps last n h.next));
+  world = h.world;
+  led = subst (λ (l : List Step). Replays f l h.world) (sym (before_stays steps last n h.next)) h.led;
+  packets = h.packets;
+  acts = h.acts;
+}
+
+-- where nothing was asked, nothing was asked too early or too late
+pub in_time_none : (f : Frame) (steps : List Step) (asked : ℕ → List Asked) → ((wire : ℕ) → asked wire ≡ []) → AreInTime f steps asked
+in_time_none f steps asked none = record { each = λ wire n answer earlier later e. absurd (not_empty earlier later (Act n answer) (sym (none wire) ∙ e)) }
 
 -- the network was used, but for whether what wires gave is accounted for
 pub record IsUsed (f : Frame) (steps : List Step) (w : World) (asked : ℕ → List Asked) : Type 0 where
@@ -205,6 +251,39 @@ module _ (wire n : ℕ) (answer : Option WireAct) (a b : ℕ → List Asked) (as
       (λ apart. subst (λ (l : List Asked). AreUpTo m (acts_in l)) (sym (asked.others other apart)) (h other))
       (cases_eq other wire)
 
+  -- it was in time, where it was the next event's and the wire was in use, and all others as before
+  pub in_time_asked : (f : Frame) (steps : List Step) (w : World) → n ≡ suc (length steps) → wire ≡ wire_before n steps → Replays f steps w → packets_in (a wire) ≡ asked_of wire w.told → AreUpTo n (acts_in (a wire))
+      → AreInTime f steps a → AreInTime f steps b
+  in_time_asked f steps w next in_use led packets acts before_it = record {
+    each = λ other m given earlier later e. ⊎_elim (here other m given earlier later e) (λ apart. before_it.each other m given earlier later (sym (asked.others other apart) ∙ e)) (cases_eq other wire);
+  }
+    where
+      all : before n steps ≡ steps
+      all = ap (λ k. before k steps) next ∙ before_next steps
+
+      own : IsInTime f steps wire n (a wire)
+      own = record {
+        first = omega (arith, next);
+        next = omega (arith, next);
+        in_use = in_use;
+        world = w;
+        led = subst (λ (l : List Step). Replays f l w) (sym all) led;
+        packets = packets;
+        acts = acts;
+      }
+
+      number_in : Asked → ℕ
+      number_in (Act number answer) = number
+      number_in (Packet question fate) = 0
+
+      here : (other m : ℕ) (given : Option WireAct) (earlier later : List Asked) → b other ≡ earlier ++ Act m given ∷ later → other ≡ wire → IsInTime f steps other m earlier
+      here other m given earlier later e same = subst (λ k. IsInTime f steps k m earlier) (sym same)
+          (⊎_elim
+          (λ (h : (rest : List Asked) × (a wire ≡ earlier ++ Act m given ∷ rest)). before_it.each wire m given earlier h.0 h.1)
+          (λ (h : (earlier ≡ a wire) × (Act m given ≡ Act n answer)).
+          subst (λ k. IsInTime f steps wire k earlier) (sym (ap number_in h.1)) (subst (IsInTime f steps wire n) (sym h.0) own))
+          (split_last (a wire) earlier later (Act n answer) (Act m given) (sym asked.here ∙ ap b (sym same) ∙ e)))
+
   -- the network was used still
   pub still_used : (f : Frame) (steps : List Step) (w : World) → n ≡ suc (length steps) → WereUsed f steps w a → IsUsed f steps w b
   still_used f steps w next used = record {
@@ -243,6 +322,19 @@ module _ (wire : ℕ) (more : List Told) (a b : ℕ → List Asked) (asked : Ask
       (ap acts_in asked.here ∙ acts_append (a wire) (map told_so more) ∙ ap (λ (l : List (ℕ × Option WireAct)). acts_in (a wire) ++ l) (no_acts_told more) ∙ append-nil (acts_in (a wire))))
       (λ apart. ap acts_in (asked.others other apart))
       (cases_eq other wire)
+
+  -- questions about acts stay in time
+  pub in_time_stepped : (f : Frame) (steps : List Step) (step : Step) → AreInTime f steps a → AreInTime f (steps ++ step ∷ []) b
+  in_time_stepped f steps step before_it = record {
+    each = λ other m given earlier later e.
+        in_time_more f steps step other m earlier
+        (⊎_elim (here other m given earlier later e) (λ apart. before_it.each other m given earlier later (sym (asked.others other apart) ∙ e)) (cases_eq other wire));
+  }
+    where
+      here : (other m : ℕ) (given : Option WireAct) (earlier later : List Asked) → b other ≡ earlier ++ Act m given ∷ later → other ≡ wire → IsInTime f steps other m earlier
+      here other m given earlier later e same =
+          let h = split_packets (a wire) (map told_so more) earlier later m given (no_acts_told more) (sym asked.here ∙ ap b (sym same) ∙ e) in
+          subst (λ k. IsInTime f steps k m earlier) (sym same) (before_it.each wire m given earlier h.0 h.1)
 
   packets_more : (told : List Told) (other : ℕ) → packets_in (a other) ≡ asked_of other told → packets_in (b other) ≡ asked_of other (told ++ more)
   packets_more told other h = ⊎_elim

@@ -1,5 +1,5 @@
 -- How a run stands while it is driven: what the functions of drive.rt say to each other.
-use Rattle.std.specs.Prelude.{◌≡◌, ◌<◌, ◌≤◌, ◌++◌, ℕ, suc, List, [], ◌∷◌, length, Option, slice_index_or, slice_set}
+use Rattle.std.specs.Prelude.{◌≡◌, ◌<◌, ◌++◌, ℕ, suc, List, [], ◌∷◌, length, Option, slice_index_or, slice_set}
 use Rattle.group_rules.specs.Sets.{In}
 use Rattle.net_rules.specs.declared.asked.Asked.{Asked}
 use Rattle.net_rules.specs.declared.asked.Asked.TheVariants.{Act}
@@ -14,7 +14,7 @@ use Rattle.world_rules.specs.Steps.{Replays}
 use Rattle.world_rules.specs.Worlds.{World}
 use Rattle.world_facts.specs.Possible.{MayStep}
 use Rattle.world_parts.specs.Seen.{Of, Seen, tasks_out}
-use Rattle.run_loop.specs.Asked.{HaveToldOn, NoneAskedBehind, WereUsedUpTo, asked_since}
+use Rattle.run_loop.specs.Asked.{AreInTime, AreUpTo, HaveToldOn, NoneAskedBehind, WereUsedUpTo, asked_since}
 
 -- ---- wires
 
@@ -22,15 +22,10 @@ use Rattle.run_loop.specs.Asked.{HaveToldOn, NoneAskedBehind, WereUsedUpTo, aske
 abbrev pub told_more : ℕ → List Asked → List (List Asked) → List (List Asked)
 told_more wire more told = slice_set told wire (slice_index_or told wire [] ++ more)
 
--- each question about an act came before an event with a number up to this one
-abbrev pub AreUpTo : ℕ → List (ℕ × Option WireAct) → Type 0
-AreUpTo n [] = Unit {0}
-AreUpTo n (one ∷ more) = (one.0 ≤ n) × AreUpTo n more
-
 -- ---- between events
 
 -- the run goes on by these steps, with no task out; the wire in use is behind as many as there were swaps; and the wires, which told `old`
--- before the run, were used in it, and those behind the one in use asked nothing
+-- before the run, were used in it, those behind the one in use asked nothing; each question about an act was in time
 pub record IsDriven {S : Type 0} (f : Frame) (s : Seen S) (in_use : ℕ) (old new : List (List Asked)) : Type 0 where
   pub world : World
   pub replays : Replays f s.steps world
@@ -40,6 +35,7 @@ pub record IsDriven {S : Type 0} (f : Frame) (s : Seen S) (in_use : ℕ) (old ne
   pub told : HaveToldOn old new
   pub used : WereUsed f s.steps world (asked_since old new)
   pub unused : NoneAskedBehind in_use (asked_since old new)
+  pub in_time : AreInTime f s.steps (asked_since old new)
   pub numbers : (wire : ℕ) → AreUpTo (suc (length s.steps)) (acts_in (asked_since old new wire))
   pub idle : tasks_out s ≡ 0
   pub settings : AreSettings f.settings
@@ -84,7 +80,7 @@ pub record WentOn {S : Type 0} (f : Frame) (before after : Seen S) (in_use : ℕ
   pub one : length after.steps ≡ suc (length before.steps)
 
 -- memory lacked: the steps lead to a world that is going, and the wires were used but for a last question; those behind the one in use were
--- asked nothing
+-- asked nothing; each question about an act was in time
 pub record HasStopped {S : Type 0} (f : Frame) (s : Seen S) (old new : List (List Asked)) : Type 0 where
   pub world : World
   pub replays : Replays f s.steps world
@@ -92,3 +88,4 @@ pub record HasStopped {S : Type 0} (f : Frame) (s : Seen S) (old new : List (Lis
   pub told : HaveToldOn old new
   pub used : WereUsedUpTo f s.steps world (asked_since old new)
   pub unused : NoneAskedBehind world.swaps (asked_since old new)
+  pub in_time : AreInTime f s.steps (asked_since old new)

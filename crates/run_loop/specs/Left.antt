@@ -11,7 +11,8 @@ use Rattle.world_rules.specs.Worlds.{Book, World}
 use Rattle.world_book.specs.Promise.{AllStuck, IsKept}
 use Rattle.world_core.specs.Telling.{AreNodeEnds, AreProcessEnds, EndsMean}
 use Rattle.world_core.specs.declared.ends.RunEnd.{RunEnd}
-use Rattle.run_loop.specs.Asked.{NoneAskedBehind, WereUsedSo, asked_since}
+use Rattle.world_parts.specs.Choosing.{longest_log}
+use Rattle.run_loop.specs.Asked.{AreInTime, NoneAskedBehind, WereUsedSo, asked_since}
 
 -- the run of a program with these meanings, by these settings
 abbrev pub run_of : Performs → Computes → Settings → Frame
@@ -23,15 +24,18 @@ pub record IsLeft (f : Frame) (w : World) (standing : Standing) (end : RunEnd) :
   pub replays : Replays f end.steps.items w
   pub stands : standing ≡ rules.standing f w
   pub book : end.book.items ≡ Book f w
+  pub longest : end.longest ≡ longest_log f w
   pub nodes : AreNodeEnds f w end.nodes.items
   pub processes : AreProcessEnds f w end.processes.items
   pub kept : IsKept f w
   pub stuck : AllStuck f w
   pub mean : EndsMean f w
 
--- and the wires, which told `old` before it and tell `new` behind it, were used in it; a wire that was never in use was asked nothing
+-- and the wires, which told `old` before it and tell `new` behind it, were used in it; a wire that was never in use was asked nothing; and
+-- each question about an act was in time
 pub record HasRun (f : Frame) (standing : Standing) (old new : List (List Asked)) (end : RunEnd) : Type 0 where
   pub world : World
   pub left : IsLeft f world standing end
   pub used : WereUsedSo standing f end.steps.items world (asked_since old new)
   pub unused : NoneAskedBehind world.swaps (asked_since old new)
+  pub in_time : AreInTime f end.steps.items (asked_since old new)

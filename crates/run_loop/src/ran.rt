@@ -16,7 +16,7 @@ use world_core::{RunEnd, Settings, Standing};
 /// What a run leaves.
 #[derive(Drop)]
 pub struct Ran {
-    /// How it stands: it is going only where there was no memory.
+    /// How it stands: it is going where it was given up, for want of memory.
     pub standing: Standing,
     /// All that is kept of it; none where there was no memory to begin, or for what is kept.
     pub end: Option<RunEnd>,
@@ -26,7 +26,8 @@ pub struct Ran {
 /// at the beginning, and each stays in its place.
 ///
 /// What is kept is the end of the run to which its steps lead (`HasRun`), and the wires were used in it: each was asked about just the
-/// packets that were sent while it was in use, and each crash, suspicion and exchange is what the wire in use gave.
+/// packets that were sent while it was in use, and each crash, suspicion and exchange is what the wire in use gave. Each question about an act
+/// was put to the wire in use before its event, when it had been asked about the packets of all steps before.
 pub fn run<M: Processor, W: Wire>(
     alloc: Global,
     machine: &M,

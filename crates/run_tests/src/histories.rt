@@ -1,7 +1,7 @@
 //! Histories: what a run prints behind its output where it is asked for, and what `replay` says of that and of others.
 
-use crate::tried::{ONE, outcome};
-use orca_cli::{FINISHED, WRITE_FAULT};
+use crate::cell::{ONE, called, says};
+use run_outcomes::{FINISHED, NoOutcome, OUT_OF_EVENTS, WRITE_FAULT};
 use std::alloc::Global;
 use std::test::Fail;
 
@@ -13,7 +13,7 @@ const BOOK: &str = "0 0 make Cell o0.1 none
 ";
 
 // The first lines of what the one cell prints with its history, so many.
-fn first_lines(alloc: Global, count: u64) -> Result<String, Fail> {
+fn first_lines(alloc: Global, count: u64) -> Result<String, NoOutcome> {
     let whole = format!(in alloc; "6\n{BOOK}")?;
     let mut front = String::new(alloc);
     let mut feeds = 0u64;
@@ -28,34 +28,31 @@ fn first_lines(alloc: Global, count: u64) -> Result<String, Fail> {
     Ok(front)
 }
 
-// The status of `replay` for this history of the one cell, and what it prints.
-fn replayed(alloc: Global, history: &str) -> Result<(u8, String), Fail> {
+// Whether `replay` for this history of the one cell ends with this status, prints this, and keeps nothing.
+fn is_replayed(alloc: Global, history: &str, status: u8, printed: &str) -> Result<bool, NoOutcome> {
     let files = [("one.orca", ONE), ("h.txt", history)];
-    let tried = outcome(alloc, &["replay", "h.txt", "one.orca"], &files, &[])?;
-    if tried.ended.kept.is_some() {
-        return Err(Fail::from("something kept"));
-    }
-    Ok((tried.ended.status, tried.printed))
+    let replay = called(alloc, &["replay", "h.txt", "one.orca"], &files, &[])?;
+    Ok(replay.says(status, printed) && !replay.is_kept())
+}
+
+// Whether the one cell with its history, where these puts fail, ends with this status, prints so many lines, and is kept whole.
+fn has_printed(alloc: Global, failing: &[u64], status: u8, lines: u64) -> Result<bool, NoOutcome> {
+    let printed = first_lines(alloc, lines)?;
+    let files = [("one.orca", ONE)];
+    let run = called(alloc, &["run", "--history", "one.orca"], &files, failing)?;
+    Ok(run.says(status, printed.as_str()) && run.book() == Some(4))
 }
 
 // The output is a write, and so is each line; where the i-th fails, the lines in front of it stand there, and what is kept is whole.
 #[test]
 fn one_cell_with_its_history(rt: HostRuntime) -> Result<(), Fail> {
     let alloc = rt.alloc();
-    let files = [("one.orca", ONE)];
-    let line = ["run", "--history", "one.orca"];
-    let whole = outcome(alloc, &line, &files, &[])?;
-    assert_eq!(rt; whole.ended.status, FINISHED);
-    assert_eq!(rt; whole.printed.as_str(), first_lines(alloc, 5)?.as_str());
+    assert!(rt; has_printed(alloc, &[], FINISHED, 5)?);
     for failing in 1..6u64 {
-        let tried = outcome(alloc, &line, &files, &[failing])?;
-        assert_eq!(rt; tried.ended.status, WRITE_FAULT);
-        assert_eq!(rt;
-            tried.printed.as_str(),
-            first_lines(alloc, failing.wrapping_sub(1))?.as_str()
+        assert!(rt;
+            has_printed(alloc, &[failing], WRITE_FAULT, failing.wrapping_sub(1))?,
+            "{failing}"
         );
-        let kept = tried.ended.kept.as_ref().ok_or("nothing kept")?;
-        assert_eq!(rt; kept.book.len(), 4);
     }
     Ok(())
 }
@@ -65,26 +62,32 @@ fn one_cell_with_its_history(rt: HostRuntime) -> Result<(), Fail> {
 #[test]
 fn histories_of_runs_that_were_cut_off(rt: HostRuntime) -> Result<(), Fail> {
     let alloc = rt.alloc();
-    let files = [("one.orca", ONE)];
-    let line = ["run", "--history", "--events", "13", "one.orca"];
-    let printed = format!(in alloc; "6\n{BOOK}orca: out of events\n")?;
-    assert_eq!(rt;
-        outcome(alloc, &line, &files, &[])?.printed.as_str(),
-        printed.as_str()
-    );
-    let line = [
-        "run",
-        "--history",
-        "--resilience",
-        "1",
-        "--events",
-        "4",
-        "one.orca",
+    let whole = format!(in alloc; "6\n{BOOK}orca: out of events\n")?;
+    let rows: [(&[&str], &str); 2] = [
+        (
+            &["run", "--history", "--events", "13", "one.orca"],
+            whole.as_str(),
+        ),
+        (
+            &[
+                "run",
+                "--history",
+                "--resilience",
+                "1",
+                "--events",
+                "4",
+                "one.orca",
+            ],
+            "orca: out of events\n",
+        ),
     ];
-    assert_eq!(rt;
-        outcome(alloc, &line, &files, &[])?.printed.as_str(),
-        "orca: out of events\n"
-    );
+    for (line, printed) in rows {
+        let files = [("one.orca", ONE)];
+        assert!(rt;
+            says(alloc, line, &files, &[], OUT_OF_EVENTS, printed)?,
+            "{printed}"
+        );
+    }
     Ok(())
 }
 
@@ -93,7 +96,7 @@ fn histories_of_runs_that_were_cut_off(rt: HostRuntime) -> Result<(), Fail> {
 fn histories_given_back(rt: HostRuntime) -> Result<(), Fail> {
     let alloc = rt.alloc();
     let files = [("one.orca", ONE)];
-    let whole = outcome(alloc, &["run", "--history", "one.orca"], &files, &[])?;
+    let whole = called(alloc, &["run", "--history", "one.orca"], &files, &[])?;
     let book = whole
         .printed
         .as_str()
@@ -119,8 +122,7 @@ fn histories_given_back(rt: HostRuntime) -> Result<(), Fail> {
         ),
     ];
     for (history, status, printed) in rows {
-        let (told, said) = replayed(alloc, history)?;
-        assert_eq!(rt; (told, said.as_str()), (status, printed));
+        assert!(rt; is_replayed(alloc, history, status, printed)?, "{printed}");
     }
     Ok(())
 }
@@ -167,15 +169,13 @@ fn replays_that_are_refused(rt: HostRuntime) -> Result<(), Fail> {
         ),
     ];
     for (line, status, printed) in rows {
-        let tried = outcome(alloc, line, &files, &[])?;
-        assert_eq!(rt;
-            (tried.ended.status, tried.printed.as_str()),
-            (status, printed)
+        assert!(rt;
+            says(alloc, line, &files, &[], status, printed)?,
+            "{printed}"
         );
-        let failed = outcome(alloc, line, &files, &[1])?;
-        assert_eq!(rt;
-            (failed.ended.status, failed.printed.as_str()),
-            (WRITE_FAULT, "")
+        assert!(rt;
+            says(alloc, line, &files, &[1], WRITE_FAULT, "")?,
+            "{printed}"
         );
     }
     Ok(())

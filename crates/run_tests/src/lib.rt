@@ -5,6 +5,8 @@
 #![tactic(auto)]
 
 #[cfg(test)]
+mod cell;
+#[cfg(test)]
 mod faults;
 #[cfg(test)]
 mod histories;
@@ -12,5 +14,3 @@ mod histories;
 mod refusals;
 #[cfg(test)]
 mod runs;
-#[cfg(test)]
-mod tried;

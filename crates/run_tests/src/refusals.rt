@@ -1,6 +1,8 @@
 //! Calls that run nothing: words, files and scripts that are refused.
 
-use crate::tried::{ONE, outcome};
+use crate::cell::{ONE, called, says};
+use run_outcomes::NoOutcome;
+use std::alloc::Global;
 use std::test::Fail;
 
 const USAGE: &str =
@@ -8,19 +10,15 @@ const USAGE: &str =
 
 // The status and the line of these words, where one.orca, f.txt (the script) and e.orca (no program) are there.
 fn is_refused(
-    rt: &HostRuntime,
+    alloc: Global,
     line: &[&str],
     script: &str,
     status: u8,
     printed: &str,
-) -> Result<bool, Fail> {
+) -> Result<bool, NoOutcome> {
     let files = [("one.orca", ONE), ("f.txt", script), ("e.orca", "begin")];
-    let tried = outcome(rt.alloc(), line, &files, &[])?;
-    Ok(
-        tried.ended.status == status
-            && tried.printed.as_str() == printed
-            && tried.ended.kept.is_none(),
-    )
+    let call = called(alloc, line, &files, &[])?;
+    Ok(call.says(status, printed) && !call.is_kept())
 }
 
 #[test]
@@ -39,7 +37,7 @@ fn faulty_words(rt: HostRuntime) -> Result<(), Fail> {
         &["run", "--workers", "3", "one.orca"],
     ];
     for line in lines {
-        assert!(rt; is_refused(&rt, line, "", 2, USAGE)?);
+        assert!(rt; is_refused(rt.alloc(), line, "", 2, USAGE)?);
     }
     Ok(())
 }
@@ -86,7 +84,7 @@ fn files_in_order(rt: HostRuntime) -> Result<(), Fail> {
         ),
     ];
     for (line, script, status, printed) in rows {
-        assert!(rt; is_refused(&rt, line, script, status, printed)?);
+        assert!(rt; is_refused(rt.alloc(), line, script, status, printed)?);
     }
     Ok(())
 }
@@ -106,7 +104,7 @@ fn bad_scripts(rt: HostRuntime) -> Result<(), Fail> {
             "orca: script line 2: unknown word\n",
         ),
     ] {
-        assert!(rt; is_refused(&rt, &line, script, 14, printed)?);
+        assert!(rt; is_refused(rt.alloc(), &line, script, 14, printed)?);
     }
     Ok(())
 }
@@ -118,11 +116,11 @@ fn script_at_its_limit(rt: HostRuntime) -> Result<(), Fail> {
     let line = ["run", "--script", "f.txt", "one.orca"];
     let longest = "#".repeat(alloc, 1_000_000)?;
     let files = [("one.orca", ONE), ("f.txt", longest.as_str())];
-    assert_eq!(rt; outcome(alloc, &line, &files, &[])?.printed.as_str(), "6\n");
+    assert!(rt; says(alloc, &line, &files, &[], 0, "6\n")?);
     let longer = "#".repeat(alloc, 1_000_001)?;
     assert!(rt;
         is_refused(
-            &rt,
+            alloc,
             &line,
             longer.as_str(),
             11,
@@ -145,9 +143,7 @@ fn words_that_run(rt: HostRuntime) -> Result<(), Fail> {
         &["run", "--events", "4000000", "one.orca"],
     ];
     for line in lines {
-        let tried = outcome(alloc, line, &[("one.orca", ONE)], &[])?;
-        assert_eq!(rt; tried.ended.status, 0);
-        assert_eq!(rt; tried.printed.as_str(), "6\n");
+        assert!(rt; says(alloc, line, &[("one.orca", ONE)], &[], 0, "6\n")?);
     }
     Ok(())
 }

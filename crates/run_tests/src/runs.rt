@@ -1,45 +1,31 @@
 //! Runs without faults, and with faults from which the group recovers.
 
-use crate::tried::{Counts, ONE, counted, lone_wire, members, one_cell, outcome, outcome_over};
-use orca_cli::{FINISHED, ProcessStanding, Step};
+use crate::cell::{ONE, called, one_cell};
+use run_outcomes::{Counts, FINISHED, Member, NoOutcome, Outcome, Standing, Wires, outcome_of};
 use std::alloc::{AllocError, Global};
 use std::test::Fail;
 
-// A run of the one cell that finishes: its options, its script, its events, and of each member how many entries it applied and its incarnation.
-#[derive(Drop)]
+// A run of the one cell that finishes: its options, its script, its events, and how many members it has, each of which applied all three entries
+// and is in this incarnation.
+#[derive(Clone, Copy)]
 struct Row<'a> {
     options: &'a [&'a str],
     script: &'a str,
     counts: Counts,
-    applied: u64,
     incarnation: u64,
     nodes: usize,
 }
 
 const RESILIENT: [&str; 2] = ["--resilience", "1"];
 
-fn is_so(rt: &HostRuntime, row: &Row<'_>) -> Result<bool, Fail> {
-    let alloc = rt.alloc();
-    let tried = one_cell(alloc, row.options, row.script)?;
-    let Some(kept) = &tried.ended.kept else {
-        return Ok(false);
-    };
+// Whether it is so.
+fn is_so(alloc: Global, row: &Row<'_>) -> Result<bool, NoOutcome> {
+    let run = one_cell(alloc, row.options, row.script)?;
     let mut same = true;
-    for node in &kept.nodes {
-        same = same
-            && node.applied == row.applied
-            && node.incarnation == row.incarnation
-            && !node.crashed
-            && !node.outside;
+    for member in &run.members {
+        same = same && *member == Member::living(3, row.incarnation);
     }
-    Ok(
-        tried.ended.status == FINISHED
-            && tried.printed.as_str() == "6\n"
-            && counted(&kept.events) == row.counts
-            && kept.book.len() == 4
-            && kept.nodes.len() == row.nodes
-            && same,
-    )
+    Ok(run.ended(FINISHED, "6\n", row.counts, 4) && run.members.len() == row.nodes && same)
 }
 
 // The make, the assignment and the write are three entries, each behind a burst and an act, and a last burst finds the end; the read is
@@ -48,12 +34,11 @@ fn is_so(rt: &HostRuntime, row: &Row<'_>) -> Result<bool, Fail> {
 fn one_cell_on_one_member(rt: HostRuntime) -> Result<(), Fail> {
     assert!(rt;
         is_so(
-            &rt,
+            rt.alloc(),
             &Row {
                 options: &["--nodes", "1"],
                 script: "",
                 counts: Counts::plain(4, 3, 0),
-                applied: 3,
                 incarnation: 0,
                 nodes: 1,
             }
@@ -67,12 +52,11 @@ fn one_cell_on_one_member(rt: HostRuntime) -> Result<(), Fail> {
 fn one_cell_on_three_members(rt: HostRuntime) -> Result<(), Fail> {
     assert!(rt;
         is_so(
-            &rt,
+            rt.alloc(),
             &Row {
                 options: &[],
                 script: "",
                 counts: Counts::plain(4, 3, 6),
-                applied: 3,
                 incarnation: 0,
                 nodes: 3,
             }
@@ -86,12 +70,11 @@ fn one_cell_on_three_members(rt: HostRuntime) -> Result<(), Fail> {
 fn one_cell_resilient(rt: HostRuntime) -> Result<(), Fail> {
     assert!(rt;
         is_so(
-            &rt,
+            rt.alloc(),
             &Row {
                 options: &RESILIENT,
                 script: "",
                 counts: Counts::plain(4, 3, 15),
-                applied: 3,
                 incarnation: 0,
                 nodes: 3,
             }
@@ -105,12 +88,11 @@ fn one_cell_resilient(rt: HostRuntime) -> Result<(), Fail> {
 fn sixteen_members(rt: HostRuntime) -> Result<(), Fail> {
     assert!(rt;
         is_so(
-            &rt,
+            rt.alloc(),
             &Row {
                 options: &["--nodes", "16", "--resilience", "7"],
                 script: "",
                 counts: Counts::plain(4, 3, 111),
-                applied: 3,
                 incarnation: 0,
                 nodes: 16,
             }
@@ -140,12 +122,11 @@ fn lost_entry(rt: HostRuntime) -> Result<(), Fail> {
     ] {
         assert!(rt;
             is_so(
-                &rt,
+                rt.alloc(),
                 &Row {
                     options,
                     script: "drop entry 2\n",
                     counts,
-                    applied: 3,
                     incarnation: 0,
                     nodes: 3,
                 }
@@ -158,21 +139,18 @@ fn lost_entry(rt: HostRuntime) -> Result<(), Fail> {
 // The last entry doesn't reach member 2, and nothing tells it so before the run is over.
 #[test]
 fn lost_last_entry(rt: HostRuntime) -> Result<(), Fail> {
-    let alloc = rt.alloc();
-    let tried = one_cell(alloc, &[], "drop entry 6\n")?;
-    assert_eq!(rt; tried.ended.status, FINISHED);
-    assert_eq!(rt; tried.printed.as_str(), "6\n");
-    let kept = tried.ended.kept.as_ref().ok_or("nothing kept")?;
-    assert_eq!(rt;
-        counted(&kept.events),
-        Counts {
-            deliveries: 5,
-            ..Counts::plain(4, 3, 6)
-        }
-    );
-    assert_eq!(rt;
-        members(alloc, kept)?.as_slice(),
-        [(3, 0, false), (3, 0, false), (2, 0, false)].as_slice()
+    let run = one_cell(rt.alloc(), &[], "drop entry 6\n")?;
+    let counts = Counts {
+        deliveries: 5,
+        ..Counts::plain(4, 3, 6)
+    };
+    assert!(rt; run.ended(FINISHED, "6\n", counts, 4));
+    assert!(rt;
+        run.has_members(&[
+            Member::living(3, 0),
+            Member::living(3, 0),
+            Member::living(2, 0),
+        ])
     );
     Ok(())
 }
@@ -183,12 +161,11 @@ fn cut_entry(rt: HostRuntime) -> Result<(), Fail> {
     for (script, packets) in [("cut entry 2 51\n", 17), ("cut entry 2 52\n", 15)] {
         assert!(rt;
             is_so(
-                &rt,
+                rt.alloc(),
                 &Row {
                     options: &RESILIENT,
                     script,
                     counts: Counts::plain(4, 3, packets),
-                    applied: 3,
                     incarnation: 0,
                     nodes: 3,
                 }
@@ -204,7 +181,7 @@ fn cut_entry(rt: HostRuntime) -> Result<(), Fail> {
 fn held_and_repeated(rt: HostRuntime) -> Result<(), Fail> {
     assert!(rt;
         is_so(
-            &rt,
+            rt.alloc(),
             &Row {
                 options: &[],
                 script: "hold entry 3 2\ntwice any all\n",
@@ -212,7 +189,6 @@ fn held_and_repeated(rt: HostRuntime) -> Result<(), Fail> {
                     deliveries: 20,
                     ..Counts::plain(4, 3, 11)
                 },
-                applied: 3,
                 incarnation: 0,
                 nodes: 3,
             }
@@ -226,7 +202,7 @@ fn held_and_repeated(rt: HostRuntime) -> Result<(), Fail> {
 fn held_acknowledgement(rt: HostRuntime) -> Result<(), Fail> {
     assert!(rt;
         is_so(
-            &rt,
+            rt.alloc(),
             &Row {
                 options: &RESILIENT,
                 script: "hold ack 1 2\n",
@@ -234,7 +210,6 @@ fn held_acknowledgement(rt: HostRuntime) -> Result<(), Fail> {
                     ticks: 2,
                     ..Counts::plain(4, 3, 27)
                 },
-                applied: 3,
                 incarnation: 0,
                 nodes: 3,
             }
@@ -248,7 +223,7 @@ fn held_acknowledgement(rt: HostRuntime) -> Result<(), Fail> {
 fn suspected_sequencer(rt: HostRuntime) -> Result<(), Fail> {
     assert!(rt;
         is_so(
-            &rt,
+            rt.alloc(),
             &Row {
                 options: &RESILIENT,
                 script: "suspect 1 entry 2\nsuspect 2 entry 2\n",
@@ -256,7 +231,6 @@ fn suspected_sequencer(rt: HostRuntime) -> Result<(), Fail> {
                     suspects: 2,
                     ..Counts::plain(4, 3, 26)
                 },
-                applied: 3,
                 incarnation: 5,
                 nodes: 3,
             }
@@ -265,41 +239,18 @@ fn suspected_sequencer(rt: HostRuntime) -> Result<(), Fail> {
     Ok(())
 }
 
-// Packets before and behind the first swap.
-fn packets_about_swap(events: &[Step]) -> (u64, u64) {
-    let mut before = 0u64;
-    let mut behind = 0u64;
-    let mut swapped = false;
-    for step in events {
-        let packets = step.fates.len() as u64;
-        if swapped {
-            behind = behind.saturating_add(packets);
-        } else {
-            before = before.saturating_add(packets);
-        }
-        swapped = swapped || counted(std::slice::from_ref(step)).swaps == 1;
-    }
-    (before, behind)
-}
-
 // The first wire loses all, and is exchanged once it was asked about both packets of the first message: the second is asked about 19.
 #[test]
 fn swapped_wire(rt: HostRuntime) -> Result<(), Fail> {
-    let alloc = rt.alloc();
-    let tried = one_cell(alloc, &RESILIENT, "drop any all\nswap entry 2\n")?;
-    assert_eq!(rt; tried.ended.status, FINISHED);
-    assert_eq!(rt; tried.printed.as_str(), "6\n");
-    let kept = tried.ended.kept.as_ref().ok_or("nothing kept")?;
-    assert_eq!(rt;
-        counted(&kept.events),
-        Counts {
-            deliveries: 19,
-            ticks: 1,
-            swaps: 1,
-            ..Counts::plain(4, 3, 21)
-        }
-    );
-    assert_eq!(rt; packets_about_swap(&kept.events), (2, 19));
+    let run = one_cell(rt.alloc(), &RESILIENT, "drop any all\nswap entry 2\n")?;
+    let counts = Counts {
+        deliveries: 19,
+        ticks: 1,
+        swaps: 1,
+        ..Counts::plain(4, 3, 21)
+    };
+    assert!(rt; run.ended(FINISHED, "6\n", counts, 4));
+    assert!(rt; run.packets_about_swap() == Some((2, 19)));
     Ok(())
 }
 
@@ -309,31 +260,28 @@ fn acts_passed_over(rt: HostRuntime) -> Result<(), Fail> {
     let alloc = rt.alloc();
     assert!(rt;
         is_so(
-            &rt,
+            rt.alloc(),
             &Row {
                 options: &[],
                 script: "crash 9 entry 2\n",
                 counts: Counts::plain(4, 3, 6),
-                applied: 3,
                 incarnation: 0,
                 nodes: 3,
             }
         )?
     );
-    let tried = one_cell(alloc, &[], "crash 1 entry 2\nsuspect 1 entry 2\n")?;
-    assert_eq!(rt; tried.ended.status, FINISHED);
-    assert_eq!(rt; tried.printed.as_str(), "6\n");
-    let kept = tried.ended.kept.as_ref().ok_or("nothing kept")?;
-    assert_eq!(rt;
-        counted(&kept.events),
-        Counts {
-            crashes: 1,
-            ..Counts::plain(4, 3, 6)
-        }
-    );
-    assert_eq!(rt;
-        members(alloc, kept)?.as_slice(),
-        [(3, 0, false), (0, 0, true), (3, 0, false)].as_slice()
+    let run = one_cell(alloc, &[], "crash 1 entry 2\nsuspect 1 entry 2\n")?;
+    let counts = Counts {
+        crashes: 1,
+        ..Counts::plain(4, 3, 6)
+    };
+    assert!(rt; run.ended(FINISHED, "6\n", counts, 4));
+    assert!(rt;
+        run.has_members(&[
+            Member::living(3, 0),
+            Member::crashed(0, 0),
+            Member::living(3, 0),
+        ])
     );
     Ok(())
 }
@@ -341,19 +289,14 @@ fn acts_passed_over(rt: HostRuntime) -> Result<(), Fail> {
 // With no wire behind the one in use a swap is passed over: six packets and thirteen events, as without a script.
 #[test]
 fn swap_without_a_next_wire(rt: HostRuntime) -> Result<(), Fail> {
-    let alloc = rt.alloc();
-    let mut wires = lone_wire(alloc)?;
-    let tried = outcome_over(
-        alloc,
+    let run = outcome_of(
+        rt.alloc(),
         &["run", "--script", "f.txt", "one.orca"],
         &[("one.orca", ONE), ("f.txt", "swap entry 2\n")],
         &[],
-        &mut wires,
+        Wires::One,
     )?;
-    assert_eq!(rt; tried.ended.status, FINISHED);
-    assert_eq!(rt; tried.printed.as_str(), "6\n");
-    let kept = tried.ended.kept.as_ref().ok_or("nothing kept")?;
-    assert_eq!(rt; counted(&kept.events), Counts::plain(4, 3, 6));
+    assert!(rt; run.ended(FINISHED, "6\n", Counts::plain(4, 3, 6), 4));
     Ok(())
 }
 
@@ -363,42 +306,39 @@ fn many(alloc: Global, calls: usize) -> Result<String, AllocError> {
     ONE.replace(alloc, "X$Assign(6); ", all.as_str())
 }
 
+// What comes of this text on five members with one acknowledger, with this script.
+fn called_on_five<'a>(alloc: Global, text: &'a str, script: &'a str) -> Result<Outcome, NoOutcome> {
+    called(
+        alloc,
+        &[
+            "run",
+            "--nodes",
+            "5",
+            "--resilience",
+            "1",
+            "--script",
+            "f.txt",
+            "m.orca",
+        ],
+        &[("m.orca", text), ("f.txt", script)],
+        &[],
+    )
+}
+
 // 600 calls on five members with one acknowledger: 602 entries cross two windows. All members apply all. One entry that member 2 misses costs
 // two packets.
 #[test]
 fn windows_are_crossed(rt: HostRuntime) -> Result<(), Fail> {
-    let alloc = rt.alloc();
-    let text = many(alloc, 600)?;
-    let line = [
-        "run",
-        "--nodes",
-        "5",
-        "--resilience",
-        "1",
-        "--script",
-        "f.txt",
-        "m.orca",
-    ];
+    let text = many(rt.alloc(), 600)?;
     for (script, packets, deliveries) in [("", 5490, 5490), ("drop entry 402\n", 5492, 5491)] {
-        let tried = outcome(
-            alloc,
-            &line,
-            &[("m.orca", text.as_str()), ("f.txt", script)],
-            &[],
-        )?;
-        assert_eq!(rt; tried.ended.status, FINISHED);
-        assert_eq!(rt; tried.printed.as_str(), "7\n");
-        let kept = tried.ended.kept.as_ref().ok_or("nothing kept")?;
-        assert_eq!(rt;
-            counted(&kept.events),
-            Counts {
-                deliveries,
-                ..Counts::plain(603, 602, packets)
-            }
-        );
-        assert_eq!(rt; kept.book.len(), 603);
-        for node in &kept.nodes {
-            assert_eq!(rt; (node.applied, node.outside), (602, false));
+        let run = called_on_five(rt.alloc(), text.as_str(), script)?;
+        let counts = Counts {
+            deliveries,
+            ..Counts::plain(603, 602, packets)
+        };
+        assert!(rt; run.ended(FINISHED, "7\n", counts, 603), "{packets}");
+        for member in &run.members {
+            assert!(rt; member.applied == 602 && !member.outside, "{packets}");
         }
     }
     Ok(())
@@ -407,33 +347,9 @@ fn windows_are_crossed(rt: HostRuntime) -> Result<(), Fail> {
 // A fifth of all packets is lost by chance: the history is whole all the same.
 #[test]
 fn a_fifth_is_lost(rt: HostRuntime) -> Result<(), Fail> {
-    let alloc = rt.alloc();
-    let text = many(alloc, 100)?;
-    let line = [
-        "run",
-        "--nodes",
-        "5",
-        "--resilience",
-        "1",
-        "--script",
-        "f.txt",
-        "m.orca",
-    ];
-    let tried = outcome(
-        alloc,
-        &line,
-        &[("m.orca", text.as_str()), ("f.txt", "seed 1 20\n")],
-        &[],
-    )?;
-    assert_eq!(rt; tried.ended.status, FINISHED);
-    assert_eq!(rt; tried.printed.as_str(), "7\n");
-    let kept = tried.ended.kept.as_ref().ok_or("nothing kept")?;
-    assert_eq!(rt; kept.book.len(), 103);
-    assert!(rt;
-        matches!(
-        kept.processes.as_slice(),
-        [main] if main.replies.len() == 103 && matches!(main.standing, ProcessStanding::Ended)
-    )
-    );
+    let text = many(rt.alloc(), 100)?;
+    let run = called_on_five(rt.alloc(), text.as_str(), "seed 1 20\n")?;
+    assert!(rt; run.says(FINISHED, "7\n") && run.book() == Some(103));
+    assert!(rt; run.has_main(103, Standing::Ended));
     Ok(())
 }

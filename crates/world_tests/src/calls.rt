@@ -358,7 +358,7 @@ fn room<P: OneRun>(alloc: Global, machine: &P, settings: Settings) -> Result<NoR
 {
     let process = ProcessNo::MAIN;
     let mut world = World::new(alloc, machine, settings)?;
-    let mut full = FullWire;
+    let mut full = FullWire::new(alloc);
     let mut plain = PlainWire::new(alloc);
     let _ = computes(alloc, machine, &mut world, process)?;
     let sends = world.step(alloc, machine, Event::Act { process }, &mut full);
@@ -411,7 +411,7 @@ fn alone<P: OneRun>(
     requires ranges { AreSettings settings }
 {
     let mut world = World::new(alloc, machine, settings)?;
-    let mut wire = FullWire;
+    let mut wire = FullWire::new(alloc);
     for _event in 0..100u32 {
         if !due(alloc, machine, &mut world, &mut wire)? {
             break;

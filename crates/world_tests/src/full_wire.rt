@@ -7,25 +7,34 @@ use group_packets::PacketKind;
 use net_rules::{Fate, WireAct};
 use orca_base::NoMemory;
 use std::alloc::Global;
-use wires::Wire;
+use wires::{PlainWire, Wire};
 
 /// A wire that finds no memory for any question.
-#[derive(Debug, Drop)]
-pub struct FullWire;
+#[derive(Drop)]
+pub struct FullWire {
+    plain: PlainWire,
+}
+
+impl FullWire {
+    /// One that wasn't asked yet. It has room for no question.
+    pub fn new(alloc: Global) -> FullWire {
+        FullWire {
+            plain: PlainWire::new(alloc),
+        }
+    }
+}
 
 impl Wire for FullWire {
-    ghost use Rattle.std.specs.Prelude.{[]};
+    ghost told = { λ w. w.plain.told };
 
-    ghost told = { λ w. [] };
+    ghost told_script = { λ w. w.plain.script };
 
-    ghost told_script = { λ w. [] };
+    ghost loaded = { λ w. w.plain.loaded };
 
-    ghost loaded = { λ w. 0 };
+    ghost spare = { λ w. w.plain.spare };
 
-    ghost spare = { λ w. 0 };
-
-    fn load(&mut self, _alloc: Global, _script: &Script) -> Result<(), NoMemory> {
-        Err(NoMemory)
+    fn load(&mut self, alloc: Global, script: &Script) -> Result<(), NoMemory> {
+        self.plain.load(alloc, script)
     }
 
     fn make_room(&mut self, questions: u32) -> Result<(), NoMemory> {
@@ -36,11 +45,11 @@ impl Wire for FullWire {
         }
     }
 
-    fn fate(&mut self, _packet: u64, _kind: PacketKind, _from: u8, _to: u8, _length: u32) -> Fate {
-        unreachable!()
+    fn fate(&mut self, packet: u64, kind: PacketKind, from: u8, to: u8, length: u32) -> Fate {
+        self.plain.fate(packet, kind, from, to, length)
     }
 
-    fn next_act(&mut self, _event_number: u64) -> Option<WireAct> {
-        unreachable!()
+    fn next_act(&mut self, event_number: u64) -> Option<WireAct> {
+        self.plain.next_act(event_number)
     }
 }

@@ -1,6 +1,7 @@
 use Rattle.orca_cli.specs.Endings as because
 use Rattle.orca_cli.specs.Lines as lines
 use Rattle.orca_cli.proofs.CliLemmas.{answer_of, deed_is, deed_none, if_none, within_is}
+use Rattle.orca_cli.proofs.HeadlineLemmas.{untouched_run}
 use Rattle.orca_cli.proofs.top.does.Goals as goal
 
 pub returns-in-Ok-Some-Says-clause-refused : goal.returns-in-Ok-Some-Says-clause-refused
@@ -21,6 +22,10 @@ run_files-requires-clause-options g c = within_is _ _ _ c.in-Ok-Some-Runs.ensure
 pub returns-in-Ok-Some-Runs-clause-refused : goal.returns-in-Ok-Some-Runs-clause-refused
 returns-in-Ok-Some-Runs-clause-refused g c =
     (rw c.deref-in-Ok-Some-Runs.ensures.value at c.run_files.ensures.refused) _ (deed_is _ _ _ _ c.in-Ok-Some-Runs.ensures.is c.in-Ok-Some-Runs.field-0-is c.in-Ok-Some-Runs.field-0-0-is)
+
+pub returns-in-Ok-Some-Runs-clause-untouched : goal.returns-in-Ok-Some-Runs-clause-untouched
+returns-in-Ok-Some-Runs-clause-untouched g c =
+    untouched_run _ _ _ _ _ (_, _, _, deed_is _ _ _ _ c.in-Ok-Some-Runs.ensures.is c.in-Ok-Some-Runs.field-0-is c.in-Ok-Some-Runs.field-0-0-is) c.run_files.ensures.untouched
 
 pub returns-in-Ok-Some-Runs-clause-headline : goal.returns-in-Ok-Some-Runs-clause-headline
 returns-in-Ok-Some-Runs-clause-headline g c =

@@ -72,4 +72,4 @@ returns-clause-kept g c = λ words asked.
     refl c.run_program.ensures.kept c.run_program.ensures.loaded
 
 pub returns-clause-untouched : goal.returns-clause-untouched
-returns-clause-untouched g c = none_as c.run_program.result.kept (λ lacked. inr (lacked.0, c.run_program.ensures.told)) c.run_program.ensures.none
+returns-clause-untouched g c = none_as c.run_program.result.kept (λ lacked. inr (record { status = lacked.0; told = c.run_program.ensures.told; others = c.run_program.ensures.others })) c.run_program.ensures.none

@@ -5,7 +5,7 @@ use Rattle.run_loop.proofs.drive.Driver.does.Goals as goal
 
 pub returns-in_default-clause-passed : goal.returns-in_default-clause-passed
 returns-in_default-clause-passed g c = λ _.
-    none_given g.P.OneRun.run.frame c.args.self.now.world c.args.self.now.in_use g.P.OneRun.run.told (map g.W.Wire.told c.args.wires.now) c.args.act c.in_default.is c.requires.answered
+    none_given g.P.OneRun.run.frame c.args.self.now.world c.args.self.now.in_use g.P.OneRun.run.told (map g.W.Wire.told c.args.wires.now) c.args.act c.worlds_count.ensures.counted c.in_default.is c.requires.answered
 
 pub returns-in-Ok-clause-done : goal.returns-in-Ok-clause-done
 returns-in-Ok-clause-done g c = λ _.
@@ -25,7 +25,7 @@ returns-in-Ok-clause-loaded g c =
 pub returns-in-Err-NotEnabled-clause-passed : goal.returns-in-Err-NotEnabled-clause-passed
 returns-in-Err-NotEnabled-clause-passed g c = λ _.
     passed_by g.W.Wire.told c.args.wires.now c.index-wires-self.result c.step.new.wire g.P.OneRun.run.frame c.args.self.now.world c.step.new.self c.args.self.now.in_use g.P.OneRun.run.told
-    c.in-Some.act c.event_of.result
+    c.in-Some.act c.event_of.result c.worlds_count.ensures.counted
     (some_given g.P.OneRun.run.frame c.args.self.now.world c.args.self.now.in_use g.P.OneRun.run.told (map g.W.Wire.told c.args.wires.now) c.args.act c.in-Some.act c.in-Some.is c.requires.answered)
     c.requires.going c.event_of.ensures (c.in-Err-NotEnabled.ensures.refused (ap Err c.in-Err-NotEnabled.field-0-is)) c.in-Err-NotEnabled.ensures.err c.in-Err-NotEnabled.ensures.unasked
 
@@ -40,7 +40,7 @@ returns-in-Err-NotEnabled-clause-loaded g c =
 pub returns-in-Err-NoMemory-clause-stopped : goal.returns-in-Err-NoMemory-clause-stopped
 returns-in-Err-NoMemory-clause-stopped g c =
     stopped_asked_by g.W.Wire.told c.args.wires.now c.index-wires-self.result c.step.new.wire g.P.OneRun.run.frame c.args.self.now.world c.step.new.self c.args.self.now.in_use g.P.OneRun.run.told
-    c.args.act c.requires.answered c.requires.going c.in-Err-NoMemory.ensures.err c.in-Err-NoMemory.ensures.unasked
+    c.args.act c.worlds_count.ensures.counted c.requires.answered c.requires.going c.in-Err-NoMemory.ensures.err c.in-Err-NoMemory.ensures.unasked
 
 pub returns-in-Err-NoMemory-clause-scripts : goal.returns-in-Err-NoMemory-clause-scripts
 returns-in-Err-NoMemory-clause-scripts g c =

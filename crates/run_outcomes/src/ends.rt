@@ -1,0 +1,135 @@
+//! Members and processes as a run leaves them.
+
+use orca_base::{FaultKind, NoMemory, ObjectId};
+use orca_cli::{NodeEnd, ProcessEnd, ProcessStanding};
+use std::alloc::Global;
+use value_core::Value;
+
+/// A member.
+#[derive(Clone, Copy, Debug, PartialEq, Eq)]
+pub struct Member {
+    /// How many entries it applied.
+    pub applied: u64,
+    /// The incarnation that it installed last.
+    pub incarnation: u64,
+    pub crashed: bool,
+    /// Whether it is outside the group.
+    pub outside: bool,
+}
+
+impl Member {
+    /// One that lives, in the group.
+    pub fn living(applied: u64, incarnation: u64) -> Member {
+        Member {
+            applied,
+            incarnation,
+            crashed: false,
+            outside: false,
+        }
+    }
+
+    /// One that crashed in the group.
+    pub fn crashed(applied: u64, incarnation: u64) -> Member {
+        Member {
+            crashed: true,
+            ..Member::living(applied, incarnation)
+        }
+    }
+}
+
+/// A process.
+#[derive(Clone, Copy, Debug, PartialEq, Eq)]
+pub struct Process {
+    /// Its member.
+    pub node: u8,
+    /// How many replies it received.
+    pub replies: usize,
+    /// How many turns it took.
+    pub turns: u64,
+    pub standing: Standing,
+}
+
+/// Where a process stands.
+#[derive(Clone, Copy, Debug, PartialEq, Eq)]
+pub enum Standing {
+    /// It ran all its statements.
+    Ended,
+    /// It ended by this fault.
+    Faulted { fault: FaultKind },
+    /// It is at an action, and has received no reply to it.
+    Waits,
+    /// It computes, or its member hasn't begun it.
+    Busy,
+    /// Its member crashed before it ended.
+    Crashed,
+}
+
+// The first object that process 0 makes.
+const FIRST: ObjectId = ObjectId {
+    process: 0,
+    number: 1,
+};
+
+/// A row of each member.
+pub fn members(alloc: Global, nodes: &[NodeEnd]) -> Result<Vec<Member>, NoMemory> {
+    let mut members = Vec::new(alloc);
+    for node in nodes {
+        members.push(Member {
+            applied: node.applied,
+            incarnation: node.incarnation,
+            crashed: node.crashed,
+            outside: node.outside,
+        })?;
+    }
+    Ok(members)
+}
+
+/// A row of each process.
+pub fn processes(alloc: Global, ends: &[ProcessEnd]) -> Result<Vec<Process>, NoMemory> {
+    let mut processes = Vec::new(alloc);
+    for end in ends {
+        processes.push(Process {
+            node: end.node,
+            replies: end.replies.len(),
+            turns: end.turns,
+            standing: standing_of(&end.standing),
+        })?;
+    }
+    Ok(processes)
+}
+
+// The standing without its action.
+fn standing_of(standing: &ProcessStanding) -> Standing {
+    match standing {
+        ProcessStanding::Ended => Standing::Ended,
+        ProcessStanding::Faulted { fault } => Standing::Faulted { fault: *fault },
+        ProcessStanding::Waits { .. } => Standing::Waits,
+        ProcessStanding::Busy => Standing::Busy,
+        ProcessStanding::Crashed => Standing::Crashed,
+    }
+}
+
+/// The integer fields of the first object at each member.
+pub fn fields(alloc: Global, nodes: &[NodeEnd]) -> Result<Vec<(usize, i64)>, NoMemory> {
+    let mut fields = Vec::new(alloc);
+    for (member, node) in nodes.iter().enumerate() {
+        add_fields(&mut fields, member, node)?;
+    }
+    Ok(fields)
+}
+
+// Puts those at one member behind.
+fn add_fields(
+    fields: &mut Vec<(usize, i64)>,
+    member: usize,
+    node: &NodeEnd,
+) -> Result<(), NoMemory> {
+    if let Some(held) = node.copies.get(FIRST) {
+        for field in held.state.as_slice() {
+            if let Value::Int(number) = field {
+                fields.push((member, *number))?;
+            }
+        }
+    }
+    Ok(())
+}
