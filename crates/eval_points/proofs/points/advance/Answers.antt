@@ -10,8 +10,6 @@ use Rattle.eval_points.proofs.points.advance.Goals as goal
 
 pub returns-in_ok-moved-in-Some : goal.returns-in_ok-moved-in-Some
 returns-in_ok-moved-in-Some c = λ r is code guard.
-    let p = c.args.point.now in
-    let replies = c.args.replies.now in
     let a = c.in_ok-moved-in-Some.moved in
     let walk = c.in-Some.walk in
     let said = c.in_ok-moved-in-Some.ensures {u = tt} in
