@@ -13,7 +13,7 @@ use std::process::ExitCode;
 use std::{env, io};
 use wires::{ScriptWire, Wire};
 
-// A cell, and processes that assign to it. There are many, since what a process does next is found from its beginning.
+// A cell, and processes that assign to it.
 const CALLERS: &str = "object specification Cell;
   operation Value(): integer;
   operation Assign(v: integer);
