@@ -62,7 +62,7 @@ module _ (number : ProcessNo) (args : Data) (r : Routine) where
   by_locals : (s : State) →
       values_made r.scope.program number (drop (length (list_of args)) (map (λ l. l.type) r.scope.locals)) 1 s ≡ variables_made r.scope.program number own_locals 1 s
   by_locals s =
-      ap (λ ts. values_made r.scope.program number ts 1 s) (sym (drop-map (λ (l : Local). l.type) (length (list_of args)) r.scope.locals))
+      ap (λ ts. values_made r.scope.program number ts 1 s) (drop-map (λ (l : Local). l.type) (length (list_of args)) r.scope.locals)
       ∙ sym (made_by_types r.scope.program number own_locals 1 s)
 
   values_first : (s : State) → routine_run number args r s ≡ after (values s) statements

@@ -16,8 +16,8 @@ use Rattle.eval_machine.proofs.moving.move_on.Goals as goal
 pub returns-in-None-clause-moved : goal.returns-in-None-clause-moved
 returns-in-None-clause-moved c = λ us is numbers. moved_none us c.args.process
 
-pub returns-then-has_point-in-Some-clause-moved : goal.returns-then-has_point-in-Some-clause-moved
-returns-then-has_point-in-Some-clause-moved c = λ us is numbers.
+pub returns-then-has_point-clause-moved : goal.returns-then-has_point-in-Some-clause-moved
+returns-then-has_point-clause-moved c = λ us is numbers.
     let p = c.args.process in
     let found = routine_there us p.text numbers c.in-Some.routine (subst (λ (o : Option (Bor BlockCode)). Both IsLent o (process_at us p.text)) c.in-Some.is (c.process.ensures us is)) in
     c.go_on.ensures.moved us found.routine found.is (subst (λ (ps : List Source). IsCode ps c.args.code.now) (sym found.program) is) found.code found.in_guard
@@ -31,10 +31,10 @@ returns-in_ok-begun-in-Some-clause-moved c = λ us is numbers.
     let begun = c.in_ok-begun-in-Some.ensures {u = tt} in
     let one = begun.moved us found.routine (c.has_point.ensures c.if-has_point.false) found.is program found.code found.few in
     let there : process_at us t.text ≡ Some found.routine = ap (λ (n : TextNo). process_at us n) begun.kept.text ∙ found.is in
-    IfOk-weaker c.go_on-2.result (IsMoved us t) (IsMoved us p) (λ u two. moved_both us p t u one two) (c.go_on-2.ensures.moved us found.routine there program found.code found.in_guard)
+    IfOk-weaker c.go_on-in-Some.result (IsMoved us t) (IsMoved us p) (λ u two. moved_both us p t u one two) (c.go_on-in-Some.ensures.moved us found.routine there program found.code found.in_guard)
 
 pub returns-in_ok-begun-in-Some-clause-kept : goal.returns-in_ok-begun-in-Some-clause-kept
 returns-in_ok-begun-in-Some-clause-kept c =
     let p = c.args.process in
     let t = c.in_ok-begun-in-Some.begun in
-    IfOk-weaker c.go_on-2.result (λ u. IsKept t u) (λ u. IsKept p u) (λ u two. kept_both p t u (c.in_ok-begun-in-Some.ensures {u = tt}).kept two) c.go_on-2.ensures.kept
+    IfOk-weaker c.go_on-in-Some.result (λ u. IsKept t u) (λ u. IsKept p u) (λ u two. kept_both p t u (c.in_ok-begun-in-Some.ensures {u = tt}).kept two) c.go_on-in-Some.ensures.kept
