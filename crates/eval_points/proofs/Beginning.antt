@@ -1,6 +1,6 @@
 -- How statements begin and end, as evaluations one behind the other.
-use Rattle.std.proofs.Common.{◌≡◌, ℕ, zero, suc, ◌+◌, refl, sym, ap, ◌∙◌, arith}
-use Rattle.std.specs.Prelude.{ℤ, pos, ◌+ℤ◌, ◌≤ℤ◌, ◌<ℤ◌, Bool, true, false, if◌then◌else◌, Option, Some, None}
+use Rattle.std.proofs.Common.{◌≡◌, ℕ, suc, refl, ap, ◌∙◌, arith}
+use Rattle.std.specs.Prelude.{ℤ, pos, ◌+ℤ◌, ◌≤ℤ◌, ◌<ℤ◌, Bool, true, false, if◌then◌else◌, Some}
 use Rattle.std.proofs.lemmas.Int.{ints}
 use Rattle.orca_base.specs.declared.place.Place.{Place}
 use Rattle.orca_tree.specs.declared.tree.Name.{Name}
@@ -13,18 +13,16 @@ use Rattle.value_core.specs.Datum as datum
 use Rattle.meaning_rules.specs.Expressions.{eval}
 use Rattle.meaning_rules.specs.Functions.{calls}
 use Rattle.meaning_rules.specs.Calls.{Calls}
-use Rattle.meaning_rules.specs.Loops.{Flow, On, Back, Round, Over, Again, Leave, count, counted_round, ended, go_on, next_round, otherwise, repeated, round_if, rounds, taken_if, until, until_round, while_round, with_name, without_name}
+use Rattle.meaning_rules.specs.Loops.{Flow, On, Back, Round, Over, Again, count, ended, go_on, next_round, otherwise, repeated, round_if, rounds, taken_if, until, until_round, while_round, with_name, without_name}
 use Rattle.meaning_rules.specs.Operators.{integer_in, truth_in}
 use Rattle.meaning_rules.specs.States.{State, Out, Goes, Stops, after, turn}
-use Rattle.meaning_rules.specs.Statements.{run, run_all, run_arm, run_arms}
-use Rattle.meaning_rules.specs.Turns.{Counted, CountsTurns}
-use Rattle.meaning_rules.specs.Replies.{UsesFront}
+use Rattle.meaning_rules.specs.Statements.{run, run_all, run_arms}
 use Rattle.meaning_rules.proofs.Closed.{of_until, of_while}
 use Rattle.meaning_rules.proofs.Counting.{all_counted}
 use Rattle.meaning_rules.proofs.Fronts.{fronts}
 use Rattle.meaning_rules.proofs.Settling.{uses_front}
 use Rattle.meaning_rules.proofs.Turning.{counts_turns}
-use Rattle.eval_points.specs.Places.{Inside, InArm, InWhile, InRepeat, InFor, arm_body, behind}
+use Rattle.eval_points.specs.Places.{InWhile, InRepeat, InFor, arm_body, behind}
 use Rattle.eval_points.specs.Stepping.{arm_test, entered}
 use Rattle.eval_points.proofs.Moving.{Passes, passes}
 use Rattle.eval_points.proofs.Rounds.{by_rounds, round_falls}
@@ -250,7 +248,6 @@ module _ (levels : ℕ) (w : Scope) where
         ≡ after (after o (λ x s1. Goes (truth_in x) s1)) (λ b s1. either b (body_then ss) (arms_then as_) s1)
     arm_tested as_ ss (Goes x s) = arm_if as_ ss (truth_in x) s
     arm_tested as_ ss (Stops why) = refl
-
 
     pub arms_are : (a : Arm) (as_ : Arms) (s : State) → arms_then (syn.arm a as_) s ≡ after (arm_test call w a s) (λ b s1. either b (body_then (arm_body a)) (arms_then as_) s1)
     arms_are (syn.When test ss) as_ s = arm_tested as_ ss (eval call w test s)

@@ -1,6 +1,6 @@
 -- Where statements come to that begin, and where those inside of one end, exit by exit.
-use Rattle.std.proofs.Common.{◌≡◌, ℕ, ◌+◌, ◌<◌, ◌≤◌, List, [], ◌∷◌, drop, get_or, length, refl, sym, ap, ◌∙◌, subst}
-use Rattle.std.specs.Prelude.{ℤ, pos, ◌+ℤ◌, ◌≤ℤ◌, ◌<ℤ◌, Bool, true, false, if◌then◌else◌, Option, Some, None, option_map, slice_get, Result, Ok, Err}
+use Rattle.std.proofs.Common.{◌≡◌, ℕ, ◌+◌, ◌<◌, ◌≤◌, List, ◌∷◌, drop, get_or, length, refl, sym, ap, ◌∙◌, subst}
+use Rattle.std.specs.Prelude.{ℤ, pos, ◌+ℤ◌, ◌≤ℤ◌, ◌<ℤ◌, Bool, true, false, if◌then◌else◌, Option, Some, option_map, Ok}
 use Rattle.std.proofs.Math.ListN.{drop_of_length-le}
 use Rattle.orca_base.specs.declared.place.Place.{Place}
 use Rattle.orca_tree.specs.declared.tree.Arm.{Arm as ArmTree}
@@ -15,7 +15,7 @@ use Rattle.value_core.specs.Datum as datum
 use Rattle.meaning_rules.specs.Calls.{Calls}
 use Rattle.meaning_rules.specs.Expressions.{eval}
 use Rattle.meaning_rules.specs.Functions.{calls}
-use Rattle.meaning_rules.specs.Loops.{Back, Flow, On, rounds, with_name, without_name}
+use Rattle.meaning_rules.specs.Loops.{Back, Flow, On, with_name, without_name}
 use Rattle.meaning_rules.specs.Operators.{integer_in, truth_in}
 use Rattle.meaning_rules.specs.States.{State, Out, Goes, after, turn}
 use Rattle.meaning_rules.specs.Statements.{run_all}
@@ -27,9 +27,9 @@ use Rattle.eval_points.specs.declared.begins.Begun.TheVariants as begun
 use Rattle.eval_points.specs.declared.ends.Ended.TheVariants as ended
 use Rattle.eval_points.specs.declared.place.Part.TheVariants as part
 use Rattle.eval_points.specs.Moves.{Steps}
-use Rattle.eval_points.specs.Places.{InArm, InFor, InRepeat, InWhile, Inside, arm_at, arm_body, behind, inside}
+use Rattle.eval_points.specs.Places.{InArm, InFor, InRepeat, InWhile, arm_at, arm_body, behind}
 use Rattle.eval_points.specs.Stepping.{IsBegun, IsEnded, arm_test, entered}
-use Rattle.eval_points.proofs.Beginning.{arms_are, arms_then, body_then, counting, counting_on, counting_over, either, for_high, for_is, for_low, for_round, one_first, repeat_is, repeat_next, row_passes, test_passes, then_rest, turn_passes, value_passes, while_choice, while_is, while_turn}
+use Rattle.eval_points.proofs.Beginning.{arms_are, arms_then, body_then, counting, counting_on, counting_over, either, for_high, for_is, for_low, one_first, repeat_is, repeat_next, row_passes, test_passes, then_rest, turn_passes, value_passes, while_choice, while_is, while_turn}
 use Rattle.eval_points.proofs.Moving.{Passes, fails_behind, fails_first, passes, steps_both, steps_first, steps_framed, steps_same}
 
 module _ (levels : ℕ) (w : Scope) where
@@ -75,10 +75,12 @@ module _ (levels : ℕ) (w : Scope) where
           (fails_first why (λ t. while_turn levels w at test body xs t) turn (λ _ t. entered all w (InWhile body) while_all (run_all all w xs) t) s1 (λ t. refl) h)
 
       pub while_enters : (s2 : State) → truth_in x ≡ true → turn s1 ≡ Goes tt s2 → IsBegun all w (syn.While at test body) xs (Ok (begun.Enters part.Round)) s s2
-      while_enters s2 truth turns =
-          (InWhile body, refl,
-          steps_both while_all (λ t. while_turn levels w at test body xs t) (entered all w (InWhile body) while_all (run_all all w xs)) s s1 s2 (while_case true truth)
-          (steps_first (λ t. while_turn levels w at test body xs t) turn (λ _ t. entered all w (InWhile body) while_all (run_all all w xs) t) s1 tt s2 (λ t. refl) (turn_passes s1 s2 turns)))
+      while_enters s2 truth turns = (
+        InWhile body,
+        refl,
+        steps_both while_all (λ t. while_turn levels w at test body xs t) (entered all w (InWhile body) while_all (run_all all w xs)) s s1 s2 (while_case true truth)
+            (steps_first (λ t. while_turn levels w at test body xs t) turn (λ _ t. entered all w (InWhile body) while_all (run_all all w xs) t) s1 tt s2 (λ t. refl) (turn_passes s1 s2 turns)),
+      )
 
   -- ---- `repeat`
 
@@ -90,9 +92,11 @@ module _ (levels : ℕ) (w : Scope) where
     repeat_stops why h = fails_first why repeat_all turn (repeat_next levels w at body test xs) s (repeat_is levels w at body test xs) h
 
     pub repeat_enters : (s1 : State) → turn s ≡ Goes tt s1 → IsBegun all w (syn.Repeat at body test) xs (Ok (begun.Enters part.Round)) s s1
-    repeat_enters s1 turns =
-        (InRepeat body test, refl,
-        steps_first repeat_all turn (repeat_next levels w at body test xs) s tt s1 (repeat_is levels w at body test xs) (turn_passes s s1 turns))
+    repeat_enters s1 turns = (
+      InRepeat body test,
+      refl,
+      steps_first repeat_all turn (repeat_next levels w at body test xs) s tt s1 (repeat_is levels w at body test xs) (turn_passes s s1 turns),
+    )
 
   -- ---- `for`
 
@@ -160,10 +164,12 @@ module _ (levels : ℕ) (w : Scope) where
               (counts_stop n body for_all (run_all all w xs) number last s2 why less h)
 
           pub for_enters : (s3 : State) → number ≤ℤ last → number_begun number s2 ≡ Goes tt s3 → IsBegun all w (syn.For at n low high body) xs (Ok (begun.Enters (part.Number number last))) s s3
-          for_enters s3 less goes =
-              (InFor n number last body, refl,
-              steps_both for_all (counts_on n body for_all (run_all all w xs) number last s2) (entered all w (InFor n number last body) for_all (run_all all w xs)) s s2 s3
-              (for_both number last is is1) (counts_enter n body for_all (run_all all w xs) number last s2 s3 less goes))
+          for_enters s3 less goes = (
+            InFor n number last body,
+            refl,
+            steps_both for_all (counts_on n body for_all (run_all all w xs) number last s2) (entered all w (InFor n number last body) for_all (run_all all w xs)) s s2 s3
+                (for_both number last is is1) (counts_enter n body for_all (run_all all w xs) number last s2 s3 less goes),
+          )
 
   -- ---- `if`
 
@@ -250,7 +256,9 @@ module _ (levels : ℕ) (w : Scope) where
 
       pub for_goes_on : (s1 s2 : State) → s1 ≡ without_name s → (number +ℤ pos 1) ≤ℤ last → number_begun (number +ℤ pos 1) s1 ≡ Goes tt s2 →
           IsEnded all w (InFor n number last body) again next (Ok (ended.Number (number +ℤ pos 1) last)) s s2
-      for_goes_on s1 s2 is less goes =
-          (InFor n (number +ℤ pos 1) last body, refl,
-          steps_both for_end for_next (entered all w (InFor n (number +ℤ pos 1) last body) again next) s s1 s2 (for_dropped s1 is)
-          (counts_enter n body again next (number +ℤ pos 1) last s1 s2 less goes))
+      for_goes_on s1 s2 is less goes = (
+        InFor n (number +ℤ pos 1) last body,
+        refl,
+        steps_both for_end for_next (entered all w (InFor n (number +ℤ pos 1) last body) again next) s s1 s2 (for_dropped s1 is)
+            (counts_enter n body again next (number +ℤ pos 1) last s1 s2 less goes),
+      )

@@ -1,6 +1,6 @@
 -- Steps in the statements where levels lead, and out of them, as steps of all that is left.
 use Rattle.std.proofs.Common.{◌≡◌, ℕ, ◌+◌, List, [], ◌∷◌, ◌++◌, drop, Option, Some, None, refl, sym, ap, ◌∙◌, subst}
-use Rattle.std.specs.Prelude.{ℤ, option_map, option_and_then, Result, Ok, Err}
+use Rattle.std.specs.Prelude.{ℤ, option_map, option_and_then, Ok}
 use Rattle.std.proofs.lemmas.List.{append-nil}
 use Rattle.orca_syntax.specs.Syntax as syn
 use Rattle.orca_syntax.specs.Syntax.{Arms, Stmt, Stmts}
@@ -22,12 +22,11 @@ use Rattle.eval_points.specs.declared.place.Part.{Part}
 use Rattle.eval_points.specs.declared.place.Part.TheVariants as part
 use Rattle.eval_points.specs.declared.place.Place.{Place}
 use Rattle.eval_points.specs.declared.steps.Step.{Step}
-use Rattle.eval_points.specs.declared.steps.Step.TheVariants as step
 use Rattle.eval_points.specs.Fronts.{front_of}
 use Rattle.eval_points.specs.Leads.{LeadsTo}
 use Rattle.eval_points.specs.Moves.{Steps}
 use Rattle.eval_points.specs.Places.{Inside, InArm, InFor, InRepeat, InWhile, arm_at, behind, body_of, first_of, inside, left, left_in, scope_of, stmts_from}
-use Rattle.eval_points.specs.Stepping.{HasBegun, HasEnded, IsBegun, IsEnded, IsStep, IsStepFrom, closing, entered, with_number}
+use Rattle.eval_points.specs.Stepping.{HasBegun, HasEnded, IsBegun, IsEnded, IsStep, closing, entered, with_number}
 use Rattle.eval_points.proofs.Moving.{fails_then, steps_inside}
 
 -- ---- another number of a `for`
@@ -79,9 +78,9 @@ module _ (call : Calls) (v : Scope) (ss : Stmts) (ls : List Level) (w : Scope) (
     begun_steps begun.Done p q r s s1 levels done is has =
         let f : State → Out Flow = left call v ss p.levels p.done in
         let from : (t : State) → f t ≡ after (run_all call w (syn.stmt x xs) t) leads.next =
-            λ t. ap (λ (k : List Level). left call v ss k p.done t) levels ∙ ap (λ (n : ℕ). left call v ss ls n t) done ∙ at_this t in
+        λ t. ap (λ (k : List Level). left call v ss k p.done t) levels ∙ ap (λ (n : ℕ). left call v ss ls n t) done ∙ at_this t in
         let to : (t : State) → left call v ss p.levels (p.done + 1) t ≡ after (run_all call w xs t) leads.next =
-            λ t. ap (λ (k : List Level). left call v ss k (p.done + 1) t) levels ∙ ap (λ (n : ℕ). left call v ss ls (n + 1) t) done ∙ at_rest t in
+        λ t. ap (λ (k : List Level). left call v ss k (p.done + 1) t) levels ∙ ap (λ (n : ℕ). left call v ss ls (n + 1) t) done ∙ at_rest t in
         subst (λ (r1 : Step). IsStep (left call v ss) p (Ok r1) q s s1) (sym has.0)
         (subst (λ (q1 : Place). Steps f s (left call v ss q1.levels q1.done) s1) (sym has.1)
         (steps_inside (run_all call w (syn.stmt x xs)) (run_all call w xs) f (left call v ss p.levels (p.done + 1)) leads.next s s1 from to is))
@@ -89,19 +88,21 @@ module _ (call : Calls) (v : Scope) (ss : Stmts) (ls : List Level) (w : Scope) (
         let f : State → Out Flow = left call v ss p.levels p.done in
         let g : State → Out Flow = entered call w is.0 (run_all call w (syn.stmt x xs)) (run_all call w xs) in
         let from : (t : State) → f t ≡ after (run_all call w (syn.stmt x xs) t) leads.next =
-            λ t. ap (λ (k : List Level). left call v ss k p.done t) levels ∙ ap (λ (n : ℕ). left call v ss ls n t) done ∙ at_this t in
+        λ t. ap (λ (k : List Level). left call v ss k p.done t) levels ∙ ap (λ (n : ℕ). left call v ss ls n t) done ∙ at_this t in
         let to : (t : State) → left call v ss (p.levels ++ record { at = p.done; part = part } ∷ []) 0 t ≡ after (g t) leads.next =
-            λ t. ap (λ (k : List Level). left call v ss (k ++ record { at = p.done; part = part } ∷ []) 0 t) levels
-            ∙ ap (λ (n : ℕ). left call v ss (ls ++ record { at = n; part = part } ∷ []) 0 t) done ∙ at_inside part is.0 is.1 t in
+        λ t. ap (λ (k : List Level). left call v ss (k ++ record { at = p.done; part = part } ∷ []) 0 t) levels
+        ∙ ap (λ (n : ℕ). left call v ss (ls ++ record { at = n; part = part } ∷ []) 0 t) done ∙ at_inside part is.0 is.1 t in
         subst (λ (r1 : Step). IsStep (left call v ss) p (Ok r1) q s s1) (sym has.0)
         (subst (λ (q1 : Place). Steps f s (left call v ss q1.levels q1.done) s1) (sym has.1)
         (steps_inside (run_all call w (syn.stmt x xs)) g f (left call v ss (p.levels ++ record { at = p.done; part = part } ∷ []) 0) leads.next s s1 from to is.2))
     begun_steps (begun.Returns value) p q r s s1 levels done is has =
         let out = leads.back (option_map datum_of value) s1 in
-        subst (λ (r1 : Step). IsStep (left call v ss) p (Ok r1) q s s1) (sym has)
-        (out.0, (
-            ap (λ (k : List Level). left call v ss k p.done s) levels ∙ ap (λ (n : ℕ). left call v ss ls n s) done ∙ at_this s
-            ∙ ap (λ (o : Out Flow). after o leads.next) is ∙ out.1))
+        subst (λ (r1 : Step). IsStep (left call v ss) p (Ok r1) q s s1) (sym has) (
+          out.0,
+          (
+              ap (λ (k : List Level). left call v ss k p.done s) levels ∙ ap (λ (n : ℕ). left call v ss ls n s) done ∙ at_this s
+              ∙ ap (λ (o : Out Flow). after o leads.next) is ∙ out.1),
+        )
 
     pub begun_fails : (why : Stop) (p : Place) (s : State) → p.levels ≡ ls → p.done ≡ d → Fails why (run_all call w (syn.stmt x xs) s) → Fails why (left call v ss p.levels p.done s)
     begun_fails why p s levels done h =

@@ -1,7 +1,6 @@
 -- What is left to do of statements from a place between two of them: a place is given by the statements in which one stands, the outermost
 -- first, and by how many of the innermost list are done.
 use Rattle.std.specs.Prelude.{ℕ, zero, suc, ◌+◌, ℤ, pos, ◌+ℤ◌, List, [], ◌∷◌, if◌then◌else◌, Option, Some, None, option_map, option_and_then}
-use Rattle.std.specs.Option.{option_map_or}
 use Rattle.orca_tree.specs.declared.tree.Name.{Name}
 use Rattle.orca_syntax.specs.Syntax as syn
 use Rattle.orca_syntax.specs.Syntax.{Expr, Stmt, Stmts, Arm, Arms}

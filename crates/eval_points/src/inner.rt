@@ -205,7 +205,11 @@ pub(crate) fn innermost<'p>(
 }
 
 /// The site inside of these loops in a process with this body.
-pub(crate) fn site_in<'a, 'p>(code: &'a Code<'p>, body: &'a Body<'p>, loops: &'a [&'p str]) -> Site<'a, 'p>
+pub(crate) fn site_in<'a, 'p>(
+    code: &'a Code<'p>,
+    body: &'a Body<'p>,
+    loops: &'a [&'p str],
+) -> Site<'a, 'p>
     ensures { (w : Scope) → IsCode w.program code.now → IsBody body.now w → w.in_guard ≡ false → IsSite result (in_loops (lent_texts loops.now) w) }
 {
     Site {

@@ -127,7 +127,12 @@ pub struct Advanced<'a> {
 }
 
 // The point where a run stands, which had so many turns and began behind so many.
-fn point_of<'a>(alloc: Global, walk: Walk<'a>, left: u64, before: u64) -> Result<Advanced<'a>, NoMemory>
+fn point_of<'a>(
+    alloc: Global,
+    walk: Walk<'a>,
+    left: u64,
+    before: u64,
+) -> Result<Advanced<'a>, NoMemory>
     requires left { walk.run.left ≤ left }
     requires room { before + left < 2 ^ 64 }
     ensures place { IfOk result (λ a. a.point.place ≡ walk.entry.place) }

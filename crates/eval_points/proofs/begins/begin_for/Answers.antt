@@ -1,4 +1,4 @@
-use Rattle.std.proofs.Common.{rules, ℤ, ◌≡◌, ◌≤ℤ◌, ◌<ℤ◌, to_z, of_z, sym, ap, ◌∙◌, subst, arith}
+use Rattle.std.proofs.Common.{rules, ◌≡◌, to_z, of_z, sym, ◌∙◌, arith}
 use Rattle.std.specs.Int.{w64}
 use Rattle.std.specs.Int.RustNames.{FitsSigned}
 use Rattle.std.proofs.Math.Facts.{to_z-of_z}
@@ -7,7 +7,7 @@ use Rattle.std.proofs.lemmas.Result.{err_from_is_err_and}
 use Rattle.orca_syntax.specs.Shown.{expr}
 use Rattle.value_core.specs.View.{datum_of}
 use Rattle.meaning_rules.specs.Operators.{integer_in}
-use Rattle.eval_variables.specs.Gives.{Fails, state_of}
+use Rattle.eval_variables.specs.Gives.{state_of}
 use Rattle.eval_points.proofs.Begun.{for_done, for_enters, for_high_stops, for_low_stops, for_round_stops}
 use Rattle.eval_points.proofs.begins.begin_for.Goals as goal
 

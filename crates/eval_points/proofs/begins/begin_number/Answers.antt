@@ -1,10 +1,10 @@
-use Rattle.std.proofs.Common.{ℤ, sym, ap, ◌∙◌, subst}
+use Rattle.std.proofs.Common.{ℤ, sym, ap, ◌∙◌}
 use Rattle.std.proofs.Math.Facts.{to_z-of_z}
 use Rattle.std.proofs.lemmas.Result.{err_from_is_err_and}
 use Rattle.value_core.specs.Datum as datum
 use Rattle.meaning_rules.specs.Loops.{with_name}
 use Rattle.meaning_rules.specs.States.{Goes, Out, after, turn}
-use Rattle.eval_variables.specs.Gives.{Fails, state_of}
+use Rattle.eval_variables.specs.Gives.{state_of}
 use Rattle.eval_points.proofs.Moving.{fails_then}
 use Rattle.eval_points.proofs.begins.begin_number.Goals as goal
 

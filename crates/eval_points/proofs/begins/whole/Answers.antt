@@ -5,8 +5,7 @@ use Rattle.orca_tree.specs.declared.tree.Statement.{Statement}
 use Rattle.orca_syntax.specs.Shown.{stmt, stmts}
 use Rattle.value_core.specs.View.{datum_of}
 use Rattle.meaning_rules.specs.Functions.{calls}
-use Rattle.meaning_rules.specs.Loops.{Flow}
-use Rattle.meaning_rules.specs.States.{Goes, Out}
+use Rattle.meaning_rules.specs.States.{Goes}
 use Rattle.meaning_rules.specs.Statements.{run_all}
 use Rattle.eval_variables.specs.Gives.{Fails, state_of}
 use Rattle.eval_stmts.specs.Flows.{flow_of}

@@ -1,13 +1,11 @@
-use Rattle.std.proofs.Common.{◌≡◌, ◌+◌, ℕ, List, [], ◌∷◌, ◌++◌, Option, Some, None, drop, get_or, take, refl, sym, ap, ◌∙◌, subst, arith}
+use Rattle.std.proofs.Common.{◌+◌, ℕ, List, [], ◌∷◌, ◌++◌, drop, get_or, take, sym, ap, ◌∙◌, subst}
 use Rattle.std.specs.Prelude.{option_and_then}
 use Rattle.std.specs.Borrow.{Bor}
 use Rattle.std.proofs.lemmas.List.{append_assoc, take_all}
 use Rattle.orca_syntax.specs.Shown.{stmts}
-use Rattle.orca_syntax.specs.Syntax.{Stmts}
-use Rattle.type_rules.specs.Scopes.{Scope}
 use Rattle.eval_bodies.specs.Sites.{lent_texts}
 use Rattle.eval_points.specs.Leads.{LeadsTo, in_loops, inside_of}
-use Rattle.eval_points.specs.Places.{body_of, first_of, inside, left, scope_of, stmts_from}
+use Rattle.eval_points.specs.Places.{first_of, inside, left, scope_of, stmts_from}
 use Rattle.eval_points.specs.declared.place.Level.{Level}
 use Rattle.eval_points.specs.declared.place.Part.TheVariants as part
 use Rattle.eval_points.proofs.Placing.{leads_here, leads_nowhere}

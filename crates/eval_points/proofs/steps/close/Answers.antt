@@ -1,4 +1,4 @@
-use Rattle.std.proofs.Common.{◌≡◌, ℕ, List, [], ◌∷◌, ◌++◌, Option, None, Some, refl, sym, ap, ◌∙◌, subst, arith}
+use Rattle.std.proofs.Common.{◌≡◌, ℕ, List, [], ◌∷◌, sym, ap, ◌∙◌, subst}
 use Rattle.std.specs.Prelude.{option_and_then, option_map, Ok, Err}
 use Rattle.std.specs.Borrow.{Bor}
 use Rattle.std.proofs.lemmas.Result.{err_from_is_err_and}
@@ -7,15 +7,14 @@ use Rattle.orca_syntax.specs.Syntax.{Stmts}
 use Rattle.type_rules.specs.Scopes.{Scope}
 use Rattle.value_core.specs.View.{datum_of}
 use Rattle.meaning_rules.specs.Functions.{calls}
-use Rattle.meaning_rules.specs.Loops.{Flow}
-use Rattle.meaning_rules.specs.States.{Goes, Out, State}
+use Rattle.meaning_rules.specs.States.{Goes}
 use Rattle.meaning_rules.specs.Statements.{run_all}
 use Rattle.eval_variables.specs.Gives.{Fails, state_of}
 use Rattle.eval_bodies.specs.Sites.{IsSite, lent_texts}
 use Rattle.eval_stmts.specs.Flows.{flow_of}
 use Rattle.eval_stmts.specs.declared.flow.Flow.{Flow as FlowCode}
 use Rattle.eval_points.specs.Fronts.{front_of}
-use Rattle.eval_points.specs.Leads.{LeadsTo, in_loops, inside_of}
+use Rattle.eval_points.specs.Leads.{in_loops, inside_of}
 use Rattle.eval_points.specs.Places.{body_of, first_of, inside, left, scope_of, stmts_from}
 use Rattle.eval_points.specs.Stepping.{closing}
 use Rattle.eval_points.specs.declared.place.Level.{Level}

@@ -1,16 +1,15 @@
-use Rattle.std.proofs.Common.{◌≡◌, ℕ, List, [], ◌∷◌, ◌++◌, Option, None, Some, refl, sym, ap, ◌∙◌, subst, arith}
+use Rattle.std.proofs.Common.{◌≡◌, ℕ, List, [], ◌∷◌, sym, ap, ◌∙◌, subst, arith}
 use Rattle.std.specs.Prelude.{option_and_then, Ok, Err}
 use Rattle.std.proofs.lemmas.Result.{err_from_is_err_and}
 use Rattle.orca_syntax.specs.Shown.{stmts}
 use Rattle.orca_syntax.specs.Syntax as syn
 use Rattle.orca_syntax.specs.Syntax.{Stmts}
 use Rattle.meaning_rules.specs.Functions.{calls}
-use Rattle.meaning_rules.specs.States.{State, Out}
 use Rattle.eval_variables.specs.Gives.{Fails, state_of}
 use Rattle.std.specs.Borrow.{Bor}
 use Rattle.eval_bodies.specs.Sites.{IsSite, lent_texts}
 use Rattle.eval_points.specs.Fronts.{front_of}
-use Rattle.eval_points.specs.Leads.{LeadsTo, in_loops, inside_of}
+use Rattle.eval_points.specs.Leads.{in_loops, inside_of}
 use Rattle.eval_points.specs.Places.{body_of, first_of, inside, left, scope_of, stmts_from}
 use Rattle.eval_points.specs.Stepping.{closing}
 use Rattle.eval_points.specs.declared.place.Level.{Level}
