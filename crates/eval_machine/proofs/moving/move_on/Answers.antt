@@ -16,7 +16,7 @@ use Rattle.eval_machine.proofs.moving.move_on.Goals as goal
 pub returns-in-None-clause-moved : goal.returns-in-None-clause-moved
 returns-in-None-clause-moved c = λ us is numbers. moved_none us c.args.process
 
-pub returns-then-has_point-clause-moved : goal.returns-then-has_point-in-Some-clause-moved
+pub returns-then-has_point-clause-moved : goal.returns-then-has_point-clause-moved
 returns-then-has_point-clause-moved c = λ us is numbers.
     let p = c.args.process in
     let found = routine_there us p.text numbers c.in-Some.routine (subst (λ (o : Option (Bor BlockCode)). Both IsLent o (process_at us p.text)) c.in-Some.is (c.process.ensures us is)) in
