@@ -1,6 +1,8 @@
 mod Rows
 mod Attempting
 mod Texting
+mod Beyond
+mod Pointing
 mod Turning
 mod Numbered
 mod Once

@@ -1,5 +1,5 @@
 -- What a call answers is told in one way, so that it may be shown of code of which it is known that it is a program's.
-use Rattle.std.proofs.Common.{◌≡◌, Result, Ok, Err}
+use Rattle.std.proofs.Common.{◌≡◌, List, Result, Ok, Err}
 use Rattle.std.proofs.Props.{props}
 use Rattle.std.specs.Prelude.{IfOk}
 use Rattle.std.specs.Coded.{Coded, codes}
@@ -8,6 +8,9 @@ use Rattle.value_core.specs.declared.meaning.Doing.{Doing}
 use Rattle.value_core.specs.declared.meaning.Making.{Making}
 use Rattle.value_core.specs.declared.meaning.Tried.{Tried}
 use Rattle.orca_base.specs.declared.ids.TextNo.{TextNo}
+use Rattle.link_rules.specs.Units.{Source}
+use Rattle.eval_machine.specs.Processes.{IsMoved}
+use Rattle.eval_machine.specs.declared.process.TreeProcess.{TreeProcess}
 
 tried_code : Coded Tried
 tried_code = hlevel (codes, data_code)
@@ -35,3 +38,7 @@ doing_once (Err e) doing_in x = hlevel
 
 pub text_once : (t u : TextNo) → IsProp (t ≡ u)
 text_once t u = hlevel (props, text_code)
+
+pub moved_once : {E : Type 0} (r : Result TreeProcess E) (us : List Source) (p : TreeProcess) → IsProp (IfOk r (IsMoved us p))
+moved_once (Ok t) us p = hlevel (props, doing_code)
+moved_once (Err e) us p = hlevel

@@ -1,8 +1,12 @@
--- The turns that a process took, and what its state stands for when it has gone on or has received a reply.
-use Rattle.std.proofs.Common.{◌≡◌, ◌⊎◌, inl, inr, ℕ, ◌+◌, ◌-◌, ◌≤◌, List, [], ◌∷◌, ◌++◌, Option, Some, None, Result, Ok, Err, sym, ap, ◌∙◌, subst, arith}
-use Rattle.std.specs.Prelude.{IfOk}
+-- The turns that a process took, and what its state stands for when it has gone on, was moved or has received a reply.
+use Rattle.std.proofs.Common.{◌≡◌, ◌⊎◌, inl, inr, ℕ, ◌+◌, ◌-◌, ◌≤◌, List, [], ◌∷◌, ◌++◌, Option, Some, None, Result, Ok, Err, refl, sym, ap, ◌∙◌, subst, arith}
+use Rattle.std.specs.Prelude.{IfOk, slice_get}
+use Rattle.std.proofs.lemmas.List.{append_assoc, append-nil}
+use Rattle.orca_base.specs.declared.ids.ProcessNo.{ProcessNo}
+use Rattle.orca_base.specs.declared.ids.TextNo.{TextNo}
 use Rattle.orca_base.specs.declared.refusal.NoMemory.{NoMemory}
 use Rattle.link_rules.specs.Units.{Source}
+use Rattle.value_core.specs.Datum.{Data}
 use Rattle.value_core.specs.Goes.{ForEach, Goes}
 use Rattle.value_core.specs.History.{most_turns}
 use Rattle.value_core.specs.declared.action.Action.{Action}
@@ -15,23 +19,67 @@ use Rattle.meaning_rules.specs.Processes.{next_doing}
 use Rattle.meaning_rules.specs.Replies.{IsOver}
 use Rattle.meaning_rules.proofs.Settling.{is_settled, stays_over}
 use Rattle.eval_machine.specs.declared.process.TreeProcess.{TreeProcess}
-use Rattle.eval_machine.specs.Processes.{IsLeftAt, IsOnTheWay, IsReached, StandsFor, Told, doing_by, kept, told, with_last}
+use Rattle.eval_machine.specs.Processes.{IsKept, IsLeftAt, IsMoved, IsOnTheWay, IsReached, StandsFor, Told, doing_by, doing_here, doing_with, with_last, with_more}
+use Rattle.eval_machine.proofs.Beyond.{behind_enough}
 
 -- ---- what a state stands for
 
-pub told_again : (p : TreeProcess) (w : Told) (turns : ℕ) → p.last ≡ None → kept p ≡ w → told (record p { turns = turns }) ≡ record w { turns = turns }
-told_again p w turns none is =
-    ap (λ (o : Option Reply). record { text = p.text; number = p.number; args = p.args; replies = with_last p.replies o; turns = turns }) none
-    ∙ ap (λ (v : Told). record v { turns = turns }) is
+abbrev pub started : TextNo → ProcessNo → Data → TreeProcess
+started text number args = record { text = text; number = number; args = args; point = None; since = []; last = None; turns = 0 }
 
-pub left_at : (us : List Source) (p : TreeProcess) (turns most : ℕ) (act : Action) → p.last ≡ None → doing_by us (kept p) most ≡ doing.At act → IsLeftAt us (record p { turns = turns }) act
-left_at us p turns most act none is =
-    (none, (most, ap (λ (o : Option Reply). next_doing us p.text p.number p.args (with_last p.replies o) most) none ∙ is))
+abbrev pub told_first : TextNo → ProcessNo → Data → Told
+told_first text number args = record { text = text; number = number; args = args; replies = []; turns = 0 }
+
+pub stands_first : (us : List Source) (text : TextNo) (number : ProcessNo) (args : Data) → StandsFor us (started text number args) (told_first text number args)
+stands_first us text number args = record {
+  text = refl;
+  number = refl;
+  args = refl;
+  turns = refl;
+  way = inl refl;
+  same = λ more n. behind_enough 0 n n (λ left. next_doing us text number args more left) (omega arith) (λ some. absurd (omega arith));
+}
+
+abbrev pub gathered : TreeProcess → TreeProcess
+gathered s = record s { since = with_last s.since s.last; last = None }
+
+pub stands_gathered : (us : List Source) (s : TreeProcess) (w : Told) → StandsFor us s w → StandsFor us (gathered s) w
+stands_gathered us s w stands = record { text = stands.text; number = stands.number; args = stands.args; turns = stands.turns; way = stands.way; same = stands.same }
+
+-- with no reply apart
+alone : (s : TreeProcess) → s.last ≡ None → with_last s.since s.last ≡ s.since
+alone s none = ap (λ (o : Option Reply). with_last s.since o) none
+
+pub stands_moved : (us : List Source) (s t : TreeProcess) (w : Told) → s.last ≡ None → IsKept s t → IsMoved us s t → StandsFor us s w → StandsFor us t w
+stands_moved us s t w none kept moved stands = record {
+  text = kept.text ∙ stands.text;
+  number = kept.number ∙ stands.number;
+  args = kept.args ∙ stands.args;
+  turns = kept.turns ∙ stands.turns;
+  way = stands.way;
+  same = λ more n.
+      ap (λ (l : List Reply). doing_with us t (l ++ more) n) (alone t (kept.last ∙ none))
+      ∙ moved.same more n
+      ∙ ap (λ (l : List Reply). doing_with us s (l ++ more) n) (sym (alone s none))
+      ∙ stands.same more n;
+}
+
+-- what it does next is what the process does that it stands for
+pub does_as : (us : List Source) (s : TreeProcess) (w : Told) → s.last ≡ None → StandsFor us s w → (n : ℕ) → doing_here us s n ≡ doing_by us w n
+does_as us s w none stands n =
+    ap (λ (l : List Reply). doing_with us s l n) (sym (append-nil s.since))
+    ∙ ap (λ (l : List Reply). doing_with us s (l ++ []) n) (sym (alone s none))
+    ∙ stands.same [] n
+    ∙ ap (λ (l : List Reply). next_doing us w.text w.number w.args l n) (append-nil w.replies)
+
+pub left_at : (us : List Source) (p : TreeProcess) (turns most : ℕ) (act : Action) → p.last ≡ None → doing_here us p most ≡ doing.At act → IsLeftAt us (record p { turns = turns }) act
+left_at us p turns most act none is = (none, (most, is))
+
+-- with other turns
+stands_with : (us : List Source) (p : TreeProcess) (w : Told) (turns : ℕ) → IsOnTheWay us (record w { turns = turns }) → StandsFor us p w → StandsFor us (record p { turns = turns }) (record w { turns = turns })
+stands_with us p w turns way stands = record { text = stands.text; number = stands.number; args = stands.args; turns = refl; way = way; same = stands.same }
 
 -- ---- one reply more
-
-kept_is : (s : TreeProcess) → s.last ≡ None → kept s ≡ told s
-kept_is s none = ap (λ (o : Option Reply). record { text = s.text; number = s.number; args = s.args; replies = with_last s.replies o; turns = s.turns }) (sym none)
 
 abbrev pub one_more : Told → Reply → Told
 one_more w reply = record w { replies = w.replies ++ reply ∷ [] }
@@ -43,7 +91,18 @@ still_on_the_way us w reply (inr busy) =
     inr (stays_over us w.text w.number w.args w.replies (reply ∷ []) w.turns over ∙ busy)
 
 pub receives : (us : List Source) (s : TreeProcess) (w : Told) (reply : Reply) → s.last ≡ None → StandsFor us s w → StandsFor us (record s { last = Some reply }) (one_more w reply)
-receives us s w reply none stands = (ap (λ (v : Told). one_more v reply) (kept_is s none ∙ stands.0), still_on_the_way us w reply stands.1)
+receives us s w reply none stands = record {
+  text = stands.text;
+  number = stands.number;
+  args = stands.args;
+  turns = stands.turns;
+  way = still_on_the_way us w reply stands.way;
+  same = λ more n.
+      ap (λ (l : List Reply). doing_with us s l n) (append_assoc s.since (reply ∷ []) more)
+      ∙ ap (λ (l : List Reply). doing_with us s (l ++ reply ∷ more) n) (sym (alone s none))
+      ∙ stands.same (reply ∷ more) n
+      ∙ ap (λ (l : List Reply). next_doing us w.text w.number w.args l n) (sym (append_assoc w.replies (reply ∷ []) more));
+}
 
 -- ---- turns
 
@@ -62,50 +121,75 @@ module _ (us : List Source) (w : Told) (last used : ℕ) (reached : IsReached (d
       let whole : used + 1 + (most - (used + 1)) ≡ most = omega (arith, high, next) in
       sym (is_settled us w.text w.number w.args w.replies (used + 1) (most - (used + 1)) apart) ∙ ap (doing_by us w) whole ∙ is
 
-  pub goes_to : (s : TreeProcess) (act : Action) (budget most : ℕ) → last + 1 ≡ most → most ≡ w.turns + budget → IsOnTheWay us w → doing_by us w most ≡ doing.At act →
-      told s ≡ record w { turns = used } → Goes (doing_by us w) (λ n. StandsFor us s (record w { turns = n })) w.turns budget (halt.At act)
-  goes_to s act budget most next all way is shown =
+  pub goes_to : (p : TreeProcess) (act : Action) (budget most : ℕ) → last + 1 ≡ most → most ≡ w.turns + budget → doing_by us w most ≡ doing.At act → StandsFor us p w →
+      Goes (doing_by us w) (λ n. StandsFor us (record p { turns = used }) (record w { turns = n })) w.turns budget (halt.At act)
+  goes_to p act budget most next all is stands =
       let high = reached.high in
-      let busy = within way reached.busy in
-      (used, reached.low, omega (arith, high, next, all), (behind most act next is reached.there, busy), (shown, busy))
+      let busy = within stands.way reached.busy in
+      (used, reached.low, omega (arith, high, next, all), (behind most act next is reached.there, busy), stands_with us p w used busy stands)
 
-pub pauses : (us : List Source) (w : Told) (s : TreeProcess) (budget most : ℕ) → most ≡ w.turns + budget → doing_by us w most ≡ doing.Busy → told s ≡ record w { turns = most } →
-    Goes (doing_by us w) (λ n. StandsFor us s (record w { turns = n })) w.turns budget halt.Paused
-pauses us w s budget most all busy shown =
-    subst (λ (n : ℕ). (doing_by us w n ≡ doing.Busy) × StandsFor us s (record w { turns = n })) all (busy, (shown, inr busy))
+pub pauses : (us : List Source) (w : Told) (p : TreeProcess) (budget most : ℕ) → most ≡ w.turns + budget → doing_by us w most ≡ doing.Busy → StandsFor us p w →
+    Goes (doing_by us w) (λ n. StandsFor us (record p { turns = most }) (record w { turns = n })) w.turns budget halt.Paused
+pauses us w p budget most all busy stands =
+    subst (λ (n : ℕ). (doing_by us w n ≡ doing.Busy) × StandsFor us (record p { turns = most }) (record w { turns = n })) all (busy, stands_with us p w most (inr busy) stands)
+
+-- what is reached from where it stands is reached so
+reached_as : (f g : ℕ → Doing) (before before1 last used : ℕ) → ((n : ℕ) → f n ≡ g n) → before ≡ before1 → IsReached f before last used → IsReached g before1 last used
+reached_as f g before before1 last used same as_before h = record {
+  low = subst (λ (k : ℕ). k ≤ used) as_before h.low;
+  high = h.high;
+  busy = busy h.busy;
+  there = there h.there;
+}
+  where
+    busy : (used ≡ before) ⊎ (f used ≡ doing.Busy) → (used ≡ before1) ⊎ (g used ≡ doing.Busy)
+    busy (inl is) = inl (is ∙ as_before)
+    busy (inr is) = inr (sym (same used) ∙ is)
+
+    there : (used ≡ last) ⊎ (f (used + 1) ≡ doing.Busy → ⊥) → (used ≡ last) ⊎ (g (used + 1) ≡ doing.Busy → ⊥)
+    there (inl is) = inl is
+    there (inr apart) = inr (λ is. apart (same (used + 1) ∙ is))
 
 -- ---- a process that went on
 
-module _ (us : List Source) (state p : TreeProcess) (budget most : ℕ) (d : Doing) (same : kept p ≡ told state) (none : p.last ≡ None) (all : most ≡ state.turns + budget)
-    (next : d ≡ doing_by us (kept p) most) where
-  pub went_on : d ≡ doing.Busy → Goes (doing_by us (told state)) (λ n. StandsFor us (record p { turns = most }) (record (told state) { turns = n })) state.turns budget halt.Paused
-  went_on busy =
-      pauses us (told state) (record p { turns = most }) budget most all (ap (λ (w : Told). doing_by us w most) (sym same) ∙ sym next ∙ busy) (told_again p (told state) most none same)
+module _ (us : List Source) (state s p : TreeProcess) (w : Told) (is : s ≡ gathered state) (kept : IsKept s p) (moved : IsMoved us s p) (stands : StandsFor us state w) where
+  none : s.last ≡ None
+  none = ap (λ (t : TreeProcess). t.last) is
 
-  pub came_to : (act : Action) (last used : ℕ) → d ≡ doing.At act → last + 1 ≡ most → IsOnTheWay us (told state) → IsReached (doing_by us (kept p)) p.turns last used →
-      Goes (doing_by us (told state)) (λ n. StandsFor us (record p { turns = used }) (record (told state) { turns = n })) state.turns budget (halt.At act)
-  came_to act last used is end way reached =
-      goes_to us (told state) last used (subst (λ (w : Told). IsReached (doing_by us w) w.turns last used) same reached) (record p { turns = used }) act budget most end all way
-      (ap (λ (w : Told). doing_by us w most) (sym same) ∙ sym next ∙ is) (told_again p (told state) used none same)
+  stands_there : StandsFor us p w
+  stands_there = stands_moved us s p w none kept moved (subst (λ (t : TreeProcess). StandsFor us t w) (sym is) (stands_gathered us state w stands))
 
--- what is said of a process that stands for itself, for whatever it stands for
-pub for_each : (us : List Source) (state s : TreeProcess) (budget : ℕ) (h : Halt) (w : Told) →
-    (IsOnTheWay us (told state) → Goes (doing_by us (told state)) (λ n. StandsFor us s (record (told state) { turns = n })) state.turns budget h) → StandsFor us state w →
-    Goes (doing_by us w) (λ n. StandsFor us s (record w { turns = n })) w.turns budget h
-for_each us state s budget h w said stands =
-    subst (λ (v : Told). IsOnTheWay us v → Goes (doing_by us v) (λ n. StandsFor us s (record v { turns = n })) v.turns budget h) stands.0 said stands.1
+  same_there : (n : ℕ) → doing_here us p n ≡ doing_by us w n
+  same_there n = does_as us p w (kept.last ∙ none) stands_there n
 
--- and so of whatever comes of it, where there was memory
+  pub turns_there : p.turns ≡ w.turns
+  turns_there = stands_there.turns
+
+  pub went_on : (budget most : ℕ) (d : Doing) → most ≡ w.turns + budget → d ≡ doing_here us p most → d ≡ doing.Busy →
+      Goes (doing_by us w) (λ n. StandsFor us (record p { turns = most }) (record w { turns = n })) w.turns budget halt.Paused
+  went_on budget most d all next busy = pauses us w p budget most all (sym (same_there most) ∙ sym next ∙ busy) stands_there
+
+  pub came_to : (budget most : ℕ) (d : Doing) (act : Action) (last used : ℕ) → most ≡ w.turns + budget → d ≡ doing_here us p most → d ≡ doing.At act → last + 1 ≡ most →
+      IsReached (doing_here us p) p.turns last used → Goes (doing_by us w) (λ n. StandsFor us (record p { turns = used }) (record w { turns = n })) w.turns budget (halt.At act)
+  came_to budget most d act last used all next at_action end reached =
+      goes_to us w last used (reached_as (doing_here us p) (doing_by us w) p.turns w.turns last used same_there turns_there reached) p act budget most end all
+      (sym (same_there most) ∙ sym next ∙ at_action) stands_there
+
+-- the turns of a process that was gathered and moved
+pub kept_turns : (state s p : TreeProcess) → s ≡ gathered state → IsKept s p → p.turns ≡ state.turns
+kept_turns state s p is kept = kept.turns ∙ ap (λ (t : TreeProcess). t.turns) is
+
+pub kept_none : (state s p : TreeProcess) → s ≡ gathered state → IsKept s p → p.last ≡ None
+kept_none state s p is kept = kept.last ∙ ap (λ (t : TreeProcess). t.last) is
+
+-- what is said of each process that it stands for, of whatever comes of it
 pub for_all : (us : List Source) (state : TreeProcess) (budget : ℕ) (r : Result (TreeProcess × Halt) NoMemory) →
     ForEach (λ text number args replies turns. StandsFor us state (record { text = text; number = number; args = args; replies = replies; turns = turns }))
     (λ text number args replies turns. turns + budget ≤ most_turns) →
-    (state.turns + budget ≤ most_turns → IsOnTheWay us (told state) →
-    IfOk r (λ x. Goes (doing_by us (told state)) (λ n. StandsFor us x.0 (record (told state) { turns = n })) state.turns budget x.1)) →
+    ((w : Told) → StandsFor us state w → w.turns + budget ≤ most_turns → IfOk r (λ x. Goes (doing_by us w) (λ n. StandsFor us x.0 (record w { turns = n })) w.turns budget x.1)) →
     IfOk r (λ x. ForEach (λ text number args replies turns. StandsFor us state (record { text = text; number = number; args = args; replies = replies; turns = turns }))
     (λ text number args replies turns. Goes (next_doing us text number args replies)
     (λ n. StandsFor us x.0 (record { text = text; number = number; args = args; replies = replies; turns = n })) turns budget x.1))
 for_all us state budget (Ok x) room said = λ text number args replies turns stands.
-    let w : Told = record { text = text; number = number; args = args; replies = replies; turns = turns } in
-    let few = subst (λ (v : Told). v.turns + budget ≤ most_turns) (sym stands.0) (room text number args replies turns stands) in
-    for_each us state x.0 budget x.1 w (said few) stands
+    said (record { text = text; number = number; args = args; replies = replies; turns = turns }) stands (room text number args replies turns stands)
 for_all us state budget (Err e) room said = tt

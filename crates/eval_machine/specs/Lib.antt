@@ -5,4 +5,5 @@ pub mod ValueLaws
 pub mod LawsOnce
 pub mod MachineLaws
 pub mod ReadsKept
+pub mod First
 pub mod Processes

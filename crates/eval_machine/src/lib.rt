@@ -6,14 +6,16 @@
 //!
 //! It stands on eval_stmts and eval_exprs, which run bodies; on access_analysis, for the classes of operations; on program_limits; and on
 //! the laws of meaning_rules and accepted_law, by which what fits stays fitting, and a process that has halted stays so. A try and a
-//! making are straight lines over the two evaluators. A process is evaluated from its beginning for each of its actions, so it costs as
-//! much as it did so far: the machine is the slow reference, and a compiled one the one to race.
+//! making are straight lines over the two evaluators. A process goes on from a point between two of its statements (eval_points), which is
+//! moved forward with each action: an action costs what is computed between it and the one before, a few times over, and copies of the
+//! variables. The machine is the slow reference, and a compiled one the one to race.
 #![tactic(auto)]
 
 mod attempts;
 mod bodies;
 mod machine;
 mod makings;
+mod moving;
 mod performing;
 mod process;
 mod processing;

@@ -63,6 +63,14 @@ impl Replies {
         }
     }
 
+    /// Replies that are equal to these. The only error is want of memory.
+    pub fn of(alloc: Global, replies: &[Reply]) -> Result<Replies, NoMemory>
+        ensures { IfOk result (λ r. r ≡ replies.now) }
+    {
+        let items = copy_all(alloc, replies)?;
+        Ok(Replies { items })
+    }
+
     /// The replies, in order.
     pub fn as_slice(&self) -> &[Reply]
         ensures { result.now ≡ self.now }
@@ -82,8 +90,7 @@ impl Replies {
     pub fn copy(&self, alloc: Global) -> Result<Replies, NoMemory>
         ensures { IfOk result (λ r. r ≡ self.now) }
     {
-        let items = copy_all(alloc, &self.items)?;
-        Ok(Replies { items })
+        Replies::of(alloc, &self.items)
     }
 
     /// Whether both are the same.

@@ -1,6 +1,6 @@
 //! What processes do, by their texts: they make their objects, and then run their statements.
 
-ghost use Rattle.std.specs.Prelude.{◌≡◌, ◌≤◌, ◌<◌, ◌^◌, List, IfOk, drop, false, length, slice_get};
+ghost use Rattle.std.specs.Prelude.{◌≡◌, ◌≤◌, ◌<◌, ◌^◌, ◌&&◌, [], List, IfOk, None, Some, drop, false, length, nat_le, slice_get};
 ghost use Rattle.link_rules.specs.Units.{Source};
 ghost use Rattle.type_rules.specs.Types.{object_in as rule_object_in, outside_of};
 ghost use Rattle.value_core.specs.Datum.{list_of};
@@ -12,14 +12,18 @@ ghost use Rattle.meaning_rules.specs.Programs.{process_texts};
 ghost use Rattle.meaning_rules.specs.States.{Out, State};
 ghost use Rattle.eval_variables.specs.Gives.{Gives, state_of};
 ghost use Rattle.eval_tables.specs.Layers.{type_seen};
-ghost use Rattle.eval_bodies.specs.Blocks.{IsBlockCode, Routine};
+ghost use Rattle.eval_bodies.specs.Blocks.{IsBlockCode, Routine, process_at};
 ghost use Rattle.eval_bodies.specs.Codes.{IsCode};
 ghost use Rattle.eval_stmts.specs.Flows.{flow_of};
+ghost use Rattle.eval_points.specs.Stepping.{IsResumed};
+ghost use Rattle.eval_machine.specs.Processes.{before_of, doing_here, frame_of, left_of, routine_left};
 ghost use Rattle.eval_machine.specs.Routines as routines;
 ghost use Rattle.eval_machine.specs.Routines.{routine_run, value_made, values_made, with_front};
 
 use crate::bodies::opening;
+use crate::process::TreeProcess;
 use eval_bodies::{BlockCode, Code, Site};
+use eval_points::{Place, Point, frame_at, resume};
 use eval_stmts::{Flow, Whole, execute_all};
 use eval_tables::Seen;
 use eval_variables::{Frame, Run, Stop, act};
@@ -107,8 +111,8 @@ fn variable(
     }
 }
 
-// Puts the variables of a process behind its arguments. Each of an object type makes an object, in order.
-fn add_variables(
+/// Puts the variables of a process behind its arguments. Each of an object type makes an object, in order.
+pub fn add_variables(
     alloc: Global,
     code: &Code<'_>,
     number: ProcessNo,
@@ -131,8 +135,8 @@ fn add_variables(
     Ok(())
 }
 
-// The types behind so many.
-fn types_behind(types: &[Option<DataType>], count: usize) -> &[Option<DataType>]
+/// The types behind so many.
+pub fn types_behind(types: &[Option<DataType>], count: usize) -> &[Option<DataType>]
     ensures { result.now ≡ drop count types.now }
 {
     if count <= types.len() {
@@ -184,7 +188,7 @@ fn run_text(
 
 // Where a process stands, by how its run ended. The only error is want of memory, where there was none.
 fn doing_of(end: Result<Flow, Stop>) -> Result<Doing, NoMemory>
-    ensures { (s : State) (out : Out rule_flow.Flow) → Gives flow_of end s out → IfOk result (λ doing. doing ≡ rules.doing_of out) }
+    ensures { (out : Out rule_flow.Flow) → IsResumed end out → IfOk result (λ doing. doing ≡ rules.doing_of out) }
 {
     match end {
         Ok(_) => Ok(Doing::At {
@@ -207,31 +211,139 @@ pub struct Next {
     pub left: u64,
 }
 
-/// What a process of this text, with this number and these arguments, does next after these replies, within so many turns. The only error
-/// is want of memory. The cost is that of the process from its beginning.
-pub fn next_doing(
+// What a process does from its beginning with so many turns, where its variables aren't made yet.
+fn next_from_beginning(
     alloc: Global,
     code: &Code<'_>,
-    text: TextNo,
-    number: ProcessNo,
-    args: &Parts,
-    replies: &[Reply],
-    turns: u64,
+    process: &TreeProcess,
+    left: u64,
 ) -> Result<Next, NoMemory>
-    ensures doing { (us : List Source) → IsCode us code.now → AreNumbers us →
-        IfOk result (λ next. next.doing ≡ rules.next_doing us text number args.now replies.now turns) }
-    ensures left { IfOk result (λ next. next.left ≤ turns) }
+    ensures doing { (us : List Source) → IsCode us code.now → AreNumbers us → IfOk result (λ next.
+        next.doing ≡ rules.doing_of (left_of us process.now None (record { frame = []; replies = process.now.since; left = left }))) }
+    ensures left { IfOk result (λ next. next.left ≤ left) }
 {
     let frame = Frame::new(alloc, Parts::new(alloc))?;
+    let replies = process.since.as_slice();
     let mut run = Run {
         frame,
         replies,
-        left: turns,
+        left,
     };
-    let end = run_text(alloc, code, text, number, args, &mut run);
+    let end = run_text(
+        alloc,
+        code,
+        process.text,
+        process.number,
+        &process.args,
+        &mut run,
+    );
     let doing = doing_of(end)?;
     Ok(Next {
         doing,
         left: run.left,
     })
+}
+
+// All that is left of a process of this text from a place.
+fn resume_text(
+    alloc: Global,
+    code: &Code<'_>,
+    text: TextNo,
+    place: Place,
+    run: &mut Run<'_>,
+) -> Result<Flow, Stop>
+    ensures left { run.new.left ≤ run.old.left }
+    ensures resumed { (us : List Source) → IsCode us code.now → AreNumbers us →
+        IsResumed result (routine_left (process_at us text) place (state_of run.old)) }
+{
+    match code.process(text) {
+        None => Err(Stop::Busy),
+        Some(routine) => resume::<Whole>(alloc, code, routine, place, run),
+    }
+}
+
+// What a process does from this point with so many turns.
+fn next_from_point(
+    alloc: Global,
+    code: &Code<'_>,
+    process: &TreeProcess,
+    point: &Point,
+    left: u64,
+) -> Result<Next, NoMemory>
+    ensures doing { (us : List Source) → IsCode us code.now → AreNumbers us → IfOk result (λ next.
+        next.doing ≡ rules.doing_of (left_of us process.now (Some point.now)
+        (record { frame = list_of point.now.values; replies = process.now.since; left = left }))) }
+    ensures left { IfOk result (λ next. next.left ≤ left) }
+{
+    let place = point.place.copy(alloc)?;
+    let frame = frame_at(alloc, point)?;
+    let replies = process.since.as_slice();
+    let mut run = Run {
+        frame,
+        replies,
+        left,
+    };
+    let end = resume_text(alloc, code, process.text, place, &mut run);
+    let doing = doing_of(end)?;
+    Ok(Next {
+        doing,
+        left: run.left,
+    })
+}
+
+// What a process does with so many turns behind those that it took up to where it stands.
+fn next_from(
+    alloc: Global,
+    code: &Code<'_>,
+    process: &TreeProcess,
+    left: u64,
+) -> Result<Next, NoMemory>
+    ensures doing { (us : List Source) → IsCode us code.now → AreNumbers us → IfOk result (λ next.
+        next.doing ≡ rules.doing_of (left_of us process.now process.now.point
+        (record { frame = frame_of process.now.point; replies = process.now.since; left = left }))) }
+    ensures left { IfOk result (λ next. next.left ≤ left) }
+{
+    match &process.point {
+        None => next_from_beginning(alloc, code, process, left),
+        Some(point) => next_from_point(alloc, code, process, point, left),
+    }
+}
+
+/// The turns that a process took up to its point.
+pub fn turns_before(process: &TreeProcess) -> u64
+    ensures { result ≡ before_of process.now.point }
+{
+    match &process.point {
+        None => 0,
+        Some(point) => point.before,
+    }
+}
+
+// Whether so many turns were taken before, where there were some.
+fn is_behind(before: u64, turns: u64) -> bool
+    ensures { result ≡ (nat_le 1 before && nat_le turns before) }
+{
+    1 <= before && turns <= before
+}
+
+/// What a process does next within so many turns, after all replies but the last. The only error is want of memory. The cost is that of
+/// the process from its point.
+pub fn next_doing(
+    alloc: Global,
+    code: &Code<'_>,
+    process: &TreeProcess,
+    turns: u64,
+) -> Result<Next, NoMemory>
+    ensures doing { (us : List Source) → IsCode us code.now → AreNumbers us →
+        IfOk result (λ next. next.doing ≡ doing_here us process.now turns) }
+    ensures left { IfOk result (λ next. next.left ≤ turns) }
+{
+    let before = turns_before(process);
+    if is_behind(before, turns) {
+        return Ok(Next {
+            doing: Doing::Busy,
+            left: 0,
+        });
+    }
+    next_from(alloc, code, process, turns.saturating_sub(before))
 }

@@ -5,9 +5,10 @@ ghost use Rattle.value_core.specs.Goes.{Goes, IfAt};
 ghost use Rattle.value_core.specs.History.{most_turns};
 ghost use Rattle.value_core.specs.declared.meaning.Doing.TheVariants as doings;
 ghost use Rattle.eval_bodies.specs.Codes.{sources};
-ghost use Rattle.eval_machine.specs.Processes.{IsLeftAt, IsOnTheWay, IsReached, StandsFor, doing_by, kept, told};
+ghost use Rattle.eval_machine.specs.Processes.{IsKept, IsLeftAt, IsMoved, IsReached, StandsFor, Told, doing_by, doing_here};
 
 use crate::machine::TreeMachine;
+use crate::moving::move_on;
 use crate::process::TreeProcess;
 use crate::texts::{Next, next_doing};
 use orca_base::NoMemory;
@@ -21,21 +22,10 @@ fn next(
     process: &TreeProcess,
     turns: u64,
 ) -> Result<Next, NoMemory>
-    ensures doing { IfOk result (λ next. next.doing ≡ doing_by (sources machine.now.code.checked) (kept process.now) turns) }
+    ensures doing { IfOk result (λ next. next.doing ≡ doing_here (sources machine.now.code.checked) process.now turns) }
     ensures left { IfOk result (λ next. next.left ≤ turns) }
 {
-    let text = process.text;
-    let number = process.number;
-    let args = &process.args;
-    next_doing(
-        alloc,
-        &machine.code,
-        text,
-        number,
-        args,
-        process.replies.as_slice(),
-        turns,
-    )
+    next_doing(alloc, &machine.code, process, turns)
 }
 
 // Whether a process is busy within so many turns.
@@ -46,7 +36,7 @@ fn is_busy(
     turns: u64,
 ) -> Result<bool, NoMemory>
     ensures { IfOk result (λ busy.
-        IsTrue busy ↔ (doing_by (sources machine.now.code.checked) (kept process.now) turns ≡ doings.Busy)) }
+        IsTrue busy ↔ (doing_here (sources machine.now.code.checked) process.now turns ≡ doings.Busy)) }
 {
     let Next { doing, .. } = next(alloc, machine, process, turns)?;
     match doing {
@@ -66,7 +56,7 @@ fn down(
     ensures low { IfOk result (λ used. process.now.turns ≤ used) }
     ensures high { IfOk result (λ used. used ≤ guess) }
     ensures busy { IfOk result (λ used. (used ≡ process.now.turns) ⊎
-        (doing_by (sources machine.now.code.checked) (kept process.now) used ≡ doings.Busy)) }
+        (doing_here (sources machine.now.code.checked) process.now used ≡ doings.Busy)) }
 {
     let mut used = guess;
     'turns: while used > process.turns {
@@ -88,9 +78,9 @@ fn up(
 ) -> Result<u64, NoMemory>
     requires low { process.now.turns ≤ first }
     requires busy { (first ≡ process.now.turns) ⊎
-        (doing_by (sources machine.now.code.checked) (kept process.now) first ≡ doings.Busy) }
+        (doing_here (sources machine.now.code.checked) process.now first ≡ doings.Busy) }
     ensures { first ≤ last →
-        IfOk result (IsReached (doing_by (sources machine.now.code.checked) (kept process.now)) process.now.turns last) }
+        IfOk result (IsReached (doing_here (sources machine.now.code.checked) process.now) process.now.turns last) }
 {
     let mut used = first;
     'turns: while used < last {
@@ -125,15 +115,28 @@ fn turns_taken(
     guess: u64,
 ) -> Result<u64, NoMemory>
     ensures { process.now.turns ≤ last →
-        IfOk result (IsReached (doing_by (sources machine.now.code.checked) (kept process.now)) process.now.turns last) }
+        IfOk result (IsReached (doing_here (sources machine.now.code.checked) process.now) process.now.turns last) }
 {
     let guess = within(process.turns, last, guess);
     let first = down(alloc, machine, process, guess)?;
     up(alloc, machine, process, last, first)
 }
 
-/// Computes a process up to its next action, or until the budget's last turn is begun: it is evaluated from its beginning, with the turns
-/// that it took and the budget, and then the exact number of turns that it took is looked for. The only error is want of memory.
+// The process at a point further on, as far as it comes within so many turns.
+fn moved(
+    alloc: Global,
+    machine: &TreeMachine<'_>,
+    process: TreeProcess,
+    most: u64,
+) -> Result<TreeProcess, NoMemory>
+    ensures kept { IfOk result (λ s. IsKept process s) }
+    ensures moved { IfOk result (IsMoved (sources machine.now.code.checked) process) }
+{
+    move_on(alloc, &machine.code, process, most)
+}
+
+/// Computes a process up to its next action, or until the budget's last turn is begun: from its point, which is first moved forward as far
+/// as it comes. Then the exact number of turns that it took is looked for. The only error is want of memory.
 pub fn go(
     alloc: Global,
     machine: &TreeMachine<'_>,
@@ -141,13 +144,14 @@ pub fn go(
     budget: u32,
 ) -> Result<(TreeProcess, Halt), NoMemory>
     requires { 1 ≤ budget }
-    ensures goes { state.turns + budget ≤ most_turns → IsOnTheWay (sources machine.now.code.checked) (told state) → IfOk result (λ r.
-        Goes (doing_by (sources machine.now.code.checked) (told state))
-        (λ used. StandsFor (sources machine.now.code.checked) r.0 (record (told state) { turns = used })) state.turns budget r.1) }
+    ensures goes { (w : Told) → StandsFor (sources machine.now.code.checked) state w → w.turns + budget ≤ most_turns → IfOk result (λ r.
+        Goes (doing_by (sources machine.now.code.checked) w)
+        (λ used. StandsFor (sources machine.now.code.checked) r.0 (record w { turns = used })) w.turns budget r.1) }
     ensures left { IfOk result (λ r. IfAt r.1 (IsLeftAt (sources machine.now.code.checked) r.0)) }
 {
-    let process = state.gathered()?;
-    let most = process.turns.saturating_add(u64::from(budget));
+    let gathered = state.gathered()?;
+    let most = gathered.turns.saturating_add(u64::from(budget));
+    let process = moved(alloc, machine, gathered, most)?;
     let Next { doing, left } = next(alloc, machine, &process, most)?;
     match doing {
         Doing::Busy => Ok((process.with_turns(most), Halt::Paused)),
