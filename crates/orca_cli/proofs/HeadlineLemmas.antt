@@ -34,11 +34,14 @@ use Rattle.command_output.specs.declared.statuses.TheConstants.{NO_MEMORY}
 use Rattle.orca_cli.specs.Headline.{AreLoaded, AreUntouched, IsNamed, IsRun, IsProgramRun, IsRunOf, KeepScripts, WasBegun, Wires, settings_of, wires_of}
 use Rattle.command_files.specs.Sources.{Word}
 use Rattle.orca_cli.specs.Kept.{IsEndOf}
+use Rattle.orca_cli.specs.Rows.{KeptRow}
 use Rattle.orca_cli.specs.Laws.{RunLaws}
 use Rattle.command_output.specs.Printed.{Ends, EndsAs, Grew}
-use Rattle.orca_cli.specs.Standings.{awaited_name, ending_line, history_said, standing_status}
+use Rattle.orca_cli.specs.Said.{ending_line}
+use Rattle.orca_cli.specs.Standings.{awaited_name, history_said, standing_status}
 use Rattle.program_names.specs.Naming.{AreNamesOf, CallsNamed}
 use Rattle.orca_cli.proofs.KeptLemmas.{history_kept}
+use Rattle.orca_cli.proofs.LowestLemmas.{ending_is}
 use Rattle.orca_cli.proofs.RowLemmas.{row_kept, rows_shown}
 
 -- ---- the settings
@@ -85,17 +88,21 @@ is_run f name says end standing status old new before after laws settings none h
     let stand = laws.ends f w in
     let processes = laws.stand f end.steps.items w left.replays in
     let some = settings.some in
+    let row : KeptRow f w k (rules.standing f w) =
+        row_kept f w k laws.count laws.read is stand (laws.finished f end.steps.items w left.replays) processes left.kept left.stuck
+        (laws.spent f refl refl settings end.steps.items w left.replays) (rules.standing f w) refl in
     record {
       world = w;
       end = is;
       history = history_kept f w none (omega (arith, some)) left.kept stand left.mean (laws.placed f w) laws.homes k is;
       reads = laws.read f w;
-      row = row_kept f w k laws.count laws.read is stand (laws.finished f end.steps.items w left.replays) processes left.kept left.stuck
-          (laws.spent f refl refl settings end.steps.items w left.replays) (rules.standing f w) refl;
+      row = row;
       only = rows_shown f w k laws.count laws.read is stand processes settings.a_turn;
       limited = λ what number passed. ap (rules.after_limit f w) passed;
       ends = said.ends;
       lacked = said.lacked;
+      line = ending_line name f.settings.turns (rules.standing f w) k.processes.items;
+      line_is = ending_is f w k name (rules.standing f w) row;
       printed = said.printed;
       told = told;
       used = subst (λ (s : Standing). WereUsedSo s f end.steps.items w (asked_since before after)) left.stands h.used;

@@ -30,7 +30,7 @@ use Rattle.command_output.specs.Printed.{Ends, EndsAs, Grew}
 use Rattle.orca_cli.specs.Programs.{IsProgram}
 use Rattle.orca_cli.specs.Rows.{KeptRow, ShownRows}
 use Rattle.orca_cli.specs.Scripts.{IsScriptOf}
-use Rattle.orca_cli.specs.Standings.{awaited_name, ending_line, history_said, standing_status}
+use Rattle.orca_cli.specs.Standings.{IsEndingLine, awaited_name, history_said, standing_status}
 
 -- ---- which run it is
 
@@ -115,9 +115,9 @@ pub record IsRun (f : Frame) (name : Action → List ℕ) (says : List Line → 
   pub limited : (what : What) (number : ℕ) → limit f world ≡ Some (what, number) → standing f world ≡ Limit what number
   pub ends : EndsAs (standing_status (standing f world)) status
   pub lacked : standing f world ≡ Going → status ≡ NO_MEMORY
-  pub printed :
-      Grew old new (Ends (standing_status (standing f world)) status
-      (output_of k.book.items ++ (says k.book.items ++ ending_line name f.settings.turns (standing f world) k.processes.items)))
+  pub line : List ℕ
+  pub line_is : IsEndingLine name f.settings.turns (standing f world) k.processes.items line
+  pub printed : Grew old new (Ends (standing_status (standing f world)) status (output_of k.book.items ++ (says k.book.items ++ line)))
   pub told : HaveToldOn before after
   pub used : WereUsedSo (standing f world) f k.events.items world (asked_since before after)
   pub unused : NoneAskedBehind world.swaps (asked_since before after)
