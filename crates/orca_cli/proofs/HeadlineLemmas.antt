@@ -1,5 +1,5 @@
 -- What a run leaves is what the headline says of it: from the run that was driven, the law of runs, and what was printed.
-use Rattle.std.proofs.Common.{◌≡◌, ◌≤◌, ◌⊎◌, inl, inr, ℕ, true, false, List, [], ◌∷◌, ◌++◌, get_or, length, map, set, Option, Some, None, IfNone, IfSome, Result, Ok, Err, OnOk, suc, ap, sym, subst, refl, arith}
+use Rattle.std.proofs.Common.{◌≡◌, ◌∙◌, ◌≤◌, ◌⊎◌, inl, inr, ℕ, true, false, List, [], ◌∷◌, ◌++◌, get_or, length, map, set, Option, Some, None, IfNone, IfSome, Result, Ok, Err, OnErr, OnOk, suc, ap, sym, subst, refl, arith}
 use Rattle.std.specs.Prelude.{option_map, slice_get}
 use Rattle.std.specs.List.{All}
 use Rattle.std.proofs.lemmas.List.{length-map}
@@ -25,19 +25,23 @@ use Rattle.world_rules.specs.declared.standing.Standing.TheVariants.{Going}
 use Rattle.world_rules.specs.Frame.{AreSettings, Frame}
 use Rattle.world_rules.specs.Standings as rules
 use Rattle.world_core.specs.declared.ends.RunEnd.{RunEnd}
-use Rattle.run_loop.specs.Asked.{HaveToldOn, WereUsedSo, asked_since}
+use Rattle.run_loop.specs.Asked.{HaveToldOn, WereAskedIn, WereUsedSo, asked_since}
 use Rattle.run_loop.specs.Left.{HasRun, run_of}
+use Rattle.run_loop.proofs.Telling.{kept_at}
 use Rattle.meaning_rules.specs.Meanings.{computes_of, performs_of}
 use Rattle.orca_cli.specs.declared.kept.Kept.{Kept}
 use Rattle.command_output.specs.declared.statuses.TheConstants.{NO_MEMORY}
-use Rattle.orca_cli.specs.Headline.{AreLoaded, AreUntouched, AskRun, HasLacked, IsNamed, IsRun, IsProgramRun, IsRunOf, KeepScripts, Wires, settings_of, wires_of}
+use Rattle.orca_cli.specs.Headline.{AreLoaded, AreUntouched, IsNamed, IsRun, IsProgramRun, IsRunOf, KeepScripts, WasBegun, Wires, settings_of, wires_of}
 use Rattle.command_files.specs.Sources.{Word}
 use Rattle.orca_cli.specs.Kept.{IsEndOf}
+use Rattle.orca_cli.specs.Rows.{KeptRow}
 use Rattle.orca_cli.specs.Laws.{RunLaws}
 use Rattle.command_output.specs.Printed.{Ends, EndsAs, Grew}
-use Rattle.orca_cli.specs.Standings.{awaited_name, ending_line, history_said, standing_status}
+use Rattle.orca_cli.specs.Said.{ending_line}
+use Rattle.orca_cli.specs.Standings.{awaited_name, history_said, standing_status}
 use Rattle.program_names.specs.Naming.{AreNamesOf, CallsNamed}
 use Rattle.orca_cli.proofs.KeptLemmas.{history_kept}
+use Rattle.orca_cli.proofs.LowestLemmas.{ending_is}
 use Rattle.orca_cli.proofs.RowLemmas.{row_kept, rows_shown}
 
 -- ---- the settings
@@ -84,17 +88,21 @@ is_run f name says end standing status old new before after laws settings none h
     let stand = laws.ends f w in
     let processes = laws.stand f end.steps.items w left.replays in
     let some = settings.some in
+    let row : KeptRow f w k (rules.standing f w) =
+        row_kept f w k laws.count laws.read is stand (laws.finished f end.steps.items w left.replays) processes left.kept left.stuck
+        (laws.spent f refl refl settings end.steps.items w left.replays) (rules.standing f w) refl in
     record {
       world = w;
       end = is;
       history = history_kept f w none (omega (arith, some)) left.kept stand left.mean (laws.placed f w) laws.homes k is;
       reads = laws.read f w;
-      row = row_kept f w k laws.count laws.read is stand (laws.finished f end.steps.items w left.replays) processes left.kept left.stuck
-          (laws.spent f refl refl settings end.steps.items w left.replays) (rules.standing f w) refl;
+      row = row;
       only = rows_shown f w k laws.count laws.read is stand processes settings.a_turn;
       limited = λ what number passed. ap (rules.after_limit f w) passed;
       ends = said.ends;
       lacked = said.lacked;
+      line = ending_line name f.settings.turns (rules.standing f w) k.processes.items;
+      line_is = ending_is f w k name (rules.standing f w) row;
       printed = said.printed;
       told = told;
       used = subst (λ (s : Standing). WereUsedSo s f end.steps.items w (asked_since before after)) left.stands h.used;
@@ -143,25 +151,35 @@ pub ok_both : {T E A B C : Type 0} (r : Result T E) → (A → B → C) → OnOk
 ok_both (Ok x) so a b = so a b
 ok_both (Err e) so a b = tt
 
+pub err_both : {T E A B C : Type 0} (r : Result T E) → (A → B → C) → OnErr r A → OnErr r B → OnErr r C
+err_both (Ok x) so a b = tt
+err_both (Err e) so a b = so a b
+
 -- ---- the wires
 
+-- they are told by the three
+abbrev these_wires : List (List Asked) → List (List ScriptLine) → List ℕ → Wires
+these_wires told scripts loaded = record { told = told; scripts = scripts; loaded = loaded }
+
+-- where the first wire stayed all did
+pub wires_kept : {W : Type 0} (told : W → List Asked) (script : W → List ScriptLine) (loaded : W → ℕ) (wires : List W) (first wire : W) → told wire ≡ told (get_or wires 0 first) → script wire ≡ script (get_or wires 0 first)
+    → loaded wire ≡ loaded (get_or wires 0 first) → wires_of told script loaded (set wires 0 wire) ≡ wires_of told script loaded wires
+wires_kept told script loaded wires first wire one two three =
+    ap (λ (l : List (List Asked)). these_wires l (map script (set wires 0 wire)) (map loaded (set wires 0 wire))) (kept_at told wires 0 first wire one)
+    ∙ ap (λ (l : List (List ScriptLine)). these_wires (map told wires) l (map loaded (set wires 0 wire))) (kept_at script wires 0 first wire two)
+    ∙ ap (λ (l : List ℕ). these_wires (map told wires) (map script wires) l) (kept_at loaded wires 0 first wire three)
+
 -- whatever the first wire took, the others keep their scripts
-pub others_keep : {W : Type 0} (told : W → List Asked) (script : W → List ScriptLine) (loaded : W → ℕ) (wires : List W) (wire : W) → KeepScripts (wires_of told script loaded wires) (wires_of told script loaded (set wires 0 wire))
+others_keep : {W : Type 0} (told : W → List Asked) (script : W → List ScriptLine) (loaded : W → ℕ) (wires : List W) (wire : W) → KeepScripts (wires_of told script loaded wires) (wires_of told script loaded (set wires 0 wire))
 others_keep told script loaded [] wire = record { scripts = λ n. refl; loaded = λ n. refl }
 others_keep told script loaded (w ∷ wires) wire = record { scripts = λ n. refl; loaded = λ n. refl }
 
-pub still_keep : {W : Type 0} (told : W → List Asked) (script : W → List ScriptLine) (loaded : W → ℕ) (old mid new : List W) → KeepScripts (wires_of told script loaded old) (wires_of told script loaded mid)
+still_keep : {W : Type 0} (told : W → List Asked) (script : W → List ScriptLine) (loaded : W → ℕ) (old mid new : List W) → KeepScripts (wires_of told script loaded old) (wires_of told script loaded mid)
     → map script new ≡ map script mid → map loaded new ≡ map loaded mid → KeepScripts (wires_of told script loaded old) (wires_of told script loaded new)
 still_keep told script loaded old mid new h scripts counts = record {
   scripts = λ n. subst (λ (l : List (List ScriptLine)). slice_get l (suc n) ≡ slice_get (map script old) (suc n)) (sym scripts) (h.scripts n);
   loaded = λ n. subst (λ (l : List ℕ). slice_get l (suc n) ≡ slice_get (map loaded old) (suc n)) (sym counts) (h.loaded n);
 }
-
--- what the words ask for is a run
-pub untouched_run : {K : Type 0} (words : List Word) (o : Option K) (status : ℕ) (old new : Wires) → AskRun words → IfNone o ((new ≡ old) ⊎ HasLacked status old new) → IfNone o (AreUntouched words status old new)
-untouched_run words None status old new asks (inl same) = inl same
-untouched_run words None status old new asks (inr lacked) = inr (asks, lacked)
-untouched_run words (Some k) status old new asks h = tt
 
 -- the first wire took these lines
 pub loaded_first : {W : Type 0} (told : W → List Asked) (script : W → List ScriptLine) (loaded : W → ℕ) (wires : List W) (first wire : W) (lines : List ScriptLine) → 1 ≤ length wires → script wire ≡ lines
@@ -178,7 +196,31 @@ still_loaded told script loaded old mid new lines h scripts counts = record {
   others = still_keep told script loaded old mid new h.others scripts counts;
 }
 
+-- a run over these wires was begun
+pub begun_so : {W : Type 0} (told : W → List Asked) (script : W → List ScriptLine) (loaded : W → ℕ) (before after : List W) (units : List Source) (options : RunOptions) (lines : List ScriptLine)
+    → AreLoaded lines (wires_of told script loaded before) (wires_of told script loaded after) → HaveToldOn (map told before) (map told after)
+    → WereAskedIn (run_of (performs_of units) (computes_of units) (settings_of options (length before))) (map told before) (map told after)
+    → WasBegun units options lines (wires_of told script loaded before) (wires_of told script loaded after)
+begun_so told script loaded before after units options lines has more asked = record {
+  loaded = has;
+  told = more;
+  asked = subst (λ (n : ℕ). WereAskedIn (run_of (performs_of units) (computes_of units) (settings_of options n)) (map told before) (map told after)) (sym (length-map before told)) asked;
+}
+
 -- ---- the run that the words ask for
+
+-- where nothing of it is kept
+pub untouched_run : {K A : Type 0} (words : List Word) (files : Option (List File)) (units : List Source) (options : RunOptions) (lines : List ScriptLine) (o : Option K) (status : ℕ) (old new : Wires) (named : IsNamed words files units lines)
+    → named.options ≡ options → IfNone o ((status ≡ NO_MEMORY) × A) → IfNone o ((new ≡ old) ⊎ WasBegun units options lines old new) → IfNone o (AreUntouched words files status old new)
+untouched_run words files units options lines (Some k) status old new named same lacked begun = tt
+untouched_run words files units options lines None status old new named same lacked (inl kept) = inl kept
+untouched_run words files units options lines None status old new named same lacked (inr begun) = inr (record {
+  status = lacked.0;
+  units = units;
+  lines = lines;
+  named = named;
+  begun = subst (λ (os : RunOptions). WasBegun units os lines old new) (sym same) begun;
+})
 
 pub if_some : {T : Type 0} (o : Option T) (P : T → Type 0) → ((x : T) → P x) → IfSome o P
 if_some None P h = tt

@@ -13,7 +13,8 @@ use Rattle.command_output.specs.Printed.{Ends, EndsAs, Grew, HasStopped, WroteOf
 use Rattle.value_core.specs.declared.action.Line.{Line}
 use Rattle.history_text.specs.Spelling.{history_text}
 use Rattle.history_text.specs.declared.names.Names.{Names}
-use Rattle.orca_cli.specs.Standings.{first_of, history_said, or_later, run_status, spent_of, standing_status, write_status}
+use Rattle.orca_cli.specs.Said.{first_of, or_later}
+use Rattle.orca_cli.specs.Standings.{history_said, run_status, spent_of, standing_status, write_status}
 use Rattle.command_output.proofs.Putting.{GrewUpTo, grew_all, grew_fault, grew_front, grew_put}
 
 -- ---- of a status that is wanted

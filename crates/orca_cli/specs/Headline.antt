@@ -1,4 +1,4 @@
--- The headline: what a run keeps and prints, and that its network was really used, in time.
+-- The headline: what a run keeps and prints, and that its network was really used, in time; and what is so of the wires where nothing is kept.
 use Rattle.std.specs.Prelude.{◌≡◌, ◌⊎◌, ◌++◌, ℕ, suc, List, [], length, map, Option, Some, option_map, slice_get}
 use Rattle.command_line.specs.declared.request.RunOptions.{RunOptions}
 use Rattle.net_rules.specs.declared.asked.Asked.{Asked}
@@ -19,7 +19,7 @@ use Rattle.world_rules.specs.Frame.{Frame}
 use Rattle.world_rules.specs.Standings.{limit, standing}
 use Rattle.world_rules.specs.Worlds.{World}
 use Rattle.world_facts.specs.Rows.{ReadsStanding}
-use Rattle.run_loop.specs.Asked.{AreInTime, HaveToldOn, NoneAskedBehind, WereUsedSo, asked_since}
+use Rattle.run_loop.specs.Asked.{AreInTime, HaveToldOn, NoneAskedBehind, WereAskedIn, WereUsedSo, asked_since}
 use Rattle.run_loop.specs.Left.{run_of}
 use Rattle.orca_cli.specs.declared.kept.Kept.{Kept}
 use Rattle.command_output.specs.declared.statuses.TheConstants.{NO_MEMORY}
@@ -30,7 +30,7 @@ use Rattle.command_output.specs.Printed.{Ends, EndsAs, Grew}
 use Rattle.orca_cli.specs.Programs.{IsProgram}
 use Rattle.orca_cli.specs.Rows.{KeptRow, ShownRows}
 use Rattle.orca_cli.specs.Scripts.{IsScriptOf}
-use Rattle.orca_cli.specs.Standings.{awaited_name, ending_line, history_said, standing_status}
+use Rattle.orca_cli.specs.Standings.{IsEndingLine, awaited_name, history_said, standing_status}
 
 -- ---- which run it is
 
@@ -77,20 +77,24 @@ pub record AreLoaded (lines : List ScriptLine) (old new : Wires) : Type 0 where
   pub since : slice_get new.loaded 0 ≡ option_map length (slice_get old.told 0)
   pub others : KeepScripts old new
 
--- the words ask for a run
-abbrev pub AskRun : List Word → Type 0
-AskRun words = (options : RunOptions) × (script : Option Word) × (files : List Word) × (deed_in words ≡ Some (runs options script files))
-
--- memory lacked for a run, or for what is kept of it: the wires tell what they told, and maybe more, and those behind the first kept their
--- scripts
-pub record HasLacked (code : ℕ) (old new : Wires) : Type 0 where
-  pub status : code ≡ NO_MEMORY
+-- a run of the program with these units was begun, by these options: the first wire was loaded with these lines, and the wires were asked what
+-- some steps of that run ask
+pub record WasBegun (units : List Source) (options : RunOptions) (lines : List ScriptLine) (old new : Wires) : Type 0 where
+  pub loaded : AreLoaded lines old new
   pub told : HaveToldOn old.told new.told
-  pub others : KeepScripts old new
+  pub asked : WereAskedIn (run_of (performs_of units) (computes_of units) (settings_of options (length old.told))) old.told new.told
 
--- nothing was run: the wires are as they were; or the words ask for a run, and memory lacked
-abbrev pub AreUntouched : List Word → ℕ → Wires → Wires → Type 0
-AreUntouched words status old new = (new ≡ old) ⊎ (AskRun words × HasLacked status old new)
+-- memory lacked, and the run that the words name was begun
+pub record HasLacked (words : List Word) (files : Option (List File)) (code : ℕ) (old new : Wires) : Type 0 where
+  pub status : code ≡ NO_MEMORY
+  pub units : List Source
+  pub lines : List ScriptLine
+  pub named : IsNamed words files units lines
+  pub begun : WasBegun units named.options lines old new
+
+-- nothing is kept: what the wires tell, their scripts, and when these were loaded, are as before; or memory lacked
+abbrev pub AreUntouched : List Word → Option (List File) → ℕ → Wires → Wires → Type 0
+AreUntouched words files status old new = (new ≡ old) ⊎ HasLacked words files status old new
 
 -- ---- the run
 
@@ -98,7 +102,7 @@ AreUntouched words status old new = (new ≡ old) ⊎ (AskRun words × HasLacked
 -- what is kept (`row`, `only`), in both directions off its world (`reads`), and gives the status. What the history writes was printed, and behind
 -- it what is said of the history and the line of the standing; where a write failed or memory lacked, a front of these was. And the wires, which
 -- told `before` and tell `after`, were used in the run; one that was never in use was asked nothing; and each question about an act was put to
--- the wire in use just before its event
+-- the wire in use, in the world before the event of its number, or before the one that would come next
 pub record IsRun (f : Frame) (name : Action → List ℕ) (says : List Line → List ℕ) (k : Kept) (status : ℕ) (old new : Option (List ℕ))
     (before after : List (List Asked)) : Type 0 where
   pub world : World
@@ -111,9 +115,9 @@ pub record IsRun (f : Frame) (name : Action → List ℕ) (says : List Line → 
   pub limited : (what : What) (number : ℕ) → limit f world ≡ Some (what, number) → standing f world ≡ Limit what number
   pub ends : EndsAs (standing_status (standing f world)) status
   pub lacked : standing f world ≡ Going → status ≡ NO_MEMORY
-  pub printed :
-      Grew old new (Ends (standing_status (standing f world)) status
-      (output_of k.book.items ++ (says k.book.items ++ ending_line name f.settings.turns (standing f world) k.processes.items)))
+  pub line : List ℕ
+  pub line_is : IsEndingLine name f.settings.turns (standing f world) k.processes.items line
+  pub printed : Grew old new (Ends (standing_status (standing f world)) status (output_of k.book.items ++ (says k.book.items ++ line)))
   pub told : HaveToldOn before after
   pub used : WereUsedSo (standing f world) f k.events.items world (asked_since before after)
   pub unused : NoneAskedBehind world.swaps (asked_since before after)

@@ -4,6 +4,7 @@ pub mod Programs
 pub mod Scripts
 pub mod Endings
 pub mod Standings
+pub mod Said
 pub mod Laws
 pub mod Kept
 pub mod Rows

@@ -1,6 +1,6 @@
 -- How a run ends by how it stands: its status, and what is said behind its output: its history, where that is asked for, and the line of its
 -- status (docs/FORMATS.md, Statuses, Histories).
-use Rattle.std.specs.Prelude.{Bool, ℕ, suc, ◌==◌, if◌then◌else◌, List, [], ◌∷◌, Option, None, Some, Result, Ok, Err}
+use Rattle.std.specs.Prelude.{◌≡◌, ◌<◌, Bool, ℕ, ◌==◌, if◌then◌else◌, List, [], Option, None, Some, Result, Ok, Err, slice_get}
 use Rattle.orca_base.specs.declared.fault.FaultKind.{FaultKind}
 use Rattle.orca_io.specs.declared.sink.SinkFault.{SinkFault}
 use Rattle.orca_io.specs.declared.sink.SinkFault.TheVariants as faults
@@ -46,15 +46,7 @@ run_status OutOfEvents printed = write_status OUT_OF_EVENTS printed
 run_status OutOfTurns printed = write_status OUT_OF_TURNS printed
 run_status (Limit what number) printed = write_status LIMIT printed
 
--- ---- the lowest process of which there is something to say, and that; the numbers begin here
-
-abbrev pub or_later : {A : Type 0} → ℕ → Option A → Option (ℕ × A) → Option (ℕ × A)
-or_later number (Some said) later = Some (number, said)
-or_later number None later = later
-
-abbrev pub first_of : {A : Type 0} → (ProcessEnd → Option A) → ℕ → List ProcessEnd → Option (ℕ × A)
-first_of says number [] = None
-first_of says number (end ∷ ends) = or_later number (says end) (first_of says (suc number) ends)
+-- ---- what there is to say of a process
 
 -- how it faulted; the action to which it waits for a reply; that it took so many turns
 abbrev pub fault_of : ProcessStanding → Option FaultKind
@@ -74,14 +66,11 @@ awaited_of process.Crashed = None
 abbrev pub spent_of : ℕ → ProcessEnd → Option Unit
 spent_of turns end = if end.turns == turns then Some tt else None
 
-abbrev pub first_faulted : List ProcessEnd → Option (ℕ × FaultKind)
-first_faulted ends = first_of (λ (end : ProcessEnd). fault_of end.standing) 0 ends
-
-abbrev pub first_waiting : List ProcessEnd → Option (ℕ × Action)
-first_waiting ends = first_of (λ (end : ProcessEnd). awaited_of end.standing) 0 ends
-
-abbrev pub first_spent : ℕ → List ProcessEnd → Option (ℕ × Unit)
-first_spent turns ends = first_of (spent_of turns) 0 ends
+-- process n, numbered from 0, is the lowest of which there is something to say, and this is that
+abbrev pub IsLowest : {A : Type 0} → (ProcessEnd → Option A) → List ProcessEnd → ℕ → A → Type 0
+IsLowest says ends n x =
+    (end : ProcessEnd) × (slice_get ends n ≡ Some end) × (says end ≡ Some x)
+    × ((i : ℕ) (lower : ProcessEnd) → i < n → slice_get ends i ≡ Some lower → says lower ≡ None)
 
 -- ---- the history
 
@@ -98,25 +87,18 @@ awaited_name names (action.Fork text args place_on) = []
 awaited_name names action.Ended = []
 awaited_name names (action.Faulted fault) = []
 
-abbrev pub fault_said : Option (ℕ × FaultKind) → List ℕ
-fault_said None = []
-fault_said (Some one) = faulted_line one.0 one.1
-
-abbrev pub wait_said : (Action → List ℕ) → Option (ℕ × Action) → List ℕ
-wait_said name None = []
-wait_said name (Some one) = blocked_line one.0 (name one.1)
-
-abbrev pub spent_said : Option (ℕ × Unit) → List ℕ
-spent_said None = []
-spent_said (Some one) = turns_line one.0
+-- the line tells of the lowest process of which there is something to say
+abbrev pub IsOfLowest : {A : Type 0} → (ProcessEnd → Option A) → (ℕ → A → List ℕ) → List ProcessEnd → List ℕ → Type 0
+IsOfLowest {A} says told ends line = (n : ℕ) × (x : A) × IsLowest says ends n x × (line ≡ told n x)
 
 -- by the name of the operation that an action calls, the turns that each process may take, and the ends of processes
-abbrev pub ending_line : (Action → List ℕ) → ℕ → Standing → List ProcessEnd → List ℕ
-ending_line name turns Faulted ends = fault_said (first_faulted ends)
-ending_line name turns Blocked ends = wait_said name (first_waiting ends)
-ending_line name turns NoGroup ends = no_group_line
-ending_line name turns OutOfEvents ends = events_line
-ending_line name turns OutOfTurns ends = spent_said (first_spent turns ends)
-ending_line name turns (Limit what number) ends = limit_line (what_name what) number
-ending_line name turns Finished ends = []
-ending_line name turns Going ends = []
+abbrev pub IsEndingLine : (Action → List ℕ) → ℕ → Standing → List ProcessEnd → List ℕ → Type 0
+IsEndingLine name turns Faulted ends line = IsOfLowest (λ (end : ProcessEnd). fault_of end.standing) faulted_line ends line
+IsEndingLine name turns Blocked ends line =
+    IsOfLowest (λ (end : ProcessEnd). awaited_of end.standing) (λ n act. blocked_line n (name act)) ends line
+IsEndingLine name turns NoGroup ends line = line ≡ no_group_line
+IsEndingLine name turns OutOfEvents ends line = line ≡ events_line
+IsEndingLine name turns OutOfTurns ends line = IsOfLowest (spent_of turns) (λ n spent. turns_line n) ends line
+IsEndingLine name turns (Limit what number) ends line = line ≡ limit_line (what_name what) number
+IsEndingLine name turns Finished ends line = line ≡ []
+IsEndingLine name turns Going ends line = line ≡ []

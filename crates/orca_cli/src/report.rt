@@ -8,7 +8,8 @@ ghost use Rattle.history_text.specs.Sound.{AreTables, IsPrintable};
 ghost use Rattle.world_rules.specs.declared.standing.Standing.TheVariants.{Going};
 ghost use Rattle.orca_cli.specs.Lines.{line_with};
 ghost use Rattle.command_output.specs.Printed.{Ends, EndsAs, Grew, HasStopped, WroteOf};
-ghost use Rattle.orca_cli.specs.Standings.{awaited_name, awaited_of, ending_line, fault_of, fault_said, first_faulted, first_spent, first_waiting, history_said, run_status, spent_said, standing_status, wait_said};
+ghost use Rattle.orca_cli.specs.Said.{ending_line, fault_said, first_faulted, first_spent, first_waiting, spent_said, wait_said};
+ghost use Rattle.orca_cli.specs.Standings.{awaited_name, awaited_of, fault_of, history_said, run_status, standing_status};
 
 use crate::lines::{
     blocked_line, events_line, faulted_line, no_group_line, run_limit_line, turns_line,

@@ -1,6 +1,6 @@
 //! The top call.
 
-ghost use Rattle.std.specs.Prelude.{◌≡◌, ◌⊎◌, ◌<◌, ◌≤◌, ℕ, List, None, IfNone, IfSome, OnOk, Option, Some, length, map, option_map, string_bytes};
+ghost use Rattle.std.specs.Prelude.{◌≡◌, ◌⊎◌, ◌<◌, ◌≤◌, ℕ, List, None, IfNone, IfSome, OnErr, OnOk, Option, Some, length, map, option_map, string_bytes};
 ghost use Rattle.command_line.specs.Asked.{IsRunWithin};
 ghost use Rattle.orca_base.specs.Refusal.{IfBecause};
 ghost use Rattle.orca_io.specs.Causes.{Rose};
@@ -12,10 +12,10 @@ ghost use Rattle.orca_front.specs.Sources.{IsAccepted, file_of};
 ghost use Rattle.program_names.specs.Naming.{HistoriesNamed};
 ghost use Rattle.history_commands.specs.ReadBack.{ReadsBack};
 ghost use Rattle.history_text.specs.Sound.{AreTables};
-ghost use Rattle.run_loop.specs.Asked.{HaveToldOn};
+ghost use Rattle.run_loop.specs.Asked.{HaveToldOn, WereAskedIn};
 ghost use Rattle.run_loop.specs.Left.{run_of};
 ghost use Rattle.orca_cli.specs.Endings.{IsAnswer};
-ghost use Rattle.orca_cli.specs.Headline.{AreLoaded, AreUntouched, HasLacked, IsProgramRun, IsRun, IsRunOf, KeepScripts, settings_of, wires_of};
+ghost use Rattle.orca_cli.specs.Headline.{AreLoaded, AreUntouched, IsProgramRun, IsRun, IsRunOf, WasBegun, settings_of, wires_of};
 ghost use Rattle.command_files.specs.Sources.{Word};
 ghost use Rattle.orca_cli.specs.Job.{checks, deed_in, files_in, runs, script_in};
 ghost use Rattle.orca_cli.specs.Laws.{RunLaws};
@@ -153,7 +153,8 @@ fn load_first<W: Wire>(alloc: Global, script: &Script, wires: &mut [W]) -> Resul
     requires { 1 ≤ length wires.old }
     ensures loaded { OnOk result (AreLoaded script.now
         (wires_of W.told W.told_script W.loaded wires.old) (wires_of W.told W.told_script W.loaded wires.new)) }
-    ensures others { KeepScripts (wires_of W.told W.told_script W.loaded wires.old) (wires_of W.told W.told_script W.loaded wires.new) }
+    ensures unchanged { OnErr result
+        (wires_of W.told W.told_script W.loaded wires.new ≡ wires_of W.told W.told_script W.loaded wires.old) }
     ensures told { map W.told wires.new ≡ map W.told wires.old }
     ensures count { length wires.new ≡ length wires.old }
 {
@@ -194,6 +195,9 @@ fn run_loaded<K: Sink, W: Wire>(
     ensures back { IfSome result.kept (λ k.
         ReadsBack (performs_of (units_of machine.now)) (computes_of (units_of machine.now)) names.now k.book.items) }
     ensures told { HaveToldOn (map W.told wires.old) (map W.told wires.new) }
+    ensures asked { WereAskedIn
+        (run_of (performs_of (units_of machine.now)) (computes_of (units_of machine.now)) (settings_of options (length wires.old)))
+        (map W.told wires.old) (map W.told wires.new) }
     ensures scripts { map W.told_script wires.new ≡ map W.told_script wires.old }
     ensures loaded { map W.loaded wires.new ≡ map W.loaded wires.old }
     ensures later { K.faults out.old ≤ K.faults out.new }
@@ -234,6 +238,9 @@ fn run_named<K: Sink, W: Wire>(
     ensures kept { IfSome result.kept (λ k. IsProgramRun (units_of machine.now) options (length wires.old) k result.status
         (K.told out.old) (K.told out.new) (map W.told wires.old) (map W.told wires.new)) }
     ensures told { HaveToldOn (map W.told wires.old) (map W.told wires.new) }
+    ensures asked { WereAskedIn
+        (run_of (performs_of (units_of machine.now)) (computes_of (units_of machine.now)) (settings_of options (length wires.old)))
+        (map W.told wires.old) (map W.told wires.new) }
     ensures scripts { map W.told_script wires.new ≡ map W.told_script wires.old }
     ensures loaded { map W.loaded wires.new ≡ map W.loaded wires.old }
     ensures later { K.faults out.old ≤ K.faults out.new }
@@ -246,7 +253,7 @@ fn run_named<K: Sink, W: Wire>(
     }
 }
 
-// Runs a program with this script, and tells what came of it. Where memory lacks before the run begins, nothing was asked.
+// Runs a program with this script, and tells what came of it. Where memory lacks for the script, the wires are as before.
 fn run_program<K: Sink, W: Wire>(
     alloc: Global,
     machine: &TreeMachine<'_>,
@@ -262,8 +269,10 @@ fn run_program<K: Sink, W: Wire>(
         (K.told out.old) (K.told out.new) (map W.told wires.old) (map W.told wires.new)) }
     ensures loaded { IfSome result.kept (λ k. AreLoaded script.now
         (wires_of W.told W.told_script W.loaded wires.old) (wires_of W.told W.told_script W.loaded wires.new)) }
-    ensures others { KeepScripts (wires_of W.told W.told_script W.loaded wires.old) (wires_of W.told W.told_script W.loaded wires.new) }
-    ensures told { HaveToldOn (map W.told wires.old) (map W.told wires.new) }
+    ensures untouched { IfNone result.kept (
+        (wires_of W.told W.told_script W.loaded wires.new ≡ wires_of W.told W.told_script W.loaded wires.old) ⊎
+        WasBegun (units_of machine.now) options script.now
+        (wires_of W.told W.told_script W.loaded wires.old) (wires_of W.told W.told_script W.loaded wires.new)) }
     ensures later { K.faults out.old ≤ K.faults out.new }
     ensures failed { result.status ≡ WRITE_FAULT → Rose (K.faults out.old) (K.faults out.new) }
     ensures stopped { K.faults out.old < K.faults out.new → HasStopped result.status }
@@ -294,8 +303,9 @@ fn run_files<F: Shelf, K: Sink, W: Wire>(
         deed_in words ≡ Some (runs options (option_map (λ f. f.now) script.entry) (map (λ f. f.now) files.now)) →
         IfSome result.kept (λ k. IsRunOf words (F.told shelf.old) k result.status (K.told out.old) (K.told out.new)
         (wires_of W.told W.told_script W.loaded wires.old) (wires_of W.told W.told_script W.loaded wires.new)) }
-    ensures untouched { IfNone result.kept (
-        (wires_of W.told W.told_script W.loaded wires.new ≡ wires_of W.told W.told_script W.loaded wires.old) ⊎ HasLacked result.status
+    ensures untouched { (words : List Word) →
+        deed_in words ≡ Some (runs options (option_map (λ f. f.now) script.entry) (map (λ f. f.now) files.now)) →
+        IfNone result.kept (AreUntouched words (F.told shelf.old) result.status
         (wires_of W.told W.told_script W.loaded wires.old) (wires_of W.told W.told_script W.loaded wires.new)) }
     ensures same { F.told shelf.new ≡ F.told shelf.old }
     ensures read { F.faults shelf.old ≤ F.faults shelf.new }
@@ -338,7 +348,7 @@ fn does<F: Shelf, K: Sink, W: Wire>(
     requires wires { (1 ≤ length wires.old) × (length wires.old ≤ 1000) }
     ensures refused { IfNone result.kept (IsAnswer (map string_bytes words.now) (F.told shelf.old)
         (Rose (F.faults shelf.old) (F.faults shelf.new)) (K.told out.old) (K.told out.new) result.status) }
-    ensures untouched { IfNone result.kept (AreUntouched (map string_bytes words.now) result.status
+    ensures untouched { IfNone result.kept (AreUntouched (map string_bytes words.now) (F.told shelf.old) result.status
         (wires_of W.told W.told_script W.loaded wires.old) (wires_of W.told W.told_script W.loaded wires.new)) }
     ensures headline { IfSome result.kept (λ k. IsRunOf (map string_bytes words.now) (F.told shelf.old) k result.status
         (K.told out.old) (K.told out.new)
@@ -386,11 +396,11 @@ pub fn orca_main<F: Shelf, K: Sink>(
 ) -> Ended
     requires wires { (1 ≤ length wires.old.items) × (length wires.old.items ≤ 1000) }
 
-    // Nothing was run: an ending by its cause, with its line, or want of memory. The wires are as they were, unless the words ask for a run
-    // and memory lacked.
+    // Nothing is kept: an ending by its cause, with its line, or want of memory. What the wires tell, their scripts, and when these were loaded,
+    // are as before, unless memory lacked for the run that the words name: then that was begun.
     ensures refused { IfNone result.kept (IsAnswer (map string_bytes words.now) (F.told shelf.old)
         (Rose (F.faults shelf.old) (F.faults shelf.new)) (K.told out.old) (K.told out.new) result.status) }
-    ensures untouched { IfNone result.kept (AreUntouched (map string_bytes words.now) result.status
+    ensures untouched { IfNone result.kept (AreUntouched (map string_bytes words.now) (F.told shelf.old) result.status
         (wires_of (λ b. (Wire-box b).told b.value) (λ b. (Wire-box b).told_script b.value) (λ b. (Wire-box b).loaded b.value)
         wires.old.items)
         (wires_of (λ b. (Wire-box b).told b.value) (λ b. (Wire-box b).told_script b.value) (λ b. (Wire-box b).loaded b.value)

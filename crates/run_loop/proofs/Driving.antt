@@ -25,11 +25,11 @@ use Rattle.world_facts.specs.Counted.{AllCounted, count_swaps, is_swap}
 use Rattle.world_facts.specs.Rows.{AllRead}
 use Rattle.world_parts.specs.Seen.{Seen, tasks_out}
 use Rattle.world_core.specs.Stepping.{HasComputed, IsRefused, Stepped, told_so}
-use Rattle.run_loop.specs.Asked.{AreInTime, AreUpTo, HaveToldOn, NoneAskedBehind, WereUsedSo, asked_since}
-use Rattle.run_loop.specs.Driven.{HasAnswered, HasStopped, IsDriven, IsDue, IsGoing, MayGoOn, WentOn, told_more}
+use Rattle.run_loop.specs.Asked.{AreBelow, AreInTime, HaveToldOn, NoneAskedBehind, WereUsedSo, WereUsedUpTo, asked_since}
+use Rattle.run_loop.specs.Driven.{HasAnswered, HasStopped, IsDriven, IsDrivenTo, IsDue, IsGoing, MayGoOn, WentOn, told_more}
 use Rattle.run_loop.proofs.Due.{refused_passes}
 use Rattle.run_loop.proofs.Telling.{none_since, since_here, since_other, tells_itself, tells_on}
-use Rattle.run_loop.proofs.Using.{AskedAct, AskedPackets, IsUsed, acts_same, all_accounted, answer_is, asked_is, before_next, before_stays, given_asked, in_time_asked, in_time_none, in_time_stepped, is_used, numbers_asked, step_last, still_used, up_to_more, used_asked, used_stepped}
+use Rattle.run_loop.proofs.Using.{AskedAct, AskedPackets, IsUsed, acts_same, all_accounted, answer_is, asked_is, before_next, before_stays, given_asked, in_time_asked, in_time_none, in_time_stepped, is_used, numbers_asked, step_last, still_used, below_more, used_asked, used_stepped}
 
 -- ---- steps
 
@@ -70,6 +70,18 @@ swaps_step f steps w v step count replays next =
 
 -- ---- before the run
 
+no_step : (n : ℕ) (step : Step) → entry_at [] n ≡ Some step → ⊥
+no_step zero step e = cc e
+no_step (suc n) step e = cc e
+
+pub opens_used : (f : Frame) (told : List (List Asked)) → WereUsed f [] (opening_world f) (asked_since told told)
+opens_used f told = record {
+  packets = λ wire. ap packets_in (none_since told wire);
+  acts = λ n step there plain. absurd (no_step n step there);
+  caused = λ n step act there is. absurd (no_step n step there);
+  given = λ wire. subst (λ (l : List Asked). AreAccounted f [] (acts_in l)) (sym (none_since told wire)) tt;
+}
+
 pub opens : {S : Type 0} (f : Frame) (s : Seen S) (told : List (List Asked)) → s.steps ≡ [] → tasks_out s ≡ 0 → length told ≡ f.settings.wires → AreSettings f.settings → IsDriven f s 0 told told
 opens f s told none idle wires settings = record {
   world = opening_world f;
@@ -78,22 +90,13 @@ opens f s told none idle wires settings = record {
   within = let some = settings.a_wire in omega (arith, wires, some);
   wires = wires;
   told = tells_itself told;
-  used = subst (λ (steps : List Step). WereUsed f steps (opening_world f) (asked_since told told)) (sym none) (record {
-    packets = λ wire. ap packets_in (none_since told wire);
-    acts = λ n step there plain. absurd (no_step n step there);
-    caused = λ n step act there is. absurd (no_step n step there);
-    given = λ wire. subst (λ (l : List Asked). AreAccounted f [] (acts_in l)) (sym (none_since told wire)) tt;
-  });
+  used = subst (λ (steps : List Step). WereUsed f steps (opening_world f) (asked_since told told)) (sym none) (opens_used f told);
   unused = λ wire lt. none_since told wire;
   in_time = in_time_none f s.steps (asked_since told told) (none_since told);
-  numbers = λ wire. subst (λ (l : List Asked). AreUpTo (suc (length s.steps)) (acts_in l)) (sym (none_since told wire)) tt;
+  numbers = λ wire. subst (λ (l : List Asked). AreBelow (suc (length s.steps)) (acts_in l)) (sym (none_since told wire)) tt;
   idle = idle;
   settings = settings;
 }
-  where
-    no_step : (n : ℕ) (step : Step) → entry_at [] n ≡ Some step → ⊥
-    no_step zero step e = cc e
-    no_step (suc n) step e = cc e
 
 -- ---- the wire in use was asked about an act
 
@@ -118,16 +121,16 @@ module _ {S : Type 0} (f : Frame) (s : Seen S) (in_use : ℕ) (old new : List (L
   unused_asked wire lt = asks.others wire (λ e. absurd (omega (arith, lt, e))) ∙ h.driven.unused wire lt
 
   -- it was asked in time
-  pub in_time_now : AllCounted → AreInTime f s.steps (asked_since old new)
-  in_time_now count =
+  pub in_time_now : AllCounted → IsGoing f s → AreInTime f s.steps (asked_since old new)
+  in_time_now count going =
       let d = h.driven in
       in_time_asked in_use (suc (length s.steps)) answer (asked_since old h.before) (asked_since old new) asks f s.steps d.world refl
       (d.swaps ∙ (count f s.steps d.world d.replays).swaps ∙ sym (swaps_counted s.steps) ∙ ap swaps_in (sym (before_next s.steps)))
-      d.replays (d.used.packets in_use) (d.numbers in_use) d.in_time
+      d.replays (going d.world d.replays) (d.used.packets in_use) (d.numbers in_use) d.in_time
 
   -- where what it gave is accounted for, the run may go on
-  pub goes_on : AllCounted → IsAccounted f s.steps (suc (length s.steps)) answer → MayGoOn f s in_use old new
-  goes_on count fine = record {
+  pub goes_on : AllCounted → IsGoing f s → IsAccounted f s.steps (suc (length s.steps)) answer → MayGoOn f s in_use old new
+  goes_on count going fine = record {
     driven = record {
       world = h.driven.world;
       replays = h.driven.replays;
@@ -137,8 +140,8 @@ module _ {S : Type 0} (f : Frame) (s : Seen S) (in_use : ℕ) (old new : List (L
       told = tells_asked;
       used = used_asked in_use (suc (length s.steps)) answer (asked_since old h.before) (asked_since old new) asks f s.steps h.driven.world refl h.driven.used fine;
       unused = unused_asked;
-      in_time = in_time_now count;
-      numbers = numbers_asked in_use (suc (length s.steps)) answer (asked_since old h.before) (asked_since old new) asks (suc (length s.steps)) (omega arith) h.driven.numbers;
+      in_time = in_time_now count going;
+      numbers = numbers_asked in_use (suc (length s.steps)) answer (asked_since old h.before) (asked_since old new) asks h.driven.numbers;
       idle = h.driven.idle;
       settings = h.driven.settings;
     };
@@ -162,37 +165,41 @@ module _ {S : Type 0} (f : Frame) (s : Seen S) (in_use : ℕ) (old new : List (L
       others = λ wire apart. asks.others wire (λ e. apart (e ∙ h.driven.swaps));
     };
     unused = subst (λ k. NoneAskedBehind k (asked_since old new)) h.driven.swaps unused_asked;
-    in_time = in_time_now count;
+    in_time = in_time_now count going;
   }
 
 -- it gave nothing; or what may not be, which is passed over
-pub gives_nothing : {S : Type 0} (f : Frame) (s : Seen S) (in_use : ℕ) (old new : List (List Asked)) → AllCounted → HasAnswered f s in_use old new None → MayGoOn f s in_use old new
-gives_nothing f s in_use old new count h = goes_on f s in_use old new None h count tt
+pub gives_nothing : {S : Type 0} (f : Frame) (s : Seen S) (in_use : ℕ) (old new : List (List Asked)) → AllCounted → HasAnswered f s in_use old new None → IsGoing f s → MayGoOn f s in_use old new
+gives_nothing f s in_use old new count h going = goes_on f s in_use old new None h count going tt
 
 pub passes_over : {S : Type 0} (f : Frame) (s : Seen S) (in_use : ℕ) (old new : List (List Asked)) (act : WireAct) → AllCounted → HasAnswered f s in_use old new (Some act) → IsGoing f s → IsRefused f (event_of act) s → MayGoOn f s in_use old new
 passes_over f s in_use old new act count h going refused =
     let w = h.driven.world in
-    goes_on f s in_use old new (Some act) h count (inr (
+    goes_on f s in_use old new (Some act) h count going (inr (
       w,
       subst (λ (l : List Step). Replays f l w) (sym (before_next s.steps)) h.driven.replays,
       refused_passes f w act (going w h.driven.replays) (refused w h.driven.replays),
     ))
 
+-- the network was used, with no last question
+pub all_used : (f : Frame) (steps : List Step) (w : World) (asked : ℕ → List Asked) → WereUsed f steps w asked → WereUsedUpTo f steps w asked
+all_used f steps w asked used = record {
+  before = asked;
+  last = [];
+  used = used;
+  question = inl refl;
+  in_use = sym (append-nil (asked w.swaps));
+  others = λ wire apart. refl;
+}
+
 -- memory lacked where nothing was asked, or what was asked is accounted for
-pub stops : {S : Type 0} (f : Frame) (s : Seen S) (in_use : ℕ) (old new : List (List Asked)) → IsDriven f s in_use old new → IsGoing f s → HasStopped f s old new
-stops f s in_use old new d going = record {
+pub stops : {S : Type 0} (f : Frame) (s : Seen S) (next in_use : ℕ) (old new : List (List Asked)) → IsDrivenTo f s next in_use old new → IsGoing f s → HasStopped f s old new
+stops f s next in_use old new d going = record {
   world = d.world;
   replays = d.replays;
   going = going d.world d.replays;
   told = d.told;
-  used = record {
-    before = asked_since old new;
-    last = [];
-    used = d.used;
-    question = inl refl;
-    in_use = sym (append-nil (asked_since old new d.world.swaps));
-    others = λ wire apart. refl;
-  };
+  used = all_used f s.steps d.world (asked_since old new) d.used;
   unused = subst (λ k. NoneAskedBehind k (asked_since old new)) d.swaps d.unused;
   in_time = d.in_time;
 }
@@ -212,7 +219,7 @@ pub record Does {S : Type 0} (f : Frame) (s after : Seen S) (in_use : ℕ) (new 
 
 module _ {S : Type 0} (f : Frame) (s after : Seen S) (in_use next_use : ℕ) (old new told : List (List Asked)) (step : Step) (count : AllCounted)
     (w : World) (replays : Replays f s.steps w) (swaps : in_use ≡ w.swaps) (within : in_use < length new) (wires : length new ≡ f.settings.wires) (tells : HaveToldOn old new)
-    (used : IsUsed f s.steps w (asked_since old new)) (given : (wire : ℕ) → AreAccounted f (s.steps ++ step ∷ []) (acts_in (asked_since old new wire))) (numbers : (wire : ℕ) → AreUpTo (suc (length s.steps)) (acts_in (asked_since old new wire)))
+    (used : IsUsed f s.steps w (asked_since old new)) (given : (wire : ℕ) → AreAccounted f (s.steps ++ step ∷ []) (acts_in (asked_since old new wire))) (numbers : (wire : ℕ) → AreBelow (suc (suc (length s.steps))) (acts_in (asked_since old new wire)))
     (settings : AreSettings f.settings) (does_it : Does f s after in_use new told w step) where
   abbrev all : List Step
   all = s.steps ++ step ∷ []
@@ -256,9 +263,9 @@ module _ {S : Type 0} (f : Frame) (s after : Seen S) (in_use next_use : ℕ) (ol
       in_time = subst (λ (l : List Step). AreInTime f l (asked_since old told)) (sym does_it.steps)
           (in_time_stepped in_use does_it.more (asked_since old new) (asked_since old told) packets f s.steps step in_time);
       numbers = λ wire.
-          subst (λ (l : List Step). AreUpTo (suc (length l)) (acts_in (asked_since old told wire))) (sym does_it.steps)
-          (subst (λ (l : List (ℕ × Option WireAct)). AreUpTo (suc (length all)) l) (sym (acts_same in_use does_it.more (asked_since old new) (asked_since old told) packets wire))
-          (up_to_more (suc (length s.steps)) (suc (length all)) (acts_in (asked_since old new wire)) (let longer = one_longer s.steps step in omega (arith, longer)) (numbers wire)));
+          subst (λ (l : List Step). AreBelow (suc (length l)) (acts_in (asked_since old told wire))) (sym does_it.steps)
+          (subst (λ (l : List (ℕ × Option WireAct)). AreBelow (suc (length all)) l) (sym (acts_same in_use does_it.more (asked_since old new) (asked_since old told) packets wire))
+          (below_more (suc (suc (length s.steps))) (suc (length all)) (acts_in (asked_since old new wire)) (let longer = one_longer s.steps step in omega (arith, longer)) (numbers wire)));
       idle = does_it.idle;
       settings = settings;
     };
@@ -360,9 +367,9 @@ due_done f s after in_use old new told what prior now count on due st same put t
     (omega (arith, within, length_is))
 
 -- the wire's act was done
-pub act_done : {S : Type 0} (f : Frame) (s after : Seen S) (in_use next_use : ℕ) (old new told : List (List Asked)) (act : WireAct) (prior now : List Asked) → AllCounted → HasAnswered f s in_use old new (Some act)
+pub act_done : {S : Type 0} (f : Frame) (s after : Seen S) (in_use next_use : ℕ) (old new told : List (List Asked)) (act : WireAct) (prior now : List Asked) → AllCounted → HasAnswered f s in_use old new (Some act) → IsGoing f s
     → Stepped f (event_of act) s after prior now → prior ≡ slice_index_or new in_use [] → told ≡ slice_set new in_use now → tasks_out after ≤ tasks_out s → next_use ≡ in_use + swaps_by (event_of act) → next_use < length told → WentOn f s after next_use old told
-act_done f s after in_use next_use old new told act prior now count h st same put tasks moves low =
+act_done f s after in_use next_use old new told act prior now count h going st same put tasks moves low =
     let d = h.driven in
     let idle = d.idle in
     let within = d.within in
@@ -374,15 +381,15 @@ act_done f s after in_use next_use old new told act prior now count h st same pu
     driven_on f s after in_use next_use old new told st.step count d.world d.replays d.swaps (omega (arith, within, longer)) (longer ∙ d.wires) (tells_asked f s in_use old new (Some act) h)
     (still_used in_use n (Some act) before_it since asked f s.steps d.world refl d.used)
     (given_asked in_use n (Some act) before_it since asked f (s.steps ++ st.step ∷ [])
-    (λ wire. all_accounted f s.steps st.step (acts_in (before_it wire)) (d.numbers wire) (d.used.given wire))
+    (λ wire. all_accounted f s.steps st.step (acts_in (before_it wire)) (below_more n (suc n) (acts_in (before_it wire)) (omega arith) (d.numbers wire)) (d.used.given wire))
     (inl (st.step, step_last s.steps st.step, st.event_is)))
-    (numbers_asked in_use n (Some act) before_it since asked n (omega arith) d.numbers)
+    (numbers_asked in_use n (Some act) before_it since asked d.numbers)
     d.settings
     (stepped_is f s after in_use new told (event_of act) prior now d.world count d.replays d.swaps st (act_swaps act) same put (omega (arith, tasks, idle)))
     (λ plain. (Some act, asked_is in_use n (Some act) before_it since asked))
     (λ other is. answer_is in_use n (Some act) before_it since asked ∙ ap (λ (a : WireAct). Some (Some a)) (same_act act other (sym st.event_is ∙ is)))
     (unused_asked f s in_use old new (Some act) h)
-    (in_time_now f s in_use old new (Some act) h count)
+    (in_time_now f s in_use old new (Some act) h count going)
     (moves ∙ ap (λ (e : Event). in_use + swaps_by e) (sym st.event_is))
     low
 
@@ -439,6 +446,16 @@ ended_so NoGroup f steps w asked over used = used
 ended_so Faulted f steps w asked over used = used
 ended_so Blocked f steps w asked over used = used
 ended_so Finished f steps w asked over used = used
+
+pub used_up_to : (stands : Standing) (f : Frame) (steps : List Step) (w : World) (asked : ℕ → List Asked) → WereUsedSo stands f steps w asked → WereUsedUpTo f steps w asked
+used_up_to Going f steps w asked used = used
+used_up_to (Limit what number) f steps w asked used = all_used f steps w asked used
+used_up_to OutOfTurns f steps w asked used = all_used f steps w asked used
+used_up_to OutOfEvents f steps w asked used = all_used f steps w asked used
+used_up_to NoGroup f steps w asked used = all_used f steps w asked used
+used_up_to Faulted f steps w asked used = all_used f steps w asked used
+used_up_to Blocked f steps w asked used = all_used f steps w asked used
+used_up_to Finished f steps w asked used = all_used f steps w asked used
 
 -- of whichever world it is, by how that stands
 pub used_over : {S : Type 0} (f : Frame) (s : Seen S) (in_use : ℕ) (old new : List (List Asked)) (stands : Standing) → (d : IsDriven f s in_use old new) → stands ≡ standing f d.world → (stands ≡ Going → ⊥)

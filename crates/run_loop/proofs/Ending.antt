@@ -1,5 +1,5 @@
 -- A run from its opening to what is kept of it.
-use Rattle.std.proofs.Common.{◌≡◌, ◌∙◌, ◌≢◌, ℕ, List, [], length, IfSome, Result, Ok, Err, IfOk, OnErr, OnOk, ap, sym, subst}
+use Rattle.std.proofs.Common.{◌≡◌, ◌∙◌, ◌≢◌, ℕ, List, [], length, IfSome, Result, Ok, Err, IfOk, OnErr, OnOk, ap, sym, subst, refl}
 use Rattle.std.specs.Result.{result_ok}
 use Rattle.net_rules.specs.declared.asked.Asked.{Asked}
 use Rattle.orca_base.specs.declared.refusal.NoMemory.{NoMemory}
@@ -10,16 +10,18 @@ use Rattle.world_rules.specs.declared.event.Step.{Step}
 use Rattle.world_rules.specs.Frame.{AreSettings, Frame}
 use Rattle.world_rules.specs.Standings as rules
 use Rattle.world_rules.specs.Steps.{Replays}
-use Rattle.world_rules.specs.Worlds.{Book, World}
+use Rattle.world_rules.specs.Worlds.{Book, World, opening_world}
 use Rattle.world_book.specs.Promise.{AllStuck, IsKept}
 use Rattle.world_parts.specs.Choosing.{longest_log}
 use Rattle.world_parts.specs.Seen.{Of, Seen, tasks_out}
 use Rattle.world_core.specs.Telling.{AreNodeEnds, AreProcessEnds, EndsMean}
 use Rattle.world_core.specs.declared.ends.RunEnd.{RunEnd}
-use Rattle.run_loop.specs.Asked.{AreInTime, HaveToldOn, NoneAskedBehind, WereUsedSo, asked_since}
+use Rattle.run_loop.specs.Asked.{AreInTime, HaveToldOn, NoneAskedBehind, WereAskedIn, WereUsedSo, asked_since}
 use Rattle.run_loop.specs.Driven.{HasStopped, IsDriven}
 use Rattle.run_loop.specs.Left.{HasRun}
-use Rattle.run_loop.proofs.Driving.{opens, used_over, used_stopped}
+use Rattle.run_loop.proofs.Driving.{all_used, opens, opens_used, used_over, used_stopped, used_up_to}
+use Rattle.run_loop.proofs.Telling.{none_since}
+use Rattle.run_loop.proofs.Using.{in_time_none}
 
 -- ---- before the first event
 
@@ -58,6 +60,26 @@ gone f s in_use st old new (Err e) driven over h stands = record {
   unused = h.unused;
   in_time = h.in_time;
   told = h.told;
+}
+
+-- whatever is kept of it
+pub asked_in : {S : Type 0} (f : Frame) (s : Seen S) (st : Standing) (old new : List (List Asked)) → HasGone f s st old new → WereAskedIn f old new
+asked_in f s st old new h = record {
+  steps = s.steps;
+  world = h.world;
+  led = h.replays;
+  used = used_up_to st f s.steps h.world (asked_since old new) h.used;
+  in_time = h.in_time;
+}
+
+-- where it didn't begin
+pub asked_nothing : (f : Frame) (told : List (List Asked)) → WereAskedIn f told told
+asked_nothing f told = record {
+  steps = [];
+  world = opening_world f;
+  led = refl;
+  used = all_used f [] (opening_world f) (asked_since told told) (opens_used f told);
+  in_time = in_time_none f [] (asked_since told told) (none_since told);
 }
 
 -- what is kept of it

@@ -21,7 +21,7 @@ use Rattle.world_facts.specs.Counted.{AllCounted}
 use Rattle.world_parts.specs.Choosing.{due_act, is_ready}
 use Rattle.world_parts.specs.Seen.{Of, Seen, tasks_out}
 use Rattle.world_core.specs.Stepping.{IsRefused, Stepped}
-use Rattle.run_loop.specs.Driven.{HasAnswered, HasStopped, IsDriven, IsDue, IsGoing, MayBe, MayGoOn, WentOn, told_more}
+use Rattle.run_loop.specs.Driven.{HasAnswered, HasStopped, IsDriven, IsDrivenTo, IsDue, IsGoing, MayBe, MayGoOn, WentOn, told_more}
 use Rattle.run_loop.proofs.Due.{act_may, deliver_may, tick_may}
 use Rattle.run_loop.proofs.Driving.{act_done, due_done, gives_nothing, passes_over, same_length, stops, stops_asked}
 use Rattle.run_loop.proofs.Telling.{kept_at, put_at, told_at}
@@ -50,8 +50,8 @@ wire_left f w v does.Swap step in_use is next use_is lt = let few = ltb-true w.s
 -- ---- each call
 
 -- nothing was given
-pub none_given : {S : Type 0} (f : Frame) (s : Seen S) (in_use : ℕ) (old new : List (List Asked)) (act : Option WireAct) → AllCounted → act ≡ None → HasAnswered f s in_use old new act → MayGoOn f s in_use old new
-none_given f s in_use old new act count is h = gives_nothing f s in_use old new count (subst (HasAnswered f s in_use old new) is h)
+pub none_given : {S : Type 0} (f : Frame) (s : Seen S) (in_use : ℕ) (old new : List (List Asked)) (act : Option WireAct) → AllCounted → act ≡ None → HasAnswered f s in_use old new act → IsGoing f s → MayGoOn f s in_use old new
+none_given f s in_use old new act count is h going = gives_nothing f s in_use old new count (subst (HasAnswered f s in_use old new) is h) going
 
 pub some_given : {S : Type 0} (f : Frame) (s : Seen S) (in_use : ℕ) (old new : List (List Asked)) (given : Option WireAct) (act : WireAct) → given ≡ Some act → HasAnswered f s in_use old new given → HasAnswered f s in_use old new (Some act)
 some_given f s in_use old new given act is h = subst (HasAnswered f s in_use old new) is h
@@ -67,9 +67,9 @@ module _ {W S : Type 0} (told : W → List Asked) (wires : List W) (first wire :
       due_done f s after in_use old (map told wires) (map told (set wires in_use wire)) what (told (get_or wires in_use first)) (told wire) count on due st
       (there on.driven.within) (put_at told wires in_use wire) tasks
 
-  pub act_by : (act : WireAct) (what : Event) (swaps : ℕ) → AllCounted → HasAnswered f s in_use old (map told wires) (Some act) → what ≡ event_of act → swaps ≡ swaps_by (event_of act)
+  pub act_by : (act : WireAct) (what : Event) (swaps : ℕ) → AllCounted → HasAnswered f s in_use old (map told wires) (Some act) → IsGoing f s → what ≡ event_of act → swaps ≡ swaps_by (event_of act)
       → Stepped f what s after (told (get_or wires in_use first)) (told wire) → tasks_out after ≤ tasks_out s → WentOn f s after (in_use + swaps) old (map told (set wires in_use wire))
-  act_by act what swaps count h event_is swaps_is done tasks =
+  act_by act what swaps count h going event_is swaps_is done tasks =
       let d = h.driven in
       let within = d.within in
       let many = d.wires in
@@ -78,7 +78,7 @@ module _ {W S : Type 0} (told : W → List Asked) (wires : List W) (first wire :
       let st : Stepped f (event_of act) s after (told (get_or wires in_use first)) (told wire) = subst (λ (e : Event). Stepped f e s after (told (get_or wires in_use first)) (told wire)) event_is done in
       let led = st.leads d.world d.replays in
       let left = wire_left f d.world led.world act st.step in_use st.event_is led.next d.swaps (omega (arith, within, many)) in
-      act_done f s after in_use (in_use + swaps) old (map told wires) (map told (set wires in_use wire)) act (told (get_or wires in_use first)) (told wire) count h st
+      act_done f s after in_use (in_use + swaps) old (map told wires) (map told (set wires in_use wire)) act (told (get_or wires in_use first)) (told wire) count h going st
       (there (omega (arith, within, same))) (put_at told wires in_use wire) tasks (ap (λ (n : ℕ). in_use + n) swaps_is) (omega (arith, left, swaps_is, put, same, many))
 
   pub passed_by : (act : WireAct) (what : Event) → AllCounted → HasAnswered f s in_use old (map told wires) (Some act) → IsGoing f s → what ≡ event_of act → IsRefused f what s → after ≡ s → told wire ≡ (told (get_or wires in_use first))
@@ -96,12 +96,12 @@ module _ {W S : Type 0} (told : W → List Asked) (wires : List W) (first wire :
   pub stopped_by : MayGoOn f s in_use old (map told wires) → IsGoing f s → after ≡ s → told wire ≡ (told (get_or wires in_use first)) → HasStopped f after old (map told (set wires in_use wire))
   stopped_by on going unchanged same =
       subst (λ (x : Seen S). HasStopped f x old (map told (set wires in_use wire))) (sym unchanged)
-      (subst (HasStopped f s old) (sym (kept_at told wires in_use first wire same)) (stops f s in_use old (map told wires) on.driven going))
+      (subst (HasStopped f s old) (sym (kept_at told wires in_use first wire same)) (stops f s (suc (suc (length s.steps))) in_use old (map told wires) on.driven going))
 
 -- where the world and what wires told stayed
-pub stopped_as : {S : Type 0} (f : Frame) (s after : Seen S) (in_use : ℕ) (old was new : List (List Asked)) → IsDriven f s in_use old was → IsGoing f s → after ≡ s → new ≡ was → HasStopped f after old new
-stopped_as {S} f s after in_use old was new driven going unchanged told =
-    subst (λ (x : Seen S). HasStopped f x old new) (sym unchanged) (subst (HasStopped f s old) (sym told) (stops f s in_use old was driven going))
+pub stopped_as : {S : Type 0} (f : Frame) (s after : Seen S) (next in_use : ℕ) (old was new : List (List Asked)) → IsDrivenTo f s next in_use old was → IsGoing f s → after ≡ s → new ≡ was → HasStopped f after old new
+stopped_as {S} f s after next in_use old was new driven going unchanged told =
+    subst (λ (x : Seen S). HasStopped f x old new) (sym unchanged) (subst (HasStopped f s old) (sym told) (stops f s next in_use old was driven going))
 
 -- ---- what is asked, and what is due
 

@@ -1,5 +1,5 @@
 -- That the network was used, as a wire is asked once more, and as a step more is done.
-use Rattle.std.proofs.Common.{◌≡◌, ◌∙◌, ◌≤◌, ◌⊎◌, ⊎_elim, inl, inr, ◌==◌, ℕ, zero, suc, Bool, true, false, if◌then◌else◌, List, [], ◌∷◌, ◌++◌, length, length-append, map, Option, Some, None, ap, sym, subst, refl, arith, append-nil}
+use Rattle.std.proofs.Common.{◌≡◌, ◌∙◌, ◌<◌, ◌≤◌, ◌⊎◌, ⊎_elim, inl, inr, ◌==◌, ℕ, zero, suc, Bool, true, false, if◌then◌else◌, List, [], ◌∷◌, ◌++◌, length, length-append, map, Option, Some, None, ap, sym, subst, refl, arith, append-nil}
 use Rattle.std.specs.Prelude.{slice_get}
 use Rattle.std.specs.List.{AllByRecursion as Each}
 use Rattle.std.proofs.Math.Seq.{take-length}
@@ -13,11 +13,13 @@ use Rattle.net_rules.specs.declared.asked.Asked.TheVariants.{Act, Packet}
 use Rattle.net_rules.specs.declared.fate.WireAct.{WireAct}
 use Rattle.world_rules.specs.declared.event.Step.{Step}
 use Rattle.world_rules.specs.Acts.{AreAccounted, IsAccounted, WereUsed, acts_in, swaps_in as swaps_before, before, event_of, is_burst, last_answer, or_later, packets_in, wire_before}
+use Rattle.world_rules.specs.declared.standing.Standing.TheVariants.{Going}
 use Rattle.world_rules.specs.Frame.{Frame}
+use Rattle.world_rules.specs.Standings.{standing}
 use Rattle.world_rules.specs.Steps.{Replays, asked_of}
 use Rattle.world_rules.specs.Worlds.{Told, World}
 use Rattle.world_core.specs.Stepping.{told_so}
-use Rattle.run_loop.specs.Asked.{AreInTime, AreUpTo, IsInTime}
+use Rattle.run_loop.specs.Asked.{AreBelow, AreInTime, IsInTime}
 
 -- ---- lists
 
@@ -83,13 +85,13 @@ last_kept n (x ∷ xs) ys h = ap (or_later n x.0 x.1) (last_kept n xs ys h)
 
 -- ---- numbers
 
-pub up_to_append : (n : ℕ) (xs ys : List (ℕ × Option WireAct)) → AreUpTo n xs → AreUpTo n ys → AreUpTo n (xs ++ ys)
-up_to_append n [] ys h k = k
-up_to_append n (x ∷ xs) ys h k = (h.0, up_to_append n xs ys h.1 k)
+pub below_append : (n : ℕ) (xs ys : List (ℕ × Option WireAct)) → AreBelow n xs → AreBelow n ys → AreBelow n (xs ++ ys)
+below_append n [] ys h k = k
+below_append n (x ∷ xs) ys h k = (h.0, below_append n xs ys h.1 k)
 
-pub up_to_more : (n m : ℕ) (xs : List (ℕ × Option WireAct)) → n ≤ m → AreUpTo n xs → AreUpTo m xs
-up_to_more n m [] low h = h
-up_to_more n m (x ∷ xs) low h = let first = h.0 in (omega (arith, low, first), up_to_more n m xs low h.1)
+pub below_more : (n m : ℕ) (xs : List (ℕ × Option WireAct)) → n ≤ m → AreBelow n xs → AreBelow m xs
+below_more n m [] low h = h
+below_more n m (x ∷ xs) low h = let first = h.0 in (omega (arith, low, first), below_more n m xs low h.1)
 
 -- ---- a question in what a wire was asked
 
@@ -164,9 +166,9 @@ accounted_stays f steps last n None low h = h
 accounted_stays f steps last n (Some act) low (inl h) = inl (h.0, step_stays steps last h.0 n h.1, h.2)
 accounted_stays f steps last n (Some act) low (inr h) = inr (h.0, subst (λ (l : List Step). Replays f l h.0) (sym (before_stays steps last n low)) h.1, h.2)
 
-pub all_accounted : (f : Frame) (steps : List Step) (last : Step) (xs : List (ℕ × Option WireAct)) → AreUpTo (suc (length steps)) xs → AreAccounted f steps xs → AreAccounted f (steps ++ last ∷ []) xs
+pub all_accounted : (f : Frame) (steps : List Step) (last : Step) (xs : List (ℕ × Option WireAct)) → AreBelow (suc (suc (length steps))) xs → AreAccounted f steps xs → AreAccounted f (steps ++ last ∷ []) xs
 all_accounted f steps last [] low h = h
-all_accounted f steps last (x ∷ xs) low h = (accounted_stays f steps last x.0 x.1 low.0 h.0, all_accounted f steps last xs low.1 h.1)
+all_accounted f steps last (x ∷ xs) low h = let first = low.0 in (accounted_stays f steps last x.0 x.1 (omega (arith, first)) h.0, all_accounted f steps last xs low.1 h.1)
 
 accounted_append : (f : Frame) (steps : List Step) (xs ys : List (ℕ × Option WireAct)) → AreAccounted f steps xs → AreAccounted f steps ys → AreAccounted f steps (xs ++ ys)
 accounted_append f steps [] ys h k = k
@@ -180,6 +182,7 @@ in_time_more f steps last wire n earlier h = record {
   in_use = h.in_use ∙ ap swaps_before (sym (before_stays steps last n h.next));
   world = h.world;
   led = subst (λ (l : List Step). Replays f l h.world) (sym (before_stays steps last n h.next)) h.led;
+  going = h.going;
   packets = h.packets;
   acts = h.acts;
 }
@@ -244,17 +247,20 @@ module _ (wire n : ℕ) (answer : Option WireAct) (a b : ℕ → List Asked) (as
   pub asked_is : In (n, answer) (acts_in (b wire))
   asked_is = subst (In (n, answer)) (sym acts_here) (in_end (n, answer) (acts_in (a wire)))
 
-  pub numbers_asked : (m : ℕ) → n ≤ m → ((other : ℕ) → AreUpTo m (acts_in (a other))) → (other : ℕ) → AreUpTo m (acts_in (b other))
-  numbers_asked m low h other = ⊎_elim
-      (λ (e : other ≡ wire). subst (λ k. AreUpTo m (acts_in (b k))) (sym e)
-      (subst (AreUpTo m) (sym acts_here) (up_to_append m (acts_in (a wire)) ((n, answer) ∷ []) (h wire) (low, tt))))
-      (λ apart. subst (λ (l : List Asked). AreUpTo m (acts_in l)) (sym (asked.others other apart)) (h other))
+  pub numbers_asked : ((other : ℕ) → AreBelow n (acts_in (a other))) → (other : ℕ) → AreBelow (suc n) (acts_in (b other))
+  numbers_asked h other = ⊎_elim
+      (λ (e : other ≡ wire). subst (λ k. AreBelow (suc n) (acts_in (b k))) (sym e)
+      (subst (AreBelow (suc n)) (sym acts_here) (below_append (suc n) (acts_in (a wire)) ((n, answer) ∷ []) (low wire) (omega arith, tt))))
+      (λ apart. subst (λ (l : List Asked). AreBelow (suc n) (acts_in l)) (sym (asked.others other apart)) (low other))
       (cases_eq other wire)
+    where
+      low : (other : ℕ) → AreBelow (suc n) (acts_in (a other))
+      low other = below_more n (suc n) (acts_in (a other)) (omega arith) (h other)
 
   -- it was in time, where it was the next event's and the wire was in use, and all others as before
-  pub in_time_asked : (f : Frame) (steps : List Step) (w : World) → n ≡ suc (length steps) → wire ≡ wire_before n steps → Replays f steps w → packets_in (a wire) ≡ asked_of wire w.told → AreUpTo n (acts_in (a wire))
+  pub in_time_asked : (f : Frame) (steps : List Step) (w : World) → n ≡ suc (length steps) → wire ≡ wire_before n steps → Replays f steps w → standing f w ≡ Going → packets_in (a wire) ≡ asked_of wire w.told → AreBelow n (acts_in (a wire))
       → AreInTime f steps a → AreInTime f steps b
-  in_time_asked f steps w next in_use led packets acts before_it = record {
+  in_time_asked f steps w next in_use led going packets acts before_it = record {
     each = λ other m given earlier later e. ⊎_elim (here other m given earlier later e) (λ apart. before_it.each other m given earlier later (sym (asked.others other apart) ∙ e)) (cases_eq other wire);
   }
     where
@@ -268,6 +274,7 @@ module _ (wire n : ℕ) (answer : Option WireAct) (a b : ℕ → List Asked) (as
         in_use = in_use;
         world = w;
         led = subst (λ (l : List Step). Replays f l w) (sym all) led;
+        going = going;
         packets = packets;
         acts = acts;
       }

@@ -14,7 +14,7 @@ use Rattle.world_rules.specs.Steps.{Replays}
 use Rattle.world_rules.specs.Worlds.{World}
 use Rattle.world_facts.specs.Possible.{MayStep}
 use Rattle.world_parts.specs.Seen.{Of, Seen, tasks_out}
-use Rattle.run_loop.specs.Asked.{AreInTime, AreUpTo, HaveToldOn, NoneAskedBehind, WereUsedUpTo, asked_since}
+use Rattle.run_loop.specs.Asked.{AreBelow, AreInTime, HaveToldOn, NoneAskedBehind, WereUsedUpTo, asked_since}
 
 -- ---- wires
 
@@ -25,8 +25,9 @@ told_more wire more told = slice_set told wire (slice_index_or told wire [] ++ m
 -- ---- between events
 
 -- the run goes on by these steps, with no task out; the wire in use is behind as many as there were swaps; and the wires, which told `old`
--- before the run, were used in it, those behind the one in use asked nothing; each question about an act was in time
-pub record IsDriven {S : Type 0} (f : Frame) (s : Seen S) (in_use : ℕ) (old new : List (List Asked)) : Type 0 where
+-- before the run, were used in it, those behind the one in use asked nothing; each question about an act was in time, and came before an event
+-- with a number below `next`
+pub record IsDrivenTo {S : Type 0} (f : Frame) (s : Seen S) (next in_use : ℕ) (old new : List (List Asked)) : Type 0 where
   pub world : World
   pub replays : Replays f s.steps world
   pub swaps : in_use ≡ world.swaps
@@ -36,9 +37,13 @@ pub record IsDriven {S : Type 0} (f : Frame) (s : Seen S) (in_use : ℕ) (old ne
   pub used : WereUsed f s.steps world (asked_since old new)
   pub unused : NoneAskedBehind in_use (asked_since old new)
   pub in_time : AreInTime f s.steps (asked_since old new)
-  pub numbers : (wire : ℕ) → AreUpTo (suc (length s.steps)) (acts_in (asked_since old new wire))
+  pub numbers : (wire : ℕ) → AreBelow next (acts_in (asked_since old new wire))
   pub idle : tasks_out s ≡ 0
   pub settings : AreSettings f.settings
+
+-- no wire was asked about an act before the next event yet
+abbrev pub IsDriven : {S : Type 0} → Frame → Seen S → ℕ → List (List Asked) → List (List Asked) → Type 0
+IsDriven f s in_use old new = IsDrivenTo f s (suc (length s.steps)) in_use old new
 
 -- it is going
 abbrev pub IsGoing : {S : Type 0} → Frame → Seen S → Type 0
@@ -68,7 +73,7 @@ pub record HasAnswered {S : Type 0} (f : Frame) (s : Seen S) (in_use : ℕ) (old
 
 -- it was asked, and what it gave is nothing, or was passed over
 pub record MayGoOn {S : Type 0} (f : Frame) (s : Seen S) (in_use : ℕ) (old new : List (List Asked)) : Type 0 where
-  pub driven : IsDriven f s in_use old new
+  pub driven : IsDrivenTo f s (suc (suc (length s.steps))) in_use old new
   pub answer : Option WireAct
   pub asked : In (suc (length s.steps), answer) (acts_in (asked_since old new in_use))
 

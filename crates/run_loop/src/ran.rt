@@ -2,7 +2,7 @@
 
 ghost use Rattle.std.specs.Prelude.{◌≡◌, IfSome, Some, length, map};
 ghost use Rattle.world_rules.specs.Frame.{AreSettings};
-ghost use Rattle.run_loop.specs.Asked.{HaveToldOn};
+ghost use Rattle.run_loop.specs.Asked.{HaveToldOn, WereAskedIn};
 ghost use Rattle.run_loop.specs.Left.{HasRun, run_of};
 
 use crate::drive::Driver;
@@ -23,11 +23,13 @@ pub struct Ran {
 }
 
 /// Runs the program of a machine by these settings over these wires, until the run isn't going or memory lacks. The first wire is in use
-/// at the beginning, and each stays in its place.
+/// at the beginning. There are as many wires as before, and each place tells what it told and goes on from there, by the same script.
 ///
 /// What is kept is the end of the run to which its steps lead (`HasRun`), and the wires were used in it: each was asked about just the
 /// packets that were sent while it was in use, and each crash, suspicion and exchange is what the wire in use gave. Each question about an act
-/// was put to the wire in use before its event, when it had been asked about the packets of all steps before.
+/// was put to the wire in use while the run was going, once, before the event of its number or the one that would come next, when that wire
+/// had been asked about just the packets that the steps before sent while it was in use. Where nothing is kept, the wires were asked what some
+/// steps of the run ask.
 pub fn run<M: Processor, W: Wire>(
     alloc: Global,
     machine: &M,
@@ -38,6 +40,8 @@ pub fn run<M: Processor, W: Wire>(
     requires wires { settings.wires ≡ length wires.old }
     ensures run { IfSome result.end (HasRun (run_of (M.performs machine.now) (M.computes machine.now) settings)
         result.standing (map W.told wires.old) (map W.told wires.new)) }
+    ensures asked { WereAskedIn (run_of (M.performs machine.now) (M.computes machine.now) settings)
+        (map W.told wires.old) (map W.told wires.new) }
     ensures told { HaveToldOn (map W.told wires.old) (map W.told wires.new) }
     ensures scripts { map W.told_script wires.new ≡ map W.told_script wires.old }
     ensures loaded { map W.loaded wires.new ≡ map W.loaded wires.old }
@@ -59,6 +63,8 @@ fn run_as<T: RunName<M>, M: Processor, W: Wire>(
     requires wires { settings.wires ≡ length wires.old }
     ensures run { IfSome result.end (HasRun (run_of (M.performs machine.now) (M.computes machine.now) settings)
         result.standing (map W.told wires.old) (map W.told wires.new)) }
+    ensures asked { WereAskedIn (run_of (M.performs machine.now) (M.computes machine.now) settings)
+        (map W.told wires.old) (map W.told wires.new) }
     ensures told { HaveToldOn (map W.told wires.old) (map W.told wires.new) }
     ensures scripts { map W.told_script wires.new ≡ map W.told_script wires.old }
     ensures loaded { map W.loaded wires.new ≡ map W.loaded wires.old }
@@ -79,6 +85,7 @@ fn run_tied<P: OneRun, W: Wire>(
     requires ranges { AreSettings settings }
     requires wires { settings.wires ≡ length wires.old }
     ensures run { IfSome result.end (HasRun P.run.frame result.standing (map W.told wires.old) (map W.told wires.new)) }
+    ensures asked { WereAskedIn P.run.frame (map W.told wires.old) (map W.told wires.new) }
     ensures told { HaveToldOn (map W.told wires.old) (map W.told wires.new) }
     ensures scripts { map W.told_script wires.new ≡ map W.told_script wires.old }
     ensures loaded { map W.loaded wires.new ≡ map W.loaded wires.old }

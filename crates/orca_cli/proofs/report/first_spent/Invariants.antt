@@ -1,5 +1,6 @@
 use Rattle.std.proofs.Common.{◌≡◌, drop}
-use Rattle.orca_cli.specs.Standings.{first_of, first_spent, spent_of}
+use Rattle.orca_cli.specs.Said.{first_of, first_spent}
+use Rattle.orca_cli.specs.Standings.{spent_of}
 use Rattle.orca_cli.proofs.report.first_spent.Given as goal
 
 -- of the processes from here on the lowest that took so many turns is the lowest of all

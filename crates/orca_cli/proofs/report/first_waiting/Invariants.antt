@@ -1,6 +1,7 @@
 use Rattle.std.proofs.Common.{◌≡◌, drop}
 use Rattle.world_core.specs.declared.ends.ProcessEnd.{ProcessEnd}
-use Rattle.orca_cli.specs.Standings.{awaited_of, first_of, first_waiting}
+use Rattle.orca_cli.specs.Said.{first_of, first_waiting}
+use Rattle.orca_cli.specs.Standings.{awaited_of}
 use Rattle.orca_cli.proofs.report.first_waiting.Given as goal
 
 -- of the processes from here on the lowest that waits is the lowest of all

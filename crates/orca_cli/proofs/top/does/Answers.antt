@@ -1,7 +1,6 @@
 use Rattle.orca_cli.specs.Endings as because
 use Rattle.orca_cli.specs.Lines as lines
 use Rattle.orca_cli.proofs.CliLemmas.{answer_of, deed_is, deed_none, if_none, within_is}
-use Rattle.orca_cli.proofs.HeadlineLemmas.{untouched_run}
 use Rattle.orca_cli.proofs.top.does.Goals as goal
 
 pub returns-in-Ok-Some-Says-clause-refused : goal.returns-in-Ok-Some-Says-clause-refused
@@ -25,7 +24,7 @@ returns-in-Ok-Some-Runs-clause-refused g c =
 
 pub returns-in-Ok-Some-Runs-clause-untouched : goal.returns-in-Ok-Some-Runs-clause-untouched
 returns-in-Ok-Some-Runs-clause-untouched g c =
-    untouched_run _ _ _ _ _ (_, _, _, deed_is _ _ _ _ c.in-Ok-Some-Runs.ensures.is c.in-Ok-Some-Runs.field-0-is c.in-Ok-Some-Runs.field-0-0-is) c.run_files.ensures.untouched
+    (rw c.deref-in-Ok-Some-Runs.ensures.value at c.run_files.ensures.untouched) _ (deed_is _ _ _ _ c.in-Ok-Some-Runs.ensures.is c.in-Ok-Some-Runs.field-0-is c.in-Ok-Some-Runs.field-0-0-is)
 
 pub returns-in-Ok-Some-Runs-clause-headline : goal.returns-in-Ok-Some-Runs-clause-headline
 returns-in-Ok-Some-Runs-clause-headline g c =

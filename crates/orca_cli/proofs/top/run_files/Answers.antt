@@ -5,7 +5,7 @@ use Rattle.orca_cli.specs.Scripts.{IsUnreadable}
 use Rattle.command_files.proofs.ReadFiles.{only_left}
 use Rattle.orca_cli.specs.Programs.{units_of}
 use Rattle.orca_cli.proofs.CliLemmas.{files_run, has_script, if_none, is_program, unscripted_run}
-use Rattle.orca_cli.proofs.HeadlineLemmas.{none_as, run_of_words}
+use Rattle.orca_cli.proofs.HeadlineLemmas.{none_as, run_of_words, untouched_run}
 use Rattle.orca_cli.proofs.top.run_files.Goals as goal
 
 pub returns-in-Err-Because-clause-refused : goal.returns-in-Err-Because-clause-refused
@@ -72,4 +72,19 @@ returns-clause-kept g c = λ words asked.
     refl c.run_program.ensures.kept c.run_program.ensures.loaded
 
 pub returns-clause-untouched : goal.returns-clause-untouched
-returns-clause-untouched g c = none_as c.run_program.result.kept (λ lacked. inr (record { status = lacked.0; told = c.run_program.ensures.told; others = c.run_program.ensures.others })) c.run_program.ensures.none
+returns-clause-untouched g c = λ words asked.
+    let sources = map file_of c.in-Ok.sources.items in
+    let machine = c.in-Ok-machine_of.machine in
+    let of = c.in-Ok-machine_of.ensures.of in
+    let are = rw c.deref.ensures.value at c.in-Ok-linked_program.ensures.program in
+    let accepted = subst (IsAccepted sources) (sym of) (c.in-Ok-machine_of.ensures.accepted sources are) in
+    untouched_run words _ (units_of machine) c.args.options c.in-Ok-script_of.script c.run_program.result.kept c.run_program.result.status _ _
+    (record {
+      options = c.args.options;
+      script = _;
+      files = _;
+      asked = asked;
+      program = is_program _ _ sources (units_of machine) c.in-Ok.ensures.read accepted machine.within;
+      script_has = rw c.sources.ensures.same at c.in-Ok-script_of.ensures.script;
+    })
+    refl c.run_program.ensures.none c.run_program.ensures.untouched

@@ -1,6 +1,7 @@
-use Rattle.std.proofs.Common.{ap, length, map}
+use Rattle.std.proofs.Common.{ap, length, map, subst}
 use Rattle.meaning_rules.specs.Meanings.{computes_of, performs_of}
 use Rattle.world_rules.specs.declared.settings.Settings.{Settings}
+use Rattle.run_loop.specs.Asked.{WereAskedIn}
 use Rattle.run_loop.specs.Left.{HasRun, run_of}
 use Rattle.orca_cli.specs.Programs.{units_of}
 use Rattle.orca_cli.specs.Standings.{awaited_name, history_said}
@@ -31,6 +32,16 @@ report-status-requires-clause-lines g c =
     book_printable (performs_of units) (computes_of units) c.settings_of-settings.result c.args.names.now c.run-ran.result.standing before after c.in-Some.end (some_is c.run-ran.result.end c.in-Some.end (HasRun (run_of (performs_of units) (computes_of units) c.settings_of-settings.result) c.run-ran.result.standing before after) c.in-Some.is
     c.run-ran.ensures.run)
     c.laws_of_runs.ensures.sound (ranges_as c.args.options (length c.args.wires.now) c.settings_of-settings.result c.settings_of-settings.ensures c.requires.options c.requires.wires) c.requires.named
+
+pub returns-in_default-clause-asked : goal.returns-in_default-clause-asked
+returns-in_default-clause-asked g c =
+    let units = units_of c.args.machine.now in
+    subst (λ (s : Settings). WereAskedIn (run_of (performs_of units) (computes_of units) s) (map g.W.Wire.told c.args.wires.now) (map g.W.Wire.told c.run-ran.new.wires)) c.settings_of-settings.ensures c.run-ran.ensures.asked
+
+pub returns-clause-asked : goal.returns-clause-asked
+returns-clause-asked g c =
+    let units = units_of c.args.machine.now in
+    subst (λ (s : Settings). WereAskedIn (run_of (performs_of units) (computes_of units) s) (map g.W.Wire.told c.args.wires.now) (map g.W.Wire.told c.run-ran.new.wires)) c.settings_of-settings.ensures c.run-ran.ensures.asked
 
 pub returns-clause-back : goal.returns-clause-back
 returns-clause-back g c =

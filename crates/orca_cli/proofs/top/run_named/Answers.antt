@@ -2,8 +2,12 @@ use Rattle.std.proofs.Common.{List, ap, length, map, subst, sym}
 use Rattle.accepted_law.specs.Limits.{IsWithinLimits}
 use Rattle.eval_bodies.specs.Codes.{sources}
 use Rattle.link_rules.specs.Units.{Source}
+use Rattle.meaning_rules.specs.Meanings.{computes_of, performs_of}
 use Rattle.program_names.specs.Naming.{AreNamesOf, CallsNamed, HistoriesNamed}
+use Rattle.run_loop.proofs.Ending.{asked_nothing}
 use Rattle.run_loop.proofs.Telling.{tells_itself}
+use Rattle.run_loop.specs.Left.{run_of}
+use Rattle.orca_cli.specs.Headline.{settings_of}
 use Rattle.orca_cli.specs.Programs.{units_of}
 use Rattle.orca_cli.proofs.HeadlineLemmas.{program_run}
 use Rattle.orca_cli.proofs.top.run_named.Goals as goal
@@ -25,3 +29,8 @@ returns-in-Ok-clause-kept g c =
 
 pub returns-in-Err-clause-told : goal.returns-in-Err-clause-told
 returns-in-Err-clause-told g c = tells_itself (map g.W.Wire.told c.args.wires.now)
+
+pub returns-in-Err-clause-asked : goal.returns-in-Err-clause-asked
+returns-in-Err-clause-asked g c =
+    let units = units_of c.args.machine.now in
+    asked_nothing (run_of (performs_of units) (computes_of units) (settings_of c.args.options (length c.args.wires.now))) (map g.W.Wire.told c.args.wires.now)

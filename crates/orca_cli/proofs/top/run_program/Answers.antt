@@ -1,7 +1,8 @@
-use Rattle.std.proofs.Common.{map}
-use Rattle.run_loop.proofs.Telling.{tells_itself}
+use Rattle.std.proofs.Common.{inl, inr}
 use Rattle.orca_cli.specs.Headline.{AreLoaded, wires_of}
-use Rattle.orca_cli.proofs.HeadlineLemmas.{if_some, still_keep, still_loaded}
+use Rattle.orca_cli.specs.Programs.{units_of}
+use Rattle.orca_cli.proofs.CliLemmas.{if_none}
+use Rattle.orca_cli.proofs.HeadlineLemmas.{begun_so, if_some, still_loaded}
 use Rattle.orca_cli.proofs.top.run_program.Goals as goal
 
 pub run_named-requires-clause-wires : goal.run_named-requires-clause-wires
@@ -17,12 +18,14 @@ returns-in-Ok-clause-loaded g c =
     (λ k. still_loaded g.W.Wire.told g.W.Wire.told_script g.W.Wire.loaded c.args.wires.now c.load_first.new.wires c.run_named.new.wires c.args.script.now c.in-Ok.ensures.loaded
     c.run_named.ensures.scripts c.run_named.ensures.loaded)
 
-pub returns-in-Ok-clause-others : goal.returns-in-Ok-clause-others
-returns-in-Ok-clause-others g c =
-    still_keep g.W.Wire.told g.W.Wire.told_script g.W.Wire.loaded c.args.wires.now c.load_first.new.wires c.run_named.new.wires c.load_first.ensures.others c.run_named.ensures.scripts c.run_named.ensures.loaded
+pub returns-in-Ok-clause-untouched : goal.returns-in-Ok-clause-untouched
+returns-in-Ok-clause-untouched g c =
+    if_none c.run_named.result.kept _
+    (inr (begun_so g.W.Wire.told g.W.Wire.told_script g.W.Wire.loaded c.args.wires.now c.run_named.new.wires (units_of c.args.machine.now) c.args.options c.args.script.now
+    (still_loaded g.W.Wire.told g.W.Wire.told_script g.W.Wire.loaded c.args.wires.now c.load_first.new.wires c.run_named.new.wires c.args.script.now c.in-Ok.ensures.loaded
+    c.run_named.ensures.scripts c.run_named.ensures.loaded)
+    (rw c.load_first.ensures.told at c.run_named.ensures.told)
+    (rw (c.load_first.ensures.told, c.load_first.ensures.count) at c.run_named.ensures.asked)))
 
-pub returns-in-Ok-clause-told : goal.returns-in-Ok-clause-told
-returns-in-Ok-clause-told g c = rw c.load_first.ensures.told at c.run_named.ensures.told
-
-pub returns-in-Err-clause-told : goal.returns-in-Err-clause-told
-returns-in-Err-clause-told g c = rw c.load_first.ensures.told (tells_itself (map g.W.Wire.told c.args.wires.now))
+pub returns-in-Err-clause-untouched : goal.returns-in-Err-clause-untouched
+returns-in-Err-clause-untouched g c = if_none _ _ (inl c.in-Err.ensures.unchanged)

@@ -5,14 +5,14 @@ use Rattle.run_loop.proofs.drive.Driver.does.Goals as goal
 
 pub returns-in_default-clause-passed : goal.returns-in_default-clause-passed
 returns-in_default-clause-passed g c = λ _.
-    none_given g.P.OneRun.run.frame c.args.self.now.world c.args.self.now.in_use g.P.OneRun.run.told (map g.W.Wire.told c.args.wires.now) c.args.act c.worlds_count.ensures.counted c.in_default.is c.requires.answered
+    none_given g.P.OneRun.run.frame c.args.self.now.world c.args.self.now.in_use g.P.OneRun.run.told (map g.W.Wire.told c.args.wires.now) c.args.act c.worlds_count.ensures.counted c.in_default.is c.requires.answered c.requires.going
 
 pub returns-in-Ok-clause-done : goal.returns-in-Ok-clause-done
 returns-in-Ok-clause-done g c = λ _.
     act_by g.W.Wire.told c.args.wires.now c.index-wires-self.result c.step.new.wire g.P.OneRun.run.frame c.args.self.now.world c.step.new.self c.args.self.now.in_use g.P.OneRun.run.told
     c.in-Some.act c.event_of.result c.swaps_of.result c.worlds_count.ensures.counted
     (some_given g.P.OneRun.run.frame c.args.self.now.world c.args.self.now.in_use g.P.OneRun.run.told (map g.W.Wire.told c.args.wires.now) c.args.act c.in-Some.act c.in-Some.is c.requires.answered)
-    c.event_of.ensures c.swaps_of.ensures c.in-Ok.ensures.done c.step.ensures.fewer
+    c.requires.going c.event_of.ensures c.swaps_of.ensures c.in-Ok.ensures.done c.step.ensures.fewer
 
 pub returns-in-Ok-clause-scripts : goal.returns-in-Ok-clause-scripts
 returns-in-Ok-clause-scripts g c =

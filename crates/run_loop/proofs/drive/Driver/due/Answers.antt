@@ -1,4 +1,4 @@
-use Rattle.std.proofs.Common.{map, refl}
+use Rattle.std.proofs.Common.{length, map, refl, suc}
 use Rattle.run_loop.proofs.Driving.{burst_done}
 use Rattle.run_loop.proofs.Stepping.{act_due, err_as, ok_as, packet_due, stopped_as, tick_due}
 use Rattle.run_loop.proofs.drive.Driver.due.Goals as goal
@@ -25,6 +25,6 @@ returns-in-Some-chosen-clause-went g c =
 pub returns-in-Some-chosen-clause-stopped : goal.returns-in-Some-chosen-clause-stopped
 returns-in-Some-chosen-clause-stopped g c =
     err_as c.compute.result
-    (λ same. stopped_as g.P.OneRun.run.frame c.args.self.now.world c.compute.new.self c.args.self.now.in_use g.P.OneRun.run.told (map g.W.Wire.told c.args.wires.now) (map g.W.Wire.told c.args.wires.now)
+    (λ same. stopped_as g.P.OneRun.run.frame c.args.self.now.world c.compute.new.self (suc (suc (length c.args.self.now.world.steps))) c.args.self.now.in_use g.P.OneRun.run.told (map g.W.Wire.told c.args.wires.now) (map g.W.Wire.told c.args.wires.now)
     c.requires.on.driven c.requires.going same refl)
     c.compute.ensures.err
