@@ -5,3 +5,5 @@ mod Putting
 mod Pairing
 mod Fronts
 mod Handing
+mod Keeping
+mod Staying

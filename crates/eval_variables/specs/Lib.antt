@@ -3,3 +3,4 @@ pub mod Exchanges
 pub mod Frames
 pub mod Lent
 pub mod Relations
+pub mod Ordered

@@ -1,6 +1,6 @@
 //! The values of variables, of which some are lent until one of them is changed.
 
-ghost use Rattle.std.specs.Prelude.{◌≡◌, ◌++◌, ◌∷◌, IfOk, OnErr, OnOk, drop, map, option_map, slice_get};
+ghost use Rattle.std.specs.Prelude.{◌≡◌, ◌++◌, ◌∷◌, IfOk, IsTrue, OnErr, OnOk, drop, false, is_ok, map, option_map, slice_get};
 ghost use Rattle.std.specs.Option.{option_copied};
 ghost use Rattle.value_core.specs.Datum.{list_of};
 ghost use Rattle.value_core.specs.Sound.{AreSound};
@@ -8,7 +8,9 @@ ghost use Rattle.value_core.specs.View.{data_in, datum_of};
 ghost use Rattle.meaning_rules.specs.States.{State};
 ghost use Rattle.eval_variables.specs.Exchanges.{Exchanges};
 ghost use Rattle.eval_variables.specs.Gives.{target_of};
+ghost use Rattle.eval_variables.specs.Ordered.{AllOrdered, IsOrdered, has_node as node_on};
 
+use crate::orders::{are_ordered, has_node, is_ordered};
 use crate::parts::exchange_part;
 use crate::steps::Target;
 use crate::stop::Stop;
@@ -22,13 +24,16 @@ use value_core::{Parts, Value};
 /// Those behind may be lent, as an object's fields are: a guard then copies nothing of its object, and an operation copies what it
 /// didn't change only at its end. The first change of one copies all that are lent, since what a body leaves is a whole state.
 ///
-/// What it keeps is its own, so that costs can be mended here with no change of a clause. A mark that all values are in order would
-/// serve to find elements and nodes by halving: for it values that are lent have to be sound. A size beside each place would serve
-/// to add a difference where something is written: for it making a frame may lack memory.
+/// What it keeps is its own, so that costs can be mended here with no change of a clause. A mark says that the sets and bags in all
+/// values are in order, at whatever depth, so that elements can be found by halving. Values are tested where they come, and what is
+/// lent is sound. The mark is lost where something is put that isn't known to be in order, or behind a step to a node, which may then
+/// stand at another place. A size beside each place would serve to add a difference where something is written: for it making a frame
+/// may lack memory.
 #[derive(Drop)]
 pub struct Frame<'a> {
     own: Parts,
     behind: &'a [Value],
+    in_order: bool,
 }
 
 impl<'a> Model for Frame<'a> {
@@ -42,6 +47,11 @@ impl<'a> Model for Frame<'a> {
     ghost coded = { frame_code };
 
     ghost view = { λ f. list_of f.own ++ map datum_of f.behind.now };
+
+    ghost use Rattle.std.specs.Prelude.{IsTrue};
+    ghost use Rattle.eval_variables.specs.Ordered.{AllOrdered};
+
+    ghost invariant = { λ f. IsTrue f.in_order → AllOrdered (list_of f.own ++ map datum_of f.behind.now) };
 }
 
 // Puts copies of values behind others.
@@ -67,6 +77,24 @@ fn exchange_own(alloc: Global, own: &mut Parts, to: &Target, value: Value) -> Re
     exchange_part(alloc, own.part_mut(to.slot), &to.path, value)
 }
 
+// Whether values that are known to be in order, or not, stay so where such a value is put at the end of a path. Behind a step to a
+// node they may not, since a node that changes may stand at another place.
+fn stays_in_order(values: bool, value: bool, to: &Target) -> bool
+    ensures values { IsTrue result → IsTrue values }
+    ensures value { IsTrue result → IsTrue value }
+    ensures path { IsTrue result → node_on (target_of to.now).path ≡ false }
+{
+    values && value && !has_node(&to.path)
+}
+
+// Whether values that would stay in order do, where something was put.
+fn stayed(stays: bool, old: &Result<Value, Stop>) -> bool
+    ensures stays { IsTrue result → IsTrue stays }
+    ensures ok { IsTrue result → IsTrue (is_ok old.now) }
+{
+    stays && old.is_ok()
+}
+
 impl<'a> Frame<'a> {
     /// These values.
     ///
@@ -75,7 +103,12 @@ impl<'a> Frame<'a> {
     pub fn new(_alloc: Global, own: Parts) -> Result<Frame<'a>, NoMemory>
         ensures { IfOk result (λ f. f ≡ list_of own) }
     {
-        Ok(Frame { own, behind: &[] })
+        let in_order = are_ordered(own.as_slice());
+        Ok(Frame {
+            own,
+            behind: &[],
+            in_order,
+        })
     }
 
     /// These values, and behind them others that are lent. It copies nothing.
@@ -86,7 +119,12 @@ impl<'a> Frame<'a> {
         requires { AreSound (data_in behind.now) }
         ensures { IfOk result (λ f. f ≡ list_of own ++ map datum_of behind.now) }
     {
-        Ok(Frame { own, behind })
+        let in_order = are_ordered(own.as_slice());
+        Ok(Frame {
+            own,
+            behind,
+            in_order,
+        })
     }
 
     /// The value at this place from 0, if there is one. It copies nothing.
@@ -99,6 +137,13 @@ impl<'a> Frame<'a> {
         } else {
             self.behind.get(slot - count)
         }
+    }
+
+    /// Whether the sets and bags in all values are known to be in order.
+    pub(crate) fn is_in_order(&self) -> bool
+        ensures { IsTrue result → AllOrdered self.now }
+    {
+        self.in_order
     }
 
     /// All values, in order. It copies those that are still lent.
@@ -121,7 +166,10 @@ impl<'a> Frame<'a> {
         ensures ok { OnOk result (self.new ≡ datum_of value ∷ self.old) }
         ensures err { OnErr result (self.new ≡ self.old) }
     {
-        self.own.insert(0, value)
+        let in_order = is_ordered(&value);
+        self.own.insert(0, value)?;
+        self.in_order = self.in_order && in_order;
+        Ok(())
     }
 
     /// The first value goes, where there is one. It moves those that aren't lent.
@@ -137,7 +185,8 @@ impl<'a> Frame<'a> {
         }
     }
 
-    /// Puts a value at a target, and gives what stood there. After an error nothing is said of the frame.
+    /// Puts a value at a target, of which it is told whether it is known to be in order, and gives what stood there. After an error
+    /// nothing is said of the frame.
     ///
     /// # Errors
     /// `IndexOutside`, and want of memory.
@@ -146,15 +195,23 @@ impl<'a> Frame<'a> {
         alloc: Global,
         to: &Target,
         value: Value,
+        in_order: bool,
     ) -> Result<Value, Stop>
+        requires { IsTrue in_order → IsOrdered (datum_of value) }
         ensures { (s : State) → s.frame ≡ self.old →
             Exchanges (target_of to.now) (datum_of value) s result (record s { frame = self.new }) }
     {
+        let stays = stays_in_order(self.in_order, in_order, to);
+        self.in_order = false;
         if to.slot < self.own.len() {
-            return exchange_own(alloc, &mut self.own, to, value);
+            let old = exchange_own(alloc, &mut self.own, to, value);
+            self.in_order = stayed(stays, &old);
+            return old;
         }
         add_copies(alloc, &mut self.own, self.behind)?;
         self.behind = &[];
-        exchange_own(alloc, &mut self.own, to, value)
+        let old = exchange_own(alloc, &mut self.own, to, value);
+        self.in_order = stayed(stays, &old);
+        old
     }
 }

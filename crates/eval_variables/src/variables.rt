@@ -1,6 +1,6 @@
 //! What is read from variables and done to them.
 
-ghost use Rattle.std.specs.Prelude.{◌≡◌, ◌≤◌, Ok, option_map, pos};
+ghost use Rattle.std.specs.Prelude.{◌≡◌, ◌≤◌, IfOk, IsTrue, Ok, option_map, pos};
 ghost use Rattle.value_core.specs.Datum as datum;
 ghost use Rattle.value_core.specs.Datum.{Datum};
 ghost use Rattle.value_core.specs.View.{datum_of};
@@ -10,10 +10,12 @@ ghost use Rattle.meaning_rules.specs.States.{State, after, gives};
 ghost use Rattle.meaning_rules.specs.Variables as rules;
 ghost use Rattle.eval_variables.specs.Exchanges.{Exchanges, IsPut, PutsBack};
 ghost use Rattle.eval_variables.specs.Gives.{Finds, Gives, state_of, target_of};
+ghost use Rattle.eval_variables.specs.Ordered.{AllOrdered, IsOrdered};
 
-use crate::elements::{delete, insert, is_in};
 use crate::graphs::{added, deleted};
+use crate::halving::{delete, has, insert, take_least};
 use crate::operators::integer_in;
+use crate::orders::is_ordered;
 use crate::parts::part;
 use crate::run::Run;
 use crate::sizes::fitting as fits;
@@ -22,7 +24,6 @@ use crate::stop::Stop;
 use orca_base::FaultKind;
 use std::alloc::Global;
 use value_core::Value;
-use value_ops::take_least;
 use value_paths::paths_law;
 
 /// What stands at a target, where it stands. `zero` stands for the value of what is no node.
@@ -46,7 +47,8 @@ pub fn has_at(to: &Target, element: &Value, run: &Run<'_>) -> Result<bool, Fault
         (after (rules.held (target_of to.now) (state_of run.now)) (λ all s. gives (applied In (datum_of element.now) all) s)) }
 {
     let zero = Value::Int(0);
-    Ok(is_in(element, look(to, run, &zero)?))
+    let all = look(to, run, &zero)?;
+    Ok(has(element, all, run.frame.is_in_order()))
 }
 
 /// What stands at a target, once more. Nothing that holds it is copied.
@@ -60,30 +62,45 @@ pub fn held(alloc: Global, to: &Target, run: &Run<'_>) -> Result<Value, Stop>
     Ok(look(to, run, &zero)?.copy(alloc)?)
 }
 
-// Puts a value at a target, and gives what stood there.
-fn exchange(alloc: Global, to: &Target, value: Value, run: &mut Run<'_>) -> Result<Value, Stop>
+// Puts a value at a target, of which it is told whether it is known to be in order, and gives what stood there.
+fn exchange(
+    alloc: Global,
+    to: &Target,
+    value: Value,
+    in_order: bool,
+    run: &mut Run<'_>,
+) -> Result<Value, Stop>
+    requires { IsTrue in_order → IsOrdered (datum_of value) }
     ensures left { run.new.left ≡ run.old.left }
     ensures put { Exchanges (target_of to.now) (datum_of value) (state_of run.old) result (state_of run.new) }
 {
-    run.frame.exchange(alloc, to, value)
+    run.frame.exchange(alloc, to, value, in_order)
 }
 
 // Takes what stands at a target out of its variable for a while, where 0 stands then.
 fn lift(alloc: Global, to: &Target, run: &mut Run<'_>) -> Result<Value, Stop>
     ensures left { run.new.left ≡ run.old.left }
     ensures lifted { Exchanges (target_of to.now) (datum.int (pos 0)) (state_of run.old) result (state_of run.new) }
+    ensures ordered { AllOrdered run.old.frame → IfOk result (λ v. IsOrdered (datum_of v)) }
 {
-    exchange(alloc, to, Value::Int(0), run)
+    exchange(alloc, to, Value::Int(0), true, run)
 }
 
 // Puts a value at a target from which what stood there was taken out.
-fn lower(alloc: Global, to: &Target, value: Value, run: &mut Run<'_>) -> Result<(), Stop>
+fn lower(
+    alloc: Global,
+    to: &Target,
+    value: Value,
+    in_order: bool,
+    run: &mut Run<'_>,
+) -> Result<(), Stop>
+    requires { IsTrue in_order → IsOrdered (datum_of value) }
     ensures left { run.new.left ≡ run.old.left }
     ensures lowered { (s : State) (old : Datum) → IsPut (target_of to.now) old (datum.int (pos 0)) s (state_of run.old) →
         PutsBack (target_of to.now) old (datum_of value) s result (state_of run.new) }
 {
     paths_law();
-    exchange(alloc, to, value, run)?;
+    exchange(alloc, to, value, in_order, run)?;
     Ok(())
 }
 
@@ -106,7 +123,8 @@ pub fn store(alloc: Global, to: &Target, value: Value, run: &mut Run<'_>) -> Res
     ensures left { run.new.left ≤ run.old.left }
     ensures gives { Gives (λ u. u) result (state_of run.new) (rules.store (target_of to.now) (datum_of value) (state_of run.old)) }
 {
-    exchange(alloc, to, value, run)?;
+    let in_order = is_ordered(&value);
+    exchange(alloc, to, value, in_order, run)?;
     check(to, run)
 }
 
@@ -118,9 +136,10 @@ pub fn put(alloc: Global, to: &Target, element: Value, run: &mut Run<'_>) -> Res
     ensures left { run.new.left ≤ run.old.left }
     ensures gives { Gives (λ u. u) result (state_of run.new) (rules.put (target_of to.now) (datum_of element) (state_of run.old)) }
 {
+    let in_order = run.frame.is_in_order();
     let mut all = lift(alloc, to, run)?;
-    insert(&mut all, element)?;
-    lower(alloc, to, all, run)?;
+    let in_order = insert(&mut all, element, in_order)?;
+    lower(alloc, to, all, in_order, run)?;
     check(to, run)
 }
 
@@ -137,9 +156,10 @@ pub fn drop_element(
     ensures left { run.new.left ≤ run.old.left }
     ensures gives { Gives (λ u. u) result (state_of run.new) (rules.drop_element (target_of to.now) (datum_of element.now) (state_of run.old)) }
 {
+    let in_order = run.frame.is_in_order();
     let mut all = lift(alloc, to, run)?;
-    delete(&mut all, element);
-    lower(alloc, to, all, run)
+    delete(&mut all, element, in_order);
+    lower(alloc, to, all, in_order, run)
 }
 
 /// `from`: takes the least element out of the set or bag at a target.
@@ -150,9 +170,10 @@ pub fn take(alloc: Global, to: &Target, run: &mut Run<'_>) -> Result<Value, Stop
     ensures left { run.new.left ≤ run.old.left }
     ensures gives { Gives datum_of result (state_of run.new) (rules.take (target_of to.now) (state_of run.old)) }
 {
+    let in_order = run.frame.is_in_order();
     let mut all = lift(alloc, to, run)?;
     let least = take_least(&mut all)?;
-    lower(alloc, to, all, run)?;
+    lower(alloc, to, all, in_order, run)?;
     Ok(least)
 }
 
@@ -171,7 +192,7 @@ pub fn add_node(
 {
     let old = lift(alloc, to, run)?;
     let (name, graph) = added(alloc, fresh, old)?;
-    lower(alloc, to, graph, run)?;
+    lower(alloc, to, graph, false, run)?;
     check(to, run)?;
     Ok(Some(Value::Int(name)))
 }
@@ -191,6 +212,6 @@ pub fn delete_node(
 {
     let old = lift(alloc, to, run)?;
     let graph = deleted(alloc, integer_in(name), old)?;
-    lower(alloc, to, graph, run)?;
+    lower(alloc, to, graph, false, run)?;
     Ok(None)
 }

@@ -19,4 +19,4 @@ pub returns-clause-gives : goal.returns-clause-gives
 returns-clause-gives c =
     let s = state_of c.args.run.now in
     checked_enlarges (target_of c.args.to.now) (λ all. Ok (inserted (datum_of c.args.element) all)) (datum_of c.in_ok-all.all) (datum_of c.insert.new.all) s (state_of c.lower.new.run) c.check.result
-    ((c.in_ok-lower.ensures {u = tt}).lowered s (datum_of c.in_ok-all.all) (c.in_ok-all.ensures {u = tt}).lifted) (ap Ok (sym (c.in_ok-insert.ensures {u = tt}))) c.check.ensures
+    ((c.in_ok-lower.ensures {u = tt}).lowered s (datum_of c.in_ok-all.all) (c.in_ok-all.ensures {u = tt}).lifted) (ap Ok (sym (c.in_ok-in_order.ensures {u = tt}).inserted)) c.check.ensures

@@ -1,18 +1,35 @@
-use Rattle.std.proofs.Common.{◌<◌, arith, length, map, refl, sym, ◌∙◌}
+use Rattle.std.proofs.Common.{◌<◌, [], arith, length, map, refl, subst, sym, ◌∙◌}
 use Rattle.value_core.specs.Datum.{list_of}
 use Rattle.value_core.specs.View.{datum_of}
 use Rattle.eval_variables.specs.Gives.{target_of}
+use Rattle.eval_variables.specs.Ordered.{AllOrdered}
 use Rattle.eval_variables.proofs.Fronts.{exchanges_all, exchanges_front}
+use Rattle.eval_variables.proofs.Keeping.{joined}
+use Rattle.eval_variables.proofs.Staying.{exchanged}
 use Rattle.eval_variables.proofs.frame.Frame.exchange.Goals as goal
+
+pub invariant_of-self : goal.invariant_of-self
+invariant_of-self c t =
+    let stays = c.stayed-self-inside.ensures.stays t in
+    exchanged (target_of c.args.to.now) (datum_of c.args.value) (list_of c.self.inside.own) (map datum_of c.self.inside.behind.now) (list_of c.exchange_own-old.new.own) c.exchange_own-old.result
+    (c.stays_in_order-stays.ensures.path stays) (c.self.invariant (c.stays_in_order-stays.ensures.values stays)) (c.requires (c.stays_in_order-stays.ensures.value stays)) c.exchange_own-old.ensures (c.stayed-self-inside.ensures.ok t)
+
+pub invariant_of-self-2 : goal.invariant_of-self-2
+invariant_of-self-2 c t =
+    let stays = c.stayed-self-inside-2.ensures.stays t in
+    let own = list_of c.add_copies.new.all in
+    exchanged (target_of c.args.to.now) (datum_of c.args.value) own [] (list_of c.exchange_own-old-2.new.own) c.exchange_own-old-2.result
+    (c.stays_in_order-stays.ensures.path stays) (joined own [] (subst AllOrdered (sym (c.in_ok-add_copies.ensures {u = tt})) (c.self.invariant (c.stays_in_order-stays.ensures.values stays))) tt)
+    (c.requires (c.stays_in_order-stays.ensures.value stays)) c.exchange_own-old-2.ensures (c.stayed-self-inside-2.ensures.ok t)
 
 pub returns-then-to-len : goal.returns-then-to-len
 returns-then-to-len c s is =
     let own = list_of c.self.inside.own in
     let low : c.args.to.now.slot < length own = omega (arith, c.if-to-len.true, c.len.ensures.len) in
-    exchanges_front (target_of c.args.to.now) (datum_of c.args.value) own (map datum_of c.self.inside.behind.now) (list_of c.exchange_own.new.own) s c.exchange_own.result low (is ∙ sym c.self.view_is)
-    (c.exchange_own.ensures (record s { frame = own }) refl)
+    exchanges_front (target_of c.args.to.now) (datum_of c.args.value) own (map datum_of c.self.inside.behind.now) (list_of c.exchange_own-old.new.own) s c.exchange_own-old.result low (is ∙ sym c.self.view_is)
+    (c.exchange_own-old.ensures (record s { frame = own }) refl)
 
 pub returns : goal.returns
 returns c s is =
-    exchanges_all (target_of c.args.to.now) (datum_of c.args.value) (list_of c.exchange_own-2.new.own) s c.exchange_own-2.result
-    (c.exchange_own-2.ensures s (is ∙ sym c.self.view_is ∙ sym (c.in_ok-add_copies.ensures {u = tt})))
+    exchanges_all (target_of c.args.to.now) (datum_of c.args.value) (list_of c.exchange_own-old-2.new.own) s c.exchange_own-old-2.result
+    (c.exchange_own-old-2.ensures s (is ∙ sym c.self.view_is ∙ sym (c.in_ok-add_copies.ensures {u = tt})))
