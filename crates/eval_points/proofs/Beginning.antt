@@ -18,14 +18,13 @@ use Rattle.meaning_rules.specs.Operators.{integer_in, truth_in}
 use Rattle.meaning_rules.specs.States.{State, Out, Goes, Stops, after, turn}
 use Rattle.meaning_rules.specs.Statements.{run, run_all, run_arms}
 use Rattle.meaning_rules.proofs.Closed.{of_until, of_while}
-use Rattle.meaning_rules.proofs.Counting.{all_counted}
+use Rattle.meaning_rules.proofs.Counting.{all_counted, by_rounds, round_falls}
 use Rattle.meaning_rules.proofs.Fronts.{fronts}
 use Rattle.meaning_rules.proofs.Settling.{uses_front}
 use Rattle.meaning_rules.proofs.Turning.{counts_turns}
 use Rattle.eval_points.specs.Places.{InWhile, InRepeat, InFor, arm_body, behind}
 use Rattle.eval_points.specs.Stepping.{arm_test, entered}
 use Rattle.eval_points.proofs.Moving.{Passes, passes}
-use Rattle.eval_points.proofs.Rounds.{by_rounds, round_falls}
 
 -- what follows a statement, and a choice between two evaluations
 abbrev pub then_rest : (State → Out Flow) → Flow → State → Out Flow

@@ -1,5 +1,4 @@
 pub mod Moving
-mod Rounds
 mod Placing
 mod Beginning
 mod Leading

@@ -7,6 +7,7 @@ use Rattle.meaning_rules.specs.States.{State, Out, Goes, Stops, Busy, after}
 use Rattle.meaning_rules.specs.Loops.{Flow}
 use Rattle.meaning_rules.specs.Replies.{Fronted, Front, with_replies}
 use Rattle.meaning_rules.specs.Turns.{Counted, CountedTo, Counts, IsEnough, with_left}
+use Rattle.meaning_rules.proofs.Counting.{Behind, Within, both_last, second_uses, split}
 use Rattle.eval_variables.specs.declared.stop.Stop.{Stop}
 use Rattle.eval_variables.specs.declared.stop.Stop.TheVariants as stop
 use Rattle.eval_variables.specs.Gives.{Fails}
@@ -97,41 +98,6 @@ steps_first f first next s x s1 same p = record {
     short = λ rest n some less. same (record { frame = s.frame; replies = p.used ++ rest; left = n }) ∙ ap (λ o. after o next) (p.short rest n some less);
   };
 }
-
--- so many turns are within those that are used, or behind them: as in Counting of meaning_rules, which keeps it for itself
-abbrev pub Within : ℕ → ℕ → Type 0
-Within used n = (1 ≤ used) × (n ≤ used)
-
-abbrev pub Behind : ℕ → ℕ → Type 0
-Behind used n = (m : ℕ) × (n ≡ used + m) × IsEnough used m
-
-raised : (u n : ℕ) → (n ≤ u) ⊎ ((m : ℕ) × (n ≡ u + suc m)) → (suc n ≤ suc u) ⊎ ((m : ℕ) × (suc n ≡ suc u + suc m))
-raised u n (inl less) = inl (omega arith)
-raised u n (inr h) = inr (h.0, omega (arith, h.1))
-
-order : (u n : ℕ) → (n ≤ u) ⊎ ((m : ℕ) × (n ≡ u + suc m))
-order zero zero = inl (omega arith)
-order zero (suc n) = inr (n, omega arith)
-order (suc u) zero = inl (omega arith)
-order (suc u) (suc n) = raised u n (order u n)
-
-by_order : (u n : ℕ) → (n ≤ suc u) ⊎ ((m : ℕ) × (n ≡ suc u + suc m)) → Within (suc u) n ⊎ Behind (suc u) n
-by_order u n (inl less) = inl (omega arith, less)
-by_order u n (inr h) = inr (suc h.0, h.1, λ some. omega arith)
-
-pub split : (used n : ℕ) → Within used n ⊎ Behind used n
-split zero n = inr (n, omega arith, λ some. absurd (omega arith))
-split (suc used) n = by_order used n (order (suc used) n)
-
-second_uses : (one two m n : ℕ) → 1 ≤ one + two → n ≤ one + two → n ≡ one + m → IsEnough one m → 1 ≤ two
-second_uses one (suc two) m n some less is last = omega arith
-second_uses zero zero m n some less is last = absurd (omega arith)
-second_uses (suc one) zero m n some less is last = let k : 1 ≤ m = last (omega arith) in absurd (omega arith)
-
-pub both_last : (one two middle left : ℕ) → IsEnough one middle → IsEnough two left → middle ≡ two + left → IsEnough (one + two) left
-both_last one (suc two) middle left first second is some = second (omega arith)
-both_last zero zero middle left first second is some = absurd (omega arith)
-both_last (suc one) zero middle left first second is some = let k : 1 ≤ middle = first (omega arith) in omega arith
 
 -- one move and then another
 module _ (f g h : State → Out Flow) (frame frame1 frame2 : List Datum) (used used1 : List Reply) (turns turns1 : ℕ) (one : Moves f frame used turns g frame1) (two : Moves g frame1 used1 turns1 h frame2) where

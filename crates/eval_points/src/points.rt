@@ -14,7 +14,7 @@ use crate::place::Place;
 use crate::steps::{Step, make_step};
 use eval_bodies::{BlockCode, Code};
 use eval_stmts::Whole;
-use eval_variables::{Frame, Run};
+use eval_variables::{Frame, Run, Stop};
 use orca_base::NoMemory;
 use std::alloc::Global;
 use value_core::{Parts, Reply};
@@ -74,6 +74,7 @@ fn count_steps<'a, 'p>(
     'steps: for steps in 0..u64::MAX {
         match make_step::<Whole>(alloc, code, routine, &mut place, &mut run) {
             Ok(Step::Goes) => {}
+            Err(Stop::NoMemory) => return Err(NoMemory),
             _ => return Ok(steps),
         }
     }
@@ -113,6 +114,7 @@ fn make_steps<'a, 'p, 'r>(
     'steps: for _ in 0..steps {
         match make_step::<Whole>(alloc, code, routine, &mut place, &mut run) {
             Ok(Step::Goes) => {}
+            Err(Stop::NoMemory) => return Err(NoMemory),
             _ => return Ok(None),
         }
     }
@@ -155,7 +157,8 @@ fn point_of<'a>(
 }
 
 /// A point, moved forward as far as one comes with these replies and turns before the process ends, needs an action, faults or is busy; or
-/// `None` where it stands there. It goes over the statements twice, since a stop leaves nothing of a run. The only error is want of memory.
+/// `None` where it stands there. It goes over the statements twice, since a stop leaves nothing of a run. How far it is moved is no clause:
+/// by the contract `None` may always come. The only error is want of memory.
 pub fn advance<'a, 'p, 'r>(
     alloc: Global,
     code: &'a Code<'p>,
