@@ -140,9 +140,9 @@ module _ (us : List Source) (s : TreeProcess) (r : Routine) (there : process_at 
         ap (λ (b : ℕ). behind_turns b n (λ m. doing_of (left_of us s s.point (record { frame = frame_of s.point; replies = s.since ++ more; left = m })))) before_is
         ∙ behind_same before n (λ m. doing_of (left_of us s s.point (record { frame = frame_of s.point; replies = s.since ++ more; left = m })))
         (λ m. doing_of (f (record { frame = frame; replies = used ++ (since ++ more); left = m }))) (λ m.
-            left_same m
-            ∙ ap (λ (l : List Datum). doing_of (f (record { frame = l; replies = s.since ++ more; left = m }))) frame_is
-            ∙ ap (λ (l : List Reply). doing_of (f (record { frame = frame; replies = l; left = m }))) (ap (λ (l : List Reply). l ++ more) replies ∙ append_assoc used since more))
+        left_same m
+        ∙ ap (λ (l : List Datum). doing_of (f (record { frame = l; replies = s.since ++ more; left = m }))) frame_is
+        ∙ ap (λ (l : List Reply). doing_of (f (record { frame = frame; replies = l; left = m }))) (ap (λ (l : List Reply). l ++ more) replies ∙ append_assoc used since more))
       where
         left_same : (m : ℕ) → doing_of (left_of us s s.point (record { frame = frame_of s.point; replies = s.since ++ more; left = m }))
             ≡ doing_of (f (record { frame = frame_of s.point; replies = s.since ++ more; left = m }))

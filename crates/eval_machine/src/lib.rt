@@ -8,7 +8,8 @@
 //! the laws of meaning_rules and accepted_law, by which what fits stays fitting, and a process that has halted stays so. A try and a
 //! making are straight lines over the two evaluators. A process goes on from a point between two of its statements (eval_points), which is
 //! moved forward with each action: an action costs what is computed between it and the one before, a few times over, and copies of the
-//! variables. The machine is the slow reference, and a compiled one the one to race.
+//! variables. A point stands in no function, so an action in one is evaluated from the statement that calls it, each time. The machine is
+//! the slow reference, and a compiled one the one to race.
 #![tactic(auto)]
 
 mod attempts;

@@ -1,6 +1,6 @@
 //! How the point of a process is moved forward.
 
-ghost use Rattle.std.specs.Prelude.{◌≡◌, ◌<◌, ◌^◌, List, IfOk, IfSome, None, Some, false, length};
+ghost use Rattle.std.specs.Prelude.{◌≡◌, ◌↔◌, ◌<◌, ◌^◌, List, IfOk, IfSome, None, Some, false, length};
 ghost use Rattle.link_rules.specs.Units.{Source};
 ghost use Rattle.accepted_law.specs.Numbers.{AreNumbers};
 ghost use Rattle.eval_bodies.specs.Blocks.{IsBlockCode, Routine, process_at};
@@ -14,7 +14,7 @@ use crate::replies::Replies;
 use crate::texts::{add_variables, types_behind};
 use eval_bodies::{BlockCode, Code};
 use eval_points::{Advanced, Place, Point, advance};
-use eval_variables::{Frame, Run};
+use eval_variables::{Frame, Run, Stop};
 use orca_base::NoMemory;
 use std::alloc::Global;
 use value_core::Parts;
@@ -24,6 +24,14 @@ use value_core::Parts;
 struct First {
     point: Point,
     since: Replies,
+}
+
+// Hands want of memory on, and no other stop.
+fn hand_on(stop: Stop) -> Result<(), NoMemory> {
+    match stop {
+        Stop::NoMemory => Err(NoMemory),
+        _ => Ok(()),
+    }
 }
 
 // The first point of a process with this code, or `None` where its variables aren't all made yet. They take no turn.
@@ -45,7 +53,10 @@ fn first_point<'a, 'p>(
         left: 0,
     };
     match add_variables(alloc, code, process.number, types, &mut own, &mut run) {
-        Err(_) => Ok(None),
+        Err(stop) => {
+            hand_on(stop)?;
+            Ok(None)
+        }
         Ok(()) => {
             let since = Replies::of(alloc, run.replies)?;
             let place = Place::new(alloc);
@@ -142,7 +153,7 @@ fn go_on<'a, 'p>(
 
 // Whether a process has a point.
 fn has_point(process: &TreeProcess) -> bool
-    ensures { result ≡ false → process.now.point ≡ None }
+    ensures { (result ≡ false) ↔ (process.now.point ≡ None) }
 {
     match &process.point {
         None => false,
@@ -150,7 +161,7 @@ fn has_point(process: &TreeProcess) -> bool
     }
 }
 
-/// The process at a point further on, as far as it comes within so many turns. The only error is want of memory.
+/// The process at a point further on, as far as it comes within so many turns. How far is no clause. The only error is want of memory.
 pub fn move_on(
     alloc: Global,
     code: &Code<'_>,

@@ -9,7 +9,7 @@ use orca_base::{NoMemory, ProcessNo, TextNo};
 use std::alloc::Global;
 use value_core::{Parts, Reply};
 
-/// A process: its text, its number and its arguments, the point where it stands, once its variables are made, the replies that it received
+/// A process: its text, number and arguments, a point up to which it came, once its variables are made, the replies that it received
 /// since, and the turns that it took. The reply that came last stands apart until it goes on, so that receiving one takes no memory.
 #[derive(Drop)]
 pub struct TreeProcess {

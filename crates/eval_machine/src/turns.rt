@@ -122,7 +122,7 @@ fn turns_taken(
     up(alloc, machine, process, last, first)
 }
 
-// The process at a point further on, as far as it comes within so many turns.
+// The process at a point further on, as far as it comes within so many turns. How far is no clause.
 fn moved(
     alloc: Global,
     machine: &TreeMachine<'_>,
@@ -135,8 +135,8 @@ fn moved(
     move_on(alloc, &machine.code, process, most)
 }
 
-/// Computes a process up to its next action, or until the budget's last turn is begun: from its point, which is first moved forward as far
-/// as it comes. Then the exact number of turns that it took is looked for. The only error is want of memory.
+/// Computes a process up to its next action, or until the budget's last turn is begun: from its point, which is first moved forward, how
+/// far is no clause. Then the exact number of turns that it took is looked for. The only error is want of memory.
 pub fn go(
     alloc: Global,
     machine: &TreeMachine<'_>,

@@ -29,7 +29,7 @@ returns-in_ok-begun-in-Some-clause-moved c = λ us is numbers.
     let found = routine_there us p.text numbers c.in-Some.routine (subst (λ (o : Option (Bor BlockCode)). Both IsLent o (process_at us p.text)) c.in-Some.is (c.process.ensures us is)) in
     let program = subst (λ (ps : List Source). IsCode ps c.args.code.now) (sym found.program) is in
     let begun = c.in_ok-begun-in-Some.ensures {u = tt} in
-    let one = begun.moved us found.routine (c.has_point.ensures c.if-has_point.false) found.is program found.code found.few in
+    let one = begun.moved us found.routine (c.has_point.ensures.0 c.if-has_point.false) found.is program found.code found.few in
     let there : process_at us t.text ≡ Some found.routine = ap (λ (n : TextNo). process_at us n) begun.kept.text ∙ found.is in
     IfOk-weaker c.go_on-in-Some.result (IsMoved us t) (IsMoved us p) (λ u two. moved_both us p t u one two) (c.go_on-in-Some.ensures.moved us found.routine there program found.code found.in_guard)
 
