@@ -210,11 +210,11 @@ begun_so told script loaded before after units options lines has more asked = re
 -- ---- the run that the words ask for
 
 -- where nothing of it is kept
-pub untouched_run : {K A : Type 0} (words : List Word) (files : Option (List File)) (units : List Source) (options : RunOptions) (lines : List ScriptLine) (o : Option K) (status : ℕ) (old new : Wires) (named : IsNamed words files units lines)
+pub untouched_run : {K : Type 0} (A : Type 0) (words : List Word) (files : Option (List File)) (units : List Source) (options : RunOptions) (lines : List ScriptLine) (o : Option K) (status : ℕ) (old new : Wires) (named : IsNamed words files units lines)
     → named.options ≡ options → IfNone o ((status ≡ NO_MEMORY) × A) → IfNone o ((new ≡ old) ⊎ WasBegun units options lines old new) → IfNone o (AreUntouched words files status old new)
-untouched_run words files units options lines (Some k) status old new named same lacked begun = tt
-untouched_run words files units options lines None status old new named same lacked (inl kept) = inl kept
-untouched_run words files units options lines None status old new named same lacked (inr begun) = inr (record {
+untouched_run A words files units options lines (Some k) status old new named same lacked begun = tt
+untouched_run A words files units options lines None status old new named same lacked (inl kept) = inl kept
+untouched_run A words files units options lines None status old new named same lacked (inr begun) = inr (record {
   status = lacked.0;
   units = units;
   lines = lines;

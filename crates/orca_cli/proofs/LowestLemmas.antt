@@ -22,8 +22,8 @@ NoneSays says ends = (i : ℕ) (end : ProcessEnd) → slice_get ends i ≡ Some 
 
 -- what was found is the lowest, where the processes are numbered from here on, or there is none
 abbrev IsFound : {A : Type 0} → (ProcessEnd → Option A) → ℕ → List ProcessEnd → Option (ℕ × A) → Type 0
-IsFound says from ends None = NoneSays says ends
-IsFound says from ends (Some one) = (k : ℕ) × (one.0 ≡ from + k) × IsLowest says ends k one.1
+IsFound says start ends None = NoneSays says ends
+IsFound says start ends (Some one) = (k : ℕ) × (one.0 ≡ start + k) × IsLowest says ends k one.1
 
 module _ {A : Type 0} (says : ProcessEnd → Option A) where
   none_behind : (e : ProcessEnd) (ends : List ProcessEnd) (i : ℕ) (end : ProcessEnd) → says e ≡ None → NoneSays says ends → slice_get (e ∷ ends) i ≡ Some end → says end ≡ None
@@ -35,15 +35,15 @@ module _ {A : Type 0} (says : ProcessEnd → Option A) where
   none_below e ends k zero end none rest lt there = let same : e ≡ end = cc there in ap says (sym same) ∙ none
   none_below e ends k (suc i) end none rest lt there = rest i end (omega (arith, lt)) there
 
-  one_more : (from : ℕ) (e : ProcessEnd) (ends : List ProcessEnd) (o : Option A) (later : Option (ℕ × A)) → says e ≡ o → IsFound says (suc from) ends later → IsFound says from (e ∷ ends) (or_later from o later)
-  one_more from e ends (Some x) later is h = (0, omega arith, (e, refl, is, λ i lower lt there. absurd (omega (arith, lt))))
-  one_more from e ends None None is h = λ i end there. none_behind e ends i end is h there
-  one_more from e ends None (Some one) is h =
+  one_more : (start : ℕ) (e : ProcessEnd) (ends : List ProcessEnd) (o : Option A) (later : Option (ℕ × A)) → says e ≡ o → IsFound says (suc start) ends later → IsFound says start (e ∷ ends) (or_later start o later)
+  one_more start e ends (Some x) later is h = (0, omega arith, (e, refl, is, λ i lower lt there. absurd (omega (arith, lt))))
+  one_more start e ends None None is h = λ i end there. none_behind e ends i end is h there
+  one_more start e ends None (Some one) is h =
       let number = h.1 in (suc h.0, omega (arith, number), (h.2.0, h.2.1, h.2.2, λ i lower lt there. none_below e ends h.0 i lower is h.2.3 lt there))
 
-  pub found_from : (from : ℕ) (ends : List ProcessEnd) → IsFound says from ends (first_of says from ends)
-  found_from from [] = λ i end there. absurd (cc there)
-  found_from from (e ∷ ends) = one_more from e ends (says e) (first_of says (suc from) ends) refl (found_from (suc from) ends)
+  pub found_from : (ends : List ProcessEnd) (start : ℕ) → IsFound says start ends (first_of says start ends)
+  found_from [] start = λ i end there. absurd (cc there)
+  found_from (e ∷ ends) start = one_more start e ends (says e) (first_of says (suc start) ends) refl (found_from ends (suc start))
 
   -- so where there is something to say of some process, the line is that of the lowest
   pub of_lowest : (told : ℕ → A → List ℕ) (said : Option (ℕ × A) → List ℕ) → ((one : ℕ × A) → said (Some one) ≡ told one.0 one.1) → (ends : List ProcessEnd) (found : Option (ℕ × A)) → IsFound says 0 ends found → (NoneSays says ends → ⊥)
@@ -60,16 +60,16 @@ apart x o some none = let e : Some x ≡ None = sym some ∙ none in cc e
 pub ending_is : (f : Frame) (w : World) (k : Kept) (name : Action → List ℕ) (s : Standing) → KeptRow f w k s → IsEndingLine name f.settings.turns s k.processes.items (ending_line name f.settings.turns s k.processes.items)
 ending_is f w k name Faulted row =
     of_lowest (λ (end : ProcessEnd). fault_of end.standing) faulted_line fault_said (λ one. refl) k.processes.items (first_faulted k.processes.items)
-    (found_from (λ (end : ProcessEnd). fault_of end.standing) 0 k.processes.items)
+    (found_from (λ (end : ProcessEnd). fault_of end.standing) k.processes.items 0)
     (λ none. apart row.1 (fault_of row.2.0.standing) (ap fault_of row.2.2) (none row.0 row.2.0 row.2.1))
 ending_is f w k name Blocked row =
     let one = row.1 in
     of_lowest (λ (end : ProcessEnd). awaited_of end.standing) (λ n act. blocked_line n (name act)) (wait_said name) (λ one. refl) k.processes.items (first_waiting k.processes.items)
-    (found_from (λ (end : ProcessEnd). awaited_of end.standing) 0 k.processes.items)
+    (found_from (λ (end : ProcessEnd). awaited_of end.standing) k.processes.items 0)
     (λ none. apart one.act (awaited_of one.waits.0.standing) (ap awaited_of one.waits.2) (none one.number one.waits.0 one.waits.1))
 ending_is f w k name OutOfTurns row =
     of_lowest (spent_of f.settings.turns) (λ n spent. turns_line n) spent_said (λ one. refl) k.processes.items (first_spent f.settings.turns k.processes.items)
-    (found_from (spent_of f.settings.turns) 0 k.processes.items)
+    (found_from (spent_of f.settings.turns) k.processes.items 0)
     (λ none. apart tt (spent_of f.settings.turns row.end) (spent_is f.settings.turns row.end (eq-eqb row.end.turns f.settings.turns row.turns)) (none row.number.0 row.end row.kept))
 ending_is f w k name (Limit what number) row = refl
 ending_is f w k name OutOfEvents row = refl

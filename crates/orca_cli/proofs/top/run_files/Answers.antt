@@ -78,7 +78,7 @@ returns-clause-untouched g c = λ words asked.
     let of = c.in-Ok-machine_of.ensures.of in
     let are = rw c.deref.ensures.value at c.in-Ok-linked_program.ensures.program in
     let accepted = subst (IsAccepted sources) (sym of) (c.in-Ok-machine_of.ensures.accepted sources are) in
-    untouched_run words _ (units_of machine) c.args.options c.in-Ok-script_of.script c.run_program.result.kept c.run_program.result.status _ _
+    untouched_run _ words _ (units_of machine) c.args.options c.in-Ok-script_of.script c.run_program.result.kept c.run_program.result.status _ _
     (record {
       options = c.args.options;
       script = _;
