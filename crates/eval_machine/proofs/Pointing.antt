@@ -1,6 +1,6 @@
 -- A process at its first point, and at a point further on, does next what it did before.
-use Rattle.std.proofs.Common.{◌≡◌, ℕ, ◌+◌, ◌-◌, ◌≤◌, Bool, ◌&&◌, cond, nat_le, List, [], ◌++◌, drop, length, map, Option, Some, None, Result, Ok, Err, refl, sym, ap, ◌∙◌, subst, arith}
-use Rattle.std.specs.Prelude.{option_and_then, slice_get}
+use Rattle.std.proofs.Common.{◌≡◌, ℕ, ◌+◌, ◌-◌, ◌&&◌, cond, nat_le, List, [], ◌++◌, drop, length, map, Option, Some, None, Result, Ok, Err, refl, sym, ap, ◌∙◌, subst, arith}
+use Rattle.std.specs.Prelude.{slice_get}
 use Rattle.std.proofs.lemmas.List.{append_assoc, drop-map}
 use Rattle.orca_base.specs.declared.ids.ProcessNo.{ProcessNo}
 use Rattle.link_rules.specs.Units.{Source}
@@ -11,7 +11,7 @@ use Rattle.value_core.specs.declared.meaning.Doing.{Doing}
 use Rattle.value_core.specs.declared.meaning.Doing.TheVariants as doing
 use Rattle.meaning_rules.specs.Functions.{all_calls}
 use Rattle.meaning_rules.specs.Loops.{Flow}
-use Rattle.meaning_rules.specs.Processes.{doing_of, text_run, variables_made}
+use Rattle.meaning_rules.specs.Processes.{doing_of, variables_made}
 use Rattle.meaning_rules.specs.Programs.{process_texts}
 use Rattle.meaning_rules.specs.States.{Goes, Out, State, Stops, after}
 use Rattle.meaning_rules.specs.Statements.{run_all}
@@ -21,7 +21,7 @@ use Rattle.meaning_rules.proofs.Settling.{uses_front}
 use Rattle.meaning_rules.proofs.Turning.{counts_turns}
 use Rattle.eval_variables.specs.declared.stop.Stop.{Stop}
 use Rattle.eval_variables.specs.Gives.{Gives}
-use Rattle.eval_bodies.specs.Blocks.{Routine, process_at, process_of}
+use Rattle.eval_bodies.specs.Blocks.{Routine, process_at}
 use Rattle.eval_stmts.specs.declared.flow.Flow.{Flow as FlowCode}
 use Rattle.eval_stmts.specs.Flows.{flow_of}
 use Rattle.eval_points.specs.Advances.{Advances, left_at}

@@ -1,6 +1,6 @@
 -- The turns that a process took, and what its state stands for when it has gone on, was moved or has received a reply.
 use Rattle.std.proofs.Common.{◌≡◌, ◌⊎◌, inl, inr, ℕ, ◌+◌, ◌-◌, ◌≤◌, List, [], ◌∷◌, ◌++◌, Option, Some, None, Result, Ok, Err, refl, sym, ap, ◌∙◌, subst, arith}
-use Rattle.std.specs.Prelude.{IfOk, slice_get}
+use Rattle.std.specs.Prelude.{IfOk}
 use Rattle.std.proofs.lemmas.List.{append_assoc, append-nil}
 use Rattle.orca_base.specs.declared.ids.ProcessNo.{ProcessNo}
 use Rattle.orca_base.specs.declared.ids.TextNo.{TextNo}
@@ -19,7 +19,7 @@ use Rattle.meaning_rules.specs.Processes.{next_doing}
 use Rattle.meaning_rules.specs.Replies.{IsOver}
 use Rattle.meaning_rules.proofs.Settling.{is_settled, stays_over}
 use Rattle.eval_machine.specs.declared.process.TreeProcess.{TreeProcess}
-use Rattle.eval_machine.specs.Processes.{IsKept, IsLeftAt, IsMoved, IsOnTheWay, IsReached, StandsFor, Told, doing_by, doing_here, doing_with, with_last, with_more}
+use Rattle.eval_machine.specs.Processes.{IsKept, IsLeftAt, IsMoved, IsOnTheWay, IsReached, StandsFor, Told, doing_by, doing_here, doing_with, with_last}
 use Rattle.eval_machine.proofs.Beyond.{behind_enough}
 
 -- ---- what a state stands for

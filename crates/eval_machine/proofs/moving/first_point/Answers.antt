@@ -4,7 +4,7 @@ use Rattle.type_rules.specs.declared.types.DataType.{DataType}
 use Rattle.type_rules.specs.Scopes.{Local}
 use Rattle.value_core.specs.Datum.{Data, Datum, list_of}
 use Rattle.value_core.specs.declared.action.Reply.{Reply}
-use Rattle.meaning_rules.specs.States.{State, Out, Goes}
+use Rattle.meaning_rules.specs.States.{State, Goes}
 use Rattle.eval_variables.specs.Gives.{state_of}
 use Rattle.eval_machine.specs.Routines.{values_made, with_front}
 use Rattle.eval_machine.proofs.Pointing.{is_first}

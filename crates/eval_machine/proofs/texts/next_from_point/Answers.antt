@@ -1,4 +1,4 @@
-use Rattle.std.proofs.Common.{List, Some, ap, ◌∙◌}
+use Rattle.std.proofs.Common.{List, ap, ◌∙◌}
 use Rattle.value_core.specs.Datum.{Datum, list_of}
 use Rattle.value_core.specs.declared.action.Reply.{Reply}
 use Rattle.meaning_rules.specs.Loops.{Flow}
