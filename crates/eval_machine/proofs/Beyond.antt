@@ -9,8 +9,8 @@ use Rattle.meaning_rules.specs.Loops.{Flow}
 use Rattle.meaning_rules.specs.Processes.{doing_of}
 use Rattle.meaning_rules.specs.States.{State, Out}
 use Rattle.meaning_rules.specs.Turns.{IsEnough}
+use Rattle.meaning_rules.proofs.Counting.{Behind, Within, both_last, split}
 use Rattle.eval_points.specs.Moves.{Moves}
-use Rattle.eval_points.proofs.Moving.{Behind, Within, both_last, split}
 use Rattle.eval_machine.specs.Processes.{behind_turns}
 
 pub behind_short : (before n : ℕ) (next : ℕ → Doing) → 1 ≤ before → n ≤ before → behind_turns before n next ≡ doing.Busy
