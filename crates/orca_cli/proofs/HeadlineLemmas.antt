@@ -89,8 +89,8 @@ is_run f name says end standing status old new before after laws settings none h
     let processes = laws.stand f end.steps.items w left.replays in
     let some = settings.some in
     let row : KeptRow f w k (rules.standing f w) =
-        row_kept f w k laws.count laws.read is stand (laws.finished f end.steps.items w left.replays) processes left.kept left.stuck
-        (laws.spent f refl refl settings end.steps.items w left.replays) (rules.standing f w) refl in
+    row_kept f w k laws.count laws.read is stand (laws.finished f end.steps.items w left.replays) processes left.kept left.stuck
+    (laws.spent f refl refl settings end.steps.items w left.replays) (rules.standing f w) refl in
     record {
       world = w;
       end = is;
