@@ -21,7 +21,6 @@ pub struct Unit {
 }
 
 /// A declaration.
-#[derive(Drop)]
 pub enum Declaration {
     /// `const` name `=` value.
     Constant {
@@ -66,6 +65,49 @@ pub enum Declaration {
     },
 }
 
+// By hand, so that a declaration that is dropped is one call, and isn't laid out form by form wherever that happens.
+impl Drop for Declaration {
+    fn drop(self) {
+        match self {
+            Declaration::Constant {
+                at: _,
+                name: _name,
+                value: _value,
+            } => {}
+            Declaration::Type {
+                at: _,
+                name: _name,
+                definition: _definition,
+            } => {}
+            Declaration::Specification {
+                at: _,
+                name: _name,
+                heads: _heads,
+            } => {}
+            Declaration::Implementation {
+                at: _,
+                name: _name,
+                fields: _fields,
+                operations: _operations,
+                opening: _opening,
+            } => {}
+            Declaration::Function {
+                at: _,
+                name: _name,
+                parameters: _parameters,
+                result: _result,
+                body: _body,
+            } => {}
+            Declaration::Process {
+                at: _,
+                name: _name,
+                parameters: _parameters,
+                body: _body,
+            } => {}
+        }
+    }
+}
+
 /// What a declared type is.
 #[derive(Drop)]
 pub enum Definition {
@@ -89,7 +131,6 @@ pub enum Bound {
 }
 
 /// A type.
-#[derive(Drop)]
 #[cycle(types)]
 pub enum TypePhrase {
     /// `integer`.
@@ -129,6 +170,34 @@ pub enum TypePhrase {
         at: Place,
         element: Box<TypePhrase>,
     },
+}
+
+// By hand, so that a type that is dropped is one call, and isn't laid out form by form wherever that happens.
+impl Drop for TypePhrase {
+    #[cycle(type_drops)]
+    fn drop(self) {
+        match self {
+            TypePhrase::Integer { at: _ }
+            | TypePhrase::Boolean { at: _ }
+            | TypePhrase::Char { at: _ }
+            | TypePhrase::Text { at: _ } => {}
+            TypePhrase::Named { name: _name } => {}
+            TypePhrase::Array {
+                at: _,
+                low: _low,
+                high: _high,
+                element: _element,
+            } => {}
+            TypePhrase::Set {
+                at: _,
+                element: _element,
+            } => {}
+            TypePhrase::Bag {
+                at: _,
+                element: _element,
+            } => {}
+        }
+    }
 }
 
 /// A name with its type: a record's field, or an operation's parameter.
@@ -206,7 +275,6 @@ pub struct Block {
 }
 
 /// A statement.
-#[derive(Drop)]
 #[cycle(statements)]
 pub enum Statement {
     /// `return`, with a value or without.
@@ -280,6 +348,69 @@ pub enum Statement {
     },
 }
 
+// By hand, so that a statement that is dropped is one call, and isn't laid out form by form wherever that happens.
+impl Drop for Statement {
+    #[cycle(statement_drops)]
+    fn drop(self) {
+        match self {
+            Statement::Return {
+                at: _,
+                value: _value,
+            } => {}
+            Statement::If { at: _, arms: _arms } => {}
+            Statement::While {
+                at: _,
+                test: _test,
+                body: _body,
+            } => {}
+            Statement::For {
+                at: _,
+                name: _name,
+                range: _range,
+                body: _body,
+            } => {}
+            Statement::Repeat {
+                at: _,
+                body: _body,
+                test: _test,
+            } => {}
+            Statement::Fork {
+                at: _,
+                process: _process,
+                arguments: _arguments,
+                on: _on,
+            } => {}
+            Statement::WriteLine {
+                at: _,
+                arguments: _arguments,
+            } => {}
+            Statement::Insert {
+                at: _,
+                element: _element,
+                into: _into,
+            } => {}
+            Statement::Delete {
+                at: _,
+                element: _element,
+                from: _from,
+            } => {}
+            Statement::Assign {
+                to: _to,
+                value: _value,
+            } => {}
+            Statement::Call {
+                function: _function,
+                arguments: _arguments,
+            } => {}
+            Statement::Invoke {
+                object: _object,
+                operation: _operation,
+                arguments: _arguments,
+            } => {}
+        }
+    }
+}
+
 /// An arm of an `if`: one with a test, or the `else` at its end.
 #[derive(Drop)]
 #[cycle(statements)]
@@ -303,7 +434,6 @@ pub struct Range {
 }
 
 /// An expression.
-#[derive(Drop)]
 #[cycle(expressions)]
 pub enum Expression {
     /// Operators of one level, grouped from the left.
@@ -376,6 +506,51 @@ pub enum Expression {
         operation: Name,
         arguments: Vec<Expression>,
     },
+}
+
+// By hand, so that an expression that is dropped is one call, and isn't laid out form by form wherever that happens.
+impl Drop for Expression {
+    #[cycle(expression_drops)]
+    fn drop(self) {
+        match self {
+            Expression::Number { at: _, value: _ }
+            | Expression::Char { at: _, code: _ }
+            | Expression::Truth { at: _, value: _ } => {}
+            Expression::Chain {
+                first: _first,
+                links: _links,
+            } => {}
+            Expression::Text { at: _, text: _text } => {}
+            Expression::Not {
+                at: _,
+                operand: _operand,
+            } => {}
+            Expression::Negative {
+                at: _,
+                operand: _operand,
+            } => {}
+            Expression::Parentheses {
+                at: _,
+                inner: _inner,
+            } => {}
+            Expression::From {
+                at: _,
+                source: _source,
+            } => {}
+            Expression::Size { at: _, of: _of } => {}
+            Expression::Ordinal { at: _, of: _of } => {}
+            Expression::Get { from: _from } => {}
+            Expression::Call {
+                function: _function,
+                arguments: _arguments,
+            } => {}
+            Expression::Invoke {
+                object: _object,
+                operation: _operation,
+                arguments: _arguments,
+            } => {}
+        }
+    }
 }
 
 /// An operator and its right operand, in a chain.
