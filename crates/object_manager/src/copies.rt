@@ -45,7 +45,6 @@ impl From<NoMemory> for ApplyError {
 
 /// One member's copies: the replicated objects and the suspended calls on them, the number of processes and of applied entries, the
 /// single objects that were made, those of them that are kept here, and the suspended calls on these.
-#[derive(Drop)]
 pub struct Copies {
     objects: Objects,
     queue: Queue,
@@ -87,6 +86,21 @@ impl Model for Copies {
       own = c.own;
       waits = c.waits;
     }) };
+}
+
+// By hand, so that copies that are dropped are one call, and aren't laid out part by part wherever that happens.
+impl Drop for Copies {
+    fn drop(self) {
+        let Copies {
+            objects: _objects,
+            queue: _queue,
+            processes: _,
+            applied: _,
+            singles: _singles,
+            own: _own,
+            waits: _waits,
+        } = self;
+    }
 }
 
 impl Copies {
