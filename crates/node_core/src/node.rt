@@ -36,7 +36,6 @@ pub struct Known {
 }
 
 /// One member of a run: its state in the group, its copies, and the processes that began here.
-#[derive(Drop)]
 pub struct Node<P: OneRun> {
     pub(crate) member: Member<Shared<Message>>,
     pub(crate) copies: Copies,
@@ -45,6 +44,21 @@ pub struct Node<P: OneRun> {
     pub(crate) held: Vec<Errand>,
     pub(crate) given: Vec<Option<Given>>,
     pub(crate) choices: Kept<Items<Items<Choice>>>,
+}
+
+// By hand, so that a node that is dropped is one call, and isn't laid out part by part wherever that happens.
+impl<P: OneRun> Drop for Node<P> {
+    fn drop(self) {
+        let Node {
+            member: _member,
+            copies: _copies,
+            known: _known,
+            residents: _residents,
+            held: _held,
+            given: _given,
+            choices: _choices,
+        } = self;
+    }
 }
 
 impl<P: OneRun> Node<P> {
