@@ -29,9 +29,15 @@ use world_parts::Parts;
 use world_rules::{Event, Settings, Standing, Step};
 
 /// The world of one run. It stores the steps of the run, and stands for the world to which they lead.
-#[derive(Drop)]
 pub struct World<P: OneRun> {
     parts: Parts<P>,
+}
+
+// By hand, so that a world that is dropped is one call, and isn't laid out part by part wherever that happens.
+impl<P: OneRun> Drop for World<P> {
+    fn drop(self) {
+        let World { parts: _parts } = self;
+    }
 }
 
 impl<P: OneRun> Model for World<P> {
@@ -75,7 +81,8 @@ impl<P: OneRun> World<P> {
         ensures steps { result.items ≡ self.steps }
         ensures replayed { (w : RunWorld) × Replays P.run.frame self.steps w }
     {
-        self.parts.ledger.into_parts().0
+        let World { parts } = self;
+        parts.ledger.into_parts().0
     }
 
     /// Does an event, which becomes the last step, with the fates that the wire in use gives the packets that it sends, in their order. A
@@ -314,6 +321,7 @@ impl<P: OneRun> World<P> {
         ensures stuck { Of P.run.frame self (AllStuck P.run.frame) }
         ensures kept { Of P.run.frame self (IsKept P.run.frame) }
     {
-        book::into_end(self.parts, alloc)
+        let World { parts } = self;
+        book::into_end(parts, alloc)
     }
 }
