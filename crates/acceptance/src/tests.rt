@@ -216,8 +216,8 @@ fn one_cell(rt: HostRuntime) -> Result<(), Fail> {
     let mut shelf = MemoryShelf::new(files(alloc, "one.orca", ONE.as_bytes())?, Vec::new(alloc));
     let mut out = MemorySink::new(alloc, Vec::new(alloc));
     let ended = run_over(alloc, &mut shelf, &mut out)?;
-    assert_eq!(rt; ended.status, 0);
-    assert_eq!(rt; out.bytes(), b"6\n".as_slice());
+    assert!(rt; ended.status == 0);
+    assert!(rt; out.bytes() == b"6\n".as_slice());
     assert!(rt; is_whole(&ended));
     Ok(())
 }
@@ -228,8 +228,8 @@ fn one_cell_where_nothing_outside_fails(rt: HostRuntime) -> Result<(), Fail> {
     let mut shelf = SureShelf::new(files(alloc, "one.orca", ONE.as_bytes())?);
     let mut out = SureSink::new(alloc);
     let ended = run_over(alloc, &mut shelf, &mut out)?;
-    assert_eq!(rt; ended.status, 0);
-    assert_eq!(rt; out.bytes(), b"6\n".as_slice());
+    assert!(rt; ended.status == 0);
+    assert!(rt; out.bytes() == b"6\n".as_slice());
     assert!(rt; is_whole(&ended));
     Ok(())
 }
@@ -242,8 +242,8 @@ fn a_failed_read_leaves_no_run(rt: HostRuntime) -> Result<(), Fail> {
     let mut shelf = MemoryShelf::new(files(alloc, "one.orca", ONE.as_bytes())?, failing);
     let mut out = MemorySink::new(alloc, Vec::new(alloc));
     let ended = run_over(alloc, &mut shelf, &mut out)?;
-    assert_eq!(rt; ended.status, 8);
-    assert_eq!(rt; out.bytes(), b"orca: cannot read one.orca\n".as_slice());
+    assert!(rt; ended.status == 8);
+    assert!(rt; out.bytes() == b"orca: cannot read one.orca\n".as_slice());
     assert!(rt; ended.kept.is_none());
     Ok(())
 }
@@ -256,8 +256,8 @@ fn a_failed_first_write_keeps_the_run(rt: HostRuntime) -> Result<(), Fail> {
     let mut shelf = MemoryShelf::new(files(alloc, "one.orca", ONE.as_bytes())?, Vec::new(alloc));
     let mut out = MemorySink::new(alloc, failing);
     let ended = run_over(alloc, &mut shelf, &mut out)?;
-    assert_eq!(rt; ended.status, 10);
-    assert_eq!(rt; out.bytes().len(), 0);
+    assert!(rt; ended.status == 10);
+    assert!(rt; out.bytes().len() == 0);
     assert!(rt; is_whole(&ended));
     Ok(())
 }
@@ -270,7 +270,7 @@ fn a_refusal_that_cant_be_written(rt: HostRuntime) -> Result<(), Fail> {
     let mut shelf = MemoryShelf::new(Vec::new(alloc), Vec::new(alloc));
     let mut out = MemorySink::new(alloc, failing);
     let ended = run_over(alloc, &mut shelf, &mut out)?;
-    assert_eq!(rt; ended.status, 10);
+    assert!(rt; ended.status == 10);
     assert!(rt; ended.kept.is_none());
     Ok(())
 }
@@ -294,8 +294,8 @@ fn the_file_that_stops_the_reading_is_named(rt: HostRuntime) -> Result<(), Fail>
         let mut out = MemorySink::new(alloc, Vec::new(alloc));
         let words = words(alloc, &["run", name])?;
         let ended = called(alloc, &words, &mut shelf, &mut out, &[])?;
-        assert_eq!(rt; ended.status, status);
-        assert_eq!(rt; out.bytes(), line.as_bytes());
+        assert!(rt; ended.status == status);
+        assert!(rt; out.bytes() == line.as_bytes());
     }
     Ok(())
 }
@@ -316,8 +316,8 @@ fn a_failed_write_leaves_the_run_whole(rt: HostRuntime) -> Result<(), Fail> {
         );
         let mut out = MemorySink::new(alloc, [failing].to_vec(alloc)?);
         let ended = run_over(alloc, &mut shelf, &mut out)?;
-        assert_eq!(rt; ended.status, 10);
-        assert_eq!(rt; out.bytes(), printed.as_bytes());
+        assert!(rt; ended.status == 10);
+        assert!(rt; out.bytes() == printed.as_bytes());
         assert!(rt; matches!(ended.kept, Some(run) if run.lines == 4 && run.has_ended));
     }
     Ok(())
@@ -344,8 +344,8 @@ fn refusals(rt: HostRuntime) -> Result<(), Fail> {
     ];
     for (line, status, text) in lines {
         let (got, printed) = outcome(alloc, line, "e.orca", empty_main)?;
-        assert_eq!(rt; got, status);
-        assert_eq!(rt; printed.as_str(), text);
+        assert!(rt; got == status);
+        assert!(rt; printed.as_str() == text);
     }
     Ok(())
 }
@@ -358,12 +358,12 @@ fn texts_at_their_limit(rt: HostRuntime) -> Result<(), Fail> {
         long.push(b' ')?;
     }
     let (status, printed) = outcome(alloc, &["run", "l.orca"], "l.orca", &long)?;
-    assert_eq!(rt; status, 0);
-    assert_eq!(rt; printed.as_str(), "6\n");
+    assert!(rt; status == 0);
+    assert!(rt; printed.as_str() == "6\n");
     long.push(b' ')?;
     let (status, printed) = outcome(alloc, &["run", "l.orca"], "l.orca", &long)?;
-    assert_eq!(rt; status, 11);
-    assert_eq!(rt; printed.as_str(), "orca: limit of source bytes: 1000000\n");
+    assert!(rt; status == 11);
+    assert!(rt; printed.as_str() == "orca: limit of source bytes: 1000000\n");
     Ok(())
 }
 
@@ -382,7 +382,7 @@ fn texts_of_one_byte(rt: HostRuntime) -> Result<(), Fail> {
     for (byte, status, front) in lines {
         let text = vec![in alloc; byte; 1_000_000]?;
         let (got, printed) = outcome(alloc, &["run", "l.orca"], "l.orca", &text)?;
-        assert_eq!(rt; got, status);
+        assert!(rt; got == status);
         assert!(rt; printed.starts_with(front));
     }
     Ok(())
@@ -435,8 +435,8 @@ fn refusals_with_places(rt: HostRuntime) -> Result<(), Fail> {
     ];
     for (text, line) in texts {
         let (status, printed) = outcome(alloc, &["run", "r.orca"], "r.orca", text.as_bytes())?;
-        assert_eq!(rt; status, 1);
-        assert_eq!(rt; printed.as_str(), line);
+        assert!(rt; status == 1);
+        assert!(rt; printed.as_str() == line);
     }
     Ok(())
 }
@@ -458,8 +458,8 @@ fn nesting_ends_at_64_levels(rt: HostRuntime) -> Result<(), Fail> {
     ] {
         let text = nested(alloc, pairs)?;
         let (got, printed) = outcome(alloc, &["run", "n.orca"], "n.orca", text.as_bytes())?;
-        assert_eq!(rt; got, status);
-        assert_eq!(rt; printed.as_str(), line);
+        assert!(rt; got == status);
+        assert!(rt; printed.as_str() == line);
     }
     Ok(())
 }
@@ -496,8 +496,8 @@ process OrcaMain(); begin end;
 fn every_alternative_is_read(rt: HostRuntime) -> Result<(), Fail> {
     let alloc = rt.alloc();
     let (status, printed) = outcome(alloc, &["run", "w.orca"], "w.orca", WHOLE.as_bytes())?;
-    assert_eq!(rt; status, 1);
-    assert_eq!(rt; printed.as_str(), "orca: w.orca:1:18: unknown module A\n");
+    assert!(rt; status == 1);
+    assert!(rt; printed.as_str() == "orca: w.orca:1:18: unknown module A\n");
     Ok(())
 }
 
@@ -557,8 +557,8 @@ process OrcaMain(); begin end;
     ];
     for (files, status, text) in rows {
         let (got, printed) = checked(alloc, files)?;
-        assert_eq!(rt; got, status);
-        assert_eq!(rt; printed.as_str(), text);
+        assert!(rt; got == status);
+        assert!(rt; printed.as_str() == text);
     }
     Ok(())
 }
@@ -574,8 +574,8 @@ fn the_first_file_that_fails_is_told(rt: HostRuntime) -> Result<(), Fail> {
     );
     let mut out = MemorySink::new(alloc, Vec::new(alloc));
     let ended = called(alloc, &words, &mut shelf, &mut out, &[])?;
-    assert_eq!(rt; ended.status, 8);
-    assert_eq!(rt; out.bytes(), b"orca: cannot read one.orca\n".as_slice());
+    assert!(rt; ended.status == 8);
+    assert!(rt; out.bytes() == b"orca: cannot read one.orca\n".as_slice());
     Ok(())
 }
 
@@ -588,7 +588,7 @@ fn more_files_than_modules(rt: HostRuntime) -> Result<(), Fail> {
         files.push(("gone.orca", ""))?;
     }
     let (status, printed) = checked(alloc, &files)?;
-    assert_eq!(rt; status, 11);
-    assert_eq!(rt; printed.as_str(), "orca: limit of modules: 64\n");
+    assert!(rt; status == 11);
+    assert!(rt; printed.as_str() == "orca: limit of modules: 64\n");
     Ok(())
 }

@@ -16,7 +16,7 @@ use bag_performer::Bags;
 use guard_queue::{Answered, Objects, Queue, Suspended, settle};
 use object_manager::{ApplyError, Copies, View, copies_law};
 use orca_base::{KindNo, NoMemory, ObjectId, OpNo};
-use std::alloc::Global;
+use std::alloc::{AllocFailed, Global};
 use std::marker::Model;
 use value_core::{Action, Message, Parts, Tried};
 
@@ -50,10 +50,21 @@ impl From<NoMemory> for Refused {
     }
 }
 
-/// Copies of pools and flags on which all fits and each suspended call is blocked, so that whatever comes can be tested and done.
+impl<T: Drop> From<AllocFailed<T>> for Refused {
+    ghost from_gives = { λ _ r. r ≡ OfCopies Without };
+
+    fn from(_: AllocFailed<T>) -> Refused {
+        Refused::Copies {
+            why: ApplyError::NoMemory,
+        }
+    }
+}
+
+/// Copies of pools and flags on which all fits and each suspended call is blocked, so that whatever comes can be tested and done. They stand
+/// behind one pointer, so that whoever holds them drops one thing.
 #[derive(Drop)]
 pub struct BagCopies {
-    copies: Copies,
+    copies: Box<Copies>,
 }
 
 impl Model for BagCopies {
@@ -66,11 +77,11 @@ impl Model for BagCopies {
 
     ghost coded = { Prim.hlevel (codes, data_code) };
 
-    ghost view = { λ b. b.copies };
+    ghost view = { λ b. b.copies.value };
 
     ghost use Rattle.bag_copies.specs.Fits.{FitsAll};
 
-    ghost invariant = { λ b. FitsAll b.copies };
+    ghost invariant = { λ b. FitsAll b.copies.value };
 }
 
 impl BagCopies {
@@ -80,7 +91,7 @@ impl BagCopies {
     {
         copies_law(&Bags);
         Ok(BagCopies {
-            copies: Copies::opening(alloc)?,
+            copies: Box::new(alloc, Copies::opening(alloc)?)?,
         })
     }
 
@@ -97,7 +108,7 @@ impl BagCopies {
         ensures { IfOk result (λ c. c ≡ self.now) }
     {
         Ok(BagCopies {
-            copies: self.copies.copy(alloc)?,
+            copies: Box::new(alloc, self.copies.copy(alloc)?)?,
         })
     }
 
@@ -108,7 +119,7 @@ impl BagCopies {
         ensures refused { IfErr result (IsSendRefusal self.now) }
     {
         Ok(BagCopies {
-            copies: sent_on(alloc, &self.copies)?,
+            copies: Box::new(alloc, sent_on(alloc, &self.copies)?)?,
         })
     }
 
