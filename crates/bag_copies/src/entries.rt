@@ -16,7 +16,7 @@ use bag_performer::Bags;
 use guard_queue::{Answered, Objects, Queue, Suspended, settle};
 use object_manager::{ApplyError, Copies, View, copies_law};
 use orca_base::{KindNo, NoMemory, ObjectId, OpNo};
-use std::alloc::{AllocFailed, Global};
+use std::alloc::Global;
 use std::marker::Model;
 use value_core::{Action, Message, Parts, Tried};
 
@@ -50,21 +50,10 @@ impl From<NoMemory> for Refused {
     }
 }
 
-impl<T: Drop> From<AllocFailed<T>> for Refused {
-    ghost from_gives = { λ _ r. r ≡ OfCopies Without };
-
-    fn from(_: AllocFailed<T>) -> Refused {
-        Refused::Copies {
-            why: ApplyError::NoMemory,
-        }
-    }
-}
-
-/// Copies of pools and flags on which all fits and each suspended call is blocked, so that whatever comes can be tested and done. They stand
-/// behind one pointer, so that whoever holds them drops one thing.
+/// Copies of pools and flags on which all fits and each suspended call is blocked, so that whatever comes can be tested and done.
 #[derive(Drop)]
 pub struct BagCopies {
-    copies: Box<Copies>,
+    copies: Copies,
 }
 
 impl Model for BagCopies {
@@ -77,11 +66,11 @@ impl Model for BagCopies {
 
     ghost coded = { Prim.hlevel (codes, data_code) };
 
-    ghost view = { λ b. b.copies.value };
+    ghost view = { λ b. b.copies };
 
     ghost use Rattle.bag_copies.specs.Fits.{FitsAll};
 
-    ghost invariant = { λ b. FitsAll b.copies.value };
+    ghost invariant = { λ b. FitsAll b.copies };
 }
 
 impl BagCopies {
@@ -91,7 +80,7 @@ impl BagCopies {
     {
         copies_law(&Bags);
         Ok(BagCopies {
-            copies: Box::new(alloc, Copies::opening(alloc)?)?,
+            copies: Copies::opening(alloc)?,
         })
     }
 
@@ -108,7 +97,7 @@ impl BagCopies {
         ensures { IfOk result (λ c. c ≡ self.now) }
     {
         Ok(BagCopies {
-            copies: Box::new(alloc, self.copies.copy(alloc)?)?,
+            copies: self.copies.copy(alloc)?,
         })
     }
 
@@ -119,7 +108,7 @@ impl BagCopies {
         ensures refused { IfErr result (IsSendRefusal self.now) }
     {
         Ok(BagCopies {
-            copies: Box::new(alloc, sent_on(alloc, &self.copies)?)?,
+            copies: sent_on(alloc, &self.copies)?,
         })
     }
 
