@@ -44,30 +44,66 @@ fn files(alloc: Global, name: &str, text: &[u8]) -> Result<Vec<(String, Vec<u8>)
     Ok(files)
 }
 
-// The top call over one wire on which nothing happens.
+// How a call ended: its status, and what is seen of a run that was kept.
+#[derive(Clone, Copy)]
+struct Outcome {
+    status: u8,
+    kept: Option<Seen>,
+}
+
+// Of a kept run: how many lines its history has, whether they are those wanted, with their replies, and whether the one process has ended.
+#[derive(Clone, Copy)]
+struct Seen {
+    lines: usize,
+    are_wanted: bool,
+    has_ended: bool,
+}
+
+// The top call over one wire on which nothing happens. A kept run is compared with the lines that are wanted of it.
 fn called<F: Shelf, K: Sink>(
     alloc: Global,
     words: &[String],
     shelf: &mut F,
     out: &mut K,
-) -> Result<Ended, AllocError> {
+    wanted: &[Line],
+) -> Result<Outcome, AllocError> {
     let mut wires: Vec<Box<dyn Wire + Send>> = Vec::new(alloc);
     wires.push(Box::new(alloc, PlainWire::new(alloc))?)?;
     if wires.len() != 1 {
         return Err(AllocError);
     }
-    Ok(orca_main(alloc, words, shelf, out, &mut wires))
+    let ended = orca_main(alloc, words, shelf, out, &mut wires);
+    Ok(seen(&ended, wanted))
+}
+
+// What is seen of a call that ended so.
+fn seen(ended: &Ended, wanted: &[Line]) -> Outcome {
+    let kept = match &ended.kept {
+        Some(kept) => Some(Seen {
+            lines: kept.book.len(),
+            are_wanted: has_lines(kept, wanted),
+            has_ended: has_ended(kept),
+        }),
+        None => None,
+    };
+    Outcome {
+        status: ended.status,
+        kept,
+    }
+}
+
+// What was printed.
+fn text_of(alloc: Global, out: &MemorySink) -> Result<String, Fail> {
+    let printed = String::from_utf8(Vec::from_slice(alloc, out.bytes())?);
+    Ok(printed.ok().ok_or("no text")?)
 }
 
 // What was printed, and how the call ended, for one file in memory.
 fn outcome(alloc: Global, line: &[&str], name: &str, text: &[u8]) -> Result<(u8, String), Fail> {
     let mut shelf = MemoryShelf::new(files(alloc, name, text)?, Vec::new(alloc));
     let mut out = MemorySink::new(alloc, Vec::new(alloc));
-    let ended = called(alloc, &words(alloc, line)?, &mut shelf, &mut out)?;
-    let printed = String::from_utf8(Vec::from_slice(alloc, out.bytes())?)
-        .ok()
-        .ok_or("no text")?;
-    Ok((ended.status, printed))
+    let ended = called(alloc, &words(alloc, line)?, &mut shelf, &mut out, &[])?;
+    Ok((ended.status, text_of(alloc, &out)?))
 }
 
 // The one cell's object.
@@ -162,26 +198,16 @@ fn has_ended(kept: &Kept) -> bool {
     matches!(kept.processes.as_slice(), [main] if matches!(main.standing, ProcessStanding::Ended))
 }
 
-// Whether the one cell printed 6 and kept its four lines.
-fn is_one_cell(alloc: Global, ended: &Ended, printed: &[u8]) -> Result<bool, Fail> {
-    let lines = four_lines(alloc)?;
-    Ok(match &ended.kept {
-        Some(kept) => {
-            ended.status == 0
-                && printed == b"6\n".as_slice()
-                && has_lines(kept, &lines)
-                && has_ended(kept)
-        }
-        None => false,
-    })
+// Whether the one cell kept its four lines, and its process has ended.
+fn is_whole(ended: &Outcome) -> bool {
+    matches!(ended.kept, Some(run) if run.are_wanted && run.has_ended)
 }
 
-fn run_over<F: Shelf, K: Sink>(
-    alloc: Global,
-    shelf: &mut F,
-    out: &mut K,
-) -> Result<Ended, AllocError> {
-    called(alloc, &words(alloc, &["run", "one.orca"])?, shelf, out)
+// A run of the file of the one cell, of which its four lines are wanted.
+fn run_over<F: Shelf, K: Sink>(alloc: Global, shelf: &mut F, out: &mut K) -> Result<Outcome, Fail> {
+    let wanted = four_lines(alloc)?;
+    let words = words(alloc, &["run", "one.orca"])?;
+    Ok(called(alloc, &words, shelf, out, &wanted)?)
 }
 
 #[test]
@@ -190,43 +216,61 @@ fn one_cell(rt: HostRuntime) -> Result<(), Fail> {
     let mut shelf = MemoryShelf::new(files(alloc, "one.orca", ONE.as_bytes())?, Vec::new(alloc));
     let mut out = MemorySink::new(alloc, Vec::new(alloc));
     let ended = run_over(alloc, &mut shelf, &mut out)?;
-    assert!(rt; is_one_cell(alloc, &ended, out.bytes())?);
-
-    let mut shelf = SureShelf::new(files(alloc, "one.orca", ONE.as_bytes())?);
-    let mut out = SureSink::new(alloc);
-    let ended = run_over(alloc, &mut shelf, &mut out)?;
-    assert!(rt; is_one_cell(alloc, &ended, out.bytes())?);
+    assert!(rt; ended.status == 0);
+    assert!(rt; out.bytes() == b"6\n".as_slice());
+    assert!(rt; is_whole(&ended));
     Ok(())
 }
 
 #[test]
-fn faults_from_outside(rt: HostRuntime) -> Result<(), Fail> {
+fn one_cell_where_nothing_outside_fails(rt: HostRuntime) -> Result<(), Fail> {
     let alloc = rt.alloc();
-    // The shelf's first call fails.
+    let mut shelf = SureShelf::new(files(alloc, "one.orca", ONE.as_bytes())?);
+    let mut out = SureSink::new(alloc);
+    let ended = run_over(alloc, &mut shelf, &mut out)?;
+    assert!(rt; ended.status == 0);
+    assert!(rt; out.bytes() == b"6\n".as_slice());
+    assert!(rt; is_whole(&ended));
+    Ok(())
+}
+
+// The shelf's first call fails.
+#[test]
+fn a_failed_read_leaves_no_run(rt: HostRuntime) -> Result<(), Fail> {
+    let alloc = rt.alloc();
     let failing = [1].to_vec(alloc)?;
     let mut shelf = MemoryShelf::new(files(alloc, "one.orca", ONE.as_bytes())?, failing);
     let mut out = MemorySink::new(alloc, Vec::new(alloc));
     let ended = run_over(alloc, &mut shelf, &mut out)?;
-    assert_eq!(rt; ended.status, 8);
-    assert_eq!(rt; out.bytes(), b"orca: cannot read one.orca\n".as_slice());
+    assert!(rt; ended.status == 8);
+    assert!(rt; out.bytes() == b"orca: cannot read one.orca\n".as_slice());
     assert!(rt; ended.kept.is_none());
+    Ok(())
+}
 
-    // The sink's first call fails: the whole run is kept, and nothing was written.
+// The sink's first call fails: the whole run is kept, and nothing was written.
+#[test]
+fn a_failed_first_write_keeps_the_run(rt: HostRuntime) -> Result<(), Fail> {
+    let alloc = rt.alloc();
     let failing = [1].to_vec(alloc)?;
     let mut shelf = MemoryShelf::new(files(alloc, "one.orca", ONE.as_bytes())?, Vec::new(alloc));
     let mut out = MemorySink::new(alloc, failing);
     let ended = run_over(alloc, &mut shelf, &mut out)?;
-    assert_eq!(rt; ended.status, 10);
-    assert_eq!(rt; out.bytes().len(), 0);
-    let kept = ended.kept.as_ref().ok_or("nothing kept")?;
-    assert!(rt; has_lines(kept, &four_lines(alloc)?) && has_ended(kept));
+    assert!(rt; ended.status == 10);
+    assert!(rt; out.bytes().len() == 0);
+    assert!(rt; is_whole(&ended));
+    Ok(())
+}
 
-    // A refusal's line can't be written either.
+// There is no file, and the line that says so can't be written either.
+#[test]
+fn a_refusal_that_cant_be_written(rt: HostRuntime) -> Result<(), Fail> {
+    let alloc = rt.alloc();
     let failing = [1].to_vec(alloc)?;
     let mut shelf = MemoryShelf::new(Vec::new(alloc), Vec::new(alloc));
     let mut out = MemorySink::new(alloc, failing);
     let ended = run_over(alloc, &mut shelf, &mut out)?;
-    assert_eq!(rt; ended.status, 10);
+    assert!(rt; ended.status == 10);
     assert!(rt; ended.kept.is_none());
     Ok(())
 }
@@ -248,9 +292,10 @@ fn the_file_that_stops_the_reading_is_named(rt: HostRuntime) -> Result<(), Fail>
         ))?;
         let mut shelf = MemoryShelf::new(both, [1].to_vec(alloc)?);
         let mut out = MemorySink::new(alloc, Vec::new(alloc));
-        let ended = called(alloc, &words(alloc, &["run", name])?, &mut shelf, &mut out)?;
-        assert_eq!(rt; ended.status, status);
-        assert_eq!(rt; out.bytes(), line.as_bytes());
+        let words = words(alloc, &["run", name])?;
+        let ended = called(alloc, &words, &mut shelf, &mut out, &[])?;
+        assert!(rt; ended.status == status);
+        assert!(rt; out.bytes() == line.as_bytes());
     }
     Ok(())
 }
@@ -271,10 +316,9 @@ fn a_failed_write_leaves_the_run_whole(rt: HostRuntime) -> Result<(), Fail> {
         );
         let mut out = MemorySink::new(alloc, [failing].to_vec(alloc)?);
         let ended = run_over(alloc, &mut shelf, &mut out)?;
-        assert_eq!(rt; ended.status, 10);
-        assert_eq!(rt; out.bytes(), printed.as_bytes());
-        let kept = ended.kept.as_ref().ok_or("nothing kept")?;
-        assert!(rt; kept.book.len() == 4 && has_ended(kept));
+        assert!(rt; ended.status == 10);
+        assert!(rt; out.bytes() == printed.as_bytes());
+        assert!(rt; matches!(ended.kept, Some(run) if run.lines == 4 && run.has_ended));
     }
     Ok(())
 }
@@ -300,8 +344,8 @@ fn refusals(rt: HostRuntime) -> Result<(), Fail> {
     ];
     for (line, status, text) in lines {
         let (got, printed) = outcome(alloc, line, "e.orca", empty_main)?;
-        assert_eq!(rt; got, status);
-        assert_eq!(rt; printed.as_str(), text);
+        assert!(rt; got == status);
+        assert!(rt; printed.as_str() == text);
     }
     Ok(())
 }
@@ -314,12 +358,12 @@ fn texts_at_their_limit(rt: HostRuntime) -> Result<(), Fail> {
         long.push(b' ')?;
     }
     let (status, printed) = outcome(alloc, &["run", "l.orca"], "l.orca", &long)?;
-    assert_eq!(rt; status, 0);
-    assert_eq!(rt; printed.as_str(), "6\n");
+    assert!(rt; status == 0);
+    assert!(rt; printed.as_str() == "6\n");
     long.push(b' ')?;
     let (status, printed) = outcome(alloc, &["run", "l.orca"], "l.orca", &long)?;
-    assert_eq!(rt; status, 11);
-    assert_eq!(rt; printed.as_str(), "orca: limit of source bytes: 1000000\n");
+    assert!(rt; status == 11);
+    assert!(rt; printed.as_str() == "orca: limit of source bytes: 1000000\n");
     Ok(())
 }
 
@@ -338,7 +382,7 @@ fn texts_of_one_byte(rt: HostRuntime) -> Result<(), Fail> {
     for (byte, status, front) in lines {
         let text = vec![in alloc; byte; 1_000_000]?;
         let (got, printed) = outcome(alloc, &["run", "l.orca"], "l.orca", &text)?;
-        assert_eq!(rt; got, status);
+        assert!(rt; got == status);
         assert!(rt; printed.starts_with(front));
     }
     Ok(())
@@ -391,8 +435,8 @@ fn refusals_with_places(rt: HostRuntime) -> Result<(), Fail> {
     ];
     for (text, line) in texts {
         let (status, printed) = outcome(alloc, &["run", "r.orca"], "r.orca", text.as_bytes())?;
-        assert_eq!(rt; status, 1);
-        assert_eq!(rt; printed.as_str(), line);
+        assert!(rt; status == 1);
+        assert!(rt; printed.as_str() == line);
     }
     Ok(())
 }
@@ -414,8 +458,8 @@ fn nesting_ends_at_64_levels(rt: HostRuntime) -> Result<(), Fail> {
     ] {
         let text = nested(alloc, pairs)?;
         let (got, printed) = outcome(alloc, &["run", "n.orca"], "n.orca", text.as_bytes())?;
-        assert_eq!(rt; got, status);
-        assert_eq!(rt; printed.as_str(), line);
+        assert!(rt; got == status);
+        assert!(rt; printed.as_str() == line);
     }
     Ok(())
 }
@@ -452,8 +496,8 @@ process OrcaMain(); begin end;
 fn every_alternative_is_read(rt: HostRuntime) -> Result<(), Fail> {
     let alloc = rt.alloc();
     let (status, printed) = outcome(alloc, &["run", "w.orca"], "w.orca", WHOLE.as_bytes())?;
-    assert_eq!(rt; status, 1);
-    assert_eq!(rt; printed.as_str(), "orca: w.orca:1:18: unknown module A\n");
+    assert!(rt; status == 1);
+    assert!(rt; printed.as_str() == "orca: w.orca:1:18: unknown module A\n");
     Ok(())
 }
 
@@ -471,11 +515,8 @@ fn checked(alloc: Global, files: &[(&str, &str)]) -> Result<(u8, String), Fail> 
     }
     let mut shelf = MemoryShelf::new(told, Vec::new(alloc));
     let mut out = MemorySink::new(alloc, Vec::new(alloc));
-    let ended = called(alloc, &words, &mut shelf, &mut out)?;
-    let printed = String::from_utf8(Vec::from_slice(alloc, out.bytes())?)
-        .ok()
-        .ok_or("no text")?;
-    Ok((ended.status, printed))
+    let ended = called(alloc, &words, &mut shelf, &mut out, &[])?;
+    Ok((ended.status, text_of(alloc, &out)?))
 }
 
 // A guard that calls an operation, and modules that import each other; and a program of two modules.
@@ -516,8 +557,8 @@ process OrcaMain(); begin end;
     ];
     for (files, status, text) in rows {
         let (got, printed) = checked(alloc, files)?;
-        assert_eq!(rt; got, status);
-        assert_eq!(rt; printed.as_str(), text);
+        assert!(rt; got == status);
+        assert!(rt; printed.as_str() == text);
     }
     Ok(())
 }
@@ -532,9 +573,9 @@ fn the_first_file_that_fails_is_told(rt: HostRuntime) -> Result<(), Fail> {
         [1].to_vec(alloc)?,
     );
     let mut out = MemorySink::new(alloc, Vec::new(alloc));
-    let ended = called(alloc, &words, &mut shelf, &mut out)?;
-    assert_eq!(rt; ended.status, 8);
-    assert_eq!(rt; out.bytes(), b"orca: cannot read one.orca\n".as_slice());
+    let ended = called(alloc, &words, &mut shelf, &mut out, &[])?;
+    assert!(rt; ended.status == 8);
+    assert!(rt; out.bytes() == b"orca: cannot read one.orca\n".as_slice());
     Ok(())
 }
 
@@ -547,7 +588,7 @@ fn more_files_than_modules(rt: HostRuntime) -> Result<(), Fail> {
         files.push(("gone.orca", ""))?;
     }
     let (status, printed) = checked(alloc, &files)?;
-    assert_eq!(rt; status, 11);
-    assert_eq!(rt; printed.as_str(), "orca: limit of modules: 64\n");
+    assert!(rt; status == 11);
+    assert!(rt; printed.as_str() == "orca: limit of modules: 64\n");
     Ok(())
 }

@@ -33,68 +33,101 @@ fn waits(alloc: Global, process: u16, number: i64) -> Result<Suspended, NoMemory
     })
 }
 
+// A flag with this integer becomes the object with this number.
+fn put_flag(
+    alloc: Global,
+    objects: &mut Objects,
+    number: u32,
+    value: i64,
+) -> Result<(), NoMemory> {
+    objects.put(alloc, object(number), flag(alloc, value)?)?;
+    Ok(())
+}
+
+// Flags, each put by its number.
+fn flags(alloc: Global, all: &[(u32, i64)]) -> Result<Objects, NoMemory> {
+    let mut objects = Objects::new(alloc)?;
+    for (number, value) in all {
+        put_flag(alloc, &mut objects, *number, *value)?;
+    }
+    Ok(objects)
+}
+
 #[test]
 fn objects_by_their_ids(rt: HostRuntime) -> Result<(), Fail> {
-    let alloc = rt.alloc();
-    let mut objects = Objects::new(alloc)?;
-    objects.put(alloc, object(1), flag(alloc, 3)?)?;
-    let twin = objects.copy(alloc)?;
+    let mut objects = flags(rt.alloc(), &[(1, 3)])?;
+    let twin = objects.copy(rt.alloc())?;
     assert!(rt; objects.is(&twin));
-    objects.put(alloc, object(2), flag(alloc, 4)?)?;
+    put_flag(rt.alloc(), &mut objects, 2, 4)?;
     assert!(rt; !objects.is(&twin));
-    assert_eq!(rt; (objects.len(), twin.len()), (2, 1));
+    assert!(rt; objects.len() == 2 && twin.len() == 1);
     assert!(rt; objects.get(object(2)).is_some());
     assert!(rt; twin.get(object(2)).is_none());
     Ok(())
 }
 
-#[test]
-fn many_writes_beside_a_shared_map(rt: HostRuntime) -> Result<(), Fail> {
-    let alloc = rt.alloc();
-    let mut alone = Objects::new(alloc)?;
-    let mut shared = Objects::new(alloc)?;
+// Forty flags, each with its number.
+fn forty(alloc: Global) -> Result<Objects, NoMemory> {
+    let mut objects = Objects::new(alloc)?;
+    for number in 1..41u32 {
+        put_flag(alloc, &mut objects, number, i64::from(number))?;
+    }
+    Ok(objects)
+}
+
+// The same, and a copy from before each came.
+fn forty_with_copies(alloc: Global) -> Result<(Objects, Vec<Objects>), NoMemory> {
+    let mut objects = Objects::new(alloc)?;
     let mut before = Vec::new(alloc);
     for number in 1..41u32 {
-        before.push(shared.copy(alloc)?)?;
-        shared.put(alloc, object(number), flag(alloc, i64::from(number))?)?;
-        alone.put(alloc, object(number), flag(alloc, i64::from(number))?)?;
+        before.push(objects.copy(alloc)?)?;
+        put_flag(alloc, &mut objects, number, i64::from(number))?;
     }
-    assert_eq!(rt; shared.len(), 40);
-    assert_eq!(rt; before.get(10).map(|objects| objects.len()), Some(10));
+    Ok((objects, before))
+}
+
+#[test]
+fn many_writes_beside_a_shared_map(rt: HostRuntime) -> Result<(), Fail> {
+    let alone = forty(rt.alloc())?;
+    let (mut shared, before) = forty_with_copies(rt.alloc())?;
+    assert!(rt; shared.len() == 40);
+    assert!(rt; before.get(10).map(|objects| objects.len()) == Some(10));
     assert!(rt; shared.is(&alone));
-    shared.put(alloc, object(7), flag(alloc, 0)?)?;
+    put_flag(rt.alloc(), &mut shared, 7, 0)?;
     assert!(rt; !shared.is(&alone));
     Ok(())
 }
 
-#[test]
-fn queue_in_order(rt: HostRuntime) -> Result<(), Fail> {
-    let alloc = rt.alloc();
+// A queue of two calls that wait, of the processes 1 and 2.
+fn two_waiting(alloc: Global) -> Result<Queue, NoMemory> {
     let mut queue = Queue::new(alloc);
-    assert!(rt; queue.is_empty());
     queue.push(alloc, waits(alloc, 1, 9)?)?;
     queue.push(alloc, waits(alloc, 2, 9)?.copy(alloc)?)?;
-    let twin = queue.copy(alloc)?;
-    assert_eq!(rt; queue.len(), 2);
-    assert_eq!(rt; queue.get(0).process, ProcessNo(1));
+    Ok(queue)
+}
+
+#[test]
+fn queue_in_order(rt: HostRuntime) -> Result<(), Fail> {
+    assert!(rt; Queue::new(rt.alloc()).is_empty());
+    let mut queue = two_waiting(rt.alloc())?;
+    let twin = queue.copy(rt.alloc())?;
+    assert!(rt; queue.len() == 2);
+    assert!(rt; queue.get(0).process == ProcessNo(1));
     queue.take_out(0);
     assert!(rt; !queue.has(ProcessNo(1)));
     assert!(rt; queue.has(ProcessNo(2)));
-    assert_eq!(rt; twin.len(), 2);
+    assert!(rt; twin.len() == 2);
     Ok(())
 }
 
 #[test]
 fn entries_in_order(rt: HostRuntime) -> Result<(), Fail> {
-    let alloc = rt.alloc();
-    let mut objects = Objects::new(alloc)?;
-    for number in [2, 1, 2] {
-        objects.put(alloc, object(number), flag(alloc, 7)?)?;
-    }
-    let entries = objects.entries(alloc)?;
-    assert_eq!(rt; entries.len(), 2);
+    let seven = flag(rt.alloc(), 7)?;
+    let objects = flags(rt.alloc(), &[(2, 7), (1, 7), (2, 7)])?;
+    let entries = objects.entries(rt.alloc())?;
+    assert!(rt; entries.len() == 2);
     assert!(rt; entries[0].0 == object(1) && entries[1].0 == object(2));
-    assert!(rt; entries[1].1.is(&flag(alloc, 7)?));
+    assert!(rt; entries[1].1.is(&seven));
     Ok(())
 }
 

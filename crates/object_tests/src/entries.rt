@@ -198,18 +198,15 @@ fn queue_answers_the_oldest(rt: HostRuntime) -> Result<(), Fail> {
     assert!(rt; sixth.as_slice() == [put, take].as_slice());
     assert!(rt; !copies.as_copies().is_suspended(ProcessNo(0)));
     assert!(rt; copies.as_copies().is_suspended(ProcessNo(1)));
-    assert_eq!(rt; reads(rt.alloc(), &copies, TAKE, None)?, Answer::Blocked);
+    assert!(rt; reads(rt.alloc(), &copies, TAKE, None)? == Answer::Blocked);
     Ok(())
 }
 
 #[test]
 fn blocked_await(rt: HostRuntime) -> Result<(), Fail> {
     let (copies, _) = run(rt.alloc(), &SPOILED[..1])?;
-    assert_eq!(rt;
-        reads(rt.alloc(), &copies, AWAIT, Some(9))?,
-        Answer::Blocked
-    );
-    assert_eq!(rt; reads(rt.alloc(), &copies, AWAIT, Some(0))?, Answer::Done);
+    assert!(rt; reads(rt.alloc(), &copies, AWAIT, Some(9))? == Answer::Blocked);
+    assert!(rt; reads(rt.alloc(), &copies, AWAIT, Some(0))? == Answer::Done);
     Ok(())
 }
 
@@ -218,7 +215,7 @@ fn fault_behind_an_assignment_leaves_the_object(rt: HostRuntime) -> Result<(), F
     let (copies, lines) = run(rt.alloc(), &SPOILED)?;
     let broke = line(0, 2, 0, Answer::Broke(FaultKind::DivideByZero));
     assert!(rt; lines.as_slice() == [broke].as_slice());
-    assert_eq!(rt; reads(rt.alloc(), &copies, AWAIT, Some(5))?, Answer::Done);
+    assert!(rt; reads(rt.alloc(), &copies, AWAIT, Some(5))? == Answer::Done);
     Ok(())
 }
 
@@ -227,7 +224,7 @@ fn making_that_faults_makes_no_object(rt: HostRuntime) -> Result<(), Fail> {
     let (copies, lines) = run(rt.alloc(), &[Step::Make(0, Bags::BROKEN)])?;
     let broke = line(0, 0, 0, Answer::Broke(FaultKind::DivideByZero));
     assert!(rt; lines.as_slice() == [broke].as_slice());
-    assert_eq!(rt; copies.as_copies().objects().len(), 1);
+    assert!(rt; copies.as_copies().objects().len() == 1);
     Ok(())
 }
 
@@ -256,8 +253,8 @@ fn objects_up_to_their_limit(rt: HostRuntime) -> Result<(), Fail> {
         number: 4_096,
     };
     assert!(rt; over.err() == Some(Refused::Copies { why: limit }));
-    assert_eq!(rt; copies.as_copies().objects().len(), 4_097);
-    assert_eq!(rt; copies.as_copies().applied(), 4_096);
+    assert!(rt; copies.as_copies().objects().len() == 4_097);
+    assert!(rt; copies.as_copies().applied() == 4_096);
     Ok(())
 }
 
@@ -275,8 +272,8 @@ fn processes_up_to_their_limit(rt: HostRuntime) -> Result<(), Fail> {
         number: 256,
     };
     assert!(rt; over.err() == Some(Refused::Copies { why: limit }));
-    assert_eq!(rt; copies.as_copies().processes(), 256);
-    assert_eq!(rt; copies.as_copies().applied(), 255);
+    assert!(rt; copies.as_copies().processes() == 256);
+    assert!(rt; copies.as_copies().applied() == 255);
     Ok(())
 }
 
@@ -291,7 +288,7 @@ fn viewed(alloc: Global) -> Result<(BagView, BagView), Refused> {
 #[test]
 fn view_stays_as_it_is(rt: HostRuntime) -> Result<(), Fail> {
     let (before, after) = viewed(rt.alloc())?;
-    assert_eq!(rt; before.as_view().place(), 1);
+    assert!(rt; before.as_view().place() == 1);
     assert!(rt; awaits(rt.alloc(), &before, 0).ok() == Some(Answer::Done));
     assert!(rt; awaits(rt.alloc(), &after, 5).ok() == Some(Answer::Done));
     assert!(rt; !before.as_view().same(after.as_view()));
@@ -302,7 +299,7 @@ fn view_stays_as_it_is(rt: HostRuntime) -> Result<(), Fail> {
 fn view_holds_what_there_was(rt: HostRuntime) -> Result<(), Fail> {
     let (copies, _) = run(rt.alloc(), &SPOILED[..1])?;
     let view = copies.as_copies().view(rt.alloc())?;
-    assert_eq!(rt; view.objects().len(), 2);
+    assert!(rt; view.objects().len() == 2);
     assert!(rt; view.holds(object(1)) && !view.holds(object(2)));
     assert!(rt; view.copy(rt.alloc())?.same(&view));
     Ok(())
@@ -314,7 +311,7 @@ fn copies_are_equal(rt: HostRuntime) -> Result<(), Fail> {
     let twin = copies.copy(rt.alloc())?;
     let objects = copies.as_copies().objects();
     assert!(rt; twin.as_copies().objects().is(objects));
-    assert_eq!(rt; twin.as_copies().applied(), 1);
+    assert!(rt; twin.as_copies().applied() == 1);
     Ok(())
 }
 

@@ -91,9 +91,9 @@ fn waiting(alloc: Global) -> Result<BagCopies, Refused> {
 fn single_objects_count(rt: HostRuntime) -> Result<(), Fail> {
     let bags = full(rt.alloc())?;
     let copies = bags.as_copies();
-    assert_eq!(rt; (copies.objects().len(), copies.own().len()), (97, 0));
+    assert!(rt; (copies.objects().len(), copies.own().len()) == (97, 0));
     assert!(rt; copies.is_counted(object(4_096)) && !copies.is_counted(object(96)));
-    assert_eq!(rt; copies.applied(), 4_096);
+    assert!(rt; copies.applied() == 4_096);
     Ok(())
 }
 
@@ -137,7 +137,7 @@ fn single_object_lets_its_calls_go_on(rt: HostRuntime) -> Result<(), Fail> {
     let awaited = line(1, 0, 1, Answer::Done);
     assert!(rt; lines.as_slice() == [set, awaited].as_slice());
     assert!(rt; !bags.as_copies().is_waiting(ProcessNo(1)));
-    assert_eq!(rt; bags.as_copies().applied(), 2);
+    assert!(rt; bags.as_copies().applied() == 2);
     Ok(())
 }
 
@@ -148,7 +148,7 @@ fn faulting_making_is_not_counted(rt: HostRuntime) -> Result<(), Fail> {
     assert!(rt; lines.as_slice() == [broke].as_slice());
     let copies = bags.as_copies();
     assert!(rt; !copies.is_counted(object(1)) && copies.own().len() == 0);
-    assert_eq!(rt; copies.applied(), 1);
+    assert!(rt; copies.applied() == 1);
     Ok(())
 }
 
@@ -187,7 +187,7 @@ fn equal_copies_own_the_same(rt: HostRuntime) -> Result<(), Fail> {
 fn replicated_and_own_objects_as_one(rt: HostRuntime) -> Result<(), Fail> {
     let (bags, _) = run(rt.alloc(), 1, &KEPT)?;
     let held = bags.as_copies().held(rt.alloc())?;
-    assert_eq!(rt; held.len(), 3);
+    assert!(rt; held.len() == 3);
     assert!(rt; held.get(object(1)).is_some() && held.get(object(2)).is_some());
     assert!(rt; held.get(object(3)).is_none());
     Ok(())
@@ -198,7 +198,7 @@ fn sent_copies_have_the_suspended_calls(rt: HostRuntime) -> Result<(), Fail> {
     let bags = waiting(rt.alloc())?;
     let sent = bags.sent(rt.alloc())?;
     let copies = sent.as_copies();
-    assert_eq!(rt; (copies.applied(), copies.processes()), (3, 1));
+    assert!(rt; (copies.applied(), copies.processes()) == (3, 1));
     assert!(rt; copies.objects().is(bags.as_copies().objects()));
     assert!(rt; copies.is_suspended(ProcessNo(0)) && copies.is_suspended(ProcessNo(1)));
     Ok(())
@@ -207,7 +207,7 @@ fn sent_copies_have_the_suspended_calls(rt: HostRuntime) -> Result<(), Fail> {
 #[test]
 fn sent_copies_go_on(rt: HostRuntime) -> Result<(), Fail> {
     let mut sent = waiting(rt.alloc())?.sent(rt.alloc())?;
-    assert_eq!(rt; release(rt.alloc(), &mut sent, 5)?, 3);
+    assert!(rt; release(rt.alloc(), &mut sent, 5)? == 3);
     assert!(rt; !sent.as_copies().is_suspended(ProcessNo(1)));
     Ok(())
 }

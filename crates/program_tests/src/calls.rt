@@ -9,7 +9,7 @@ pub fn answer<'a>(
     command: &[&str],
     text: &'a str,
     script: &'a str,
-) -> Result<Outcome, NoOutcome> {
+) -> Result<Box<Outcome>, NoOutcome> {
     let files = [("program.orca", text), ("faults.txt", script)];
     outcome_of(alloc, command, &files, &[], Wires::One)
 }
@@ -20,7 +20,7 @@ pub fn run(
     options: &[&str],
     objects: &str,
     rest: &str,
-) -> Result<Outcome, NoOutcome> {
+) -> Result<Box<Outcome>, NoOutcome> {
     run_over(alloc, options, objects, rest, "")
 }
 
@@ -31,7 +31,7 @@ pub fn run_over(
     objects: &str,
     rest: &str,
     script: &str,
-) -> Result<Outcome, NoOutcome> {
+) -> Result<Box<Outcome>, NoOutcome> {
     let mut command = Vec::new(alloc);
     command.push("run")?;
     command.push("--script")?;

@@ -24,7 +24,7 @@ pub fn outcome_of(
     files: &[(&str, &str)],
     failing: &[u64],
     wires: Wires,
-) -> Result<Outcome, NoOutcome> {
+) -> Result<Box<Outcome>, NoOutcome> {
     let words = strings(alloc, words)?;
     let mut shelf = shelf(alloc, files)?;
     let mut out = MemorySink::new(alloc, Vec::from_slice(alloc, failing)?);
@@ -39,13 +39,16 @@ fn ended(
     shelf: &mut MemoryShelf,
     out: &mut MemorySink,
     wires: Wires,
-) -> Result<Ended, NoMemory> {
+) -> Result<Box<Ended>, NoMemory> {
     let mut boxed: Vec<Box<dyn Wire + Send>> = Vec::new(alloc);
     boxed.push(Box::new(alloc, ScriptWire::new(alloc)?)?)?;
     if wires == Wires::Two {
         boxed.push(Box::new(alloc, PlainWire::new(alloc))?)?;
     }
-    Ok(orca_main(alloc, words, shelf, out, &mut boxed))
+    Ok(Box::new(
+        alloc,
+        orca_main(alloc, words, shelf, out, &mut boxed),
+    )?)
 }
 
 // The words of a command line.

@@ -90,14 +90,15 @@ fn scripted(alloc: Global, script: &str) -> Result<Vec<ScriptWire>, NoOutcome> {
 
 // What the run leaves.
 fn ran(alloc: Global, program: &Program, wires: &mut Vec<ScriptWire>) -> Result<Ran, NoOutcome> {
+    if wires.len() != 1 {
+        return Err(NoOutcome::NoProgram);
+    }
+    let settings = single_settings(alloc)?;
     let checked = accepted(alloc, program).ok().ok_or(NoOutcome::NoProgram)?;
     let machine = TreeMachine::new(alloc, checked)
         .ok()
         .ok_or(NoOutcome::NoProgram)?;
-    if wires.len() != 1 {
-        return Err(NoOutcome::NoProgram);
-    }
-    Ok(run(alloc, &machine, single_settings(alloc)?, wires))
+    Ok(run(alloc, &machine, settings, wires))
 }
 
 // Three members, and the first object of the second text at its maker alone.

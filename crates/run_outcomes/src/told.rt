@@ -9,20 +9,28 @@ use orca_cli::{Ended, Kept};
 use std::alloc::Global;
 
 /// What came of a call that ended so, and printed these bytes.
-pub fn told(alloc: Global, ended: &Ended, printed: &[u8]) -> Result<Outcome, NoOutcome> {
-    let mut outcome = Outcome {
-        status: ended.status,
-        printed: text(alloc, printed)?,
-        tally: None,
-        members: Vec::new(alloc),
-        processes: Vec::new(alloc),
-        fields: Vec::new(alloc),
-        given: Vec::new(alloc),
-    };
+pub fn told(alloc: Global, ended: &Ended, printed: &[u8]) -> Result<Box<Outcome>, NoOutcome> {
+    let mut outcome = silent(alloc, ended.status, text(alloc, printed)?)?;
     if let Some(kept) = &ended.kept {
         tell(alloc, kept, &mut outcome)?;
     }
     Ok(outcome)
+}
+
+// What came of a call with this status, where no run was kept.
+fn silent(alloc: Global, status: u8, printed: String) -> Result<Box<Outcome>, NoMemory> {
+    Ok(Box::new(
+        alloc,
+        Outcome {
+            status,
+            printed,
+            tally: None,
+            members: Vec::new(alloc),
+            processes: Vec::new(alloc),
+            fields: Vec::new(alloc),
+            given: Vec::new(alloc),
+        },
+    )?)
 }
 
 // These bytes as a text.

@@ -24,7 +24,7 @@ pub fn called(
     line: &[&str],
     files: &[(&str, &str)],
     failing: &[u64],
-) -> Result<Outcome, NoOutcome> {
+) -> Result<Box<Outcome>, NoOutcome> {
     outcome_of(alloc, line, files, failing, Wires::Two)
 }
 
@@ -42,7 +42,7 @@ pub fn says(
 }
 
 /// What comes of a run of the one cell with these options and this script.
-pub fn one_cell(alloc: Global, options: &[&str], script: &str) -> Result<Outcome, NoOutcome> {
+pub fn one_cell(alloc: Global, options: &[&str], script: &str) -> Result<Box<Outcome>, NoOutcome> {
     let mut line = Vec::new(alloc);
     line.push("run")?;
     for option in options {

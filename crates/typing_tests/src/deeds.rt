@@ -102,7 +102,13 @@ fn done(
     }
 }
 
-// Does it at a path of a variable, and tells what it gives and what the variable is then.
+// What a variable is.
+fn whole(alloc: Global, slot: usize, run: &Run<'_>) -> Result<Value, Stop> {
+    let whole = target(alloc, slot, &[])?;
+    held(alloc, &whole, run)
+}
+
+// Does it at a path of a variable, and tells what it gives.
 fn done_at(
     alloc: Global,
     deed: Deed,
@@ -110,29 +116,25 @@ fn done_at(
     path: &[Step],
     value: Value,
     run: &mut Run<'_>,
-) -> Result<(Value, Value), Stop> {
+) -> Result<Value, Stop> {
     let to = target(alloc, slot, path)?;
-    let given = done(alloc, deed, &to, value, run)?;
-    let whole = target(alloc, slot, &[])?;
-    let left = held(alloc, &whole, run)?;
-    Ok((given, left))
+    done(alloc, deed, &to, value, run)
 }
 
-// Whether this is the value that a text spells.
-fn is_text(alloc: Global, value: &Value, text: &str) -> Result<bool, Fail> {
-    Ok(value.is(&value_of(alloc, text)?))
+// Whether this is the value that a text spells; a stop is none.
+fn is_text(alloc: Global, found: &Result<Value, Stop>, text: &str) -> Result<bool, Fail> {
+    match found {
+        Ok(value) => Ok(value.is(&value_of(alloc, text)?)),
+        Err(_) => Ok(false),
+    }
 }
 
 // Whether a deed gives and leaves what it should.
 fn is_done(alloc: Global, row: Row, run: &mut Run<'_>) -> Result<bool, Fail> {
     let (deed, slot, path, with, gives, leaves) = row;
-    let value = value_of(alloc, with)?;
-    match done_at(alloc, deed, slot, path, value, run) {
-        Ok((given, left)) => {
-            Ok(is_text(alloc, &given, gives)? && is_text(alloc, &left, leaves)?)
-        }
-        Err(_) => Err("stopped".into()),
-    }
+    let given = done_at(alloc, deed, slot, path, value_of(alloc, with)?, run);
+    let is_given = is_text(alloc, &given, gives)?;
+    Ok(is_given && is_text(alloc, &whole(alloc, slot, run), leaves)?)
 }
 
 #[test]
@@ -151,19 +153,37 @@ fn passed(alloc: Global, to: Target) -> Result<Vec<Passed>, NoMemory> {
     Ok(vec![in alloc; Passed::Given { value }, Passed::Lent { to }]?)
 }
 
-// A call whose second variable is for `out`, into the caller's first: in a loop it becomes 8.
-fn call(alloc: Global, run: &mut Run<'_>) -> Result<(), Stop> {
-    let passed = passed(alloc, target(alloc, 0, &[])?)?;
+// The variables of a call: the value that it was given, and one for `out`.
+fn own_frame(alloc: Global) -> Result<Frame<'static>, NoMemory> {
     let mut own = Parts::new(alloc);
     own.push(Value::Int(4))?;
     own.push(Value::Int(6))?;
-    let outer = exchange_frame(Frame::new(alloc, own)?, run);
+    Frame::new(alloc, own)
+}
+
+// Puts 8 into the second variable, in a loop.
+fn store_in_loop(alloc: Global, run: &mut Run<'_>) -> Result<(), Stop> {
     add_name(Value::Int(1), run)?;
     let to = target(alloc, 2, &[])?;
     store(alloc, &to, Value::Int(8), run)?;
     drop_name(run);
+    Ok(())
+}
+
+// A call whose second variable is for `out`, into the caller's first: it becomes 8.
+fn call(alloc: Global, run: &mut Run<'_>) -> Result<(), Stop> {
+    let passed = passed(alloc, target(alloc, 0, &[])?)?;
+    let outer = exchange_frame(own_frame(alloc)?, run);
+    let stored = store_in_loop(alloc, run);
     let inner = exchange_frame(outer, run);
-    hand_back(alloc, &passed, inner, run)
+    hand_back(alloc, &passed, inner, run)?;
+    stored
+}
+
+// Whether the set has an element.
+fn set_has(alloc: Global, element: i64, run: &Run<'_>) -> Result<bool, Stop> {
+    let set = target(alloc, 2, &[])?;
+    Ok(has_at(&set, &Value::Int(element), run)?)
 }
 
 #[test]
@@ -172,17 +192,16 @@ fn a_call_hands_back_what_is_lent(rt: HostRuntime) -> Result<(), Fail> {
     let mut run = run_over(rt.alloc(), &variables, &[], 1)?;
     assert!(rt; call(rt.alloc(), &mut run).is_ok());
     assert!(rt; matches!(run.frame.get(0), Some(Value::Int(8))));
-    let set = target(rt.alloc(), 2, &[])?;
-    assert!(rt; matches!(has_at(&set, &Value::Int(3), &run), Ok(true)));
-    assert!(rt; matches!(has_at(&set, &Value::Int(4), &run), Ok(false)));
+    assert!(rt; matches!(set_has(rt.alloc(), 3, &run), Ok(true)));
+    assert!(rt; matches!(set_has(rt.alloc(), 4, &run), Ok(false)));
     Ok(())
 }
 
 #[test]
 fn loops_have_a_first_round_and_others(rt: HostRuntime) -> Result<(), Fail> {
-    assert_eq!(rt; rounds(1, 3), Some(2));
-    assert_eq!(rt; rounds(3, 3), Some(0));
-    assert_eq!(rt; rounds(3, 2), None);
-    assert_eq!(rt; rounds(i64::MIN, i64::MAX), Some(u64::MAX));
+    assert!(rt; rounds(1, 3) == Some(2));
+    assert!(rt; rounds(3, 3) == Some(0));
+    assert!(rt; rounds(3, 2) == None);
+    assert!(rt; rounds(i64::MIN, i64::MAX) == Some(u64::MAX));
     Ok(())
 }

@@ -1,6 +1,6 @@
 //! The types of expressions, and their first breach.
 
-use crate::reading::units_of;
+use crate::reading::{index_of, units_of};
 use link_rules::NamedUnit;
 use orca_base::{Items, NoMemory};
 use orca_tree::{Block, Declaration, Expression, Statement};
@@ -125,36 +125,44 @@ fn told(alloc: Global, found: &Found<DataType>) -> Result<String, NoMemory> {
     }
 }
 
-#[test]
-fn expressions_have_types_or_a_first_breach(rt: HostRuntime) -> Result<(), Fail> {
-    let alloc = rt.alloc();
-    let units = units_of(alloc, &TEXTS)?;
-    let index = Index::new(alloc, &units)?;
-    let (chains, types) = declared(alloc, &index)?;
-    let forms = Forms {
-        index: &index,
-        chains: &chains,
-        types: &types,
-    };
-    let signatures = signatures_of(alloc, forms)?;
-    let fields = fields_of(alloc, forms)?;
-    let operations = operations_of(alloc, forms)?;
-    let no_graphs = taking(alloc, Vec::new(alloc));
-    let body = process_body(&units).ok_or("no process")?;
-    let names = variables(alloc, forms, body)?;
+// Whether this is told of an expression.
+fn is_told(
+    alloc: Global,
+    scope: Scope<'_, '_>,
+    e: &Expression,
+    wanted: &str,
+) -> Result<bool, NoMemory> {
+    let found = typed(alloc, scope, e)?;
+    Ok(told(alloc, &found)?.as_str() == wanted)
+}
+
+// What is wanted of the first of these expressions of which something else is told.
+fn first_other(
+    alloc: Global,
+    scope: Scope<'_, '_>,
+    all: &[Expression],
+) -> Result<Option<&'static str>, NoMemory> {
+    for (e, wanted) in all.iter().zip(WANTED.iter()) {
+        if !is_told(alloc, scope, e, wanted)? {
+            return Ok(Some(*wanted));
+        }
+    }
+    Ok(None)
+}
+
+// The same of what a body writes.
+fn other_in_body<'p>(
+    alloc: Global,
+    tables: Tables<'_, 'p>,
+    body: &'p Block,
+) -> Result<Option<&'static str>, NoMemory> {
+    let names = variables(alloc, tables.forms, body)?;
     let counter = Local {
         role: LocalRole::LoopVariable,
         kind: Some(plain(alloc, Base::Integer)),
     };
     let scope = Scope {
-        tables: Tables {
-            forms,
-            signatures: &signatures,
-            fields: &fields,
-            operations: &operations,
-            add_node: &no_graphs,
-            delete_node: &no_graphs,
-        },
+        tables,
         home: "Main",
         names: &names,
         loops: &[],
@@ -162,11 +170,52 @@ fn expressions_have_types_or_a_first_breach(rt: HostRuntime) -> Result<(), Fail>
         owner: Owner::Process,
         in_guard: false,
     };
-    let all = written(body);
-    assert_eq!(rt; all.len(), WANTED.len());
-    for (e, wanted) in all.iter().zip(WANTED.iter()) {
-        let found = typed(alloc, scope, e)?;
-        assert_eq!(rt; told(alloc, &found)?.as_str(), *wanted);
-    }
+    first_other(alloc, scope, written(body))
+}
+
+// The same, over the declared types.
+fn other_over_forms<'p>(
+    alloc: Global,
+    forms: Forms<'_, 'p>,
+    body: &'p Block,
+) -> Result<Option<&'static str>, NoMemory> {
+    let signatures = signatures_of(alloc, forms)?;
+    let fields = fields_of(alloc, forms)?;
+    let operations = operations_of(alloc, forms)?;
+    let no_graphs = taking(alloc, Vec::new(alloc));
+    let tables = Tables {
+        forms,
+        signatures: &signatures,
+        fields: &fields,
+        operations: &operations,
+        add_node: &no_graphs,
+        delete_node: &no_graphs,
+    };
+    other_in_body(alloc, tables, body)
+}
+
+// The same, over the names of the top level.
+fn other_over_names<'p>(
+    alloc: Global,
+    index: &Index<'p>,
+    body: &'p Block,
+) -> Result<Option<&'static str>, NoMemory> {
+    let (chains, types) = declared(alloc, index)?;
+    let forms = Forms {
+        index,
+        chains: &chains,
+        types: &types,
+    };
+    other_over_forms(alloc, forms, body)
+}
+
+#[test]
+fn expressions_have_types_or_a_first_breach(rt: HostRuntime) -> Result<(), Fail> {
+    let units = units_of(rt.alloc(), &TEXTS)?;
+    let body = process_body(&units).ok_or("no process")?;
+    assert!(rt; written(body).len() == WANTED.len());
+    let index = index_of(rt.alloc(), &units)?;
+    let other = other_over_names(rt.alloc(), &index, body)?;
+    assert!(rt; other.is_none(), "{other:?}");
     Ok(())
 }

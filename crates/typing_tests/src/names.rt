@@ -1,8 +1,8 @@
 //! What names stand for, and where constants lead.
 
-use crate::reading::units_of;
+use crate::reading::{index_of, units_of};
 use std::test::Fail;
-use type_forms::{Index, Standing, chains_of};
+use type_forms::{Standing, chains_of};
 use type_rules::Chain;
 
 // A module with two constants that are numbers in the end, two that go round, and one that is no number; and one that imports it.
@@ -30,8 +30,8 @@ fn number_of(standing: Standing<'_>) -> usize {
 #[test]
 fn names_are_numbered_in_text_order(rt: HostRuntime) -> Result<(), Fail> {
     let units = units_of(rt.alloc(), &TEXTS)?;
-    let index = Index::new(rt.alloc(), &units)?;
-    assert_eq!(rt; index.count(), 11);
+    let index = index_of(rt.alloc(), &units)?;
+    assert!(rt; index.count() == 11);
     for (home, name, wanted) in [
         ("A", "low", 0),
         ("A", "high", 1),
@@ -47,11 +47,7 @@ fn names_are_numbered_in_text_order(rt: HostRuntime) -> Result<(), Fail> {
         ("Main", "deletenode", 100),
         ("Main", "Graph", 200),
     ] {
-        assert_eq!(rt;
-            number_of(index.stands_for(home, name)),
-            wanted,
-            "{name} in {home}"
-        );
+        assert!(rt; number_of(index.stands_for(home, name)) == wanted, "{name} in {home}");
     }
     Ok(())
 }
@@ -59,7 +55,7 @@ fn names_are_numbered_in_text_order(rt: HostRuntime) -> Result<(), Fail> {
 #[test]
 fn constants_lead_to_numbers_or_round(rt: HostRuntime) -> Result<(), Fail> {
     let units = units_of(rt.alloc(), &TEXTS)?;
-    let index = Index::new(rt.alloc(), &units)?;
+    let index = index_of(rt.alloc(), &units)?;
     let chains = chains_of(rt.alloc(), &index)?;
     let fails = Chain::Fails;
     let wanted = [
@@ -75,6 +71,6 @@ fn constants_lead_to_numbers_or_round(rt: HostRuntime) -> Result<(), Fail> {
         fails,
         fails,
     ];
-    assert_eq!(rt; chains.as_slice(), wanted.as_slice());
+    assert!(rt; chains.as_slice() == wanted.as_slice());
     Ok(())
 }

@@ -1,8 +1,11 @@
 //! The names of a program by the numbers by which its histories go.
 
 use crate::reading::program_of;
+use history_text::Names;
 use orca_base::Text;
+use orca_modules::Program;
 use program_names::names;
+use std::alloc::Global;
 use std::test::Fail;
 use type_decls::check;
 
@@ -33,17 +36,22 @@ fn are(names: &[Text], wanted: &[&str]) -> bool {
             .all(|(name, wanted)| name.is_text(wanted))
 }
 
+// The names of a program by number.
+fn names_of(alloc: Global, program: &Program) -> Result<Names, Fail> {
+    match check(alloc, program) {
+        Ok(checked) => Ok(names(alloc, &checked)?),
+        Err(_) => Err("refused".into()),
+    }
+}
+
 #[test]
 fn a_program_has_names_by_number(rt: HostRuntime) -> Result<(), Fail> {
     let program = program_of(rt.alloc(), &TEXTS)?;
-    let Ok(checked) = check(rt.alloc(), &program) else {
-        return Err("refused".into());
-    };
-    let names = names(rt.alloc(), &checked)?;
+    let names = names_of(rt.alloc(), &program)?;
     assert!(rt; are(&names.kinds, &["Output", "Cell", "Empty"]));
     assert!(rt; are(&names.texts, &["worker", "OrcaMain"]));
     let wanted: [&[&str]; 3] = [&["WriteLine"], &["Value", "Assign"], &[]];
-    assert_eq!(rt; names.operations.len(), wanted.len());
+    assert!(rt; names.operations.len() == wanted.len());
     for (operations, wanted) in names.operations.iter().zip(wanted.iter()) {
         assert!(rt; are(&operations.names, wanted));
     }

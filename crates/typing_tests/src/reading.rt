@@ -17,6 +17,7 @@ use parse_units::parse;
 use std::alloc::Global;
 use std::test::Fail;
 use type_decls::check;
+use type_forms::Index;
 use value_core::{Parts, Reply, Value};
 use value_texts::{read_value, values_in_front};
 
@@ -68,12 +69,17 @@ pub fn program_of(alloc: Global, texts: &[(&str, &str)]) -> Result<Program, Fail
     }
 }
 
-/// The code of a program that breaks no rule of typing.
-pub fn code_of<'p>(alloc: Global, program: &'p Program) -> Result<Code<'p>, Fail> {
+/// The code of a program that breaks no rule of typing. It stands behind one pointer, so that a test drops one thing.
+pub fn code_of<'p>(alloc: Global, program: &'p Program) -> Result<Box<Code<'p>>, Fail> {
     match check(alloc, program) {
-        Ok(checked) => Ok(Code::new(alloc, checked)?),
+        Ok(checked) => Ok(Box::new(alloc, Code::new(alloc, checked)?)?),
         Err(_) => Err("refused".into()),
     }
+}
+
+/// The names of the top level of units, behind one pointer as well.
+pub fn index_of<'p>(alloc: Global, units: &'p [NamedUnit]) -> Result<Box<Index<'p>>, NoMemory> {
+    Ok(Box::new(alloc, Index::new(alloc, units)?)?)
 }
 
 /// The value that a text spells.

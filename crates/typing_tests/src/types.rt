@@ -1,6 +1,6 @@
 //! Types with their sizes and nesting, and the first breach of a type phrase.
 
-use crate::reading::units_of;
+use crate::reading::{index_of, units_of};
 use orca_base::{NoMemory, Place};
 use orca_tree::Definition;
 use std::alloc::{AllocError, Global};
@@ -39,13 +39,37 @@ fn told(alloc: Global, kind: &Option<Measured>) -> Result<String, AllocError> {
     }
 }
 
+// What is told of each of these types.
+fn told_all(alloc: Global, types: &[Option<Measured>]) -> Result<Vec<String>, AllocError> {
+    let mut all = Vec::new(alloc);
+    for kind in types {
+        all.push(told(alloc, kind)?)?;
+    }
+    Ok(all)
+}
+
+// What is told of the type that each name of the top level stands for.
+fn told_of_names(alloc: Global, index: &Index<'_>) -> Result<Vec<String>, NoMemory> {
+    let chains = chains_of(alloc, index)?;
+    let parts = parts_of(alloc, index)?;
+    let types = types_of(alloc, index, &chains, &parts)?;
+    Ok(told_all(alloc, &types)?)
+}
+
+// Whether these are the words.
+fn are(told: &[String], wanted: &[&str]) -> bool {
+    told.len() == wanted.len()
+        && told
+            .iter()
+            .zip(wanted.iter())
+            .all(|(told, wanted)| told.as_str() == *wanted)
+}
+
 #[test]
 fn declared_types_have_sizes_and_nesting(rt: HostRuntime) -> Result<(), Fail> {
     let units = units_of(rt.alloc(), &TEXTS)?;
-    let index = Index::new(rt.alloc(), &units)?;
-    let chains = chains_of(rt.alloc(), &index)?;
-    let parts = parts_of(rt.alloc(), &index)?;
-    let types = types_of(rt.alloc(), &index, &chains, &parts)?;
+    let index = index_of(rt.alloc(), &units)?;
+    let told = told_of_names(rt.alloc(), &index)?;
     let wanted = [
         "none",
         "1 1 [] Enumeration { number: 1 }",
@@ -60,13 +84,23 @@ fn declared_types_have_sizes_and_nesting(rt: HostRuntime) -> Result<(), Fail> {
         "none",
         "none",
     ];
-    assert_eq!(rt; types.len(), wanted.len());
-    for (kind, words) in types.iter().zip(wanted.iter()) {
-        assert_eq!(rt; told(rt.alloc(), kind)?.as_str(), *words);
-    }
-    let round = holds_themselves(rt.alloc(), &parts)?;
-    assert_eq!(rt; round.iter().position(|holds| *holds), Some(10));
-    assert_eq!(rt; round.iter().filter(|holds| **holds).count(), 1);
+    assert!(rt; are(&told, &wanted));
+    Ok(())
+}
+
+// Which of the names of the top level stand for types that hold themselves.
+fn round(alloc: Global, index: &Index<'_>) -> Result<Vec<bool>, NoMemory> {
+    let parts = parts_of(alloc, index)?;
+    holds_themselves(alloc, &parts)
+}
+
+#[test]
+fn a_type_that_holds_itself_is_told(rt: HostRuntime) -> Result<(), Fail> {
+    let units = units_of(rt.alloc(), &TEXTS)?;
+    let index = index_of(rt.alloc(), &units)?;
+    let round = round(rt.alloc(), &index)?;
+    assert!(rt; round.iter().position(|holds| *holds) == Some(10));
+    assert!(rt; round.iter().filter(|holds| **holds).count() == 1);
     Ok(())
 }
 
@@ -103,19 +137,24 @@ fn first_breaches(alloc: Global, forms: Forms<'_, '_>) -> Result<Vec<Option<Brea
     Ok(all)
 }
 
-#[test]
-fn an_array_that_is_too_large_is_told(rt: HostRuntime) -> Result<(), Fail> {
-    let units = units_of(rt.alloc(), &TEXTS)?;
-    let index = Index::new(rt.alloc(), &units)?;
-    let chains = chains_of(rt.alloc(), &index)?;
-    let parts = parts_of(rt.alloc(), &index)?;
-    let types = types_of(rt.alloc(), &index, &chains, &parts)?;
+// The same, of names whose types are still to be found.
+fn breaches_of(alloc: Global, index: &Index<'_>) -> Result<Vec<Option<Breach>>, NoMemory> {
+    let chains = chains_of(alloc, index)?;
+    let parts = parts_of(alloc, index)?;
+    let types = types_of(alloc, index, &chains, &parts)?;
     let forms = Forms {
-        index: &index,
+        index,
         chains: &chains,
         types: &types,
     };
-    let breaches = first_breaches(rt.alloc(), forms)?;
+    first_breaches(alloc, forms)
+}
+
+#[test]
+fn an_array_that_is_too_large_is_told(rt: HostRuntime) -> Result<(), Fail> {
+    let units = units_of(rt.alloc(), &TEXTS)?;
+    let index = index_of(rt.alloc(), &units)?;
+    let breaches = breaches_of(rt.alloc(), &index)?;
     let mut wanted = [None; 12];
     wanted[9] = Some(Breach {
         at: Place {
@@ -124,6 +163,6 @@ fn an_array_that_is_too_large_is_told(rt: HostRuntime) -> Result<(), Fail> {
         },
         rule: 10,
     });
-    assert_eq!(rt; breaches.as_slice(), wanted.as_slice());
+    assert!(rt; breaches.as_slice() == wanted.as_slice());
     Ok(())
 }
