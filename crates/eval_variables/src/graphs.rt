@@ -59,10 +59,10 @@ pub fn place_of(nodes: &[Value], name: i64) -> Option<usize>
 fn fields_in(alloc: Global, value: Value) -> Parts
     ensures { list_of result ≡ rules.fields_in (datum_of value) }
 {
-    match value {
-        Value::Fields(fields) => fields.into_parts(),
-        _ => Parts::new(alloc),
+    if !matches!(&value, Value::Fields(_)) {
+        return Parts::new(alloc);
     }
+    value.into_parts(alloc)
 }
 
 // The part at a place from 0, taken out, and 0 where there is none.
@@ -81,10 +81,10 @@ fn taken(parts: Parts, place: usize) -> Value
 fn set_in(alloc: Global, value: Value) -> Parts
     ensures { list_of result ≡ rules.nodes_of (Some (datum_of value)) }
 {
-    match value {
-        Value::Set(parts) => parts.into_parts(),
-        _ => Parts::new(alloc),
+    if !matches!(&value, Value::Set(_)) {
+        return Parts::new(alloc);
     }
+    value.into_parts(alloc)
 }
 
 impl Graph {

@@ -7,6 +7,7 @@ ghost use Rattle.value_core.specs.Datum.{list_of};
 ghost use Rattle.value_core.specs.Lending.{LendsPart, LendsParts};
 ghost use Rattle.value_core.specs.View.{datum_of};
 ghost use Rattle.value_core.specs.Order.{tag, datum_cmp, data_cmp};
+ghost use Rattle.value_core.specs.OrderLaws.{parts_in};
 ghost use Rattle.value_core.specs.Lengths.{told_length, value_length, values_length};
 
 use crate::text::TextValue;
@@ -319,6 +320,23 @@ impl Drop for Value {
 }
 
 impl Value {
+    /// Its parts, which are the elements of a set or bag, moved out; of a value that has none no parts. It takes no memory.
+    pub fn into_parts(self, alloc: Global) -> Parts
+        ensures { result ≡ parts_in (datum_of self) }
+    {
+        match self {
+            Value::Array(parts) | Value::Fields(parts) | Value::Set(parts) | Value::Bag(parts) => {
+                parts.into_parts()
+            }
+            Value::Int(_)
+            | Value::Truth(_)
+            | Value::Char(_)
+            | Value::Enum(_)
+            | Value::Object(_) => Parts::new(alloc),
+            Value::Text(_text) => Parts::new(alloc),
+        }
+    }
+
     /// An equal value.
     #[cycle(copies)]
     pub fn copy(&self, alloc: Global) -> Result<Value, NoMemory>
