@@ -1,0 +1,8 @@
+use Rattle.orca_cli.proofs.EndingsOnce.{ending_apart, ending_once}
+use Rattle.orca_cli.proofs.laws.endings_law.Goals as goal
+
+pub returns-clause-once : goal.returns-clause-once
+returns-clause-once c = λ words files one two a b h k. ending_once c.names_law.ensures.tables words files one two a b h k
+
+pub returns-clause-apart : goal.returns-clause-apart
+returns-clause-apart c = λ words files units lines one a h named. ending_apart words files units lines one a h named
