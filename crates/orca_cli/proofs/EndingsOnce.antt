@@ -1,4 +1,4 @@
--- Where files are told and no read failed, an ending without a run excludes the others, and a run.
+-- Where files are told and no read failed, an ending without a run excludes the others, and a run; and the run that words name is one.
 use Rattle.std.proofs.Common.{◌≡◌, ℕ, List, [], Option, Some, None, option_and_then, refl, sym, ap, ◌∙◌, subst}
 use Rattle.net_rules.specs.declared.line.ScriptLine.{ScriptLine}
 use Rattle.orca_io.specs.Files.{File}
@@ -21,9 +21,9 @@ use Rattle.orca_cli.specs.declared.program.ProgramFault.{ProgramFault}
 use Rattle.orca_cli.specs.declared.script.ScriptFault.{ScriptFault}
 use Rattle.orca_cli.proofs.FilesOnce.{SameEnd, load_apart, load_once, same_sources, some_apart, some_same}
 use Rattle.orca_cli.proofs.NamesOnce.{GiveTables}
-use Rattle.orca_cli.proofs.ProgramsOnce.{program_apart, program_once}
+use Rattle.orca_cli.proofs.ProgramsOnce.{program_apart, program_once, same_program}
 use Rattle.orca_cli.proofs.ReplaysOnce.{replay_once}
-use Rattle.orca_cli.proofs.ScriptsOnce.{script_had, script_once}
+use Rattle.orca_cli.proofs.ScriptsOnce.{script_had, script_of_once, script_once}
 
 -- ---- endings, by what is done for the words
 
@@ -85,6 +85,12 @@ module _ (shelf : List File) (files : List Word) where
       let loaded = program.loaded in
       program_apart s f us h (subst (λ (fs : List File). IsAccepted fs us) (same_sources shelf files loaded.0 s loaded.1 read) loaded.2) program.within
 
+  loaded_once : (us vs : List Source) → IsProgram (Some shelf) files us → IsProgram (Some shelf) files vs → us ≡ vs
+  loaded_once us vs is was =
+      let one = is.loaded in
+      let two = was.loaded in
+      same_program one.0 us vs one.2 (subst (λ (fs : List File). IsAccepted fs vs) (same_sources shelf files two.0 one.0 two.1 one.1) two.2)
+
   -- a file of a program that wasn't read, and the program
   unread_apart : (f : LoadFault) (us : List Source) → IsLoadFault (Some shelf) ⊥ files f → IsProgram (Some shelf) files us → ⊥
   unread_apart f us h program = let loaded = program.loaded in load_apart shelf files f loaded.0 h loaded.1
@@ -136,3 +142,14 @@ ending_once tables words shelf one two a b h k =
 pub ending_apart : (words : List Word) (shelf : List File) (us : List Source) (lines : List ScriptLine) (one : ℕ) (a : List ℕ) → IsEnding words (Some shelf) ⊥ one a → IsNamed words (Some shelf) us lines → ⊥
 ending_apart words shelf us lines one a h named =
     run_apart shelf named.files named.script us lines one a named.program named.script_has (by_deed words shelf (Some (runs named.options named.script named.files)) one a named.asked h)
+
+-- ---- one run
+
+pub named_once : (words : List Word) (shelf : List File) (us vs : List Source) (lines more : List ScriptLine) → IsNamed words (Some shelf) us lines → IsNamed words (Some shelf) vs more → (us ≡ vs) × (lines ≡ more)
+named_once words shelf us vs lines more n m =
+    let same : Some (runs n.options n.script n.files) ≡ Some (runs m.options m.script m.files) = sym n.asked ∙ m.asked in
+    let files : n.files ≡ m.files = some_same n.files m.files (ap files_by same) in
+    let script : n.script ≡ m.script = ap script_by same in
+    let one = loaded_once shelf n.files us vs n.program (subst (λ (fs : List Word). IsProgram (Some shelf) fs vs) (sym files) m.program) in
+    let two = script_of_once shelf n.script lines more n.script_has (subst (λ (o : Option Word). IsScriptOf (Some shelf) o more) (sym script) m.script_has) in
+    (one, two)

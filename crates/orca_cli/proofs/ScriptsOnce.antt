@@ -1,5 +1,5 @@
 -- Where files are told and no read failed, the script that a file has, or why it has none, is one.
-use Rattle.std.proofs.Common.{◌≡◌, ℕ, List, Some, None, refl, sym, ap, ◌∙◌, subst}
+use Rattle.std.proofs.Common.{◌≡◌, ℕ, List, Option, Some, None, refl, sym, ap, ◌∙◌, subst}
 use Rattle.std.specs.Prelude.{Result, Ok, Err}
 use Rattle.fault_scripts.proofs.ScriptLaws.{again, refused_again}
 use Rattle.fault_scripts.specs.Reading.{script_at}
@@ -94,3 +94,8 @@ pub script_had : (shelf : List File) (script : Word) (f : ScriptFault) (lines : 
 script_had shelf script f lines h has =
     let bad = script_read shelf script has.0 f has.1 h in
     script_apart has.0 has.0 lines bad.0 refl has.2 bad.2
+
+-- which is one
+pub script_of_once : (shelf : List File) (script : Option Word) (lines more : List ScriptLine) → IsScriptOf (Some shelf) script lines → IsScriptOf (Some shelf) script more → lines ≡ more
+script_of_once shelf None lines more h k = h ∙ sym k
+script_of_once shelf (Some script) lines more h k = lines_once h.0 k.0 lines more (same_script shelf script h.0 k.0 h.1 k.1) h.2 k.2

@@ -1,4 +1,4 @@
-//! That an ending without a run excludes the others, and a run.
+//! That an ending without a run excludes the others, and a run, which is one.
 
 ghost use Rattle.std.specs.Prelude.{◌≡◌, ℕ, List, Some};
 ghost use Rattle.net_rules.specs.declared.line.ScriptLine.{ScriptLine};
@@ -12,14 +12,16 @@ use program_names::names_law;
 
 /// The law of endings, where files are told and no fault of reading rose; it does nothing.
 ///
-/// - `once`: words have one ending without a run at most, by its status and its line. So each of these is told exactly where its row of
-///   the table of statuses is so (docs/FORMATS.md, Statuses).
-/// - `apart`: and none where they name a run of a program that can be run.
+/// - `once`: words have one ending without a run at most, by its status and its line (docs/FORMATS.md, Statuses).
+/// - `apart`: they have none where they name a run, of a program that is accepted and with a script.
+/// - `named`: they name one run at most, by its program and its script.
 pub fn endings_law()
     ensures once { (words : List Word) (files : List File) (one two : ℕ) (a b : List ℕ) → IsEnding words (Some files) ⊥ one a →
         IsEnding words (Some files) ⊥ two b → (one ≡ two) × (a ≡ b) }
     ensures apart { (words : List Word) (files : List File) (units : List Source) (lines : List ScriptLine) (one : ℕ) (a : List ℕ) →
         IsEnding words (Some files) ⊥ one a → IsNamed words (Some files) units lines → ⊥ }
+    ensures named { (words : List Word) (files : List File) (units others : List Source) (lines more : List ScriptLine) →
+        IsNamed words (Some files) units lines → IsNamed words (Some files) others more → (units ≡ others) × (lines ≡ more) }
 {
     names_law();
 }

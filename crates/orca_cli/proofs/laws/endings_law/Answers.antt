@@ -1,4 +1,4 @@
-use Rattle.orca_cli.proofs.EndingsOnce.{ending_apart, ending_once}
+use Rattle.orca_cli.proofs.EndingsOnce.{ending_apart, ending_once, named_once}
 use Rattle.orca_cli.proofs.laws.endings_law.Goals as goal
 
 pub returns-clause-once : goal.returns-clause-once
@@ -6,3 +6,6 @@ returns-clause-once c = λ words files one two a b h k. ending_once c.names_law.
 
 pub returns-clause-apart : goal.returns-clause-apart
 returns-clause-apart c = λ words files units lines one a h named. ending_apart words files units lines one a h named
+
+pub returns-clause-named : goal.returns-clause-named
+returns-clause-named c = λ words files units others lines more one two. named_once words files units others lines more one two
