@@ -1,10 +1,9 @@
 -- Where files are told and no read failed, an ending without a run excludes the others, and a run; and the run that words name is one.
-use Rattle.std.proofs.Common.{◌≡◌, ℕ, List, [], Option, Some, None, option_and_then, refl, sym, ap, ◌∙◌, subst}
+use Rattle.std.proofs.Common.{◌≡◌, ℕ, List, Option, Some, None, option_and_then, refl, sym, ap, ◌∙◌, subst}
 use Rattle.net_rules.specs.declared.line.ScriptLine.{ScriptLine}
 use Rattle.orca_io.specs.Files.{File}
 use Rattle.link_rules.specs.Units.{Source}
 use Rattle.orca_front.specs.Sources.{IsAccepted}
-use Rattle.accepted_law.specs.Limits.{IsWithinLimits}
 use Rattle.command_files.specs.Loaded.{IsLoadFault, load_line, load_status}
 use Rattle.command_files.specs.Sources.{AreRead, Word}
 use Rattle.command_files.specs.declared.load_fault.LoadFault.{LoadFault}

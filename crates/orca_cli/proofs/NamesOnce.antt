@@ -1,5 +1,5 @@
 -- What is said of a history's text is one, by whichever of a program's names it is read: these are the same, but for where they lie.
-use Rattle.std.proofs.Common.{◌≡◌, ◌<◌, ℕ, List, [], ◌∷◌, ◌++◌, Option, Some, None, All, flat_map, length, map, option_map, slice_get, refl, sym, ap, ◌∙◌, subst}
+use Rattle.std.proofs.Common.{◌≡◌, ◌<◌, ℕ, List, [], ◌∷◌, ◌++◌, Option, Some, None, flat_map, length, map, option_map, slice_get, refl, sym, ap, ◌∙◌, subst}
 use Rattle.std.specs.Fmt.{decimal}
 use Rattle.std.specs.Prelude.{codes}
 use Rattle.std.proofs.lemmas.List.Elements.{All-weaker}
@@ -20,7 +20,7 @@ use Rattle.value_core.specs.Meaning.{Computes, Performs}
 use Rattle.value_core.specs.declared.action.Action.{Action}
 use Rattle.value_core.specs.declared.action.Action.TheVariants as action
 use Rattle.value_core.specs.declared.action.Line.{Line}
-use Rattle.history_text.specs.Sound.{AreFirst, AreLines, AreTables, IsLine, IsNamed}
+use Rattle.history_text.specs.Sound.{AreFirst, AreTables, IsLine, IsNamed}
 use Rattle.history_text.specs.Spelling.{action_text, arguments_text, called_name, history_text, line_text, name_of, object_text, operation_names, operations_in, place_text, reply_text}
 use Rattle.history_text.specs.declared.names.Names.{Names}
 use Rattle.history_text.specs.declared.names.Operations.{Operations}

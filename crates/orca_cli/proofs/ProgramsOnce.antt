@@ -7,7 +7,7 @@ use Rattle.accepted_law.specs.Limits.{IsWithinLimits, words_in}
 use Rattle.program_limits.specs.Passed.{Passes}
 use Rattle.program_limits.specs.declared.limits.PassedLimit.{PassedLimit}
 use Rattle.program_limits.specs.declared.limits.PassedLimit.TheVariants as limit
-use Rattle.orca_front.specs.Sources.{AreUnits, IsAccepted}
+use Rattle.orca_front.specs.Sources.{IsAccepted}
 use Rattle.replay_command.specs.Endings.{passed_line}
 use Rattle.orca_cli.specs.Programs.{IsProgramFault, program_line, program_status}
 use Rattle.orca_cli.specs.declared.program.ProgramFault.{ProgramFault}

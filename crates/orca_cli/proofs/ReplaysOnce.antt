@@ -1,5 +1,5 @@
 -- Where files are told and no read failed, `replay` ends in one way.
-use Rattle.std.proofs.Common.{◌≡◌, ℕ, List, Some, refl, sym, ap, ◌∙◌, subst}
+use Rattle.std.proofs.Common.{◌≡◌, ℕ, List, Some, refl, sym, ap, subst}
 use Rattle.orca_io.specs.Files.{File}
 use Rattle.link_rules.specs.Units.{Source}
 use Rattle.accepted_law.specs.Limits.{IsWithinLimits}

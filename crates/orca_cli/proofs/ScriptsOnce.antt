@@ -11,7 +11,6 @@ use Rattle.orca_base.specs.declared.limits.TheConstants.{SCRIPT_BYTES}
 use Rattle.orca_io.specs.Files.{File}
 use Rattle.command_files.specs.Lines.{absent_line}
 use Rattle.command_files.specs.Sources.{IsRead, Word}
-use Rattle.orca_cli.specs.Lines.{script_line}
 use Rattle.orca_cli.specs.Scripts.{IsScriptFault, IsScriptOf, script_fault_line, script_status}
 use Rattle.orca_cli.specs.declared.script.ScriptFault.{ScriptFault}
 use Rattle.orca_cli.specs.declared.script.ScriptFault.TheVariants as scripts
