@@ -18,11 +18,11 @@ use Rattle.orca_cli.specs.Programs.{IsProgram, IsProgramFault, program_line, pro
 use Rattle.orca_cli.specs.Scripts.{IsScriptFault, IsScriptOf, script_fault_line, script_status}
 use Rattle.orca_cli.specs.declared.program.ProgramFault.{ProgramFault}
 use Rattle.orca_cli.specs.declared.script.ScriptFault.{ScriptFault}
-use Rattle.orca_cli.proofs.FilesOnce.{SameEnd, load_apart, load_once, same_sources, some_apart, some_same}
+use Rattle.orca_cli.proofs.FilesOnce.{SameEnd, load_apart, load_once, load_quiet, same_sources, some_apart, some_same}
 use Rattle.orca_cli.proofs.NamesOnce.{GiveTables}
 use Rattle.orca_cli.proofs.ProgramsOnce.{program_apart, program_once, same_program}
-use Rattle.orca_cli.proofs.ReplaysOnce.{replay_once}
-use Rattle.orca_cli.proofs.ScriptsOnce.{script_had, script_of_once, script_once}
+use Rattle.orca_cli.proofs.ReplaysOnce.{replay_once, replay_quiet}
+use Rattle.orca_cli.proofs.ScriptsOnce.{script_had, script_of_once, script_once, script_quiet}
 
 -- ---- endings, by what is done for the words
 
@@ -152,3 +152,16 @@ named_once words shelf us vs lines more n m =
     let one = loaded_once shelf n.files us vs n.program (subst (λ (fs : List Word). IsProgram (Some shelf) fs vs) (sym files) m.program) in
     let two = script_of_once shelf n.script lines more n.script_has (subst (λ (o : Option Word). IsScriptOf (Some shelf) o more) (sym script) m.script_has) in
     (one, two)
+
+-- ---- where no read failed
+
+pub ending_quiet : (words : List Word) (told : Option (List File)) (rose : Type 0) (never : rose → ⊥) (one : ℕ) (a : List ℕ) → IsEnding words told rose one a → IsEnding words told ⊥ one a
+ending_quiet words told rose never one a (because.said text asked) = because.said text asked
+ending_quiet words told rose never one a (because.usage asked) = because.usage asked
+ending_quiet words told rose never one a (because.unread files fault has h) = because.unread files fault has (load_quiet told rose never files fault h)
+ending_quiet words told rose never one a (because.unscripted files sources script fault has read named h) =
+    because.unscripted files sources script fault has read named (script_quiet told rose never script fault h)
+ending_quiet words told rose never one a (because.refused files sources fault has read script h) = because.refused files sources fault has read script h
+ending_quiet words told rose never one a (because.accepted files units asked h) = because.accepted files units asked h
+ending_quiet words told rose never one a (because.replayed history files wanted line asked h) =
+    because.replayed history files wanted line asked (replay_quiet told rose never history files wanted line h)

@@ -1,6 +1,6 @@
 -- Where files are told and no read failed, one answer alone fits the files that are asked for: which texts they have, or why they
 -- weren't read.
-use Rattle.std.proofs.Common.{◌≡◌, ◌<◌, ◌≤◌, ℕ, List, [], ◌∷◌, ◌++◌, All, length, map, Some, None, refl, sym, ap, ◌∙◌, arith}
+use Rattle.std.proofs.Common.{◌≡◌, ◌<◌, ◌≤◌, ℕ, List, [], ◌∷◌, ◌++◌, All, length, map, Option, Some, None, refl, sym, ap, ◌∙◌, arith}
 use Rattle.std.proofs.lemmas.List.Elements.{All-head, All-tail}
 use Rattle.orca_base.specs.declared.limits.TheConstants.{HISTORY_BYTES, MODULES, SOURCE_BYTES}
 use Rattle.orca_io.specs.Files.{File, content_of}
@@ -172,3 +172,17 @@ history_apart shelf history files (replay.Failed file) sources text h read = abs
 
 pub same_history : (shelf : List File) (history : Word) (text other : List ℕ) → IsRead (Some shelf) HISTORY_BYTES (history, text) → IsRead (Some shelf) HISTORY_BYTES (history, other) → text ≡ other
 same_history shelf history text other read was = same_text shelf HISTORY_BYTES (history, text) (history, other) refl read was
+
+-- ---- where no read failed
+
+pub load_quiet : (told : Option (List File)) (rose : Type 0) (never : rose → ⊥) (files : List Word) (f : LoadFault) → IsLoadFault told rose files f → IsLoadFault told ⊥ files f
+load_quiet told rose never files load.TooMany h = h
+load_quiet told rose never files (load.Absent file) h = h
+load_quiet told rose never files (load.TooLong file) h = h
+load_quiet told rose never files (load.Failed file) h = absurd (never h.2)
+
+pub history_quiet : (told : Option (List File)) (rose : Type 0) (never : rose → ⊥) (history : Word) (files : List Word) (f : ReplayFault) → IsReplayFault told rose history files f → IsReplayFault told ⊥ history files f
+history_quiet told rose never history files (replay.Program f) h = load_quiet told rose never files f h
+history_quiet told rose never history files (replay.Absent file) h = h
+history_quiet told rose never history files replay.TooLong h = h
+history_quiet told rose never history files (replay.Failed file) h = absurd (never h.1.2)

@@ -1,5 +1,5 @@
 -- Where files are told and no read failed, `replay` ends in one way.
-use Rattle.std.proofs.Common.{◌≡◌, ℕ, List, Some, refl, sym, ap, subst}
+use Rattle.std.proofs.Common.{◌≡◌, ℕ, List, Option, Some, refl, sym, ap, subst}
 use Rattle.orca_io.specs.Files.{File}
 use Rattle.link_rules.specs.Units.{Source}
 use Rattle.accepted_law.specs.Limits.{IsWithinLimits}
@@ -16,7 +16,7 @@ use Rattle.command_files.specs.Replays.{HasRead}
 use Rattle.command_files.specs.Sources.{Word}
 use Rattle.replay_command.specs.Endings as replays
 use Rattle.replay_command.specs.Endings.{IsReplayEnding, passed_line}
-use Rattle.orca_cli.proofs.FilesOnce.{SameEnd, history_apart, history_once, same_history, same_sources}
+use Rattle.orca_cli.proofs.FilesOnce.{SameEnd, history_apart, history_once, history_quiet, same_history, same_sources}
 use Rattle.orca_cli.proofs.NamesOnce.{GiveTables, answer_once}
 use Rattle.orca_cli.proofs.ProgramsOnce.{passes_apart, passes_once, same_program}
 use Rattle.orca_cli.proofs.TextsOnce.{front_apart, front_once}
@@ -91,3 +91,10 @@ module _ (tables : GiveTables) (shelf : List File) (history : Word) (files : Lis
       (record { accepted = h; within = within; names = names; are = are; told = told })
       (record { accepted = k; within = inside; names = others; are = were; told = said }) in
       (ap answer_status same, ap answer_line same)
+
+-- where no read failed
+pub replay_quiet : (told : Option (List File)) (rose : Type 0) (never : rose → ⊥) (history : Word) (files : List Word) (one : ℕ) (a : List ℕ) → IsReplayEnding told rose history files one a → IsReplayEnding told ⊥ history files one a
+replay_quiet told rose never history files one a (replays.unread f h) = replays.unread f (history_quiet told rose never history files f h)
+replay_quiet told rose never history files one a (replays.refused s text f read h) = replays.refused s text f read h
+replay_quiet told rose never history files one a (replays.limited s text us p read h passes) = replays.limited s text us p read h passes
+replay_quiet told rose never history files one a (replays.judged s text us names answer read h within are told_so) = replays.judged s text us names answer read h within are told_so

@@ -98,3 +98,10 @@ script_had shelf script f lines h has =
 pub script_of_once : (shelf : List File) (script : Option Word) (lines more : List ScriptLine) → IsScriptOf (Some shelf) script lines → IsScriptOf (Some shelf) script more → lines ≡ more
 script_of_once shelf None lines more h k = h ∙ sym k
 script_of_once shelf (Some script) lines more h k = lines_once h.0 k.0 lines more (same_script shelf script h.0 k.0 h.1 k.1) h.2 k.2
+
+-- where no read failed
+pub script_quiet : (told : Option (List File)) (rose : Type 0) (never : rose → ⊥) (script : Word) (f : ScriptFault) → IsScriptFault told rose script f → IsScriptFault told ⊥ script f
+script_quiet told rose never script (scripts.Absent file) h = h
+script_quiet told rose never script (scripts.TooLong file) h = h
+script_quiet told rose never script (scripts.Failed file) h = absurd (never h.2)
+script_quiet told rose never script (scripts.Bad error) h = h

@@ -1,7 +1,8 @@
 //! That an ending without a run excludes the others, and a run, which is one.
 
-ghost use Rattle.std.specs.Prelude.{◌≡◌, ℕ, List, Some};
+ghost use Rattle.std.specs.Prelude.{◌≡◌, ℕ, List, Option, Some};
 ghost use Rattle.net_rules.specs.declared.line.ScriptLine.{ScriptLine};
+ghost use Rattle.orca_io.specs.Causes.{Rose};
 ghost use Rattle.orca_io.specs.Files.{File};
 ghost use Rattle.link_rules.specs.Units.{Source};
 ghost use Rattle.command_files.specs.Sources.{Word};
@@ -15,6 +16,7 @@ use program_names::names_law;
 /// - `once`: words have one ending without a run at most, by its status and its line (docs/FORMATS.md, Statuses).
 /// - `apart`: they have none where they name a run, of a program that is accepted and with a script.
 /// - `named`: they name one run at most, by its program and its script.
+/// - `quiet`: where the shelf's count of faults didn't rise, an ending is one without a fault.
 pub fn endings_law()
     ensures once { (words : List Word) (files : List File) (one two : ℕ) (a b : List ℕ) → IsEnding words (Some files) ⊥ one a →
         IsEnding words (Some files) ⊥ two b → (one ≡ two) × (a ≡ b) }
@@ -22,6 +24,8 @@ pub fn endings_law()
         IsEnding words (Some files) ⊥ one a → IsNamed words (Some files) units lines → ⊥ }
     ensures named { (words : List Word) (files : List File) (units others : List Source) (lines more : List ScriptLine) →
         IsNamed words (Some files) units lines → IsNamed words (Some files) others more → (units ≡ others) × (lines ≡ more) }
+    ensures quiet { (words : List Word) (told : Option (List File)) (before now one : ℕ) (a : List ℕ) → (Rose before now → ⊥) →
+        IsEnding words told (Rose before now) one a → IsEnding words told ⊥ one a }
 {
     names_law();
 }
