@@ -9,6 +9,7 @@
 mod ending;
 mod job;
 mod kept;
+mod laws;
 mod lines;
 mod names;
 mod program;
@@ -22,5 +23,6 @@ pub use command_output::{
     OUT_OF_TURNS, READ_FAULT, REFUSED, USAGE, WRITE_FAULT,
 };
 pub use kept::{Ended, Kept};
+pub use laws::endings_law;
 pub use run_loop::{NodeEnd, ProcessEnd, ProcessStanding, Step};
 pub use top::orca_main;

@@ -1,0 +1,167 @@
+-- Where files are told and no read failed, an ending without a run excludes the others, and a run; and the run that words name is one.
+use Rattle.std.proofs.Common.{◌≡◌, ℕ, List, Option, Some, None, option_and_then, refl, sym, ap, ◌∙◌, subst}
+use Rattle.net_rules.specs.declared.line.ScriptLine.{ScriptLine}
+use Rattle.orca_io.specs.Files.{File}
+use Rattle.link_rules.specs.Units.{Source}
+use Rattle.orca_front.specs.Sources.{IsAccepted}
+use Rattle.command_files.specs.Loaded.{IsLoadFault, load_line, load_status}
+use Rattle.command_files.specs.Sources.{AreRead, Word}
+use Rattle.command_files.specs.declared.load_fault.LoadFault.{LoadFault}
+use Rattle.command_output.specs.declared.statuses.TheConstants.{FINISHED, USAGE}
+use Rattle.replay_command.specs.Endings.{IsReplayEnding}
+use Rattle.orca_cli.specs.Endings as because
+use Rattle.orca_cli.specs.Endings.{IsEnding}
+use Rattle.orca_cli.specs.Headline.{IsNamed}
+use Rattle.orca_cli.specs.Job.{Deed, checks, deed_in, files_of, replays, runs, says, script_of}
+use Rattle.orca_cli.specs.Lines.{ok_line, usage_line}
+use Rattle.orca_cli.specs.Programs.{IsProgram, IsProgramFault, program_line, program_status}
+use Rattle.orca_cli.specs.Scripts.{IsScriptFault, IsScriptOf, script_fault_line, script_status}
+use Rattle.orca_cli.specs.declared.program.ProgramFault.{ProgramFault}
+use Rattle.orca_cli.specs.declared.script.ScriptFault.{ScriptFault}
+use Rattle.orca_cli.proofs.FilesOnce.{SameEnd, load_apart, load_once, load_quiet, same_sources, some_apart, some_same}
+use Rattle.orca_cli.proofs.NamesOnce.{GiveTables}
+use Rattle.orca_cli.proofs.ProgramsOnce.{program_apart, program_once, same_program}
+use Rattle.orca_cli.proofs.ReplaysOnce.{replay_once, replay_quiet}
+use Rattle.orca_cli.proofs.ScriptsOnce.{script_had, script_of_once, script_once, script_quiet}
+
+-- ---- endings, by what is done for the words
+
+-- how a check or a run of the program in files ends without a run; with `ok` where it is a check
+data ProgramEnds (shelf : List File) (files : List Word) (script : Option Word) (check : Type 0) : ℕ → List ℕ → Type 0 where
+  unread : (fault : LoadFault) → IsLoadFault (Some shelf) ⊥ files fault → ProgramEnds shelf files script check (load_status fault) (load_line fault)
+  unscripted : (sources : List File) (name : Word) (fault : ScriptFault) → AreRead (Some shelf) files sources → script ≡ Some name → IsScriptFault (Some shelf) ⊥ name fault →
+      ProgramEnds shelf files script check (script_status fault) (script_fault_line fault)
+  refused : (sources : List File) (lines : List ScriptLine) (fault : ProgramFault) → AreRead (Some shelf) files sources → IsScriptOf (Some shelf) script lines → IsProgramFault sources fault →
+      ProgramEnds shelf files script check (program_status fault) (program_line fault)
+  accepted : (units : List Source) → check → script ≡ None → IsProgram (Some shelf) files units → ProgramEnds shelf files script check FINISHED ok_line
+
+abbrev is_check : Option Deed → Type 0
+is_check None = ⊥
+is_check (Some (says text)) = ⊥
+is_check (Some (checks files)) = Unit {0}
+is_check (Some (runs options script files)) = ⊥
+is_check (Some (replays history files)) = ⊥
+
+abbrev EndsBy : List File → Option Deed → ℕ → List ℕ → Type 0
+EndsBy shelf None one a = (one ≡ USAGE) × (a ≡ usage_line)
+EndsBy shelf (Some (says text)) one a = (one ≡ FINISHED) × (a ≡ text)
+EndsBy shelf (Some (checks files)) one a = ProgramEnds shelf files None (Unit {0}) one a
+EndsBy shelf (Some (runs options script files)) one a = ProgramEnds shelf files script ⊥ one a
+EndsBy shelf (Some (replays history files)) one a = IsReplayEnding (Some shelf) ⊥ history files one a
+
+abbrev files_by : Option Deed → Option (List Word)
+files_by deed = option_and_then files_of deed
+
+abbrev script_by : Option Deed → Option Word
+script_by deed = option_and_then script_of deed
+
+by_files : (shelf : List File) (deed : Option Deed) (files : List Word) (one : ℕ) (a : List ℕ) → files_by deed ≡ Some files → ProgramEnds shelf files (script_by deed) (is_check deed) one a → EndsBy shelf deed one a
+by_files shelf None files one a has ends = absurd (some_apart files (sym has))
+by_files shelf (Some (says text)) files one a has ends = absurd (some_apart files (sym has))
+by_files shelf (Some (checks others)) files one a has ends = subst (λ (fs : List Word). ProgramEnds shelf fs None (Unit {0}) one a) (sym (some_same others files has)) ends
+by_files shelf (Some (runs options script others)) files one a has ends = subst (λ (fs : List Word). ProgramEnds shelf fs script ⊥ one a) (sym (some_same others files has)) ends
+by_files shelf (Some (replays history others)) files one a has ends = absurd (some_apart files (sym has))
+
+by_deed : (words : List Word) (shelf : List File) (deed : Option Deed) (one : ℕ) (a : List ℕ) → deed_in words ≡ deed → IsEnding words (Some shelf) ⊥ one a → EndsBy shelf deed one a
+by_deed words shelf deed one a is (because.said text asked) = subst (λ (d : Option Deed). EndsBy shelf d FINISHED text) (sym asked ∙ is) (refl, refl)
+by_deed words shelf deed one a is (because.usage asked) = subst (λ (d : Option Deed). EndsBy shelf d USAGE usage_line) (sym asked ∙ is) (refl, refl)
+by_deed words shelf deed one a is (because.unread files fault has h) =
+    by_files shelf deed files (load_status fault) (load_line fault) (ap files_by (sym is) ∙ has) (unread fault h)
+by_deed words shelf deed one a is (because.unscripted files sources script fault has read named h) =
+    by_files shelf deed files (script_status fault) (script_fault_line fault) (ap files_by (sym is) ∙ has) (unscripted sources script fault read (ap script_by (sym is) ∙ named) h)
+by_deed words shelf deed one a is (because.refused files sources fault has read script h) =
+    by_files shelf deed files (program_status fault) (program_line fault) (ap files_by (sym is) ∙ has)
+    (refused sources script.0 fault read (subst (λ (o : Option Word). IsScriptOf (Some shelf) o script.0) (ap script_by is) script.1) h)
+by_deed words shelf deed one a is (because.accepted files units asked h) = subst (λ (d : Option Deed). EndsBy shelf d FINISHED ok_line) (sym asked ∙ is) (accepted units tt refl h)
+by_deed words shelf deed one a is (because.replayed history files wanted line asked h) = subst (λ (d : Option Deed). EndsBy shelf d wanted line) (sym asked ∙ is) h
+
+-- ---- one ending of a check, or of a run that isn't begun
+
+module _ (shelf : List File) (files : List Word) where
+  -- a program that is none, and the program
+  refused_apart : (s : List File) (f : ProgramFault) (us : List Source) → AreRead (Some shelf) files s → IsProgramFault s f → IsProgram (Some shelf) files us → ⊥
+  refused_apart s f us read h program =
+      let loaded = program.loaded in
+      program_apart s f us h (subst (λ (fs : List File). IsAccepted fs us) (same_sources shelf files loaded.0 s loaded.1 read) loaded.2) program.within
+
+  loaded_once : (us vs : List Source) → IsProgram (Some shelf) files us → IsProgram (Some shelf) files vs → us ≡ vs
+  loaded_once us vs is was =
+      let one = is.loaded in
+      let two = was.loaded in
+      same_program one.0 us vs one.2 (subst (λ (fs : List File). IsAccepted fs vs) (same_sources shelf files two.0 one.0 two.1 one.1) two.2)
+
+  -- a file of a program that wasn't read, and the program
+  unread_apart : (f : LoadFault) (us : List Source) → IsLoadFault (Some shelf) ⊥ files f → IsProgram (Some shelf) files us → ⊥
+  unread_apart f us h program = let loaded = program.loaded in load_apart shelf files f loaded.0 h loaded.1
+
+  -- a script that is none, and the script
+  unscripted_apart : (script : Option Word) (name : Word) (f : ScriptFault) (lines : List ScriptLine) → script ≡ Some name → IsScriptFault (Some shelf) ⊥ name f → IsScriptOf (Some shelf) script lines → ⊥
+  unscripted_apart script name f lines is h has = script_had shelf name f lines h (subst (λ (o : Option Word). IsScriptOf (Some shelf) o lines) is has)
+
+  program_ends_once : (script : Option Word) (check : Type 0) (one two : ℕ) (a b : List ℕ) → ProgramEnds shelf files script check one a → ProgramEnds shelf files script check two b → SameEnd one a two b
+  program_ends_once script check one two a b (unread f h) (unread g k) = load_once shelf files f g h k
+  program_ends_once script check one two a b (unread f h) (unscripted t other g was are k) = absurd (load_apart shelf files f t h was)
+  program_ends_once script check one two a b (unread f h) (refused t more g was had k) = absurd (load_apart shelf files f t h was)
+  program_ends_once script check one two a b (unread f h) (accepted vs so none k) = absurd (unread_apart f vs h k)
+  program_ends_once script check one two a b (unscripted s name f read is h) (unread g k) = absurd (load_apart shelf files g s k read)
+  program_ends_once script check one two a b (unscripted s name f read is h) (unscripted t other g was are k) =
+      script_once shelf name f g h (subst (λ (n : Word). IsScriptFault (Some shelf) ⊥ n g) (some_same other name (sym are ∙ is)) k)
+  program_ends_once script check one two a b (unscripted s name f read is h) (refused t more g was had k) = absurd (unscripted_apart script name f more is h had)
+  program_ends_once script check one two a b (unscripted s name f read is h) (accepted vs so none k) = absurd (some_apart name (sym is ∙ none))
+  program_ends_once script check one two a b (refused s lines f read has h) (unread g k) = absurd (load_apart shelf files g s k read)
+  program_ends_once script check one two a b (refused s lines f read has h) (unscripted t other g was are k) = absurd (unscripted_apart script other g lines are k has)
+  program_ends_once script check one two a b (refused s lines f read has h) (refused t more g was had k) =
+      program_once s f g h (subst (λ (fs : List File). IsProgramFault fs g) (same_sources shelf files t s was read) k)
+  program_ends_once script check one two a b (refused s lines f read has h) (accepted vs so none k) = absurd (refused_apart s f vs read h k)
+  program_ends_once script check one two a b (accepted us so none h) (unread g k) = absurd (unread_apart g us k h)
+  program_ends_once script check one two a b (accepted us so none h) (unscripted t other g was are k) = absurd (some_apart other (sym are ∙ none))
+  program_ends_once script check one two a b (accepted us so none h) (refused t more g was had k) = absurd (refused_apart t g us was k h)
+  program_ends_once script check one two a b (accepted us so none h) (accepted vs as_ never k) = (refl, refl)
+
+  -- and none where the run can be
+  run_apart : (script : Option Word) (us : List Source) (lines : List ScriptLine) (one : ℕ) (a : List ℕ) → IsProgram (Some shelf) files us → IsScriptOf (Some shelf) script lines → ProgramEnds shelf files script ⊥ one a → ⊥
+  run_apart script us lines one a program has (unread f h) = unread_apart f us h program
+  run_apart script us lines one a program has (unscripted s name f read is h) = unscripted_apart script name f lines is h has
+  run_apart script us lines one a program has (refused s more f read had h) = refused_apart s f us read h program
+  run_apart script us lines one a program has (accepted vs so none h) = so
+
+-- ---- one ending
+
+ends_once : GiveTables → (shelf : List File) (deed : Option Deed) (one two : ℕ) (a b : List ℕ) → EndsBy shelf deed one a → EndsBy shelf deed two b → SameEnd one a two b
+ends_once tables shelf None one two a b h k = (h.0 ∙ sym k.0, h.1 ∙ sym k.1)
+ends_once tables shelf (Some (says text)) one two a b h k = (h.0 ∙ sym k.0, h.1 ∙ sym k.1)
+ends_once tables shelf (Some (checks files)) one two a b h k = program_ends_once shelf files None (Unit {0}) one two a b h k
+ends_once tables shelf (Some (runs options script files)) one two a b h k = program_ends_once shelf files script ⊥ one two a b h k
+ends_once tables shelf (Some (replays history files)) one two a b h k = replay_once tables shelf history files one two a b h k
+
+pub ending_once : GiveTables → (words : List Word) (shelf : List File) (one two : ℕ) (a b : List ℕ) → IsEnding words (Some shelf) ⊥ one a → IsEnding words (Some shelf) ⊥ two b → SameEnd one a two b
+ending_once tables words shelf one two a b h k =
+    ends_once tables shelf (deed_in words) one two a b (by_deed words shelf (deed_in words) one a refl h) (by_deed words shelf (deed_in words) two b refl k)
+
+pub ending_apart : (words : List Word) (shelf : List File) (us : List Source) (lines : List ScriptLine) (one : ℕ) (a : List ℕ) → IsEnding words (Some shelf) ⊥ one a → IsNamed words (Some shelf) us lines → ⊥
+ending_apart words shelf us lines one a h named =
+    run_apart shelf named.files named.script us lines one a named.program named.script_has (by_deed words shelf (Some (runs named.options named.script named.files)) one a named.asked h)
+
+-- ---- one run
+
+pub named_once : (words : List Word) (shelf : List File) (us vs : List Source) (lines more : List ScriptLine) → IsNamed words (Some shelf) us lines → IsNamed words (Some shelf) vs more → (us ≡ vs) × (lines ≡ more)
+named_once words shelf us vs lines more n m =
+    let same : Some (runs n.options n.script n.files) ≡ Some (runs m.options m.script m.files) = sym n.asked ∙ m.asked in
+    let files : n.files ≡ m.files = some_same n.files m.files (ap files_by same) in
+    let script : n.script ≡ m.script = ap script_by same in
+    let one = loaded_once shelf n.files us vs n.program (subst (λ (fs : List Word). IsProgram (Some shelf) fs vs) (sym files) m.program) in
+    let two = script_of_once shelf n.script lines more n.script_has (subst (λ (o : Option Word). IsScriptOf (Some shelf) o more) (sym script) m.script_has) in
+    (one, two)
+
+-- ---- where no read failed
+
+pub ending_quiet : (words : List Word) (told : Option (List File)) (rose : Type 0) (never : rose → ⊥) (one : ℕ) (a : List ℕ) → IsEnding words told rose one a → IsEnding words told ⊥ one a
+ending_quiet words told rose never one a (because.said text asked) = because.said text asked
+ending_quiet words told rose never one a (because.usage asked) = because.usage asked
+ending_quiet words told rose never one a (because.unread files fault has h) = because.unread files fault has (load_quiet told rose never files fault h)
+ending_quiet words told rose never one a (because.unscripted files sources script fault has read named h) =
+    because.unscripted files sources script fault has read named (script_quiet told rose never script fault h)
+ending_quiet words told rose never one a (because.refused files sources fault has read script h) = because.refused files sources fault has read script h
+ending_quiet words told rose never one a (because.accepted files units asked h) = because.accepted files units asked h
+ending_quiet words told rose never one a (because.replayed history files wanted line asked h) =
+    because.replayed history files wanted line asked (replay_quiet told rose never history files wanted line h)

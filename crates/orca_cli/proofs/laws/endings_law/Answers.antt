@@ -1,0 +1,15 @@
+use Rattle.orca_io.specs.Causes.{Rose}
+use Rattle.orca_cli.proofs.EndingsOnce.{ending_apart, ending_once, ending_quiet, named_once}
+use Rattle.orca_cli.proofs.laws.endings_law.Goals as goal
+
+pub returns-clause-once : goal.returns-clause-once
+returns-clause-once c = λ words files one two a b h k. ending_once c.names_law.ensures.tables words files one two a b h k
+
+pub returns-clause-apart : goal.returns-clause-apart
+returns-clause-apart c = λ words files units lines one a h named. ending_apart words files units lines one a h named
+
+pub returns-clause-named : goal.returns-clause-named
+returns-clause-named c = λ words files units others lines more one two. named_once words files units others lines more one two
+
+pub returns-clause-quiet : goal.returns-clause-quiet
+returns-clause-quiet c = λ words told before now one a never h. ending_quiet words told (Rose before now) never one a h
