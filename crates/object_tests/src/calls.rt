@@ -34,12 +34,7 @@ fn waits(alloc: Global, process: u16, number: i64) -> Result<Suspended, NoMemory
 }
 
 // A flag with this integer becomes the object with this number.
-fn put_flag(
-    alloc: Global,
-    objects: &mut Objects,
-    number: u32,
-    value: i64,
-) -> Result<(), NoMemory> {
+fn put_flag(alloc: Global, objects: &mut Objects, number: u32, value: i64) -> Result<(), NoMemory> {
     objects.put(alloc, object(number), flag(alloc, value)?)?;
     Ok(())
 }

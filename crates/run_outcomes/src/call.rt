@@ -45,10 +45,7 @@ fn ended(
     if wires == Wires::Two {
         boxed.push(Box::new(alloc, PlainWire::new(alloc))?)?;
     }
-    Ok(Box::new(
-        alloc,
-        orca_main(alloc, words, shelf, out, &mut boxed),
-    )?)
+    Ok(Box::new(alloc, orca_main(alloc, words, shelf, out, &mut boxed))?)
 }
 
 // The words of a command line.

@@ -307,7 +307,11 @@ fn many(alloc: Global, calls: usize) -> Result<String, AllocError> {
 }
 
 // What comes of this text on five members with one acknowledger, with this script.
-fn called_on_five<'a>(alloc: Global, text: &'a str, script: &'a str) -> Result<Box<Outcome>, NoOutcome> {
+fn called_on_five<'a>(
+    alloc: Global,
+    text: &'a str,
+    script: &'a str,
+) -> Result<Box<Outcome>, NoOutcome> {
     called(
         alloc,
         &[

@@ -47,7 +47,10 @@ fn names_are_numbered_in_text_order(rt: HostRuntime) -> Result<(), Fail> {
         ("Main", "deletenode", 100),
         ("Main", "Graph", 200),
     ] {
-        assert!(rt; number_of(index.stands_for(home, name)) == wanted, "{name} in {home}");
+        assert!(rt;
+            number_of(index.stands_for(home, name)) == wanted,
+            "{name} in {home}"
+        );
     }
     Ok(())
 }

@@ -305,11 +305,8 @@ impl Drop for Value {
     #[cycle(drops)]
     fn drop(self) {
         match self {
-            Value::Int(_)
-            | Value::Truth(_)
-            | Value::Char(_)
-            | Value::Enum(_)
-            | Value::Object(_) => {}
+            Value::Int(_) | Value::Truth(_) | Value::Char(_) | Value::Enum(_) | Value::Object(_) =>
+                {}
             Value::Text(_text) => {}
             Value::Array(_parts) => {}
             Value::Fields(_parts) => {}
@@ -328,11 +325,8 @@ impl Value {
             Value::Array(parts) | Value::Fields(parts) | Value::Set(parts) | Value::Bag(parts) => {
                 parts.into_parts()
             }
-            Value::Int(_)
-            | Value::Truth(_)
-            | Value::Char(_)
-            | Value::Enum(_)
-            | Value::Object(_) => Parts::new(alloc),
+            Value::Int(_) | Value::Truth(_) | Value::Char(_) | Value::Enum(_) | Value::Object(_) =>
+                Parts::new(alloc),
             Value::Text(_text) => Parts::new(alloc),
         }
     }

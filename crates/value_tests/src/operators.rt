@@ -250,7 +250,7 @@ fn sets_and_bags(rt: HostRuntime) -> Result<(), Fail> {
     delete(&mut bag, &Value::Int(3));
     delete(&mut bag, &Value::Int(7));
     assert_eq!(rt; digits(&bag), 1123);
-    assert!(rt; matches!(take_least(&mut set), Ok(Value::Int(1))));
+    assert!(rt; matches!(&take_least(&mut set), Ok(Value::Int(1))));
     assert_eq!(rt; digits(&set), 23);
     Ok(())
 }
@@ -270,7 +270,7 @@ fn members_are_counted(rt: HostRuntime) -> Result<(), Fail> {
 #[test]
 fn nothing_from_nothing(rt: HostRuntime) -> Result<(), Fail> {
     let mut set = filled(rt.alloc(), false, &[])?;
-    assert!(rt; matches!(take_least(&mut set), Err(FaultKind::FromEmpty)));
+    assert!(rt; matches!(&take_least(&mut set), Err(FaultKind::FromEmpty)));
     assert_eq!(rt; digits(&set), 0);
     Ok(())
 }

@@ -24,12 +24,11 @@ fn raised(value: &mut Value, path: &[Step]) -> Option<i64>
     requires { CanWalk path.now (datum_of value.old) }
     ensures { CanWalk path.now (datum_of value.new) }
 {
-    let number = match exchanged(value, path, Value::Int(0)) {
-        Ok(Value::Int(number)) => number,
+    let more = match &exchanged(value, path, Value::Int(0)) {
+        Ok(Value::Int(number)) => number.wrapping_add(1),
         _ => return None,
     };
-    let more = number.wrapping_add(1);
-    match exchanged(value, path, Value::Int(more)) {
+    match &exchanged(value, path, Value::Int(more)) {
         Ok(Value::Int(0)) => Some(more),
         _ => None,
     }
@@ -73,7 +72,7 @@ fn zeros(alloc: Global, number: usize) -> Result<Value, NoMemory> {
 // Puts 7 into an array at an index, and tells what stands there then.
 fn seven_at(value: &mut Value, index: i64) -> Option<i64> {
     let step = Step::Index { low: 1, index };
-    match put_at(value, step, Value::Int(7)) {
+    match &put_at(value, step, Value::Int(7)) {
         Ok(Value::Int(0)) => Some(7),
         _ => None,
     }
@@ -101,7 +100,7 @@ fn pair(alloc: Global, first: i64, second: i64) -> Result<Value, NoMemory> {
 fn a_field_of_a_record(rt: HostRuntime) -> Result<(), Fail> {
     let mut record = pair(rt.alloc(), 1, 2)?;
     let old = put_at(&mut record, Step::Field { place: 1 }, Value::Int(7));
-    assert!(rt; matches!(old, Ok(Value::Int(2))));
+    assert!(rt; matches!(&old, Ok(Value::Int(2))));
     assert_eq!(rt; number_at(&record, Step::Field { place: 1 }), Some(7));
     assert_eq!(rt; number_at(&record, Step::Field { place: 2 }), None);
     Ok(())
