@@ -7,3 +7,6 @@ mod Fronts
 mod Handing
 mod Keeping
 mod Staying
+mod Naming
+mod Rising
+mod Standing

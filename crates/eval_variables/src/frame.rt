@@ -8,9 +8,11 @@ ghost use Rattle.value_core.specs.View.{data_in, datum_of};
 ghost use Rattle.meaning_rules.specs.States.{State};
 ghost use Rattle.eval_variables.specs.Exchanges.{Exchanges};
 ghost use Rattle.eval_variables.specs.Gives.{target_of};
-ghost use Rattle.eval_variables.specs.Ordered.{AllOrdered, IsOrdered, has_node as node_on};
+ghost use Rattle.eval_variables.specs.Firm.{IsFirmAt};
+ghost use Rattle.eval_variables.specs.Ordered.{AllOrdered, IsOrdered};
 
-use crate::orders::{are_ordered, has_node, is_ordered};
+use crate::firm::is_firm;
+use crate::orders::{are_ordered, is_ordered};
 use crate::parts::exchange_part;
 use crate::steps::Target;
 use crate::stop::Stop;
@@ -64,8 +66,15 @@ fn add_copies(alloc: Global, all: &mut Parts, values: &[Value]) -> Result<(), No
     Ok(())
 }
 
-// Puts a value at a target in variables that are all their own, and gives what stood there.
-fn exchange_own(alloc: Global, own: &mut Parts, to: &Target, value: Value) -> Result<Value, Stop>
+// Puts a value at a target in variables that are all their own and known to be in order, or not, and gives what stood there.
+fn exchange_own(
+    alloc: Global,
+    own: &mut Parts,
+    to: &Target,
+    value: Value,
+    in_order: bool,
+) -> Result<Value, Stop>
+    requires { IsTrue in_order → AllOrdered (list_of own.old) }
     ensures { (s : State) → s.frame ≡ list_of own.old →
         Exchanges (target_of to.now) (datum_of value) s result (record s { frame = list_of own.new }) }
 {
@@ -74,17 +83,13 @@ fn exchange_own(alloc: Global, own: &mut Parts, to: &Target, value: Value) -> Re
             fault: FaultKind::IndexOutside,
         });
     }
-    exchange_part(alloc, own.part_mut(to.slot), &to.path, value)
-}
-
-// Whether values that are known to be in order, or not, stay so where such a value is put at the end of a path. Behind a step to a
-// node they may not, since a node that changes may stand at another place.
-fn stays_in_order(values: bool, value: bool, to: &Target) -> bool
-    ensures values { IsTrue result → IsTrue values }
-    ensures value { IsTrue result → IsTrue value }
-    ensures path { IsTrue result → node_on (target_of to.now).path ≡ false }
-{
-    values && value && !has_node(&to.path)
+    exchange_part(
+        alloc,
+        own.part_mut(to.slot),
+        &to.path,
+        value,
+        in_order,
+    )
 }
 
 // Whether values that would stay in order do, where something was put.
@@ -146,6 +151,19 @@ impl<'a> Frame<'a> {
         self.in_order
     }
 
+    // Whether values stay in order where one is put at a target that is known to be in order, or not. Behind a node they may not,
+    // since a node that changes may stand at another place.
+    fn stays_in_order(&self, to: &Target, value: bool) -> bool
+        ensures values { IsTrue result → AllOrdered self.now }
+        ensures value { IsTrue result → IsTrue value }
+        ensures firm { IsTrue result → IsFirmAt (target_of to.now) self.now }
+    {
+        match self.get(to.slot) {
+            Some(whole) => self.in_order && value && is_firm(whole, &to.path, self.in_order),
+            None => false,
+        }
+    }
+
     /// All values, in order. It copies those that are still lent.
     ///
     /// # Errors
@@ -201,16 +219,17 @@ impl<'a> Frame<'a> {
         ensures { (s : State) → s.frame ≡ self.old →
             Exchanges (target_of to.now) (datum_of value) s result (record s { frame = self.new }) }
     {
-        let stays = stays_in_order(self.in_order, in_order, to);
+        let stays = self.stays_in_order(to, in_order);
+        let were_in_order = self.in_order;
         self.in_order = false;
         if to.slot < self.own.len() {
-            let old = exchange_own(alloc, &mut self.own, to, value);
+            let old = exchange_own(alloc, &mut self.own, to, value, were_in_order);
             self.in_order = stayed(stays, &old);
             return old;
         }
         add_copies(alloc, &mut self.own, self.behind)?;
         self.behind = &[];
-        let old = exchange_own(alloc, &mut self.own, to, value);
+        let old = exchange_own(alloc, &mut self.own, to, value, were_in_order);
         self.in_order = stayed(stays, &old);
         old
     }

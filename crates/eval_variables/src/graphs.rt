@@ -1,15 +1,22 @@
 //! Graphs, taken apart and put together again.
 
 ghost use Rattle.std.specs.Int.{w64};
-ghost use Rattle.std.specs.Prelude.{◌≡◌, FitsSigned, IfOk, Some, map, pos, position, slice_get, unwrap_or};
+ghost use Rattle.std.specs.Prelude.{◌≡◌, FitsSigned, IfOk, IsTrue, Some, map, pos, slice_get, true, unwrap_or};
+ghost use Rattle.std.specs.List.{AllByRecursion};
+ghost use Rattle.std.specs.List.Sorted.{IsStrictlySortedBy};
 ghost use Rattle.value_core.specs.Datum as datum;
 ghost use Rattle.value_core.specs.Datum.{list_of};
+ghost use Rattle.value_core.specs.Order.{datum_cmp};
 ghost use Rattle.value_core.specs.View.{datum_of};
 ghost use Rattle.graph_values.specs.Graphs as rules;
-ghost use Rattle.graph_values.specs.Graphs.{graph_of, is_named, name_in, node_of, nodes_in, value_in};
+ghost use Rattle.graph_values.specs.Graphs.{graph_of, name_in, node_of, nodes_in, value_in};
 ghost use Rattle.meaning_rules.specs.States.{State, gives};
 ghost use Rattle.eval_variables.specs.Gives.{Gives};
+ghost use Rattle.eval_variables.specs.Naming.{is_before};
+ghost use Rattle.eval_variables.specs.Ordered.{IsOrdered};
 
+use crate::nodes::{are_before, name_of, place_of};
+use crate::orders::is_ordered;
 use crate::stop::Stop;
 use orca_base::{FaultKind, NoMemory};
 use std::alloc::Global;
@@ -20,19 +27,6 @@ use value_core::{BoxedParts, Parts, Value};
 pub struct Graph {
     pub next: i64,
     pub nodes: Parts,
-}
-
-// The name of a node, or the next name of a graph; 0 of any other value.
-fn name_of(value: &Value) -> i64
-    ensures { result ≡ name_in (datum_of value.now) }
-{
-    match value {
-        Value::Fields(fields) => match fields.as_parts().get(0) {
-            Some(Value::Int(name)) => *name,
-            _ => 0,
-        },
-        _ => 0,
-    }
 }
 
 /// The nodes of a graph; of any other value none.
@@ -46,13 +40,6 @@ pub fn nodes_of(value: &Value) -> &[Value]
         },
         _ => &[],
     }
-}
-
-/// The place of the first node with this name. It looks at one node after the other.
-pub fn place_of(nodes: &[Value], name: i64) -> Option<usize>
-    ensures { result ≡ position (λ v. is_named name (datum_of v)) nodes.now }
-{
-    nodes.iter().position(|node| name_of(node) == name)
 }
 
 // The fields of a record; of any other value none.
@@ -141,13 +128,29 @@ pub fn value_of(alloc: Global, node: Value) -> Value
     taken(fields_in(alloc, node), 1)
 }
 
-/// A graph with one node more, and the node's name: `addnode`.
+// Whether nodes that rise do so with a node of this name and value behind them, and its value is in order.
+fn may_follow(fresh: &Value, name: i64, nodes: &[Value]) -> bool
+    requires { IsStrictlySortedBy datum_cmp (map datum_of nodes.now) }
+    ensures value { IsTrue result → IsOrdered (datum_of fresh.now) }
+    ensures nodes { IsTrue result → AllByRecursion (λ x. is_before name x ≡ true) (map datum_of nodes.now) }
+{
+    are_before(name, nodes) && is_ordered(fresh)
+}
+
+/// A graph with one node more, the node's name, and whether the graph is known to be in order: `addnode`.
 ///
 /// # Errors
 /// `Overflow` where the graph has given its last name, and want of memory.
-pub fn added(alloc: Global, fresh: Value, value: Value) -> Result<(i64, Value), Stop>
+pub fn added(
+    alloc: Global,
+    fresh: Value,
+    value: Value,
+    in_order: bool,
+) -> Result<(i64, Value, bool), Stop>
+    requires { IsTrue in_order → IsOrdered (datum_of value) }
     ensures given { (s : State) → Gives (λ p. (p.0, datum_of p.1)) result s (gives (rules.added (datum_of fresh) (datum_of value)) s) }
     ensures range { IfOk result (λ p. FitsSigned w64 p.0) }
+    ensures ordered { IfOk result (λ p. IsTrue p.2 → IsOrdered (datum_of p.1)) }
 {
     let mut graph = Graph::of(alloc, value);
     let name = graph.next;
@@ -156,20 +159,23 @@ pub fn added(alloc: Global, fresh: Value, value: Value) -> Result<(i64, Value), 
             fault: FaultKind::Overflow,
         });
     }
+    let stays = in_order && may_follow(&fresh, name, graph.nodes.as_slice());
     graph.nodes.push(node(alloc, name, fresh)?)?;
     graph.next = name + 1;
-    Ok((name, graph.value(alloc)?))
+    Ok((name, graph.value(alloc)?, stays))
 }
 
 /// A graph without the node of this name: `deletenode`.
 ///
 /// # Errors
 /// `IndexOutside` where it has none, and want of memory.
-pub fn deleted(alloc: Global, name: i64, value: Value) -> Result<Value, Stop>
-    ensures { (s : State) → Gives datum_of result s (gives (rules.deleted name (datum_of value)) s) }
+pub fn deleted(alloc: Global, name: i64, value: Value, in_order: bool) -> Result<Value, Stop>
+    requires { IsTrue in_order → IsOrdered (datum_of value) }
+    ensures ordered { IfOk result (λ v. IsTrue in_order → IsOrdered (datum_of v)) }
+    ensures given { (s : State) → Gives datum_of result s (gives (rules.deleted name (datum_of value)) s) }
 {
     let mut graph = Graph::of(alloc, value);
-    match place_of(graph.nodes.as_slice(), name) {
+    match place_of(graph.nodes.as_slice(), name, in_order) {
         None => Err(Stop::Faults {
             fault: FaultKind::IndexOutside,
         }),

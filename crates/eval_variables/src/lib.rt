@@ -11,10 +11,12 @@
 mod actions;
 mod calls;
 mod elements;
+mod firm;
 mod frame;
 mod graphs;
 mod halving;
 mod loops;
+mod nodes;
 mod operators;
 mod orders;
 mod parts;

@@ -16,7 +16,7 @@ use crate::graphs::{added, deleted};
 use crate::halving::{delete, has, insert, take_least};
 use crate::operators::integer_in;
 use crate::orders::is_ordered;
-use crate::parts::part;
+use crate::parts::find_part;
 use crate::run::Run;
 use crate::sizes::fitting as fits;
 use crate::steps::Target;
@@ -35,7 +35,7 @@ pub fn look<'a>(to: &Target, run: &'a Run<'_>, zero: &'a Value) -> Result<&'a Va
     ensures { Finds result (λ v. datum_of v.now) (state_of run.now) (rules.held (target_of to.now) (state_of run.now)) }
 {
     let whole = run.frame.get(to.slot).ok_or(FaultKind::IndexOutside)?;
-    part(whole, &to.path, zero)
+    find_part(whole, &to.path, zero, run.frame.is_in_order())
 }
 
 /// Whether the set or bag at a target has this element: `in`, with nothing copied.
@@ -190,9 +190,10 @@ pub fn add_node(
     ensures left { run.new.left ≤ run.old.left }
     ensures gives { Gives (option_map datum_of) result (state_of run.new) (rules.add_node (target_of to.now) (datum_of fresh) (state_of run.old)) }
 {
+    let in_order = run.frame.is_in_order();
     let old = lift(alloc, to, run)?;
-    let (name, graph) = added(alloc, fresh, old)?;
-    lower(alloc, to, graph, false, run)?;
+    let (name, graph, in_order) = added(alloc, fresh, old, in_order)?;
+    lower(alloc, to, graph, in_order, run)?;
     check(to, run)?;
     Ok(Some(Value::Int(name)))
 }
@@ -210,8 +211,9 @@ pub fn delete_node(
     ensures left { run.new.left ≤ run.old.left }
     ensures gives { Gives (option_map datum_of) result (state_of run.new) (rules.delete_node (target_of to.now) (datum_of name.now) (state_of run.old)) }
 {
+    let in_order = run.frame.is_in_order();
     let old = lift(alloc, to, run)?;
-    let graph = deleted(alloc, integer_in(name), old)?;
-    lower(alloc, to, graph, false, run)?;
+    let graph = deleted(alloc, integer_in(name), old, in_order)?;
+    lower(alloc, to, graph, in_order, run)?;
     Ok(None)
 }
