@@ -10,3 +10,4 @@ mod Staying
 mod Naming
 mod Rising
 mod Standing
+mod Walking

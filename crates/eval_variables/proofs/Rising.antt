@@ -1,5 +1,5 @@
 -- Nodes that rise stay so where one goes, where one comes behind the others, and where the one of a name changes.
-use Rattle.std.proofs.Common.{◌≡◌, ℕ, zero, suc, ◌+◌, Bool, true, false, cond, ℤ, pos, List, [], ◌∷◌, ◌++◌, length, map, Some, refl, ap, sym, ◌∙◌, subst, arith}
+use Rattle.std.proofs.Common.{◌≡◌, ℕ, zero, suc, ◌+◌, ◌-◌, ◌≤◌, Bool, true, false, cond, ℤ, pos, List, [], ◌∷◌, ◌++◌, length, map, Some, refl, ap, sym, ◌∙◌, subst, arith}
 use Rattle.std.specs.Prelude.{not, remove, slice_get}
 use Rattle.std.specs.List.{AllByRecursion}
 use Rattle.std.specs.List.Sorted.{IsStrictlySortedBy}
@@ -11,7 +11,7 @@ use Rattle.value_core.specs.OrderLaws.{datum_total}
 use Rattle.value_core.specs.View.{datum_of}
 use Rattle.value_core.specs.declared.value.Value.{Value}
 use Rattle.graph_values.specs.Graphs.{graph_of, is_named, node_of, nodes_in, with_node}
-use Rattle.eval_variables.specs.Naming.{is_before, name_alone}
+use Rattle.eval_variables.specs.Naming.{AreBefore, is_before, name_alone}
 use Rattle.eval_variables.specs.Ordered.{AllOrdered, IsOrdered}
 use Rattle.eval_variables.proofs.Keeping.{above_first, as_data, is_less, joined, nodes_ordered}
 use Rattle.eval_variables.proofs.Naming.{before_node, below_what_is_named, early_before, itself_named, late_behind}
@@ -32,7 +32,8 @@ unfolding IsStrictlySortedBy
 rest_of x xs h = h.1
 
 all_removed : (P : Datum → Type 0) (xs : List Datum) (i : ℕ) → AllByRecursion P xs → AllByRecursion P (remove xs i)
-all_removed P [] i h = tt
+all_removed P [] zero h = tt
+all_removed P [] (suc i) h = tt
 all_removed P (x ∷ xs) zero h = h.1
 all_removed P (x ∷ xs) (suc i) h = (h.0, all_removed P xs i h.1)
 
@@ -42,7 +43,8 @@ all_more P (x ∷ xs) y h one = (h.0, all_more P xs y h.1 one)
 
 rising_removed : (xs : List Datum) (i : ℕ) → IsStrictlySortedBy datum_cmp xs → IsStrictlySortedBy datum_cmp (remove xs i)
 unfolding IsStrictlySortedBy
-rising_removed [] i h = tt
+rising_removed [] zero h = tt
+rising_removed [] (suc i) h = tt
 rising_removed (x ∷ xs) zero h = h.1
 rising_removed (x ∷ xs) (suc i) h = (all_removed (λ y. datum_cmp x y ≡ Less) xs i h.0, rising_removed xs i h.1)
 
@@ -54,7 +56,7 @@ rising_more (x ∷ xs) y h below = (all_more (λ z. datum_cmp x z ≡ Less) xs y
 -- ---- graphs
 
 pub graph_ordered : (next : ℤ) (xs : List Datum) → AllOrdered xs → IsStrictlySortedBy datum_cmp xs → IsOrdered (graph_of next xs)
-graph_ordered next xs all rises = (tt, (as_data xs all, subst (IsStrictlySortedBy datum_cmp) (sym (list_of-data_of xs)) rises), tt)
+graph_ordered next xs all rises = (tt, ((as_data xs all, subst (IsStrictlySortedBy datum_cmp) (sym (list_of-data_of xs)) rises), tt))
 
 -- `deletenode`
 pub removed_ordered : (next : ℤ) (g v : Datum) (xs ys : List Datum) (i : ℕ) → IsOrdered g → xs ≡ nodes_in g → ys ≡ remove xs i → v ≡ graph_of next ys → IsOrdered v
@@ -65,8 +67,8 @@ removed_ordered next g v xs ys i h nodes gone is =
     (graph_ordered next (remove (nodes_in g) i) (all_removed IsOrdered (nodes_in g) i of_nodes.0) (rising_removed (nodes_in g) i of_nodes.1))
 
 -- `addnode`: where the last node is before a name, all are
-pub last_before : (name : ℤ) (vs : List Value) (n : ℕ) (last : Value) → suc n ≡ length vs → slice_get vs n ≡ Some last → is_before name (datum_of last) ≡ true → IsStrictlySortedBy datum_cmp (map datum_of vs) →
-    AllByRecursion (λ x. is_before name x ≡ true) (map datum_of vs)
+last_before : (name : ℤ) (vs : List Value) (n : ℕ) (last : Value) → suc n ≡ length vs → slice_get vs n ≡ Some last → is_before name (datum_of last) ≡ true → IsStrictlySortedBy datum_cmp (map datum_of vs) →
+    AreBefore name (map datum_of vs)
 last_before name [] n last long is before rises = tt
 last_before name (v ∷ []) zero last long is before rises = let same : v ≡ last = cc in (ap (λ u. is_before name (datum_of u)) same ∙ before, tt)
 last_before name (v ∷ []) (suc n) last long is before rises = absurd (omega (arith, long))
@@ -76,17 +78,28 @@ last_before name (v ∷ w ∷ vs) (suc n) last long is before rises =
     let first = above_of (datum_of v) (map datum_of (w ∷ vs)) rises in
     (ap is_lt (datum_total.trans (datum_of v) (datum_of w) (name_alone name) first.0 (is_less (datum_cmp (datum_of w) (name_alone name)) rest.0)), rest)
 
-below_node : (name : ℤ) (x : Datum) (xs : List Datum) → AllByRecursion (λ y. is_before name y ≡ true) xs → AllByRecursion (λ y. datum_cmp y (node_of name x) ≡ Less) xs
+pub last_of : (name name' : ℤ) (vs : List Value) (last : Value) → name' ≡ name → Some last ≡ slice_get vs (length vs - 1) → is_before name' (datum_of last) ≡ true → IsStrictlySortedBy datum_cmp (map datum_of vs) →
+    AreBefore name (map datum_of vs)
+last_of name name' [] last same stood before rises = tt
+last_of name name' (v ∷ vs) last same stood before rises =
+    let place : length (v ∷ vs) - 1 ≡ length vs = omega arith in
+    last_before name (v ∷ vs) (length vs) last (omega arith) (sym (stood ∙ ap (slice_get (v ∷ vs)) place)) (ap (λ n. is_before n (datum_of last)) (sym same) ∙ before) rises
+
+pub none_before : (name : ℤ) (vs : List Value) → length vs ≤ 0 → AreBefore name (map datum_of vs)
+none_before name [] none = tt
+none_before name (v ∷ vs) none = absurd (omega (arith, none))
+
+below_node : (name : ℤ) (x : Datum) (xs : List Datum) → AreBefore name xs → AllByRecursion (λ y. datum_cmp y (node_of name x) ≡ Less) xs
 below_node name x [] h = tt
 below_node name x (y ∷ xs) h = (before_node name x y h.0, below_node name x xs h.1)
 
-pub added_ordered : (name next : ℤ) (g fresh v : Datum) (xs ys : List Datum) → IsOrdered g → IsOrdered fresh → xs ≡ nodes_in g → AllByRecursion (λ x. is_before name x ≡ true) xs → ys ≡ xs ++ node_of name fresh ∷ [] → v ≡ graph_of next ys → IsOrdered v
+pub added_ordered : (name next : ℤ) (g fresh v : Datum) (xs ys : List Datum) → IsOrdered g → IsOrdered fresh → xs ≡ nodes_in g → AreBefore name xs → ys ≡ xs ++ node_of name fresh ∷ [] → v ≡ graph_of next ys → IsOrdered v
 added_ordered name next g fresh v xs ys h one nodes before more is =
     let of_nodes = nodes_ordered g h in
     let all : AllOrdered xs = subst AllOrdered (sym nodes) of_nodes.0 in
     let rises : IsStrictlySortedBy datum_cmp xs = subst (IsStrictlySortedBy datum_cmp) (sym nodes) of_nodes.1 in
     subst IsOrdered (sym (is ∙ ap (graph_of next) more))
-    (graph_ordered next (xs ++ node_of name fresh ∷ []) (joined xs (node_of name fresh ∷ []) all ((tt, one, tt), tt)) (rising_more xs (node_of name fresh) rises (below_node name fresh xs before)))
+    (graph_ordered next (xs ++ node_of name fresh ∷ []) (joined xs (node_of name fresh ∷ []) all ((tt, (one, tt)), tt)) (rising_more xs (node_of name fresh) rises (below_node name fresh xs before)))
 
 -- ---- the node of a name changes
 
@@ -137,4 +150,4 @@ rising_with name x (y ∷ xs) other alone h = by_name (is_named name y) refl alo
 pub node_ordered : (name next : ℤ) (x : Datum) (xs : List Datum) → (name ≡ pos 0 → ⊥) → ((z : Datum) → slice_get xs (node_place name xs + 1) ≡ Some z → is_named name z ≡ false) → AllOrdered xs → IsStrictlySortedBy datum_cmp xs →
     IsOrdered x → IsOrdered (graph_of next (with_node name (node_of name x) xs))
 node_ordered name next x xs other alone all rises one =
-    graph_ordered next (with_node name (node_of name x) xs) (with_all name (node_of name x) xs all (tt, one, tt)) (rising_with name x xs other alone rises)
+    graph_ordered next (with_node name (node_of name x) xs) (with_all name (node_of name x) xs all (tt, (one, tt))) (rising_with name x xs other alone rises)

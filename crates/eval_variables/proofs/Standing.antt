@@ -1,19 +1,26 @@
 -- What firm paths keep: order, and that sizes add up.
-use Rattle.std.proofs.Common.{◌≡◌, ℕ, zero, suc, ◌+◌, ◌≤◌, Bool, true, false, cond, ℤ, List, [], ◌∷◌, length, Option, Some, None, Result, Ok, Err, refl, ap, sym, ◌∙◌, subst, arith}
-use Rattle.std.specs.Prelude.{IfOk, not, slice_get, slice_set}
+use Rattle.std.proofs.Common.{◌≡◌, ℕ, zero, suc, ◌+◌, ◌<◌, ◌≤◌, Bool, true, false, cond, ℤ, pos, List, [], ◌∷◌, get_or, length, map, Option, Some, None, Result, Ok, Err, refl, ap, sym, ◌∙◌, subst, arith}
+use Rattle.std.specs.Prelude.{IfOk, not, position, slice_get, slice_set}
+use Rattle.std.specs.List.{position_or_len}
 use Rattle.orca_base.specs.declared.fault.FaultKind.{FaultKind}
 use Rattle.value_core.specs.Datum.{Datum, Data, data_of, list_of, data_of-list_of}
 use Rattle.value_core.specs.Datum as datum
 use Rattle.value_core.specs.Size.{size_of, size_of_all}
+use Rattle.value_core.specs.View.{datum_of}
+use Rattle.value_core.specs.declared.value.Value.{Value}
 use Rattle.graph_values.specs.Graphs.{fields_in, graph_of, is_named, name_in, node_of, nodes_in, value_at, value_in, with_node}
 use Rattle.value_ops.specs.Sizes.{place_of}
 use Rattle.value_paths.specs.declared.step.Step.{Step as ValueStep}
 use Rattle.value_paths.specs.declared.step.Step.TheVariants.{Index, Field, Node}
 use Rattle.value_paths.specs.Paths.{and_then, array_in, at_place, found, part_at, part_to, set_place, where_found, with_part, with_step}
-use Rattle.eval_variables.specs.Firm.{IsFirm, IsFirmStep}
+use Rattle.eval_variables.specs.declared.steps.Step.{Step}
+use Rattle.eval_variables.specs.declared.steps.Step.TheVariants as step
+use Rattle.eval_variables.specs.Firm.{IsFirm, IsFirmNode, IsFirmStep}
+use Rattle.eval_variables.specs.Gives.{step_of}
 use Rattle.eval_variables.specs.Ordered.{AllOrdered, IsOrdered}
 use Rattle.eval_variables.proofs.Keeping.{array_ordered, as_data, fields_ordered, nodes_ordered, set_in, step_ordered}
-use Rattle.eval_variables.proofs.Placing.{node_place}
+use Rattle.eval_variables.proofs.Pairing.{shown_at}
+use Rattle.eval_variables.proofs.Placing.{found_some, length_shown, node_place}
 use Rattle.eval_variables.proofs.Rising.{get_next, node_ordered}
 
 -- ---- order
@@ -22,12 +29,15 @@ placed_put : (q : Result ℕ FaultKind) (xs : List Datum) (x : Datum) → AllOrd
 placed_put (Ok place) xs x h one = set_in xs place x h one
 placed_put (Err fault) xs x h one = h
 
+node_put : (name : ℤ) (v x : Datum) → IsFirmNode name (nodes_in v) → IsOrdered v → IsOrdered x → IsOrdered (graph_of (name_in v) (with_node name (node_of name x) (nodes_in v)))
+node_put name v x firm h one = let nodes = nodes_ordered v h in node_ordered name (name_in v) x (nodes_in v) firm.named firm.alone nodes.0 nodes.1 one
+
 step_put : (step : ValueStep) (v x : Datum) → IsFirmStep step v → IsOrdered v → IsOrdered x → IsOrdered (with_step step v x)
 step_put (Index low index) v x firm h one =
     let place = place_of (length (array_in v)) low index in
     as_data (set_place place (array_in v) x) (placed_put place (array_in v) x (array_ordered v h) one)
 step_put (Field place) v x firm h one = as_data (slice_set (fields_in v) place x) (set_in (fields_in v) place x (fields_ordered v h) one)
-step_put (Node name) v x firm h one = let nodes = nodes_ordered v h in node_ordered name (name_in v) x (nodes_in v) firm.named firm.alone nodes.0 nodes.1 one
+step_put (Node name) v x firm h one = node_put name v x firm h one
 
 pub firm_put : (path : List ValueStep) (v x : Datum) → IsFirm path v → IsOrdered v → IsOrdered x → IsOrdered (with_part path v x)
 firm_put [] v x firm h one = one
@@ -40,31 +50,25 @@ firm_put (step ∷ path) v x firm h one = by_step (part_to step v) refl firm.1 (
 
 -- ---- sizes
 
-set_size : (xs : List Datum) (i : ℕ) (p x : Datum) → slice_get xs i ≡ Some p → size_of_all (data_of (slice_set xs i x)) + size_of p ≡ size_of_all (data_of xs) + size_of x
-set_size [] i p x is = absurd cc
-set_size (y ∷ xs) zero p x is = let same : y ≡ p = cc in let size = ap size_of same in omega (arith, size)
-set_size (y ∷ xs) (suc i) p x is = let rest = set_size xs i p x is in omega (arith, rest)
+size_set : (xs : List Datum) (i : ℕ) (p x : Datum) → slice_get xs i ≡ Some p → size_of_all (data_of (slice_set xs i x)) + size_of p ≡ size_of_all (data_of xs) + size_of x
+size_set [] i p x is = absurd cc
+size_set (y ∷ xs) zero p x is = let same : y ≡ p = cc in omega (arith, ap size_of same)
+size_set (y ∷ xs) (suc i) p x is = omega (arith, size_set xs i p x is)
 
 found_is : (o : Option Datum) (p : Datum) → found o ≡ Ok p → o ≡ Some p
 found_is None p is = absurd cc
-found_is (Some x) p is = let same : x ≡ p = cc in ap Some same
+found_is (Some x) p is = cc
 
-placed_size : (q : Result ℕ FaultKind) (xs : List Datum) (p x : Datum) → at_place q xs ≡ Ok p → size_of_all (data_of (set_place q xs x)) + size_of p ≡ size_of_all (data_of xs) + size_of x
-placed_size (Ok place) xs p x is = set_size xs place p x (found_is (slice_get xs place) p is)
-placed_size (Err fault) xs p x is = absurd cc
+array_size : (w : Data) (q : Result ℕ FaultKind) (p x : Datum) → at_place q (list_of w) ≡ Ok p → size_of (datum.array (data_of (set_place q (list_of w) x))) + size_of p ≤ size_of (datum.array w) + size_of x
+array_size w (Ok i) p x is = omega (arith, size_set (list_of w) i p x (found_is (slice_get (list_of w) i) p is), ap size_of_all (data_of-list_of w))
+array_size w (Err fault) p x is = absurd cc
 
--- what is no array has no parts, and what is no record no fields
-none_placed : (q : Result ℕ FaultKind) (p : Datum) → at_place q [] ≡ Ok p → ⊥
-none_placed (Ok place) p is = absurd cc
-none_placed (Err fault) p is = absurd cc
+no_part : (q : Result ℕ FaultKind) (p : Datum) → at_place q [] ≡ Ok p → ⊥
+no_part (Ok i) p is = cc
+no_part (Err fault) p is = cc
 
-array_size : (low : ℤ) (index : ℤ) (v p : Datum) → part_to (Index low index) v ≡ Ok p → size_of v ≡ size_of_all (data_of (array_in v)) + 1
-array_size low index (datum.array w) p is = ap (λ u. size_of_all u + 1) (sym (data_of-list_of w))
-array_size low index v p is = absurd (none_placed (place_of 0 low index) p is)
-
-fields_size : (place : ℕ) (v p : Datum) → part_to (Field place) v ≡ Ok p → size_of v ≡ size_of_all (data_of (fields_in v)) + 1
-fields_size place (datum.fields w) p is = ap (λ u. size_of_all u + 1) (sym (data_of-list_of w))
-fields_size place v p is = absurd cc
+no_field : (i : ℕ) (p : Datum) → found (slice_get [] i) ≡ Ok p → ⊥
+no_field i p is = cc
 
 has_size : (v : Datum) → 1 ≤ size_of v
 has_size (datum.int z) = omega arith
@@ -79,11 +83,20 @@ has_size (datum.bag w) = omega arith
 has_size (datum.object p n) = omega arith
 
 -- a node with a value is no smaller than a node of that value alone
+two_fields : (a b : Datum) (w : Data) → size_of b + 2 ≤ size_of (datum.fields (datum.more a (datum.more b w)))
+two_fields a b w = omega (arith, has_size a)
+
 node_size : (y : Datum) → 2 ≤ length (fields_in y) → size_of (value_in y) + 2 ≤ size_of y
-node_size (datum.fields (datum.more a (datum.more b w))) two = omega (arith, has_size a)
+node_size (datum.fields (datum.more a (datum.more b w))) two = two_fields a b w
 node_size (datum.fields (datum.more a datum.none)) two = absurd (omega (arith, two))
 node_size (datum.fields datum.none) two = absurd (omega (arith, two))
 node_size v two = absurd (omega (arith, two))
+
+changed_size : (name : ℤ) (y x : Datum) (xs : List Datum) → 2 ≤ length (fields_in y) → size_of_all (data_of (node_of name x ∷ xs)) + size_of (value_in y) ≤ size_of_all (data_of (y ∷ xs)) + size_of x
+changed_size name y x xs two = omega (arith, node_size y two)
+
+kept_size : (y p x : Datum) (xs ys : List Datum) → size_of_all (data_of ys) + size_of p ≤ size_of_all (data_of xs) + size_of x → size_of_all (data_of (y ∷ ys)) + size_of p ≤ size_of_all (data_of (y ∷ xs)) + size_of x
+kept_size y p x xs ys rest = omega (arith, rest)
 
 with_size : (name : ℤ) (p x : Datum) (xs : List Datum) → ((z : Datum) → slice_get xs (node_place name xs) ≡ Some z → 2 ≤ length (fields_in z)) → value_at name xs ≡ Some p →
     size_of_all (data_of (with_node name (node_of name x) xs)) + size_of p ≤ size_of_all (data_of xs) + size_of x
@@ -96,44 +109,64 @@ with_size name p x (y ∷ xs) valued is = by_name (is_named name y) valued is (w
         size_of_all (data_of (cond b (node_of name x ∷ xs) (y ∷ with_node name (node_of name x) xs))) + size_of p ≤ size_of_all (data_of (y ∷ xs)) + size_of x
     by_name true valued is rest =
         let same : value_in y ≡ p = cc in
-        let size = ap size_of same in
-        let node = node_size y (valued y refl) in
-        omega (arith, size, node)
+        subst (λ u. size_of_all (data_of (node_of name x ∷ xs)) + size_of u ≤ size_of_all (data_of (y ∷ xs)) + size_of x) same (changed_size name y x xs (valued y refl))
     by_name false valued is rest =
-        let behind = rest (λ z at_place. valued z (get_next y xs (node_place name xs) (1 + node_place name xs) (omega arith) ∙ at_place)) is in
-        omega (arith, behind)
+        kept_size y p x xs (with_node name (node_of name x) xs)
+        (rest (λ z stood. valued z (get_next y xs (node_place name xs) (1 + node_place name xs) (omega arith) ∙ stood)) is)
 
 -- a value with nodes is no smaller than a graph of these nodes alone
-graph_size : (name : ℤ) (v p : Datum) → value_at name (nodes_in v) ≡ Some p → size_of_all (data_of (nodes_in v)) + 3 ≤ size_of v
-graph_size name (datum.fields (datum.more a (datum.more (datum.set u) w))) p is =
-    let nodes = ap size_of_all (data_of-list_of u) in omega (arith, has_size a, nodes)
-graph_size name v p is = absurd cc
+set_size : (a : Datum) (u w : Data) → size_of_all (data_of (list_of u)) + 3 ≤ size_of (datum.fields (datum.more a (datum.more (datum.set u) w)))
+set_size a u w = omega (arith, has_size a, ap size_of_all (data_of-list_of u))
+
+nodes_size : (name : ℤ) (v p : Datum) → value_at name (nodes_in v) ≡ Some p → size_of_all (data_of (nodes_in v)) + 3 ≤ size_of v
+nodes_size name (datum.fields (datum.more a (datum.more (datum.set u) w))) p is = set_size a u w
+nodes_size name v p is = absurd cc
+
+graph_size : (next : ℤ) (xs : List Datum) → size_of (graph_of next xs) ≡ size_of_all (data_of xs) + 3
+graph_size next xs = omega arith
+
+graph_put : (name : ℤ) (v p x : Datum) → IsFirmNode name (nodes_in v) → value_at name (nodes_in v) ≡ Some p →
+    size_of (graph_of (name_in v) (with_node name (node_of name x) (nodes_in v))) + size_of p ≤ size_of v + size_of x
+graph_put name v p x firm is =
+    omega (arith, graph_size (name_in v) (with_node name (node_of name x) (nodes_in v)), with_size name p x (nodes_in v) firm.valued is, nodes_size name v p is)
 
 step_size : (step : ValueStep) (v p x : Datum) → IsFirmStep step v → part_to step v ≡ Ok p → size_of (with_step step v x) + size_of p ≤ size_of v + size_of x
-step_size (Index low index) v p x firm is =
-    let parts = placed_size (place_of (length (array_in v)) low index) (array_in v) p x is in
-    let whole = array_size low index v p is in
-    omega (arith, parts, whole)
-step_size (Field place) v p x firm is =
-    let parts = set_size (fields_in v) place p x (found_is (slice_get (fields_in v) place) p is) in
-    let whole = fields_size place v p is in
-    omega (arith, parts, whole)
-step_size (Node name) v p x firm is =
-    let there = found_is (value_at name (nodes_in v)) p is in
-    let nodes = with_size name p x (nodes_in v) firm.valued there in
-    let whole = graph_size name v p there in
-    omega (arith, nodes, whole)
+step_size (Index low index) (datum.array w) p x firm is = array_size w (place_of (length (list_of w)) low index) p x is
+step_size (Index low index) v p x firm is = absurd (no_part (place_of 0 low index) p is)
+step_size (Field place) (datum.fields w) p x firm is = omega (arith, size_set (list_of w) place p x (found_is (slice_get (list_of w) place) p is), ap size_of_all (data_of-list_of w))
+step_size (Field place) v p x firm is = absurd (no_field place p is)
+step_size (Node name) v p x firm is = graph_put name v p x firm (found_is (value_at name (nodes_in v)) p is)
 
--- where a path is firm, a value in which a part is put is no larger than without what stood there, and with what is put
+-- where a path is firm, a value is no larger with what is put than without what stood there
 pub firm_size : (path : List ValueStep) (v p x : Datum) → IsFirm path v → part_at path v ≡ Ok p → size_of (with_part path v x) + size_of p ≤ size_of v + size_of x
-firm_size [] v p x firm is = let same : v ≡ p = cc in let size = ap size_of same in omega (arith, size)
-firm_size (step ∷ path) v p x firm is = by_step (part_to step v) refl firm.1 is (λ c. firm_size path c p x)
+firm_size [] v p x firm is = let same : v ≡ p = cc in omega (arith, ap size_of same)
+firm_size (step ∷ path) v p x firm is = by_step (part_to step v) refl is firm.1 (firm_size path)
   where
-    by_step : (q : Result Datum FaultKind) → part_to step v ≡ q → IfOk q (IsFirm path) → and_then q (part_at path) ≡ Ok p →
-        ((c : Datum) → IsFirm path c → part_at path c ≡ Ok p → size_of (with_part path c x) + size_of p ≤ size_of c + size_of x) →
+    by_step : (q : Result Datum FaultKind) → part_to step v ≡ q → and_then q (part_at path) ≡ Ok p → IfOk q (IsFirm path) →
+        ((c y z : Datum) → IsFirm path c → part_at path c ≡ Ok y → size_of (with_part path c z) + size_of y ≤ size_of c + size_of z) →
         size_of (where_found q v (λ c. with_step step v (with_part path c x))) + size_of p ≤ size_of v + size_of x
-    by_step (Ok c) leads inside is rest =
-        let deep = rest c inside is in
-        let here = step_size step v c (with_part path c x) firm.0 leads in
-        omega (arith, deep, here)
-    by_step (Err fault) leads inside is rest = absurd cc
+    by_step (Ok c) leads end on rest = omega (arith, step_size step v c (with_part path c x) firm.0 leads, rest c p x on end)
+    by_step (Err fault) leads end on rest = absurd cc
+
+-- ---- as code tells it
+
+pub firm_node : (name name' : ℤ) (vs : List Value) (place next : ℕ) (node : Value) → name' ≡ name → (name ≡ pos 0 → ⊥) → Some place ≡ position (λ v. is_named name' (datum_of v)) vs → node ≡ get_or vs place node →
+    2 ≤ length (fields_in (datum_of node)) → next ≡ place + 1 → ((x : Datum) → slice_get (map datum_of vs) next ≡ Some x → is_named name' x ≡ false) → IsFirmNode name (map datum_of vs)
+firm_node name name' vs place next node same other is stands two behind alone =
+    let xs = map datum_of vs in
+    let first = found_some (is_named name') vs xs place is refl in
+    let low : place < length vs = subst (λ n. place < n) (length_shown vs) first.0 in
+    let here : place ≡ position_or_len (is_named name) xs = subst (λ n. place ≡ position_or_len (is_named n) xs) same first.1 in
+    let stood : slice_get xs place ≡ Some (datum_of node) = shown_at vs place node low stands in
+    record {
+      named = other;
+      valued = λ x there.
+          let both : Some (datum_of node) ≡ Some x = sym stood ∙ ap (slice_get xs) here ∙ there in
+          let is_node : datum_of node ≡ x = cc in
+          subst (λ y. 2 ≤ length (fields_in y)) is_node two;
+      alone = λ x there. subst (λ n. is_named n x ≡ false) same (alone x (ap (slice_get xs) (behind ∙ ap (λ n. n + 1) here) ∙ there));
+    }
+
+pub firm_step : (name name' : ℤ) (s : Step) (v : Datum) (xs : List Datum) → s ≡ step.Node name → name' ≡ name → xs ≡ nodes_in v → IsFirmNode name' xs → IsFirmStep (step_of s) v
+firm_step name name' s v xs is same nodes firm =
+    subst (λ t. IsFirmStep (step_of t) v) (sym is) (subst (IsFirmNode name) nodes (subst (λ n. IsFirmNode n xs) same firm))

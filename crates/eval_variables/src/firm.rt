@@ -1,11 +1,13 @@
 //! Firm paths: whatever is put at the end of one, graphs that are in order stay so.
 
-ghost use Rattle.std.specs.Prelude.{◌≡◌, ◌≤◌, IsTrue, Some, false, length, map, slice_get};
+ghost use Rattle.std.specs.Prelude.{◌≡◌, ◌≢◌, ◌≤◌, IfSome, IsTrue, Ok, Some, false, length, map, pos, slice_get};
 ghost use Rattle.std.specs.List.Sorted.{IsStrictlySortedBy};
-ghost use Rattle.value_core.specs.Order.{datum_cmp};
+ghost use Rattle.value_core.specs.Datum as datum;
 ghost use Rattle.value_core.specs.Datum.{Datum};
+ghost use Rattle.value_core.specs.Order.{datum_cmp};
 ghost use Rattle.value_core.specs.View.{datum_of};
 ghost use Rattle.graph_values.specs.Graphs.{fields_in, is_named as has_name};
+ghost use Rattle.value_paths.specs.Paths.{part_to as part_behind};
 ghost use Rattle.eval_variables.specs.Firm.{IsFirm, IsFirmNode, IsFirmStep};
 ghost use Rattle.eval_variables.specs.Gives.{path_of, step_of};
 ghost use Rattle.eval_variables.specs.Ordered.{IsOrdered};
@@ -36,28 +38,60 @@ fn has_other(nodes: &[Value], place: usize, name: i64) -> bool
     }
 }
 
-// Whether the first node of a name, at this place, is firm.
-fn is_firm_node(nodes: &[Value], place: usize, name: i64) -> bool
-    requires { place < length nodes.now }
+// Whether the first node of a name is firm. It looks at that node and at the one behind it.
+fn is_firm_node(nodes: &[Value], name: i64, rising: bool) -> bool
+    requires named { name ≢ pos 0 }
+    requires rising { IsTrue rising → IsStrictlySortedBy datum_cmp (map datum_of nodes.now) }
     ensures { IsTrue result → IsFirmNode name (map datum_of nodes.now) }
 {
-    name != 0 && has_value(&nodes[place]) && has_other(nodes, place + 1, name)
+    match place_of(nodes, name, rising) {
+        Some(place) => {
+            if has_value(&nodes[place]) {
+                has_other(nodes, place + 1, name)
+            } else {
+                false
+            }
+        }
+        None => false,
+    }
 }
 
-// Whether a step is firm. It looks at the node and at the one behind it.
+// Whether a step is firm.
 fn is_firm_step(value: &Value, step: Step, in_order: bool) -> bool
     requires { IsTrue in_order → IsOrdered (datum_of value.now) }
     ensures { IsTrue result → IsFirmStep (step_of step) (datum_of value.now) }
 {
     match step {
         Step::Node { name } => {
-            let nodes = nodes_of(value);
-            match place_of(nodes, name, in_order) {
-                Some(place) => is_firm_node(nodes, place, name),
-                None => false,
+            if name != 0 {
+                is_firm_node(nodes_of(value), name, in_order)
+            } else {
+                false
             }
         }
         _ => true,
+    }
+}
+
+// The part to which a step leads, where the step is firm. `zero` stands for the value of what is no node.
+fn firm_part<'a>(
+    value: &'a Value,
+    step: Step,
+    zero: &'a Value,
+    in_order: bool,
+) -> Option<&'a Value>
+    requires zero { datum_of zero.now ≡ datum.int (pos 0) }
+    requires ordered { IsTrue in_order → IsOrdered (datum_of value.now) }
+    ensures firm { IfSome result (λ p. IsFirmStep (step_of step) (datum_of value.now)) }
+    ensures leads { IfSome result (λ p. part_behind (step_of step) (datum_of value.now) ≡ Ok (datum_of p.now)) }
+{
+    if is_firm_step(value, step, in_order) {
+        match part_to(value, step, zero, in_order) {
+            Ok(part) => Some(part),
+            Err(_) => None,
+        }
+    } else {
+        None
     }
 }
 
@@ -69,13 +103,10 @@ pub fn is_firm(value: &Value, path: &[Step], in_order: bool) -> bool
     let zero = Value::Int(0);
     let mut at = value;
     'path: for step in path {
-        if !is_firm_step(at, *step, in_order) {
+        let Some(part) = firm_part(at, *step, &zero, in_order) else {
             return false;
-        }
-        match part_to(at, *step, &zero, in_order) {
-            Ok(part) => at = part,
-            Err(_) => return false,
-        }
+        };
+        at = part;
     }
     true
 }

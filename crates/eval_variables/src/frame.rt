@@ -27,9 +27,9 @@ use value_core::{Parts, Value};
 /// didn't change only at its end. The first change of one copies all that are lent, since what a body leaves is a whole state.
 ///
 /// What it keeps is its own, so that costs can be mended here with no change of a clause. A mark says that the sets and bags in all
-/// values are in order, at whatever depth, so that elements can be found by halving. Values are tested where they come, and what is
-/// lent is sound. The mark is lost where something is put that isn't known to be in order, or behind a step to a node, which may then
-/// stand at another place. A size beside each place would serve to add a difference where something is written: for it making a frame
+/// values are in order, at whatever depth, so that elements and nodes can be found by halving. Values are tested where they come, and
+/// what is lent is sound. The mark is lost where something is put that isn't known to be in order, or behind a node that isn't firm
+/// (specs/Firm.antt) and may then stand at another place. A size beside each place would serve to add a difference where something is written: for it making a frame
 /// may lack memory.
 #[derive(Drop)]
 pub struct Frame<'a> {
@@ -158,8 +158,14 @@ impl<'a> Frame<'a> {
         ensures value { IsTrue result → IsTrue value }
         ensures firm { IsTrue result → IsFirmAt (target_of to.now) self.now }
     {
+        if !self.is_in_order() {
+            return false;
+        }
+        if !value {
+            return false;
+        }
         match self.get(to.slot) {
-            Some(whole) => self.in_order && value && is_firm(whole, &to.path, self.in_order),
+            Some(whole) => is_firm(whole, &to.path, true),
             None => false,
         }
     }

@@ -1,8 +1,7 @@
 //! Graphs, taken apart and put together again.
 
 ghost use Rattle.std.specs.Int.{w64};
-ghost use Rattle.std.specs.Prelude.{◌≡◌, FitsSigned, IfOk, IsTrue, Some, map, pos, slice_get, true, unwrap_or};
-ghost use Rattle.std.specs.List.{AllByRecursion};
+ghost use Rattle.std.specs.Prelude.{◌≡◌, FitsSigned, IfOk, IsTrue, Some, map, pos, slice_get, unwrap_or};
 ghost use Rattle.std.specs.List.Sorted.{IsStrictlySortedBy};
 ghost use Rattle.value_core.specs.Datum as datum;
 ghost use Rattle.value_core.specs.Datum.{list_of};
@@ -12,7 +11,7 @@ ghost use Rattle.graph_values.specs.Graphs as rules;
 ghost use Rattle.graph_values.specs.Graphs.{graph_of, name_in, node_of, nodes_in, value_in};
 ghost use Rattle.meaning_rules.specs.States.{State, gives};
 ghost use Rattle.eval_variables.specs.Gives.{Gives};
-ghost use Rattle.eval_variables.specs.Naming.{is_before};
+ghost use Rattle.eval_variables.specs.Naming.{AreBefore};
 ghost use Rattle.eval_variables.specs.Ordered.{IsOrdered};
 
 use crate::nodes::{are_before, name_of, place_of};
@@ -128,13 +127,21 @@ pub fn value_of(alloc: Global, node: Value) -> Value
     taken(fields_in(alloc, node), 1)
 }
 
-// Whether nodes that rise do so with a node of this name and value behind them, and its value is in order.
-fn may_follow(fresh: &Value, name: i64, nodes: &[Value]) -> bool
-    requires { IsStrictlySortedBy datum_cmp (map datum_of nodes.now) }
+// Whether nodes that are known to rise, or not, do so with a node of this name and value behind them, whose value is in order.
+fn may_follow(fresh: &Value, name: i64, nodes: &[Value], rising: bool) -> bool
+    requires { IsTrue rising → IsStrictlySortedBy datum_cmp (map datum_of nodes.now) }
+    ensures rising { IsTrue result → IsTrue rising }
+    ensures before { IsTrue result → AreBefore name (map datum_of nodes.now) }
     ensures value { IsTrue result → IsOrdered (datum_of fresh.now) }
-    ensures nodes { IsTrue result → AllByRecursion (λ x. is_before name x ≡ true) (map datum_of nodes.now) }
 {
-    are_before(name, nodes) && is_ordered(fresh)
+    if !rising {
+        return false;
+    }
+    if are_before(name, nodes) {
+        is_ordered(fresh)
+    } else {
+        false
+    }
 }
 
 /// A graph with one node more, the node's name, and whether the graph is known to be in order: `addnode`.
@@ -159,7 +166,7 @@ pub fn added(
             fault: FaultKind::Overflow,
         });
     }
-    let stays = in_order && may_follow(&fresh, name, graph.nodes.as_slice());
+    let stays = may_follow(&fresh, name, graph.nodes.as_slice(), in_order);
     graph.nodes.push(node(alloc, name, fresh)?)?;
     graph.next = name + 1;
     Ok((name, graph.value(alloc)?, stays))

@@ -1,12 +1,11 @@
 //! Nodes, found by their names: by halving where values are known to rise, and else one after the other.
 
-ghost use Rattle.std.specs.Prelude.{◌≡◌, ◌≢◌, ◌≤◌, IsTrue, length, map, pos, position, true};
-ghost use Rattle.std.specs.List.{AllByRecursion};
+ghost use Rattle.std.specs.Prelude.{◌≡◌, ◌≢◌, ◌≤◌, IsTrue, length, map, pos, position};
 ghost use Rattle.std.specs.List.Sorted.{IsStrictlySortedBy};
 ghost use Rattle.value_core.specs.Order.{datum_cmp};
 ghost use Rattle.value_core.specs.View.{datum_of};
 ghost use Rattle.graph_values.specs.Graphs.{is_named, name_in};
-ghost use Rattle.eval_variables.specs.Naming.{Precedes, is_before};
+ghost use Rattle.eval_variables.specs.Naming.{AreBefore, Precedes, is_before};
 
 use value_core::Value;
 
@@ -48,7 +47,7 @@ fn is_before(name: i64, value: &Value) -> bool
 /// Whether values that rise are below the fields of a name alone. It looks at the last.
 pub fn are_before(name: i64, values: &[Value]) -> bool
     requires { IsStrictlySortedBy datum_cmp (map datum_of values.now) }
-    ensures { IsTrue result → AllByRecursion (λ x. is_before name x ≡ true) (map datum_of values.now) }
+    ensures { IsTrue result → AreBefore name (map datum_of values.now) }
 {
     match values.last() {
         Some(last) => is_before(name, last),

@@ -34,8 +34,10 @@ pub fn look<'a>(to: &Target, run: &'a Run<'_>, zero: &'a Value) -> Result<&'a Va
     requires { datum_of zero.now ≡ datum.int (pos 0) }
     ensures { Finds result (λ v. datum_of v.now) (state_of run.now) (rules.held (target_of to.now) (state_of run.now)) }
 {
-    let whole = run.frame.get(to.slot).ok_or(FaultKind::IndexOutside)?;
-    find_part(whole, &to.path, zero, run.frame.is_in_order())
+    match run.frame.get(to.slot) {
+        Some(whole) => find_part(whole, &to.path, zero, run.frame.is_in_order()),
+        None => Err(FaultKind::IndexOutside),
+    }
 }
 
 /// Whether the set or bag at a target has this element: `in`, with nothing copied.

@@ -8,4 +8,7 @@ use Rattle.eval_variables.proofs.firm.is_firm.Given as goal
 
 -- the whole path is firm where what is left of it is, from where it has led
 abbrev pub invariant-path : goal.invariant-path
-invariant-path l = (IsFirm (path_of (drop l.step-index l.path)) (datum_of l.at) → IsFirm (path_of l.path) (datum_of l.value)) × (IsTrue l.in_order → IsOrdered (datum_of l.at))
+invariant-path l = record {
+  firm : IsFirm (path_of (drop l.step-index l.path)) (datum_of l.at) → IsFirm (path_of l.path) (datum_of l.value);
+  ordered : IsTrue l.in_order → IsOrdered (datum_of l.at);
+}

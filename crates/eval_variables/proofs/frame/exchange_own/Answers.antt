@@ -4,7 +4,11 @@ use Rattle.value_core.specs.Datum.{data_of, list_of, list_of-data_of}
 use Rattle.value_core.specs.View.{datum_of}
 use Rattle.eval_variables.specs.Gives.{path_of, target_of}
 use Rattle.eval_variables.proofs.Changing.{exchanges}
+use Rattle.eval_variables.proofs.Keeping.{got}
 use Rattle.eval_variables.proofs.frame.exchange_own.Goals as goal
+
+pub exchange_part-requires : goal.exchange_part-requires
+exchange_part-requires c t = got (list_of c.args.own.now) c.args.to.now.slot (datum_of c.part_mut.result.now) (c.requires t) c.part_mut.ensures.value
 
 pub returns : goal.returns
 returns c s is =

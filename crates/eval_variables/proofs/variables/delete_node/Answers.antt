@@ -21,7 +21,7 @@ returns-in_err-graph-clause-gives c =
     let why = c.in_err-graph.field-0.0 in
     let name = integer_in (datum_of c.args.name.now) in
     let back = to_z-of_z w64 c.integer_in.result (record { sfits = c.integer_in.type_inv }) ∙ c.integer_in.ensures in
-    let stops = subst (λ n. Fails why (gives (graphs.deleted n (datum_of c.in_ok-old.old)) s)) back (c.in_err-graph.ensures {u = tt} s) in
+    let stops = subst (λ n. Fails why (gives (graphs.deleted n (datum_of c.in_ok-old.old)) s)) back ((c.in_err-graph.ensures {u = tt}).given s) in
     rw (p.1, p.2) (fails_then why (rules.change to (graphs.deleted name) s) (λ u s1. Goes None s1)
     (change_by_fails to (graphs.deleted name) (datum_of c.in_ok-old.old) (datum.int (pos 0)) s (state_of c.lift.new.run) why (c.in_ok-old.ensures {u = tt}).lifted stops))
 
@@ -39,6 +39,6 @@ returns-clause-gives c =
     let name = integer_in (datum_of c.args.name.now) in
     let back = to_z-of_z w64 c.integer_in.result (record { sfits = c.integer_in.type_inv }) ∙ c.integer_in.ensures in
     let given = gives_ok (graphs.deleted name (datum_of c.in_ok-old.old)) s (datum_of c.in_ok-graph.graph)
-    (subst (λ n. gives (graphs.deleted n (datum_of c.in_ok-old.old)) s ≡ Goes (datum_of c.in_ok-graph.graph) s) back (c.in_ok-graph.ensures {u = tt} s)) in
+    (subst (λ n. gives (graphs.deleted n (datum_of c.in_ok-old.old)) s ≡ Goes (datum_of c.in_ok-graph.graph) s) back ((c.in_ok-graph.ensures {u = tt}).given s)) in
     ap (λ o. after o (λ u s1. Goes None s1))
     (changes to (graphs.deleted name) (datum_of c.in_ok-old.old) (datum_of c.in_ok-graph.graph) s (state_of c.lower.new.run) ((c.in_ok-lower.ensures {u = tt}).lowered s (datum_of c.in_ok-old.old) (c.in_ok-old.ensures {u = tt}).lifted) given)

@@ -4,23 +4,33 @@ use Rattle.value_core.specs.View.{datum_of}
 use Rattle.eval_variables.specs.Gives.{target_of}
 use Rattle.eval_variables.specs.Ordered.{AllOrdered}
 use Rattle.eval_variables.proofs.Fronts.{exchanges_all, exchanges_front}
-use Rattle.eval_variables.proofs.Keeping.{joined}
-use Rattle.eval_variables.proofs.Staying.{exchanged}
+use Rattle.eval_variables.proofs.Keeping.{front_of, joined}
+use Rattle.eval_variables.proofs.Staying.{exchanged, firm_all, firm_front}
 use Rattle.eval_variables.proofs.frame.Frame.exchange.Goals as goal
 
 pub invariant_of-self : goal.invariant_of-self
 invariant_of-self c t =
     let stays = c.stayed-self-inside.ensures.stays t in
-    exchanged (target_of c.args.to.now) (datum_of c.args.value) (list_of c.self.inside.own) (map datum_of c.self.inside.behind.now) (list_of c.exchange_own-old.new.own) c.exchange_own-old.result
-    (c.stays_in_order-stays.ensures.path stays) (c.self.invariant (c.stays_in_order-stays.ensures.values stays)) (c.requires (c.stays_in_order-stays.ensures.value stays)) c.exchange_own-old.ensures (c.stayed-self-inside.ensures.ok t)
+    let own = list_of c.self.inside.own in
+    let behind = map datum_of c.self.inside.behind.now in
+    exchanged (target_of c.args.to.now) (datum_of c.args.value) own behind (list_of c.exchange_own-old.new.own) c.exchange_own-old.result
+    (firm_front (target_of c.args.to.now) own behind _ c.self.view_is (c.stays_in_order-stays.ensures.firm stays)) (subst AllOrdered (sym c.self.view_is) (c.stays_in_order-stays.ensures.values stays)) (c.requires (c.stays_in_order-stays.ensures.value stays)) c.exchange_own-old.ensures (c.stayed-self-inside.ensures.ok t)
 
 pub invariant_of-self-2 : goal.invariant_of-self-2
 invariant_of-self-2 c t =
     let stays = c.stayed-self-inside-2.ensures.stays t in
     let own = list_of c.add_copies.new.all in
+    let copied = c.in_ok-add_copies.ensures {u = tt} in
     exchanged (target_of c.args.to.now) (datum_of c.args.value) own [] (list_of c.exchange_own-old-2.new.own) c.exchange_own-old-2.result
-    (c.stays_in_order-stays.ensures.path stays) (joined own [] (subst AllOrdered (sym (c.in_ok-add_copies.ensures {u = tt})) (c.self.invariant (c.stays_in_order-stays.ensures.values stays))) tt)
+    (firm_all (target_of c.args.to.now) own _ (copied ∙ c.self.view_is) (c.stays_in_order-stays.ensures.firm stays))
+    (joined own [] (subst AllOrdered (sym (copied ∙ c.self.view_is)) (c.stays_in_order-stays.ensures.values stays)) tt)
     (c.requires (c.stays_in_order-stays.ensures.value stays)) c.exchange_own-old-2.ensures (c.stayed-self-inside-2.ensures.ok t)
+
+pub exchange_own-old-requires : goal.exchange_own-old-requires
+exchange_own-old-requires c t = front_of (list_of c.self.inside.own) (map datum_of c.self.inside.behind.now) (c.self.invariant t)
+
+pub exchange_own-old-2-requires : goal.exchange_own-old-2-requires
+exchange_own-old-2-requires c t = subst AllOrdered (sym (c.in_ok-add_copies.ensures {u = tt})) (c.self.invariant t)
 
 pub returns-then-to-len : goal.returns-then-to-len
 returns-then-to-len c s is =
