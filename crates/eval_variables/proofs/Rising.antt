@@ -5,7 +5,7 @@ use Rattle.std.specs.List.{AllByRecursion}
 use Rattle.std.specs.List.Sorted.{IsStrictlySortedBy}
 use Rattle.std.specs.Ordering.{is_lt}
 use Rattle.std.specs.declared.cmp.Ordering.TheVariants.{Less}
-use Rattle.value_core.specs.Datum.{Datum, data_of, list_of, list_of-data_of}
+use Rattle.value_core.specs.Datum.{Datum, list_of-data_of}
 use Rattle.value_core.specs.Order.{datum_cmp}
 use Rattle.value_core.specs.OrderLaws.{datum_total}
 use Rattle.value_core.specs.View.{datum_of}
@@ -86,8 +86,8 @@ last_of name name' (v ∷ vs) last same stood before rises =
     last_before name (v ∷ vs) (length vs) last (omega arith) (sym (stood ∙ ap (slice_get (v ∷ vs)) place)) (ap (λ n. is_before n (datum_of last)) (sym same) ∙ before) rises
 
 pub none_before : (name : ℤ) (vs : List Value) → length vs ≤ 0 → AreBefore name (map datum_of vs)
-none_before name [] none = tt
-none_before name (v ∷ vs) none = absurd (omega (arith, none))
+none_before name [] empty = tt
+none_before name (v ∷ vs) empty = absurd (omega (arith, empty))
 
 below_node : (name : ℤ) (x : Datum) (xs : List Datum) → AreBefore name xs → AllByRecursion (λ y. datum_cmp y (node_of name x) ≡ Less) xs
 below_node name x [] h = tt

@@ -8,17 +8,15 @@ use Rattle.value_core.specs.Datum as datum
 use Rattle.value_core.specs.Size.{size_of, size_of_all}
 use Rattle.value_core.specs.View.{datum_of}
 use Rattle.value_core.specs.declared.value.Value.{Value}
+use Rattle.value_core.specs.declared.value.Value.TheVariants.{Array, Fields}
 use Rattle.graph_values.specs.Graphs.{fields_in, graph_of, is_named, name_in, node_of, nodes_in, value_at, value_in, with_node}
 use Rattle.value_ops.specs.Sizes.{place_of}
 use Rattle.value_paths.specs.declared.step.Step.{Step as ValueStep}
 use Rattle.value_paths.specs.declared.step.Step.TheVariants.{Index, Field, Node}
 use Rattle.value_paths.specs.Paths.{and_then, array_in, at_place, found, part_at, part_to, set_place, where_found, with_part, with_step}
-use Rattle.eval_variables.specs.declared.steps.Step.{Step}
-use Rattle.eval_variables.specs.declared.steps.Step.TheVariants as step
 use Rattle.eval_variables.specs.Firm.{IsFirm, IsFirmNode, IsFirmStep}
-use Rattle.eval_variables.specs.Gives.{step_of}
 use Rattle.eval_variables.specs.Ordered.{AllOrdered, IsOrdered}
-use Rattle.eval_variables.proofs.Keeping.{array_ordered, as_data, fields_ordered, nodes_ordered, set_in, step_ordered}
+use Rattle.eval_variables.proofs.Keeping.{all_listed, array_ordered, as_data, fields_ordered, got, nodes_ordered, set_in, step_ordered}
 use Rattle.eval_variables.proofs.Pairing.{shown_at}
 use Rattle.eval_variables.proofs.Placing.{found_some, length_shown, node_place}
 use Rattle.eval_variables.proofs.Rising.{get_next, node_ordered}
@@ -167,6 +165,27 @@ firm_node name name' vs place next node same other is stands two behind alone =
       alone = λ x there. subst (λ n. is_named n x ≡ false) same (alone x (ap (slice_get xs) (behind ∙ ap (λ n. n + 1) here) ∙ there));
     }
 
-pub firm_step : (name name' : ℤ) (s : Step) (v : Datum) (xs : List Datum) → s ≡ step.Node name → name' ≡ name → xs ≡ nodes_in v → IsFirmNode name' xs → IsFirmStep (step_of s) v
-firm_step name name' s v xs is same nodes firm =
-    subst (λ t. IsFirmStep (step_of t) v) (sym is) (subst (IsFirmNode name) nodes (subst (λ n. IsFirmNode n xs) same firm))
+not_true : (b : Bool) → not b ≡ true → b ≡ false
+not_true true h = absurd cc
+not_true false h = refl
+
+pub other_at : (name name' : ℤ) (vs : List Value) (place : ℕ) (node : Value) (b : Bool) (x : Datum) → name' ≡ name → place < length vs → node ≡ get_or vs place node → b ≡ is_named name' (datum_of node) → not b ≡ true →
+    slice_get (map datum_of vs) place ≡ Some x → is_named name x ≡ false
+other_at name name' vs place node b x same low stands told passes there =
+    let both : Some (datum_of node) ≡ Some x = sym (shown_at vs place node low stands) ∙ there in
+    let is_node : datum_of node ≡ x = cc in
+    subst (λ y. is_named name y ≡ false) is_node (ap (λ n. is_named n (datum_of node)) (sym same) ∙ sym told ∙ not_true b passes)
+
+pub none_past : (vs : List Value) (i : ℕ) (x : Datum) → length vs ≤ i → slice_get (map datum_of vs) i ≡ Some x → ⊥
+none_past [] i x past is = cc
+none_past (v ∷ vs) zero x past is = omega (arith, past)
+none_past (v ∷ vs) (suc i) x past is = none_past vs i x (omega (arith, past)) is
+
+-- a part of what is in order
+pub array_part : (v : Value) (w w' : Data) (place : ℕ) (x : Datum) → IsOrdered (datum_of v) → v ≡ Array w → w' ≡ w → slice_get (list_of w') place ≡ Some x → IsOrdered x
+array_part v w w' place x h is same stands =
+    got (list_of w') place x (subst (λ u. AllOrdered (list_of u)) (sym same) (all_listed w (subst (λ u. IsOrdered (datum_of u)) is h))) stands
+
+pub fields_part : (v : Value) (w w' : Data) (place : ℕ) (x : Datum) → IsOrdered (datum_of v) → v ≡ Fields w → w' ≡ w → slice_get (list_of w') place ≡ Some x → IsOrdered x
+fields_part v w w' place x h is same stands =
+    got (list_of w') place x (subst (λ u. AllOrdered (list_of u)) (sym same) (all_listed w (subst (λ u. IsOrdered (datum_of u)) is h))) stands

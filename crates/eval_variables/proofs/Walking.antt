@@ -1,5 +1,5 @@
 -- What is left of a path, from where its front has led.
-use Rattle.std.proofs.Common.{◌≡◌, ◌+◌, ◌<◌, ℕ, List, ◌∷◌, drop, get_or, length, Ok, ap, sym, ◌∙◌, subst}
+use Rattle.std.proofs.Common.{◌≡◌, ◌+◌, ◌<◌, ℕ, List, drop, get_or, length, Ok, ap, sym, ◌∙◌, subst}
 use Rattle.std.specs.Prelude.{IfOk}
 use Rattle.std.proofs.lemmas.List.{drop_more}
 use Rattle.value_core.specs.Datum.{Datum}

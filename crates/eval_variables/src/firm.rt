@@ -1,14 +1,13 @@
 //! Firm paths: whatever is put at the end of one, graphs that are in order stay so.
 
 ghost use Rattle.std.specs.Prelude.{◌≡◌, ◌≢◌, ◌≤◌, IfSome, IsTrue, Ok, Some, false, length, map, pos, slice_get};
-ghost use Rattle.std.specs.List.Sorted.{IsStrictlySortedBy};
 ghost use Rattle.value_core.specs.Datum as datum;
 ghost use Rattle.value_core.specs.Datum.{Datum};
-ghost use Rattle.value_core.specs.Order.{datum_cmp};
 ghost use Rattle.value_core.specs.View.{datum_of};
 ghost use Rattle.graph_values.specs.Graphs.{fields_in, is_named as has_name};
 ghost use Rattle.value_paths.specs.Paths.{part_to as part_behind};
-ghost use Rattle.eval_variables.specs.Firm.{IsFirm, IsFirmNode, IsFirmStep};
+ghost use Rattle.value_paths.specs.declared.step.Step.TheVariants as value_step;
+ghost use Rattle.eval_variables.specs.Firm.{IsFirm, IsFirmStep};
 ghost use Rattle.eval_variables.specs.Gives.{path_of, step_of};
 ghost use Rattle.eval_variables.specs.Ordered.{IsOrdered};
 
@@ -38,13 +37,14 @@ fn has_other(nodes: &[Value], place: usize, name: i64) -> bool
     }
 }
 
-// Whether the first node of a name is firm. It looks at that node and at the one behind it.
-fn is_firm_node(nodes: &[Value], name: i64, rising: bool) -> bool
+// Whether a step to a node is firm. It looks at the first node of the name, which isn't 0, and at the one behind it.
+fn is_firm_node(value: &Value, name: i64, in_order: bool) -> bool
     requires named { name ≢ pos 0 }
-    requires rising { IsTrue rising → IsStrictlySortedBy datum_cmp (map datum_of nodes.now) }
-    ensures { IsTrue result → IsFirmNode name (map datum_of nodes.now) }
+    requires ordered { IsTrue in_order → IsOrdered (datum_of value.now) }
+    ensures { IsTrue result → IsFirmStep (value_step.Node name) (datum_of value.now) }
 {
-    match place_of(nodes, name, rising) {
+    let nodes = nodes_of(value);
+    match place_of(nodes, name, in_order) {
         Some(place) => {
             if has_value(&nodes[place]) {
                 has_other(nodes, place + 1, name)
@@ -64,7 +64,7 @@ fn is_firm_step(value: &Value, step: Step, in_order: bool) -> bool
     match step {
         Step::Node { name } => {
             if name != 0 {
-                is_firm_node(nodes_of(value), name, in_order)
+                is_firm_node(value, name, in_order)
             } else {
                 false
             }

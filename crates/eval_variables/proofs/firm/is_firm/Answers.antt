@@ -1,3 +1,4 @@
+use Rattle.std.proofs.Common.{◌<◌, arith, length}
 use Rattle.value_core.specs.View.{datum_of}
 use Rattle.eval_variables.proofs.Keeping.{step_ordered}
 use Rattle.eval_variables.proofs.Walking.{firm_on}
@@ -7,7 +8,8 @@ pub path-preserved : goal.path-preserved
 path-preserved c =
     let here = (c.in-Some.ensures {u = tt}).firm in
     let leads = (c.in-Some.ensures {u = tt}).leads in
+    let low : c.path.step-index < length c.args.path.now = omega (arith, c.path-test.true) in
     record {
-      firm = λ rest. c.path.invariant.firm (firm_on c.args.path.now c.path.step-index _ (datum_of c.path.at.now) (datum_of c.in-Some.part.now) c.path-test.true here leads rest);
+      firm = λ rest. c.path.invariant.firm (firm_on c.args.path.now c.path.step-index _ (datum_of c.path.at.now) (datum_of c.in-Some.part.now) low here leads rest);
       ordered = λ t. step_ordered _ (datum_of c.path.at.now) (datum_of c.in-Some.part.now) (c.path.invariant.ordered t) leads;
     }

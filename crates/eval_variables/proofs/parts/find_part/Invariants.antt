@@ -8,4 +8,7 @@ use Rattle.eval_variables.proofs.parts.find_part.Given as goal
 
 -- the rest of the path leads from here to where the whole leads
 abbrev pub invariant-path : goal.invariant-path
-invariant-path l = (part_at (path_of (drop l.step-index l.path)) (datum_of l.at) ≡ part_at (path_of l.path) (datum_of l.value)) × (IsTrue l.in_order → IsOrdered (datum_of l.at))
+invariant-path l = record {
+  leads : part_at (path_of (drop l.step-index l.path)) (datum_of l.at) ≡ part_at (path_of l.path) (datum_of l.value);
+  ordered : IsTrue l.in_order → IsOrdered (datum_of l.at);
+}
