@@ -103,7 +103,7 @@ with_size name p x (y ∷ xs) valued is = by_name (is_named name y) valued is (w
   where
     by_name : (b : Bool) → ((z : Datum) → slice_get (y ∷ xs) (cond (not b) (1 + node_place name xs) 0) ≡ Some z → 2 ≤ length (fields_in z)) → cond b (Some (value_in y)) (value_at name xs) ≡ Some p →
         (((z : Datum) → slice_get xs (node_place name xs) ≡ Some z → 2 ≤ length (fields_in z)) → value_at name xs ≡ Some p →
-            size_of_all (data_of (with_node name (node_of name x) xs)) + size_of p ≤ size_of_all (data_of xs) + size_of x) →
+        size_of_all (data_of (with_node name (node_of name x) xs)) + size_of p ≤ size_of_all (data_of xs) + size_of x) →
         size_of_all (data_of (cond b (node_of name x ∷ xs) (y ∷ with_node name (node_of name x) xs))) + size_of p ≤ size_of_all (data_of (y ∷ xs)) + size_of x
     by_name true valued is rest =
         let same : value_in y ≡ p = cc in

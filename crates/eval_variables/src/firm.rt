@@ -74,12 +74,7 @@ fn is_firm_step(value: &Value, step: Step, in_order: bool) -> bool
 }
 
 // The part to which a step leads, where the step is firm. `zero` stands for the value of what is no node.
-fn firm_part<'a>(
-    value: &'a Value,
-    step: Step,
-    zero: &'a Value,
-    in_order: bool,
-) -> Option<&'a Value>
+fn firm_part<'a>(value: &'a Value, step: Step, zero: &'a Value, in_order: bool) -> Option<&'a Value>
     requires zero { datum_of zero.now ≡ datum.int (pos 0) }
     requires ordered { IsTrue in_order → IsOrdered (datum_of value.now) }
     ensures firm { IfSome result (λ p. IsFirmStep (step_of step) (datum_of value.now)) }

@@ -83,13 +83,7 @@ fn exchange_own(
             fault: FaultKind::IndexOutside,
         });
     }
-    exchange_part(
-        alloc,
-        own.part_mut(to.slot),
-        &to.path,
-        value,
-        in_order,
-    )
+    exchange_part(alloc, own.part_mut(to.slot), &to.path, value, in_order)
 }
 
 // Whether values that would stay in order do, where something was put.

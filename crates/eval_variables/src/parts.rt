@@ -261,7 +261,15 @@ fn put_from(
                 part,
                 in_order,
             ),
-            Step::Field { place } => put_in_record(alloc, value, place, path, from + 1, part, in_order),
+            Step::Field { place } => put_in_record(
+                alloc,
+                value,
+                place,
+                path,
+                from + 1,
+                part,
+                in_order,
+            ),
             Step::Node { name } => put_in_graph(alloc, value, name, path, from + 1, part, in_order),
         },
     }

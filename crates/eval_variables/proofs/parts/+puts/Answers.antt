@@ -47,14 +47,18 @@ put_in_graph-returns t c =
 
 -- what a part that is changed asks for
 pub put_in_array-put_from-requires : goal.put_in_array-put_from-requires
-put_in_array-put_from-requires t c =
-    (omega (arith, c.decreases), λ u. array_part c.args.value.now c.in-Array.parts c.as_parts_mut-parts.result.now c.in_ok-place-in-Array.place (datum_of c.part_mut.result.now) (c.requires u)
-    c.in-Array.is (c.as_parts_mut-parts.ensures.value ∙ c.in-Array.parts-is) c.part_mut.ensures.value)
+put_in_array-put_from-requires t c = (
+  omega (arith, c.decreases),
+  λ u. array_part c.args.value.now c.in-Array.parts c.as_parts_mut-parts.result.now c.in_ok-place-in-Array.place (datum_of c.part_mut.result.now) (c.requires u)
+      c.in-Array.is (c.as_parts_mut-parts.ensures.value ∙ c.in-Array.parts-is) c.part_mut.ensures.value,
+)
 
 pub put_in_record-put_from-requires : goal.put_in_record-put_from-requires
-put_in_record-put_from-requires t c =
-    (omega (arith, c.decreases), λ u. fields_part c.args.value.now c.in-Fields.fields c.as_parts_mut-fields.result.now c.args.place (datum_of c.part_mut.result.now) (c.requires u)
-    c.in-Fields.is (c.as_parts_mut-fields.ensures.value ∙ c.in-Fields.fields-is) c.part_mut.ensures.value)
+put_in_record-put_from-requires t c = (
+  omega (arith, c.decreases),
+  λ u. fields_part c.args.value.now c.in-Fields.fields c.as_parts_mut-fields.result.now c.args.place (datum_of c.part_mut.result.now) (c.requires u)
+      c.in-Fields.is (c.as_parts_mut-fields.ensures.value ∙ c.in-Fields.fields-is) c.part_mut.ensures.value,
+)
 
 pub put_in_graph-place_of-requires : goal.put_in_graph-place_of-requires
 put_in_graph-place_of-requires t c u =
@@ -63,8 +67,10 @@ put_in_graph-place_of-requires t c u =
 
 pub put_in_graph-put_from-requires : goal.put_in_graph-put_from-requires
 put_in_graph-put_from-requires t c =
-    let nodes = c.of-graph.ensures.nodes ∙ ap (λ x. nodes_in (datum_of x)) c.replace.ensures.value in
-    (omega (arith, c.decreases), λ u.
-        subst IsOrdered (sym c.value_of-inside.ensures)
-        (second_ordered (datum_of c.replace-2.result)
-        (got (list_of c.of-graph.result.nodes) c.in-Some.place (datum_of c.replace-2.result) (subst AllOrdered (sym nodes) (nodes_ordered (datum_of c.args.value.now) (c.requires u)).0) c.replace-2.ensures.old)))
+    let nodes = c.of-graph.ensures.nodes ∙ ap (λ x. nodes_in (datum_of x)) c.replace.ensures.value in (
+      omega (arith, c.decreases),
+      λ u.
+          subst IsOrdered (sym c.value_of-inside.ensures)
+          (second_ordered (datum_of c.replace-2.result)
+          (got (list_of c.of-graph.result.nodes) c.in-Some.place (datum_of c.replace-2.result) (subst AllOrdered (sym nodes) (nodes_ordered (datum_of c.args.value.now) (c.requires u)).0) c.replace-2.ensures.old)),
+    )

@@ -29,8 +29,8 @@ invariant_of-self-2 c t =
 pub exchange_own-old-requires : goal.exchange_own-old-requires
 exchange_own-old-requires c t = front_of (list_of c.self.inside.own) (map datum_of c.self.inside.behind.now) (c.self.invariant t)
 
-pub exchange_own-old-2-requires : goal.exchange_own-old-2-requires
-exchange_own-old-2-requires c t = subst AllOrdered (sym (c.in_ok-add_copies.ensures {u = tt})) (c.self.invariant t)
+pub exchange_own-old-requires-2 : goal.exchange_own-old-requires-2
+exchange_own-old-requires-2 c t = subst AllOrdered (sym (c.in_ok-add_copies.ensures {u = tt})) (c.self.invariant t)
 
 pub returns-then-to-len : goal.returns-then-to-len
 returns-then-to-len c s is =

@@ -6,7 +6,7 @@ use Rattle.eval_variables.proofs.Keeping.{got}
 use Rattle.eval_variables.proofs.frame.Frame.stays_in_order.Goals as goal
 
 pub is_firm-requires : goal.is_firm-requires
-is_firm-requires c t = got c.args.self.now c.args.to.now.slot (datum_of c.in-Some.whole.now) (c.is_in_order.ensures c.if-is_in_order.false) (sym (c.in-Some.ensures {u = tt}))
+is_firm-requires c t = got c.args.self.now c.args.to.now.slot (datum_of c.in-Some.whole.now) (c.is_in_order.ensures c.if-not-is_in_order.false) (sym (c.in-Some.ensures {u = tt}))
 
 pub returns-in-Some-clause-firm : goal.returns-in-Some-clause-firm
 returns-in-Some-clause-firm c t whole stands =
