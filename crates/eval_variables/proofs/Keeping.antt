@@ -168,11 +168,11 @@ step_put (Index low index) v x apart h one =
 step_put (Field place) v x apart h one = as_data (slice_set (fields_in v) place x) (set_in (fields_in v) place x (fields_ordered v h) one)
 step_put (Node name) v x apart h one = absurd cc
 
-first_of_none : (a b : Bool) → (a || b) ≡ false → a ≡ false
+pub first_of_none : (a b : Bool) → (a || b) ≡ false → a ≡ false
 first_of_none true b h = absurd cc
 first_of_none false b h = refl
 
-rest_of_none : (a b : Bool) → (a || b) ≡ false → b ≡ false
+pub rest_of_none : (a b : Bool) → (a || b) ≡ false → b ≡ false
 rest_of_none true b h = absurd cc
 rest_of_none false b h = h
 

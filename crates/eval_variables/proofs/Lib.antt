@@ -7,3 +7,5 @@ mod Fronts
 mod Handing
 mod Keeping
 mod Staying
+mod Bounding
+mod Growing

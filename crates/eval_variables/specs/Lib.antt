@@ -4,3 +4,4 @@ pub mod Frames
 pub mod Lent
 pub mod Relations
 pub mod Ordered
+pub mod Bounded

@@ -7,6 +7,7 @@ use Rattle.value_core.specs.View.{datum_of}
 use Rattle.meaning_rules.specs.States.{Goes}
 use Rattle.meaning_rules.specs.Variables as rules
 use Rattle.eval_variables.specs.Gives.{Gives, state_of, target_of}
+use Rattle.eval_variables.specs.Exchanges.{IsPut}
 use Rattle.eval_variables.proofs.Changing.{added_fails, added_goes, checked_enlarges}
 use Rattle.eval_variables.proofs.Stopping.{fails_without}
 use Rattle.eval_variables.proofs.variables.add_node.Goals as goal
@@ -24,16 +25,22 @@ returns-in_err-check-clause-gives c =
     let s = state_of c.args.run.now in
     let to = target_of c.args.to.now in
     let put = (c.in_ok-lower.ensures {u = tt}).lowered s (datum_of c.in_ok-old.old) (c.in_ok-old.ensures {u = tt}).lifted in
-    let stored = checked_enlarges to (λ old. Ok (datum_of c.in_ok-name.graph)) (datum_of c.in_ok-old.old) (datum_of c.in_ok-name.graph) s (state_of c.lower.new.run) c.check.result put refl c.check.ensures in
+    let stored = checked_enlarges to (λ old. Ok (datum_of c.in_ok-name.graph)) (datum_of c.in_ok-old.old) (datum_of c.in_ok-name.graph) s (state_of c.lower.new.run) c.check.result put refl c.check.ensures.fits in
     rw (p.1, p.2) (added_fails to (datum_of c.args.fresh) (datum_of c.in_ok-old.old) (datum_of c.in_ok-name.graph) c.in_ok-name.name s (state_of c.lower.new.run) c.in_err-check.field-0.0 put ((c.in_ok-name.ensures {u = tt}).given s)
     (subst (λ r. Gives (λ u. u) r (state_of c.lower.new.run) (rules.store to (datum_of c.in_ok-name.graph) s)) (c.in_err-check.was {u = tt}) stored))
 
 pub returns-clause-gives : goal.returns-clause-gives
 returns-clause-gives c =
     let s = state_of c.args.run.now in
+    let s1 = state_of c.check.new.run in
     let to = target_of c.args.to.now in
-    let put = (c.in_ok-lower.ensures {u = tt}).lowered s (datum_of c.in_ok-old.old) (c.in_ok-old.ensures {u = tt}).lifted in
-    let stored = checked_enlarges to (λ old. Ok (datum_of c.in_ok-name.graph)) (datum_of c.in_ok-old.old) (datum_of c.in_ok-name.graph) s (state_of c.lower.new.run) c.check.result put refl c.check.ensures in
-    added_goes to (datum_of c.args.fresh) (datum_of c.in_ok-old.old) (datum_of c.in_ok-name.graph) c.in_ok-name.name s (state_of c.lower.new.run) put ((c.in_ok-name.ensures {u = tt}).given s)
-    (subst (λ r. Gives (λ u. u) r (state_of c.lower.new.run) (rules.store to (datum_of c.in_ok-name.graph) s)) (c.in_ok-check.was {u = tt}) stored)
-    ∙ ap (λ n. Goes (Some (datum.int n)) (state_of c.lower.new.run)) (sym (to_z-of_z w64 c.in_ok-name.name (c.in_ok-name.ensures {u = tt}).range))
+    let old = datum_of c.in_ok-old.old in
+    let graph = datum_of c.in_ok-name.graph in
+    let same = sym c.check.ensures.same in
+    let lowered = (c.in_ok-lower.ensures {u = tt}).lowered s old (c.in_ok-old.ensures {u = tt}).lifted in
+    let fits = checked_enlarges to (λ old. Ok graph) old graph s (state_of c.lower.new.run) c.check.result lowered refl c.check.ensures.fits in
+    let put = subst (IsPut to old graph s) same lowered in
+    let stored = subst (λ t. Gives (λ u. u) c.check.result t (rules.store to graph s)) same fits in
+    added_goes to (datum_of c.args.fresh) old graph c.in_ok-name.name s s1 put ((c.in_ok-name.ensures {u = tt}).given s)
+    (subst (λ r. Gives (λ u. u) r s1 (rules.store to graph s)) (c.in_ok-check.was {u = tt}) stored)
+    ∙ ap (λ n. Goes (Some (datum.int n)) s1) (sym (to_z-of_z w64 c.in_ok-name.name (c.in_ok-name.ensures {u = tt}).range))

@@ -1,0 +1,184 @@
+-- What a change adds to the size of a variable.
+use Rattle.std.proofs.Common.{◌≡◌, ◌≢◌, ◌×◌, ℕ, zero, suc, ◌+◌, ◌≤◌, Bool, true, false, cond, List, [], ◌∷◌, length, Some, Option, None, Result, Ok, Err, refl, ap, sym, ◌∙◌, subst, arith}
+use Rattle.std.specs.Prelude.{IfOk, min, ok_or, slice_get}
+use Rattle.std.specs.Cmp.{Equal-is}
+use Rattle.std.specs.Ordering.{is_eq, is_lt}
+use Rattle.orca_base.specs.declared.fault.FaultKind.{FaultKind}
+use Rattle.orca_base.specs.declared.fault.FaultKind.TheVariants.{IndexOutside}
+use Rattle.orca_base.specs.declared.limits.TheConstants.{VALUE_SIZE}
+use Rattle.value_core.specs.Datum.{Data, Datum, data_of, list_of, data_of-list_of, list_of-data_of}
+use Rattle.value_core.specs.Datum as datum
+use Rattle.value_core.specs.Order.{datum_cmp}
+use Rattle.value_core.specs.OrderLaws.{datum_cmp-exact}
+use Rattle.value_core.specs.Size.{size_of, size_of_all}
+use Rattle.value_ops.specs.Elements.{deleted, elements, first_of, has, inserted, least_of, put_in, with_once, without, without_least}
+use Rattle.value_ops.specs.Sizes.{told_size}
+use Rattle.value_paths.specs.declared.step.Step.{Step as ValueStep}
+use Rattle.value_paths.specs.declared.step.Step.TheVariants.{Index, Field, Node}
+use Rattle.value_paths.specs.Paths.{CanStep, CanWalk, part_at, part_to, with_part}
+use Rattle.meaning_rules.specs.States.{State}
+use Rattle.meaning_rules.specs.Variables.{Target, whole_at}
+use Rattle.eval_variables.specs.Bounded.{AddsUp, IsBound, IsWithin}
+use Rattle.eval_variables.specs.Exchanges.{IsPut}
+use Rattle.eval_variables.specs.Ordered.{has_node, is_node}
+use Rattle.eval_variables.proofs.Changing.{whole_put}
+use Rattle.eval_variables.proofs.Keeping.{first_of_none, rest_of_none}
+
+-- ---- a path without a step to a node can be walked in any value, so sizes add up
+
+can_step : (step : ValueStep) (v : Datum) → is_node step ≡ false → CanStep step v
+can_step (Index low index) v apart = tt
+can_step (Field place) v apart = tt
+can_step (Node name) v apart = absurd cc
+
+can_walk : (path : List ValueStep) (v : Datum) → has_node path ≡ false → CanWalk path v
+can_walk [] v apart = tt
+can_walk (step ∷ path) v apart = (
+  can_step step v (first_of_none (is_node step) (has_node path) apart),
+  by_step (part_to step v) (λ c. can_walk path c (rest_of_none (is_node step) (has_node path) apart)),
+)
+  where
+    by_step : (q : Result Datum FaultKind) → ((c : Datum) → CanWalk path c) → IfOk q (CanWalk path)
+    by_step (Ok c) rest = rest c
+    by_step (Err fault) rest = tt
+
+pub adds_up : ((path : List ValueStep) (v p x : Datum) → CanWalk path v → part_at path v ≡ Ok p → size_of (with_part path v x) + size_of p ≡ size_of v + size_of x) →
+    (path : List ValueStep) (v : Datum) → has_node path ≡ false → AddsUp path v
+adds_up sizes path v apart p x stood = omega (arith, sizes path v p x (can_walk path v apart) stood)
+
+-- ---- a variable where something was put at a target
+
+pub some_whole : (o : Option Datum) (v : Datum) → ok_or o IndexOutside ≡ Ok v → o ≡ Some v
+some_whole None v is = absurd cc
+some_whole (Some w) v is = let same : w ≡ v = cc in ap Some same
+
+pub put_within : (to : Target) (old new : Datum) (s s1 : State) (bound more less most : ℕ) → IsPut to old new s s1 →
+    ((whole : Datum) → slice_get s.frame to.slot ≡ Some whole → IsBound bound to.path whole) →
+    (bound ≤ VALUE_SIZE → more ≤ VALUE_SIZE → size_of new + less ≤ size_of old + more) →
+    (most ≤ VALUE_SIZE → (bound ≤ VALUE_SIZE) × (more ≤ VALUE_SIZE) × (bound + more ≤ most + less)) →
+    (whole : Datum) → slice_get s1.frame to.slot ≡ Some whole → IsWithin most whole
+put_within to old new s s1 bound more less most p known differs grows whole is few =
+    let sum = grows few in
+    let before = known p.whole (some_whole (slice_get s.frame to.slot) p.whole p.is) sum.0 in
+    let adds = before.1 old new p.stood in
+    let change = differs sum.0 sum.1.0 in
+    let stands : Ok whole ≡ Ok (with_part to.path p.whole new) = sym (ap (λ o. ok_or o IndexOutside) is) ∙ whole_put to old new s s1 p in
+    let same : whole ≡ with_part to.path p.whole new = cc in
+    subst (λ v. size_of v ≤ most) (sym same) (summed (size_of p.whole) (size_of old) (size_of new) (size_of (with_part to.path p.whole new)) bound more less most before.0 adds change sum.1.1)
+  where
+    summed : (whole old new after bound more less most : ℕ) → whole ≤ bound → after + old ≤ whole + new → new + less ≤ old + more → bound + more ≤ most + less → after ≤ most
+    summed whole old new after bound more less most h1 h2 h3 h4 = omega (arith, h1, h2, h3, h4)
+
+-- ---- what was told of sizes
+
+-- something else is put
+pub stored : (new old bound more less : ℕ) → (bound ≤ VALUE_SIZE → more ≡ told_size new) → (bound ≤ VALUE_SIZE → less ≡ told_size old) →
+    bound ≤ VALUE_SIZE → more ≤ VALUE_SIZE → new + less ≤ old + more
+stored new old bound more less is_more is_less known fits = omega (arith, is_more known, is_less known, fits)
+
+-- ---- elements
+
+length_put : (e : Datum) (xs : List Datum) → length (put_in e xs) ≡ length xs + 1
+length_put e [] = refl
+length_put e (x ∷ xs) = by_first (is_lt (datum_cmp x e)) (length_put e xs)
+  where
+    by_first : (b : Bool) → length (put_in e xs) ≡ length xs + 1 → length (cond b (x ∷ put_in e xs) (e ∷ x ∷ xs)) ≡ length (x ∷ xs) + 1
+    by_first true rest = omega (arith, rest)
+    by_first false rest = omega arith
+
+size_put : (e : Datum) (xs : List Datum) → size_of_all (data_of (put_in e xs)) ≡ size_of_all (data_of xs) + size_of e
+size_put e [] = omega arith
+size_put e (x ∷ xs) = by_first (is_lt (datum_cmp x e)) (size_put e xs)
+  where
+    by_first : (b : Bool) → size_of_all (data_of (put_in e xs)) ≡ size_of_all (data_of xs) + size_of e →
+        size_of_all (data_of (cond b (x ∷ put_in e xs) (e ∷ x ∷ xs))) ≡ size_of_all (data_of (x ∷ xs)) + size_of e
+    by_first true rest = omega (arith, rest)
+    by_first false rest = omega arith
+
+-- of the parts of a set or bag that gets one more
+parts_grow : (e : Datum) (w : Data) (more : ℕ) → (length (list_of (data_of (put_in e (list_of w)))) ≢ length (list_of w) → more ≡ size_of e) →
+    size_of_all (data_of (put_in e (list_of w))) ≤ size_of_all w + more
+parts_grow e w more h =
+    let counted : length (list_of (data_of (put_in e (list_of w)))) ≡ length (list_of w) + 1 = ap length (list_of-data_of (put_in e (list_of w))) ∙ length_put e (list_of w) in
+    let is : more ≡ size_of e = h (λ same. absurd (omega (arith, same, counted))) in
+    let sizes : size_of_all (data_of (put_in e (list_of w))) ≡ size_of_all w + size_of e = size_put e (list_of w) ∙ ap (λ u. size_of_all u + size_of e) (data_of-list_of w) in
+    omega (arith, is, sizes)
+
+put_grows : (e v : Datum) (more : ℕ) → (length (elements (inserted e v)) ≢ length (elements v) → more ≡ size_of e) → size_of (inserted e v) ≤ size_of v + more
+put_grows e (datum.set w) more h = by_test (has e (list_of w)) h
+  where
+    by_test : (b : Bool) → (length (list_of (cond b w (data_of (put_in e (list_of w))))) ≢ length (list_of w) → more ≡ size_of e) →
+        size_of (datum.set (cond b w (data_of (put_in e (list_of w))))) ≤ size_of (datum.set w) + more
+    by_test true h = omega arith
+    by_test false h = omega (arith, parts_grow e w more h)
+put_grows e (datum.bag w) more h = omega (arith, parts_grow e w more h)
+put_grows e v more h = omega arith
+
+pub put_differs : (e old new : Datum) (bound told more before : ℕ) → new ≡ inserted e old → (bound ≤ VALUE_SIZE → told ≡ told_size (size_of e)) → before ≡ length (elements old) →
+    (length (elements new) ≢ before → more ≡ told) → bound ≤ VALUE_SIZE → more ≤ VALUE_SIZE → size_of new + 0 ≤ size_of old + more
+put_differs e old new bound told more before is told_is count_is moved known fits =
+    let grows : size_of (inserted e old) ≤ size_of old + more = put_grows e old more (λ apart.
+    let here : more ≡ told = moved (λ same. apart (ap (λ v. length (elements v)) (sym is) ∙ same ∙ count_is)) in
+    exact (size_of e) told more (told_is known) here fits) in
+    subst (λ v. size_of v + 0 ≤ size_of old + more) (sym is) (omega (arith, grows))
+  where
+    exact : (size told more : ℕ) → told ≡ told_size size → more ≡ told → more ≤ VALUE_SIZE → more ≡ size
+    exact size told more h1 h2 h3 = omega (arith, h1, h2, h3)
+
+same_from : (x e : Datum) → is_eq (datum_cmp x e) ≡ true → x ≡ e
+same_from x e h = (datum_cmp-exact x e).0 ((Equal-is (datum_cmp x e)).0 h)
+
+without_shrinks : (e : Datum) (xs : List Datum) (less : ℕ) → (length (without e xs) ≡ length xs → less ≡ 0) → less ≤ size_of e →
+    size_of_all (data_of (without e xs)) + less ≤ size_of_all (data_of xs)
+without_shrinks e [] less h most = omega (arith, h refl)
+without_shrinks e (x ∷ xs) less h most = by_first (is_eq (datum_cmp x e)) refl h (without_shrinks e xs less)
+  where
+    by_first : (b : Bool) → is_eq (datum_cmp x e) ≡ b → (length (cond b xs (x ∷ without e xs)) ≡ length (x ∷ xs) → less ≡ 0) →
+        ((length (without e xs) ≡ length xs → less ≡ 0) → less ≤ size_of e → size_of_all (data_of (without e xs)) + less ≤ size_of_all (data_of xs)) →
+        size_of_all (data_of (cond b xs (x ∷ without e xs))) + less ≤ size_of_all (data_of (x ∷ xs))
+    by_first true is h rest = omega (arith, ap size_of (same_from x e is), most)
+    by_first false is h rest = omega (arith, rest (λ same. h (ap suc same)) most)
+
+parts_shrink : (e : Datum) (w : Data) (less : ℕ) → (length (list_of (data_of (without e (list_of w)))) ≡ length (list_of w) → less ≡ 0) → less ≤ size_of e →
+    size_of_all (data_of (without e (list_of w))) + less ≤ size_of_all w
+parts_shrink e w less h most =
+    let shrinks = without_shrinks e (list_of w) less (λ same. h (ap length (list_of-data_of (without e (list_of w))) ∙ same)) most in
+    subst (λ u. size_of_all (data_of (without e (list_of w))) + less ≤ size_of_all u) (data_of-list_of w) shrinks
+
+drop_shrinks : (e v : Datum) (less : ℕ) → (length (elements (deleted e v)) ≡ length (elements v) → less ≡ 0) → less ≤ size_of e → size_of (deleted e v) + less ≤ size_of v
+drop_shrinks e (datum.set w) less h most = omega (arith, parts_shrink e w less h most)
+drop_shrinks e (datum.bag w) less h most = omega (arith, parts_shrink e w less h most)
+drop_shrinks e v less h most = omega (arith, h refl)
+
+pub drop_differs : (e old new : Datum) (bound told less before : ℕ) → new ≡ deleted e old → (bound ≤ VALUE_SIZE → told ≡ told_size (size_of e)) → before ≡ length (elements old) →
+    (length (elements new) ≡ before → less ≡ 0) → less ≤ told → bound ≤ VALUE_SIZE → size_of new + less ≤ size_of old + 0
+drop_differs e old new bound told less before is told_is count_is stayed most known =
+    let shrinks : size_of (deleted e old) + less ≤ size_of old = drop_shrinks e old less
+    (λ same. stayed (ap (λ v. length (elements v)) is ∙ same ∙ sym count_is)) (at_most (size_of e) told less (told_is known) most) in
+    subst (λ v. size_of v + less ≤ size_of old + 0) (sym is) (omega (arith, shrinks))
+  where
+    at_most : (size told less : ℕ) → told ≡ told_size size → less ≤ told → less ≤ size
+    at_most size told less h1 h2 = omega (arith, h1, h2)
+
+take_shrinks : (v e : Datum) (less : ℕ) → least_of v ≡ Ok e → less ≤ size_of e → size_of (without_least v) + less ≤ size_of v
+take_shrinks (datum.set datum.none) e less is most = absurd cc
+take_shrinks (datum.set (datum.more x w)) e less is most = let same : x ≡ e = cc in omega (arith, ap size_of same, most)
+take_shrinks (datum.bag datum.none) e less is most = absurd cc
+take_shrinks (datum.bag (datum.more x w)) e less is most = let same : x ≡ e = cc in omega (arith, ap size_of same, most)
+take_shrinks (datum.int z) e less is most = absurd cc
+take_shrinks (datum.truth b) e less is most = absurd cc
+take_shrinks (datum.char k) e less is most = absurd cc
+take_shrinks (datum.enumerated n) e less is most = absurd cc
+take_shrinks (datum.text t) e less is most = absurd cc
+take_shrinks (datum.array w) e less is most = absurd cc
+take_shrinks (datum.fields w) e less is most = absurd cc
+take_shrinks (datum.object p n) e less is most = absurd cc
+
+pub take_differs : (old new least : Datum) (bound less : ℕ) → new ≡ without_least old → least_of old ≡ Ok least → (bound ≤ VALUE_SIZE → less ≡ told_size (size_of least)) →
+    bound ≤ VALUE_SIZE → size_of new + less ≤ size_of old + 0
+take_differs old new least bound less is first told_is known =
+    let shrinks : size_of (without_least old) + less ≤ size_of old = take_shrinks old least less first (at_most (size_of least) less (told_is known)) in
+    subst (λ v. size_of v + less ≤ size_of old + 0) (sym is) (omega (arith, shrinks))
+  where
+    at_most : (size less : ℕ) → less ≡ told_size size → less ≤ size
+    at_most size less h = omega (arith, h)
