@@ -1,10 +1,11 @@
 -- What a change adds to the size of a variable.
-use Rattle.std.proofs.Common.{◌≡◌, ◌≢◌, ◌×◌, ℕ, zero, suc, ◌+◌, ◌≤◌, Bool, true, false, cond, List, [], ◌∷◌, length, Some, Option, None, Result, Ok, Err, refl, ap, sym, ◌∙◌, subst, arith}
-use Rattle.std.specs.Prelude.{IfOk, min, ok_or, slice_get}
+use Rattle.std.proofs.Common.{◌≡◌, ◌≢◌, ℕ, zero, suc, ◌+◌, ◌<◌, ◌≤◌, Bool, true, false, cond, List, [], ◌∷◌, length, Some, Option, None, Result, Ok, Err, refl, ap, sym, ◌∙◌, subst, arith}
+use Rattle.std.specs.Prelude.{IfOk, nat_le, ok_or, slice_get}
+use Rattle.std.proofs.lemmas.Bool.{le-leb, leb-false, leb-true, lt-leb}
 use Rattle.std.specs.Cmp.{Equal-is}
 use Rattle.std.specs.Ordering.{is_eq, is_lt}
 use Rattle.orca_base.specs.declared.fault.FaultKind.{FaultKind}
-use Rattle.orca_base.specs.declared.fault.FaultKind.TheVariants.{IndexOutside}
+use Rattle.orca_base.specs.declared.fault.FaultKind.TheVariants.{IndexOutside, TooLarge}
 use Rattle.orca_base.specs.declared.limits.TheConstants.{VALUE_SIZE}
 use Rattle.value_core.specs.Datum.{Data, Datum, data_of, list_of, data_of-list_of, list_of-data_of}
 use Rattle.value_core.specs.Datum as datum
@@ -16,7 +17,8 @@ use Rattle.value_ops.specs.Sizes.{told_size}
 use Rattle.value_paths.specs.declared.step.Step.{Step as ValueStep}
 use Rattle.value_paths.specs.declared.step.Step.TheVariants.{Index, Field, Node}
 use Rattle.value_paths.specs.Paths.{CanStep, CanWalk, part_at, part_to, with_part}
-use Rattle.meaning_rules.specs.States.{State}
+use Rattle.meaning_rules.specs.States.{State, Goes, Stops, Faults, gives}
+use Rattle.meaning_rules.specs.Operators.{fitting}
 use Rattle.meaning_rules.specs.Variables.{Target, whole_at}
 use Rattle.eval_variables.specs.Bounded.{AddsUp, IsBound, IsWithin}
 use Rattle.eval_variables.specs.Exchanges.{IsPut}
@@ -62,7 +64,8 @@ put_within to old new s s1 bound more less most p known differs grows whole is f
     let before = known p.whole (some_whole (slice_get s.frame to.slot) p.whole p.is) sum.0 in
     let adds = before.1 old new p.stood in
     let change = differs sum.0 sum.1.0 in
-    let stands : Ok whole ≡ Ok (with_part to.path p.whole new) = sym (ap (λ o. ok_or o IndexOutside) is) ∙ whole_put to old new s s1 p in
+    let found : whole_at to s1 ≡ Ok whole = ap (λ o. ok_or o IndexOutside) is in
+    let put = whole_put to old new s s1 p in
     let same : whole ≡ with_part to.path p.whole new = cc in
     subst (λ v. size_of v ≤ most) (sym same) (summed (size_of p.whole) (size_of old) (size_of new) (size_of (with_part to.path p.whole new)) bound more less most before.0 adds change sum.1.1)
   where
@@ -70,6 +73,38 @@ put_within to old new s s1 bound more less most p known differs grows whole is f
     summed whole old new after bound more less most h1 h2 h3 h4 = omega (arith, h1, h2, h3, h4)
 
 -- ---- what was told of sizes
+
+-- a bound within the limit tells that a size is, and so does what is counted
+pub told_same : (n m : ℕ) → n ≤ VALUE_SIZE → m ≤ n → nat_le n VALUE_SIZE ≡ nat_le m VALUE_SIZE
+told_same n m few within = le-leb n VALUE_SIZE few ∙ sym (le-leb m VALUE_SIZE (omega (arith, few, within)))
+
+pub counted_same : (n m : ℕ) → n ≡ told_size m → nat_le n VALUE_SIZE ≡ nat_le m VALUE_SIZE
+counted_same n m told = by_test (nat_le m VALUE_SIZE) refl
+  where
+    by_test : (b : Bool) → nat_le m VALUE_SIZE ≡ b → nat_le n VALUE_SIZE ≡ nat_le m VALUE_SIZE
+    by_test true is = let low : m ≤ VALUE_SIZE = leb-true m VALUE_SIZE is in le-leb n VALUE_SIZE (omega (arith, low, told)) ∙ sym is
+    by_test false is = let high : VALUE_SIZE < m = leb-false m VALUE_SIZE is in lt-leb n VALUE_SIZE (omega (arith, high, told)) ∙ sym is
+
+pub counted_within : (n : ℕ) (v : Datum) → n ≡ told_size (size_of v) → IsWithin n v
+counted_within n v told few = omega (arith, told, few)
+
+pub told_fits : (n : ℕ) (whole : Datum) (s : State) (u : Unit {0}) → nat_le n VALUE_SIZE ≡ nat_le (size_of whole) VALUE_SIZE →
+    ◌≡◌ {A = Result (Unit {0}) FaultKind} (Ok u) (cond (nat_le n VALUE_SIZE) (Ok tt) (Err TooLarge)) → gives (fitting whole) s ≡ Goes whole s
+told_fits n whole s u same is = by_test (nat_le n VALUE_SIZE) (nat_le (size_of whole) VALUE_SIZE) same is
+  where
+    by_test : (a b : Bool) → a ≡ b → ◌≡◌ {A = Result (Unit {0}) FaultKind} (Ok u) (cond a (Ok tt) (Err TooLarge)) → gives (cond b (Ok whole) (Err TooLarge)) s ≡ Goes whole s
+    by_test true true same is = refl
+    by_test true false same is = absurd cc
+    by_test false b same is = absurd cc
+
+pub told_large : (n : ℕ) (whole : Datum) (s : State) (fault : FaultKind) → nat_le n VALUE_SIZE ≡ nat_le (size_of whole) VALUE_SIZE →
+    ◌≡◌ {A = Result (Unit {0}) FaultKind} (Err fault) (cond (nat_le n VALUE_SIZE) (Ok tt) (Err TooLarge)) → gives (fitting whole) s ≡ Stops (Faults fault)
+told_large n whole s fault same is = by_test (nat_le n VALUE_SIZE) (nat_le (size_of whole) VALUE_SIZE) same is
+  where
+    by_test : (a b : Bool) → a ≡ b → ◌≡◌ {A = Result (Unit {0}) FaultKind} (Err fault) (cond a (Ok tt) (Err TooLarge)) → gives (cond b (Ok whole) (Err TooLarge)) s ≡ Stops (Faults fault)
+    by_test true b same is = absurd cc
+    by_test false true same is = absurd cc
+    by_test false false same is = let large : fault ≡ TooLarge = cc in ap (λ f. Stops (Faults f)) (sym large)
 
 -- something else is put
 pub stored : (new old bound more less : ℕ) → (bound ≤ VALUE_SIZE → more ≡ told_size new) → (bound ≤ VALUE_SIZE → less ≡ told_size old) →

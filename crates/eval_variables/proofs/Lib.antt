@@ -9,3 +9,4 @@ mod Keeping
 mod Staying
 mod Bounding
 mod Growing
+mod Enlarging

@@ -1,6 +1,6 @@
 //! Sizes, which limit what variables hold and calls pass.
 
-ghost use Rattle.std.specs.Prelude.{◌≡◌, ◌≤◌, Ok, Err, Some, if◌then◌else◌, map, nat_le, slice_get};
+ghost use Rattle.std.specs.Prelude.{◌≡◌, ◌≤◌, ◌+◌, Ok, Err, Some, if◌then◌else◌, map, nat_le, slice_get};
 ghost use Rattle.orca_base.specs.declared.fault.FaultKind.TheVariants.{TooLarge};
 ghost use Rattle.orca_base.specs.declared.limits.TheConstants.{VALUE_SIZE};
 ghost use Rattle.value_core.specs.Datum.{Datum, data_of};
@@ -46,7 +46,8 @@ pub fn fitting(value: &Value) -> Result<(), Stop>
 
 /// The size of a value, or 10,001 where it is greater; it is counted where a bound is known to which it is to be added, and else 0.
 pub fn size_beside(bound: u32, value: &Value) -> u32
-    ensures { bound ≤ VALUE_SIZE → result ≡ told_size (size_of (datum_of value.now)) }
+    ensures size { bound ≤ VALUE_SIZE → result ≡ told_size (size_of (datum_of value.now)) }
+    ensures few { result ≤ VALUE_SIZE + 1 }
 {
     if bound <= VALUE_SIZE {
         size_of(value)

@@ -15,7 +15,7 @@ ghost use Rattle.eval_variables.specs.Ordered.{AllOrdered, IsOrdered};
 
 use crate::bounds::{UNKNOWN, grown};
 use crate::elements::{count, moved};
-use crate::graphs::{added, deleted};
+use crate::graphs::{added, beside_node, deleted};
 use crate::halving::{delete, has, insert, take_least};
 use crate::operators::integer_in;
 use crate::orders::{has_node, is_ordered};
@@ -228,10 +228,13 @@ pub fn add_node(
     ensures left { run.new.left ≤ run.old.left }
     ensures gives { Gives (option_map datum_of) result (state_of run.new) (rules.add_node (target_of to.now) (datum_of fresh) (state_of run.old)) }
 {
+    let bound = bound_at(to, run);
+    let size = size_beside(bound, &fresh);
     let old = lift(alloc, to, run)?;
+    let more = size + beside_node(&old);
     let (name, graph) = added(alloc, fresh, old)?;
     lower(alloc, to, graph, false, run)?;
-    check(to, UNKNOWN, run)?;
+    check(to, grown(bound, more, 0), run)?;
     Ok(Some(Value::Int(name)))
 }
 
@@ -248,8 +251,10 @@ pub fn delete_node(
     ensures left { run.new.left ≤ run.old.left }
     ensures gives { Gives (option_map datum_of) result (state_of run.new) (rules.delete_node (target_of to.now) (datum_of name.now) (state_of run.old)) }
 {
+    let bound = bound_at(to, run);
     let old = lift(alloc, to, run)?;
     let graph = deleted(alloc, integer_in(name), old)?;
     lower(alloc, to, graph, false, run)?;
+    keep(to, bound, run);
     Ok(None)
 }

@@ -6,8 +6,13 @@ use Rattle.eval_variables.specs.Gives.{path_of, target_of}
 use Rattle.eval_variables.proofs.Changing.{exchanges}
 use Rattle.eval_variables.proofs.frame.exchange_own.Goals as goal
 
-pub returns : goal.returns
-returns c s is =
+pub returns-clause-others : goal.returns-clause-others
+returns-clause-others c =
+    let new = datum_of c.exchange_part.new.value in
+    (new, list_of-data_of (slice_set (list_of c.args.own.now) c.args.to.now.slot new))
+
+pub returns-clause-exchanged : goal.returns-clause-exchanged
+returns-clause-exchanged c s is =
     let slot = c.args.to.now.slot in
     let new = datum_of c.exchange_part.new.value in
     let frame = slice_set (list_of c.args.own.now) slot new in

@@ -19,7 +19,7 @@ keep-requires c =
     put_within (target_of c.args.to.now) old new s (state_of c.lower.new.run) c.bound_at-bound.result 0 c.moved-less.result c.grown.result
     ((c.in_ok-lower.ensures {u = tt}).lowered s old (c.in_ok-all.ensures {u = tt}).lifted) c.bound_at-bound.ensures
     (λ known fits. drop_differs e old new c.bound_at-bound.result c.size_beside.result c.moved-less.result c.count-before.result
-    c.delete.ensures.left c.size_beside.ensures c.count-before.ensures c.moved-less.ensures.stayed c.moved-less.ensures.most known) c.grown.ensures
+    c.delete.ensures.left c.size_beside.ensures.size c.count-before.ensures c.moved-less.ensures.stayed c.moved-less.ensures.most known) c.grown.ensures
 
 pub returns-in_err-lower-clause-gives : goal.returns-in_err-lower-clause-gives
 returns-in_err-lower-clause-gives c =

@@ -25,7 +25,7 @@ check-requires c =
     put_within (target_of c.args.to.now) old new s (state_of c.lower.new.run) c.bound_at-bound.result c.moved-more.result 0 c.grown.result
     ((c.in_ok-lower.ensures {u = tt}).lowered s old (c.in_ok-all.ensures {u = tt}).lifted) c.bound_at-bound.ensures
     (put_differs e old new c.bound_at-bound.result c.size_beside-size.result c.moved-more.result c.count-before.result
-    (c.in_ok-in_order.ensures {u = tt}).inserted c.size_beside-size.ensures c.count-before.ensures c.moved-more.ensures.moved) c.grown.ensures
+    (c.in_ok-in_order.ensures {u = tt}).inserted c.size_beside-size.ensures.size c.count-before.ensures c.moved-more.ensures.moved) c.grown.ensures
 
 pub returns-clause-gives : goal.returns-clause-gives
 returns-clause-gives c =

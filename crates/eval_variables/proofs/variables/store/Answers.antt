@@ -13,7 +13,7 @@ check-requires c =
     let new = datum_of c.args.value in
     put_within (target_of c.args.to.now) old new (state_of c.args.run.now) (state_of c.exchange.new.run) c.bound_at-bound.result c.size_beside-more.result c.size_beside.result c.grown.result
     (c.in_ok-old.ensures {u = tt}).put c.bound_at-bound.ensures
-    (stored (size_of new) (size_of old) c.bound_at-bound.result c.size_beside-more.result c.size_beside.result c.size_beside-more.ensures c.size_beside.ensures) c.grown.ensures
+    (stored (size_of new) (size_of old) c.bound_at-bound.result c.size_beside-more.result c.size_beside.result c.size_beside-more.ensures.size c.size_beside.ensures.size) c.grown.ensures
 
 pub returns-clause-gives : goal.returns-clause-gives
 returns-clause-gives c =

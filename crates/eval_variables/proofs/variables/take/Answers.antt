@@ -12,4 +12,4 @@ keep-requires c =
     put_within (target_of c.args.to.now) old new s (state_of c.lower.new.run) c.bound_at-bound.result 0 c.size_beside.result c.grown.result
     ((c.in_ok-lower.ensures {u = tt}).lowered s old (c.in_ok-all.ensures {u = tt}).lifted) c.bound_at-bound.ensures
     (λ known fits. take_differs old new (datum_of c.in_ok-least.least) c.bound_at-bound.result c.size_beside.result
-    (c.in_ok-least.ensures {u = tt}).rest (c.in_ok-least.ensures {u = tt}).taken c.size_beside.ensures known) c.grown.ensures
+    (c.in_ok-least.ensures {u = tt}).rest (c.in_ok-least.ensures {u = tt}).taken c.size_beside.ensures.size known) c.grown.ensures
