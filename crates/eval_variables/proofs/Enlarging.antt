@@ -1,6 +1,6 @@
 -- What a node adds to the size of a graph, and of what is taken for one.
-use Rattle.std.proofs.Common.{◌≡◌, ℕ, zero, suc, ◌+◌, ◌+ℤ◌, ◌<◌, ◌≤◌, ◌⊎◌, inl, inr, Bool, true, false, cond, ℤ, pos, List, [], ◌∷◌, ◌++◌, length, map, Option, Some, None, Result, Ok, Err, refl, ap, sym, ◌∙◌, subst, arith}
-use Rattle.std.specs.Prelude.{is_some, slice_get}
+use Rattle.std.proofs.Common.{◌≡◌, ℕ, zero, suc, ◌+◌, ◌+ℤ◌, ◌≤◌, ◌⊎◌, inl, inr, Bool, true, false, cond, ℤ, pos, List, [], ◌∷◌, ◌++◌, length, map, Option, Some, None, Result, Ok, Err, refl, ap, sym, ◌∙◌, subst, arith}
+use Rattle.std.specs.Prelude.{◌==◌, is_some, slice_get}
 use Rattle.std.specs.Ordering.{int_eq}
 use Rattle.orca_base.specs.declared.fault.FaultKind.{FaultKind}
 use Rattle.orca_base.specs.declared.fault.FaultKind.TheVariants.{IndexOutside, Overflow}
@@ -28,32 +28,45 @@ one_at_least (datum.object p n) = omega arith
 
 -- ---- the nodes of a graph, beside its size
 
+no_fewer : (n u : ℕ) → n ≡ u → n ≤ u + 1
+no_fewer n u same = omega (arith, same)
+
+none_fewer : (n : ℕ) → 0 ≤ n
+none_fewer n = omega arith
+
 second_nodes : (b : Datum) → size_of_all (data_of (nodes_of (Some b))) ≤ size_of b
-second_nodes (datum.set u) = omega (arith, ap size_of_all (data_of-list_of u))
-second_nodes v = omega arith
+second_nodes (datum.set u) = no_fewer (size_of_all (data_of (list_of u))) (size_of_all u) (ap size_of_all (data_of-list_of u))
+second_nodes v = none_fewer (size_of v)
+
+second_fewer : (n first second others : ℕ) → n ≤ second → n + 1 ≤ first + (second + others) + 1
+second_fewer n first second others h = omega (arith, h)
 
 nodes_fewer : (g : Datum) → size_of_all (data_of (nodes_in g)) + 1 ≤ size_of g
-nodes_fewer (datum.fields datum.none) = omega arith
-nodes_fewer (datum.fields (datum.more a datum.none)) = omega (arith, one_at_least a)
-nodes_fewer (datum.fields (datum.more a (datum.more b w))) = omega (arith, second_nodes b)
-nodes_fewer v = omega arith
+nodes_fewer (datum.fields datum.none) = one_at_least (datum.fields datum.none)
+nodes_fewer (datum.fields (datum.more a datum.none)) = one_at_least (datum.fields (datum.more a datum.none))
+nodes_fewer (datum.fields (datum.more a (datum.more b w))) = second_fewer (size_of_all (data_of (nodes_of (Some b)))) (size_of a) (size_of b) (size_of_all w) (second_nodes b)
+nodes_fewer v = one_at_least v
 
 pub no_graph : (g : Datum) → size_of_all (data_of (nodes_in g)) + 5 ≤ size_of g + 4
 no_graph g = omega (arith, nodes_fewer g)
 
+set_inside : (n u first others : ℕ) → n ≡ u → 1 ≤ first → n + 3 ≤ first + ((u + 1) + others) + 1
+set_inside n u first others same some = omega (arith, same, some)
+
 nodes_inside : (g : Datum) → (nodes_in g ≡ []) ⊎ (size_of_all (data_of (nodes_in g)) + 3 ≤ size_of g)
 nodes_inside (datum.fields datum.none) = inl refl
 nodes_inside (datum.fields (datum.more a datum.none)) = inl refl
-nodes_inside (datum.fields (datum.more a (datum.more (datum.set u) w))) = inr (omega (arith, one_at_least a, ap size_of_all (data_of-list_of u)))
+nodes_inside (datum.fields (datum.more a (datum.more (datum.set u) w))) =
+    inr (set_inside (size_of_all (data_of (list_of u))) (size_of_all u) (size_of a) (size_of_all w) (ap size_of_all (data_of-list_of u)) (one_at_least a))
 nodes_inside (datum.fields (datum.more a (datum.more b w))) = inl refl
 nodes_inside v = inl refl
 
-pub has_nodes : (g : Datum) (vs : List Value) → map datum_of vs ≡ nodes_in g → 0 < length vs → size_of_all (data_of (nodes_in g)) + 5 ≤ size_of g + 2
-has_nodes g [] shown some = absurd (omega (arith, some))
+pub has_nodes : (g : Datum) (vs : List Value) → map datum_of vs ≡ nodes_in g → (length vs == 0) ≡ false → size_of_all (data_of (nodes_in g)) + 5 ≤ size_of g + 2
+has_nodes g [] shown some = absurd cc
 has_nodes g (v ∷ vs) shown some = by_nodes (nodes_inside g)
   where
     by_nodes : (nodes_in g ≡ []) ⊎ (size_of_all (data_of (nodes_in g)) + 3 ≤ size_of g) → size_of_all (data_of (nodes_in g)) + 5 ≤ size_of g + 2
-    by_nodes (inl bare) = let none : datum_of v ∷ map datum_of vs ≡ [] = shown ∙ bare in absurd cc
+    by_nodes (inl bare) = let nothing : datum_of v ∷ map datum_of vs ≡ [] = shown ∙ bare in absurd cc
     by_nodes (inr fewer) = omega (arith, fewer)
 
 -- ---- `addnode`

@@ -139,13 +139,13 @@ parts_grow e w more h =
     let sizes : size_of_all (data_of (put_in e (list_of w))) ≡ size_of_all w + size_of e = size_put e (list_of w) ∙ ap (λ u. size_of_all u + size_of e) (data_of-list_of w) in
     omega (arith, is, sizes)
 
+set_grows : (e : Datum) (w : Data) (more : ℕ) (b : Bool) → (length (list_of (cond b w (data_of (put_in e (list_of w))))) ≢ length (list_of w) → more ≡ size_of e) →
+    size_of (datum.set (cond b w (data_of (put_in e (list_of w))))) ≤ size_of (datum.set w) + more
+set_grows e w more true h = omega arith
+set_grows e w more false h = omega (arith, parts_grow e w more h)
+
 put_grows : (e v : Datum) (more : ℕ) → (length (elements (inserted e v)) ≢ length (elements v) → more ≡ size_of e) → size_of (inserted e v) ≤ size_of v + more
-put_grows e (datum.set w) more h = by_test (has e (list_of w)) h
-  where
-    by_test : (b : Bool) → (length (list_of (cond b w (data_of (put_in e (list_of w))))) ≢ length (list_of w) → more ≡ size_of e) →
-        size_of (datum.set (cond b w (data_of (put_in e (list_of w))))) ≤ size_of (datum.set w) + more
-    by_test true h = omega arith
-    by_test false h = omega (arith, parts_grow e w more h)
+put_grows e (datum.set w) more h = set_grows e w more (has e (list_of w)) h
 put_grows e (datum.bag w) more h = omega (arith, parts_grow e w more h)
 put_grows e v more h = omega arith
 

@@ -1,8 +1,11 @@
-use Rattle.std.proofs.Common.{◌∙◌, ap, sym}
+use Rattle.std.proofs.Common.{◌∙◌, ap, arith, sym}
 use Rattle.eval_variables.specs.Gives.{path_of, target_of}
 use Rattle.eval_variables.specs.Ordered.{has_node}
 use Rattle.eval_variables.proofs.Growing.{adds_up}
 use Rattle.eval_variables.proofs.variables.bound_at.Goals as goal
+
+pub returns-then-has_node : goal.returns-then-has_node
+returns-then-has_node c whole is few = absurd (omega (arith, few))
 
 pub returns : goal.returns
 returns c whole is few = (
