@@ -82,7 +82,7 @@ graph_in (Err fault) = datum.int (pos 0)
 added_is : (fresh g graph : Datum) (name : ℤ) → graphs.added fresh g ≡ Ok (name, graph) → graph ≡ graph_of (name_in g +ℤ pos 1) (nodes_in g ++ node_of (name_in g) fresh ∷ [])
 added_is fresh g graph name given = by_test (int_eq (name_in g) last_name) given
   where
-    by_test : (b : Bool) → cond b (Err Overflow) (Ok (name_in g, graph_of (name_in g +ℤ pos 1) (nodes_in g ++ node_of (name_in g) fresh ∷ []))) ≡ Ok (name, graph) →
+    by_test : (b : Bool) → cond {A = Result (ℤ × Datum) FaultKind} b (Err Overflow) (Ok (name_in g, graph_of (name_in g +ℤ pos 1) (nodes_in g ++ node_of (name_in g) fresh ∷ []))) ≡ Ok (name, graph) →
         graph ≡ graph_of (name_in g +ℤ pos 1) (nodes_in g ++ node_of (name_in g) fresh ∷ [])
     by_test true h = absurd cc
     by_test false h = sym (ap graph_in h)

@@ -63,11 +63,11 @@ put_within to old new s s1 bound more less most p known differs grows whole is f
     let sum = grows few in
     let before = known p.whole (some_whole (slice_get s.frame to.slot) p.whole p.is) sum.0 in
     let adds = before.1 old new p.stood in
-    let change = differs sum.0 sum.1.0 in
+    let change = differs sum.0 sum.1 in
     let found : whole_at to s1 ≡ Ok whole = ap (λ o. ok_or o IndexOutside) is in
     let put = whole_put to old new s s1 p in
     let same : whole ≡ with_part to.path p.whole new = cc in
-    subst (λ v. size_of v ≤ most) (sym same) (summed (size_of p.whole) (size_of old) (size_of new) (size_of (with_part to.path p.whole new)) bound more less most before.0 adds change sum.1.1)
+    subst (λ v. size_of v ≤ most) (sym same) (summed (size_of p.whole) (size_of old) (size_of new) (size_of (with_part to.path p.whole new)) bound more less most before.0 adds change sum.2)
   where
     summed : (whole old new after bound more less most : ℕ) → whole ≤ bound → after + old ≤ whole + new → new + less ≤ old + more → bound + more ≤ most + less → after ≤ most
     summed whole old new after bound more less most h1 h2 h3 h4 = omega (arith, h1, h2, h3, h4)

@@ -4,8 +4,8 @@ use Rattle.std.proofs.lemmas.Result.{err_from_is_err_and}
 use Rattle.std.specs.Prelude.{slice_get}
 use Rattle.eval_variables.proofs.variables.check.Goals as goal
 
-pub told_by-requires : goal.told_by-requires
-told_by-requires c = c.requires
+pub told_by-size-requires : goal.told_by-size-requires
+told_by-size-requires c = c.requires
 
 pub keep-requires : goal.keep-requires
 keep-requires c = c.told_by-size.ensures.within

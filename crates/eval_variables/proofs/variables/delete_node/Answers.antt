@@ -44,7 +44,7 @@ keep-requires c =
     let given = gives_ok (graphs.deleted name old) s graph (subst (λ n. gives (graphs.deleted n old) s ≡ Goes graph s) back (c.in_ok-graph.ensures {u = tt} s)) in
     put_within (target_of c.args.to.now) old graph s (state_of c.lower.new.run) c.bound_at-bound.result 0 0 c.bound_at-bound.result
     ((c.in_ok-lower.ensures {u = tt}).lowered s old (c.in_ok-old.ensures {u = tt}).lifted) c.bound_at-bound.ensures
-    (λ known fits. delete_differs name old graph given) (λ known. (known, (omega arith, omega arith)))
+    (λ known fits. delete_differs name old graph given) (λ known. (known, omega arith, omega arith))
 
 pub returns-clause-gives : goal.returns-clause-gives
 returns-clause-gives c =
