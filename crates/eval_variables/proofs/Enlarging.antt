@@ -75,7 +75,7 @@ size_behind : (xs : List Datum) (x : Datum) → size_of_all (data_of (xs ++ x �
 size_behind [] x = omega arith
 size_behind (y ∷ xs) x = omega (arith, size_behind xs x)
 
-graph_in : Result (ℤ × Datum) FaultKind → Datum
+abbrev graph_in : Result (ℤ × Datum) FaultKind → Datum
 graph_in (Ok p) = p.1
 graph_in (Err fault) = datum.int (pos 0)
 

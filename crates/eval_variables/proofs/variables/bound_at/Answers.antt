@@ -11,5 +11,5 @@ pub returns : goal.returns
 returns c whole is few = (
   c.bound.ensures whole is few,
   adds_up c.paths_law.ensures.sizes (target_of c.args.to.now).path whole
-  (ap (λ p. has_node (path_of p)) (sym c.deref.ensures.value) ∙ sym c.has_node.ensures ∙ c.if-has_node.false),
+      (ap (λ p. has_node (path_of p)) (sym c.deref.ensures.value) ∙ sym c.has_node.ensures ∙ c.if-has_node.false),
 )

@@ -16,8 +16,7 @@ invariant_of-self c =
     let behind = map datum_of c.self.inside.behind.now in
     let others = c.exchange_own-old.ensures.others in
     let low : c.args.to.now.slot < length own = omega (arith, c.if-to-len.true, c.len.ensures.len) in
-    let same = set-append_left own behind c.args.to.now.slot others.0 low ∙ ap (λ xs. xs ++ behind) (sym others.1) in
-    (
+    let same = set-append_left own behind c.args.to.now.slot others.0 low ∙ ap (λ xs. xs ++ behind) (sym others.1) in (
       λ t. exchanged (target_of c.args.to.now) (datum_of c.args.value) own behind (list_of c.exchange_own-old.new.own) c.exchange_own-old.result
           (c.stays_in_order-stays.ensures.path (c.stayed-self-inside.ensures.stays t)) (c.self.invariant.0 (c.stays_in_order-stays.ensures.values (c.stayed-self-inside.ensures.stays t)))
           (c.requires (c.stays_in_order-stays.ensures.value (c.stayed-self-inside.ensures.stays t))) c.exchange_own-old.ensures.exchanged (c.stayed-self-inside.ensures.ok t),
@@ -26,8 +25,7 @@ invariant_of-self c =
 
 pub invariant_of-self-2 : goal.invariant_of-self-2
 invariant_of-self-2 c =
-    let own = list_of c.add_copies.new.all in
-    (
+    let own = list_of c.add_copies.new.all in (
       λ t. exchanged (target_of c.args.to.now) (datum_of c.args.value) own [] (list_of c.exchange_own-old-2.new.own) c.exchange_own-old-2.result
           (c.stays_in_order-stays.ensures.path (c.stayed-self-inside-2.ensures.stays t))
           (joined own [] (subst AllOrdered (sym (c.in_ok-add_copies.ensures {u = tt})) (c.self.invariant.0 (c.stays_in_order-stays.ensures.values (c.stayed-self-inside-2.ensures.stays t)))) tt)
