@@ -1,5 +1,5 @@
 -- Bounds of values' sizes, where values and bounds come and go.
-use Rattle.std.proofs.Common.{◌≡◌, ℕ, zero, suc, ◌+◌, ◌<◌, ◌≤◌, List, [], ◌∷◌, ◌++◌, drop, length, Some, subst, ap, refl, arith}
+use Rattle.std.proofs.Common.{◌≡◌, ℕ, zero, suc, ◌<◌, ◌≤◌, List, [], ◌∷◌, ◌++◌, drop, length, Some, subst, refl, arith}
 use Rattle.std.specs.Prelude.{slice_get, slice_set}
 use Rattle.orca_base.specs.declared.limits.TheConstants.{VALUE_SIZE}
 use Rattle.value_core.specs.Datum.{Datum}

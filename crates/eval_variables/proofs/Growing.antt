@@ -1,5 +1,5 @@
 -- What a change adds to the size of a variable.
-use Rattle.std.proofs.Common.{◌≡◌, ◌≢◌, ℕ, zero, suc, ◌+◌, ◌<◌, ◌≤◌, Bool, true, false, cond, List, [], ◌∷◌, length, Some, Option, None, Result, Ok, Err, refl, ap, sym, ◌∙◌, subst, arith}
+use Rattle.std.proofs.Common.{◌≡◌, ◌≢◌, ℕ, suc, ◌+◌, ◌<◌, ◌≤◌, Bool, true, false, cond, List, [], ◌∷◌, length, Some, Option, None, Result, Ok, Err, refl, ap, sym, ◌∙◌, subst, arith}
 use Rattle.std.specs.Prelude.{IfOk, nat_le, ok_or, slice_get}
 use Rattle.std.proofs.lemmas.Bool.{le-leb, leb-false, leb-true, lt-leb}
 use Rattle.std.specs.Cmp.{Equal-is}
@@ -12,7 +12,7 @@ use Rattle.value_core.specs.Datum as datum
 use Rattle.value_core.specs.Order.{datum_cmp}
 use Rattle.value_core.specs.OrderLaws.{datum_cmp-exact}
 use Rattle.value_core.specs.Size.{size_of, size_of_all}
-use Rattle.value_ops.specs.Elements.{deleted, elements, first_of, has, inserted, least_of, put_in, with_once, without, without_least}
+use Rattle.value_ops.specs.Elements.{deleted, elements, has, inserted, least_of, put_in, without, without_least}
 use Rattle.value_ops.specs.Sizes.{told_size}
 use Rattle.value_paths.specs.declared.step.Step.{Step as ValueStep}
 use Rattle.value_paths.specs.declared.step.Step.TheVariants.{Index, Field, Node}

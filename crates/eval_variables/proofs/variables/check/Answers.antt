@@ -1,4 +1,4 @@
-use Rattle.eval_variables.specs.Gives.{state_of, target_of}
+use Rattle.eval_variables.specs.Gives.{state_of}
 use Rattle.eval_variables.proofs.Growing.{some_whole, told_fits, told_large}
 use Rattle.std.proofs.lemmas.Result.{err_from_is_err_and}
 use Rattle.std.specs.Prelude.{slice_get}

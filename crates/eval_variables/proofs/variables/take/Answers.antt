@@ -1,4 +1,3 @@
-use Rattle.std.proofs.Common.{◌≡◌, subst, sym}
 use Rattle.value_core.specs.View.{datum_of}
 use Rattle.eval_variables.specs.Gives.{state_of, target_of}
 use Rattle.eval_variables.proofs.Growing.{put_within, take_differs}
