@@ -11,3 +11,6 @@ mod Naming
 mod Rising
 mod Standing
 mod Walking
+mod Bounding
+mod Growing
+mod Enlarging

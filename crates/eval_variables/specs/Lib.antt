@@ -6,3 +6,4 @@ pub mod Relations
 pub mod Ordered
 pub mod Naming
 pub mod Firm
+pub mod Bounded

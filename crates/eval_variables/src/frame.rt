@@ -1,16 +1,18 @@
 //! The values of variables, of which some are lent until one of them is changed.
 
-ghost use Rattle.std.specs.Prelude.{◌≡◌, ◌++◌, ◌∷◌, IfOk, IsTrue, OnErr, OnOk, drop, false, is_ok, map, option_map, slice_get};
+ghost use Rattle.std.specs.Prelude.{◌≡◌, ◌++◌, ◌∷◌, IfOk, IsTrue, OnErr, OnOk, Some, drop, false, is_ok, map, option_map, slice_get, slice_set};
 ghost use Rattle.std.specs.Option.{option_copied};
-ghost use Rattle.value_core.specs.Datum.{list_of};
+ghost use Rattle.value_core.specs.Datum.{Datum, list_of};
 ghost use Rattle.value_core.specs.Sound.{AreSound};
 ghost use Rattle.value_core.specs.View.{data_in, datum_of};
 ghost use Rattle.meaning_rules.specs.States.{State};
+ghost use Rattle.eval_variables.specs.Bounded.{IsWithin};
 ghost use Rattle.eval_variables.specs.Exchanges.{Exchanges};
 ghost use Rattle.eval_variables.specs.Gives.{target_of};
 ghost use Rattle.eval_variables.specs.Firm.{IsFirmAt};
 ghost use Rattle.eval_variables.specs.Ordered.{AllOrdered, IsOrdered};
 
+use crate::bounds::Bounds;
 use crate::firm::is_firm;
 use crate::orders::{are_ordered, is_ordered};
 use crate::parts::exchange_part;
@@ -29,13 +31,16 @@ use value_core::{Parts, Value};
 /// What it keeps is its own, so that costs can be mended here with no change of a clause. A mark says that the sets and bags in all
 /// values are in order, at whatever depth, so that elements and nodes can be found by halving. Values are tested where they come, and
 /// what is lent is sound. The mark is lost where something is put that isn't known to be in order, or behind a node that isn't firm
-/// (specs/Firm.antt) and may then stand at another place. A size beside each place would serve to add a difference where something is written: for it making a frame
-/// may lack memory.
+/// (specs/Firm.antt) and may then stand at another place.
+///
+/// Beside a value of many parts stands an upper bound of its size, where one was found: who writes forgets it (`exchange`), and notes a
+/// new one (`note`), by which no value is counted twice.
 #[derive(Drop)]
 pub struct Frame<'a> {
     own: Parts,
     behind: &'a [Value],
     in_order: bool,
+    bounds: Bounds,
 }
 
 impl<'a> Model for Frame<'a> {
@@ -51,9 +56,11 @@ impl<'a> Model for Frame<'a> {
     ghost view = { λ f. list_of f.own ++ map datum_of f.behind.now };
 
     ghost use Rattle.std.specs.Prelude.{IsTrue};
+    ghost use Rattle.eval_variables.specs.Bounded.{AreWithin};
     ghost use Rattle.eval_variables.specs.Ordered.{AllOrdered};
 
-    ghost invariant = { λ f. IsTrue f.in_order → AllOrdered (list_of f.own ++ map datum_of f.behind.now) };
+    ghost invariant = { λ f. (IsTrue f.in_order → AllOrdered (list_of f.own ++ map datum_of f.behind.now)) ×
+        AreWithin f.bounds (list_of f.own ++ map datum_of f.behind.now) };
 }
 
 // Puts copies of values behind others.
@@ -75,7 +82,8 @@ fn exchange_own(
     in_order: bool,
 ) -> Result<Value, Stop>
     requires { IsTrue in_order → AllOrdered (list_of own.old) }
-    ensures { (s : State) → s.frame ≡ list_of own.old →
+    ensures others { (v : Datum) × (list_of own.new ≡ slice_set (list_of own.old) to.now.slot v) }
+    ensures exchanged { (s : State) → s.frame ≡ list_of own.old →
         Exchanges (target_of to.now) (datum_of value) s result (record s { frame = list_of own.new }) }
 {
     if to.slot >= own.len() {
@@ -99,7 +107,7 @@ impl<'a> Frame<'a> {
     ///
     /// # Errors
     /// Want of memory: none comes yet.
-    pub fn new(_alloc: Global, own: Parts) -> Result<Frame<'a>, NoMemory>
+    pub fn new(alloc: Global, own: Parts) -> Result<Frame<'a>, NoMemory>
         ensures { IfOk result (λ f. f ≡ list_of own) }
     {
         let in_order = are_ordered(own.as_slice());
@@ -107,6 +115,7 @@ impl<'a> Frame<'a> {
             own,
             behind: &[],
             in_order,
+            bounds: Bounds::new(alloc),
         })
     }
 
@@ -114,7 +123,7 @@ impl<'a> Frame<'a> {
     ///
     /// # Errors
     /// Want of memory: none comes yet.
-    pub fn over(_alloc: Global, own: Parts, behind: &'a [Value]) -> Result<Frame<'a>, NoMemory>
+    pub fn over(alloc: Global, own: Parts, behind: &'a [Value]) -> Result<Frame<'a>, NoMemory>
         requires { AreSound (data_in behind.now) }
         ensures { IfOk result (λ f. f ≡ list_of own ++ map datum_of behind.now) }
     {
@@ -123,6 +132,7 @@ impl<'a> Frame<'a> {
             own,
             behind,
             in_order,
+            bounds: Bounds::new(alloc),
         })
     }
 
@@ -164,6 +174,21 @@ impl<'a> Frame<'a> {
         }
     }
 
+    /// An upper bound of the size of the value at this place from 0, where one is known; else more than a variable may hold.
+    pub(crate) fn bound(&self, slot: usize) -> u32
+        ensures { (v : Datum) → slice_get self.now slot ≡ Some v → IsWithin result v }
+    {
+        self.bounds.get(slot)
+    }
+
+    /// Keeps an upper bound of the size of the value at this place from 0.
+    pub(crate) fn note(&mut self, slot: usize, bound: u32)
+        requires { (v : Datum) → slice_get self.old slot ≡ Some v → IsWithin bound v }
+        ensures { self.new ≡ self.old }
+    {
+        self.bounds.note(slot, bound);
+    }
+
     /// All values, in order. It copies those that are still lent.
     ///
     /// # Errors
@@ -186,6 +211,7 @@ impl<'a> Frame<'a> {
     {
         let in_order = is_ordered(&value);
         self.own.insert(0, value)?;
+        self.bounds.add_front();
         self.in_order = self.in_order && in_order;
         Ok(())
     }
@@ -194,6 +220,7 @@ impl<'a> Frame<'a> {
     pub(crate) fn drop_front(&mut self)
         ensures { self.new ≡ drop 1 self.old }
     {
+        self.bounds.drop_front();
         if !self.own.is_empty() {
             self.own.remove(0);
             return;
@@ -223,10 +250,12 @@ impl<'a> Frame<'a> {
         let were_in_order = self.in_order;
         self.in_order = false;
         if to.slot < self.own.len() {
+            self.bounds.forget(to.slot);
             let old = exchange_own(alloc, &mut self.own, to, value, were_in_order);
             self.in_order = stayed(stays, &old);
             return old;
         }
+        self.bounds.clear();
         add_copies(alloc, &mut self.own, self.behind)?;
         self.behind = &[];
         let old = exchange_own(alloc, &mut self.own, to, value, were_in_order);

@@ -1,11 +1,12 @@
 //! Graphs, taken apart and put together again.
 
 ghost use Rattle.std.specs.Int.{w64};
-ghost use Rattle.std.specs.Prelude.{◌≡◌, FitsSigned, IfOk, IsTrue, Some, map, pos, slice_get, unwrap_or};
+ghost use Rattle.std.specs.Prelude.{◌≡◌, ◌≤◌, ◌+◌, FitsSigned, IfOk, IsTrue, Some, map, pos, slice_get, unwrap_or};
 ghost use Rattle.std.specs.List.Sorted.{IsStrictlySortedBy};
 ghost use Rattle.value_core.specs.Datum as datum;
-ghost use Rattle.value_core.specs.Datum.{list_of};
+ghost use Rattle.value_core.specs.Datum.{data_of, list_of};
 ghost use Rattle.value_core.specs.Order.{datum_cmp};
+ghost use Rattle.value_core.specs.Size.{size_of, size_of_all};
 ghost use Rattle.value_core.specs.View.{datum_of};
 ghost use Rattle.graph_values.specs.Graphs as rules;
 ghost use Rattle.graph_values.specs.Graphs.{graph_of, name_in, node_of, nodes_in, value_in};
@@ -125,6 +126,15 @@ pub fn value_of(alloc: Global, node: Value) -> Value
     ensures { datum_of result ≡ value_in (datum_of node) }
 {
     taken(fields_in(alloc, node), 1)
+}
+
+/// What a node adds to the size of a graph beside its value: 2, and at most 4 where there was none, since what isn't a graph is taken
+/// for one.
+pub fn beside_node(graph: &Value) -> u32
+    ensures grows { size_of_all (data_of (nodes_in (datum_of graph.now))) + 5 ≤ size_of (datum_of graph.now) + result }
+    ensures few { result ≤ 4 }
+{
+    if nodes_of(graph).is_empty() { 4 } else { 2 }
 }
 
 // Whether nodes that are known to rise, or not, do so with a node of this name and value behind them, whose value is in order.

@@ -9,6 +9,7 @@
 #![tactic(auto)]
 
 mod actions;
+mod bounds;
 mod calls;
 mod elements;
 mod firm;
