@@ -13,18 +13,7 @@ use Rattle.value_core.specs.declared.value.Value.{Value}
 use Rattle.value_ops.specs.Sizes.{told_size}
 use Rattle.graph_values.specs.Graphs as graphs
 use Rattle.graph_values.specs.Graphs.{graph_of, is_named, last_name, name_in, node_in, node_of, nodes_in, nodes_of, value_at, value_in, without_node}
-
-one_at_least : (v : Datum) → 1 ≤ size_of v
-one_at_least (datum.int z) = omega arith
-one_at_least (datum.truth b) = omega arith
-one_at_least (datum.char c) = omega arith
-one_at_least (datum.enumerated n) = omega arith
-one_at_least (datum.text t) = omega arith
-one_at_least (datum.array w) = omega arith
-one_at_least (datum.fields w) = omega arith
-one_at_least (datum.set w) = omega arith
-one_at_least (datum.bag w) = omega arith
-one_at_least (datum.object p n) = omega arith
+use Rattle.eval_variables.proofs.Standing.{has_size}
 
 -- ---- the nodes of a graph, beside its size
 
@@ -42,10 +31,10 @@ second_fewer : (n first second others : ℕ) → n ≤ second → n + 1 ≤ firs
 second_fewer n first second others h = omega (arith, h)
 
 nodes_fewer : (g : Datum) → size_of_all (data_of (nodes_in g)) + 1 ≤ size_of g
-nodes_fewer (datum.fields datum.none) = one_at_least (datum.fields datum.none)
-nodes_fewer (datum.fields (datum.more a datum.none)) = one_at_least (datum.fields (datum.more a datum.none))
+nodes_fewer (datum.fields datum.none) = has_size (datum.fields datum.none)
+nodes_fewer (datum.fields (datum.more a datum.none)) = has_size (datum.fields (datum.more a datum.none))
 nodes_fewer (datum.fields (datum.more a (datum.more b w))) = second_fewer (size_of_all (data_of (nodes_of (Some b)))) (size_of a) (size_of b) (size_of_all w) (second_nodes b)
-nodes_fewer v = one_at_least v
+nodes_fewer v = has_size v
 
 pub no_graph : (g : Datum) → size_of_all (data_of (nodes_in g)) + 5 ≤ size_of g + 4
 no_graph g = omega (arith, nodes_fewer g)
@@ -57,7 +46,7 @@ nodes_inside : (g : Datum) → (nodes_in g ≡ []) ⊎ (size_of_all (data_of (no
 nodes_inside (datum.fields datum.none) = inl refl
 nodes_inside (datum.fields (datum.more a datum.none)) = inl refl
 nodes_inside (datum.fields (datum.more a (datum.more (datum.set u) w))) =
-    inr (set_inside (size_of_all (data_of (list_of u))) (size_of_all u) (size_of a) (size_of_all w) (ap size_of_all (data_of-list_of u)) (one_at_least a))
+    inr (set_inside (size_of_all (data_of (list_of u))) (size_of_all u) (size_of a) (size_of_all w) (ap size_of_all (data_of-list_of u)) (has_size a))
 nodes_inside (datum.fields (datum.more a (datum.more b w))) = inl refl
 nodes_inside v = inl refl
 

@@ -1,6 +1,6 @@
 -- What a change adds to the size of a variable.
-use Rattle.std.proofs.Common.{◌≡◌, ◌≢◌, ℕ, suc, ◌+◌, ◌<◌, ◌≤◌, Bool, true, false, cond, List, [], ◌∷◌, length, Some, Option, None, Result, Ok, Err, refl, ap, sym, ◌∙◌, subst, arith}
-use Rattle.std.specs.Prelude.{IfOk, nat_le, ok_or, slice_get}
+use Rattle.std.proofs.Common.{◌≡◌, ◌≢◌, ℕ, suc, ◌+◌, ◌<◌, ◌≤◌, Bool, true, false, cond, List, [], ◌∷◌, length, Some, Result, Ok, Err, refl, ap, sym, ◌∙◌, subst, arith}
+use Rattle.std.specs.Prelude.{nat_le, ok_or, slice_get}
 use Rattle.std.proofs.lemmas.Bool.{le-leb, leb-false, leb-true, lt-leb}
 use Rattle.std.specs.Cmp.{Equal-is}
 use Rattle.std.specs.Ordering.{is_eq, is_lt}
@@ -15,7 +15,7 @@ use Rattle.value_core.specs.Size.{size_of, size_of_all}
 use Rattle.value_ops.specs.Elements.{deleted, elements, has, inserted, least_of, put_in, without, without_least}
 use Rattle.value_ops.specs.Sizes.{told_size}
 use Rattle.value_paths.specs.declared.step.Step.{Step as ValueStep}
-use Rattle.value_paths.specs.Paths.{part_at, with_part}
+use Rattle.value_paths.specs.Paths.{with_part}
 use Rattle.meaning_rules.specs.States.{State, Goes, Stops, Faults, gives}
 use Rattle.meaning_rules.specs.Operators.{fitting}
 use Rattle.meaning_rules.specs.Variables.{Target, whole_at}
@@ -24,6 +24,7 @@ use Rattle.eval_variables.specs.Exchanges.{IsPut}
 use Rattle.eval_variables.specs.Firm.{IsFirm}
 use Rattle.eval_variables.proofs.Changing.{whole_put}
 use Rattle.eval_variables.proofs.Standing.{firm_size}
+use Rattle.eval_variables.proofs.Staying.{some_whole}
 
 -- ---- where a path is firm, sizes add up
 
@@ -31,10 +32,6 @@ pub firm_adds : (path : List ValueStep) (v : Datum) → IsFirm path v → AddsUp
 firm_adds path v firm p x stood = firm_size path v p x firm stood
 
 -- ---- a variable where something was put at a target
-
-pub some_whole : (o : Option Datum) (v : Datum) → ok_or o IndexOutside ≡ Ok v → o ≡ Some v
-some_whole None v is = absurd cc
-some_whole (Some w) v is = let same : w ≡ v = cc in ap Some same
 
 pub put_within : (to : Target) (old new : Datum) (s s1 : State) (bound more less most : ℕ) → IsPut to old new s s1 →
     ((whole : Datum) → slice_get s.frame to.slot ≡ Some whole → IsBound bound to.path whole) →

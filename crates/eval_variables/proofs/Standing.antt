@@ -68,7 +68,7 @@ no_part (Err fault) p is = cc
 no_field : (i : ℕ) (p : Datum) → found (slice_get [] i) ≡ Ok p → ⊥
 no_field i p is = cc
 
-has_size : (v : Datum) → 1 ≤ size_of v
+pub has_size : (v : Datum) → 1 ≤ size_of v
 has_size (datum.int z) = omega arith
 has_size (datum.truth b) = omega arith
 has_size (datum.char c) = omega arith

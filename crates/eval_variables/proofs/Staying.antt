@@ -40,15 +40,15 @@ held_ordered to s p h is = by_whole (whole_at to s) refl (gives_ok (and_then (wh
     by_whole (Err fault) stands is = absurd cc
 
 -- what is put there
-ok_is : (o : Option Datum) (x : Datum) → ok_or o IndexOutside ≡ Ok x → o ≡ Some x
-ok_is None x is = absurd cc
-ok_is (Some y) x is = let same : y ≡ x = cc in ap Some same
+pub some_whole : (o : Option Datum) (x : Datum) → ok_or o IndexOutside ≡ Ok x → o ≡ Some x
+some_whole None x is = absurd cc
+some_whole (Some y) x is = let same : y ≡ x = cc in ap Some same
 
 frame_ordered : (to : Target) (old x : Datum) (s s1 : State) → IsFirmAt to s.frame → AllOrdered s.frame → IsOrdered x → IsPut to old x s s1 → AllOrdered s1.frame
 frame_ordered to old x s s1 firm h one p =
     let whole = whole_in s.frame to.slot p.whole h p.is in
     subst (λ (t : State). AllOrdered t.frame) (sym p.stands)
-    (set_in s.frame to.slot (with_part to.path p.whole x) h (firm_put to.path p.whole x (firm p.whole (ok_is (slice_get s.frame to.slot) p.whole p.is)) whole one))
+    (set_in s.frame to.slot (with_part to.path p.whole x) h (firm_put to.path p.whole x (firm p.whole (some_whole (slice_get s.frame to.slot) p.whole p.is)) whole one))
 
 pub exchanged : (to : Target) (x : Datum) (xs ys xs1 : List Datum) (r : Result Value Stop) → IsFirmAt to xs → AllOrdered (xs ++ ys) → IsOrdered x →
     ((s : State) → s.frame ≡ xs → Exchanges to x s r (record s { frame = xs1 })) → is_ok r ≡ true → AllOrdered (xs1 ++ ys)

@@ -1,5 +1,6 @@
 use Rattle.eval_variables.specs.Gives.{state_of}
-use Rattle.eval_variables.proofs.Growing.{some_whole, told_fits, told_large}
+use Rattle.eval_variables.proofs.Growing.{told_fits, told_large}
+use Rattle.eval_variables.proofs.Staying.{some_whole}
 use Rattle.std.proofs.lemmas.Result.{err_from_is_err_and}
 use Rattle.std.specs.Prelude.{slice_get}
 use Rattle.eval_variables.proofs.variables.check.Goals as goal
