@@ -1,6 +1,6 @@
 -- What is in order stays so where it is read, and where parts and elements come and go.
 use Rattle.std.proofs.Common.{◌≡◌, ℕ, zero, suc, ◌+◌, Bool, true, false, cond, ℤ, List, [], ◌∷◌, ◌++◌, length, map, Option, Some, None, Result, Ok, Err, refl, sym, subst, arith}
-use Rattle.std.specs.Prelude.{◌||◌, pos, slice_get, slice_set, unwrap_or}
+use Rattle.std.specs.Prelude.{pos, slice_get, slice_set, unwrap_or}
 use Rattle.std.specs.List.{AllByRecursion}
 use Rattle.std.specs.List.Sorted.{IsSorted, IsStrictlySortedBy}
 use Rattle.std.specs.declared.cmp.Ordering.{Ordering}
@@ -19,8 +19,8 @@ use Rattle.graph_values.specs.Graphs.{fields_in, is_named, nodes_in, nodes_of, v
 use Rattle.value_ops.specs.Sizes.{place_of}
 use Rattle.value_paths.specs.declared.step.Step.{Step as ValueStep}
 use Rattle.value_paths.specs.declared.step.Step.TheVariants.{Index, Field, Node}
-use Rattle.value_paths.specs.Paths.{and_then, array_in, at_place, found, part_at, part_to, set_place, where_found, with_part, with_step}
-use Rattle.eval_variables.specs.Ordered.{AllOrdered, AreOrdered, Follow, IsOrdered, has_node, is_node}
+use Rattle.value_paths.specs.Paths.{and_then, array_in, at_place, found, part_at, part_to}
+use Rattle.eval_variables.specs.Ordered.{AllOrdered, AreOrdered, Follow, IsOrdered}
 
 -- ---- lists
 
@@ -91,11 +91,11 @@ in_order (datum.set w) h = h.1
 in_order (datum.bag w) h = h.1
 in_order v h = tt
 
-fields_ordered : (v : Datum) → IsOrdered v → AllOrdered (fields_in v)
+pub fields_ordered : (v : Datum) → IsOrdered v → AllOrdered (fields_in v)
 fields_ordered (datum.fields w) h = all_listed w h
 fields_ordered v h = tt
 
-array_ordered : (v : Datum) → IsOrdered v → AllOrdered (array_in v)
+pub array_ordered : (v : Datum) → IsOrdered v → AllOrdered (array_in v)
 array_ordered (datum.array w) h = all_listed w h
 array_ordered v h = tt
 
@@ -110,7 +110,7 @@ placed_ordered : (q : Result ℕ FaultKind) (xs : List Datum) (x : Datum) → Al
 placed_ordered (Ok place) xs x h is = found_ordered xs place x h is
 placed_ordered (Err fault) xs x h is = absurd cc
 
-second_ordered : (v : Datum) → IsOrdered v → IsOrdered (value_in v)
+pub second_ordered : (v : Datum) → IsOrdered v → IsOrdered (value_in v)
 second_ordered v h = by_field (slice_get (fields_in v) 1) (λ y is. got (fields_in v) 1 y (fields_ordered v h) is)
   where
     by_field : (o : Option Datum) → ((y : Datum) → o ≡ Some y → IsOrdered y) → IsOrdered (unwrap_or o (datum.int (pos 0)))
@@ -142,7 +142,7 @@ node_ordered name (y ∷ xs) x h is = by_name (is_named name y) (node_ordered na
     by_name true rest is = let same : value_in y ≡ x = cc in subst IsOrdered same (second_ordered y h.0)
     by_name false rest is = rest is
 
-step_ordered : (step : ValueStep) (v p : Datum) → IsOrdered v → part_to step v ≡ Ok p → IsOrdered p
+pub step_ordered : (step : ValueStep) (v p : Datum) → IsOrdered v → part_to step v ≡ Ok p → IsOrdered p
 step_ordered (Index low index) v p h is = placed_ordered (place_of (length (array_in v)) low index) (array_in v) p (array_ordered v h) is
 step_ordered (Field place) v p h is = found_ordered (fields_in v) place p (fields_ordered v h) is
 step_ordered (Node name) v p h is = node_ordered name (nodes_in v) p (nodes_ordered v h).0 is
@@ -154,36 +154,6 @@ path_ordered (step ∷ path) v p h is = by_step (part_to step v) refl (λ c. pat
     by_step : (q : Result Datum FaultKind) → part_to step v ≡ q → ((c : Datum) → IsOrdered c → part_at path c ≡ Ok p → IsOrdered p) → and_then q (part_at path) ≡ Ok p → IsOrdered p
     by_step (Ok c) leads rest is = rest c (step_ordered step v c h leads) is
     by_step (Err fault) leads rest is = absurd cc
-
--- ---- what is written, where no step leads to a node
-
-placed_put : (q : Result ℕ FaultKind) (xs : List Datum) (x : Datum) → AllOrdered xs → IsOrdered x → AllOrdered (set_place q xs x)
-placed_put (Ok place) xs x h one = set_in xs place x h one
-placed_put (Err fault) xs x h one = h
-
-step_put : (step : ValueStep) (v x : Datum) → is_node step ≡ false → IsOrdered v → IsOrdered x → IsOrdered (with_step step v x)
-step_put (Index low index) v x apart h one =
-    let place = place_of (length (array_in v)) low index in
-    as_data (set_place place (array_in v) x) (placed_put place (array_in v) x (array_ordered v h) one)
-step_put (Field place) v x apart h one = as_data (slice_set (fields_in v) place x) (set_in (fields_in v) place x (fields_ordered v h) one)
-step_put (Node name) v x apart h one = absurd cc
-
-first_of_none : (a b : Bool) → (a || b) ≡ false → a ≡ false
-first_of_none true b h = absurd cc
-first_of_none false b h = refl
-
-rest_of_none : (a b : Bool) → (a || b) ≡ false → b ≡ false
-rest_of_none true b h = absurd cc
-rest_of_none false b h = h
-
-pub path_put : (path : List ValueStep) (v x : Datum) → has_node path ≡ false → IsOrdered v → IsOrdered x → IsOrdered (with_part path v x)
-path_put [] v x apart h one = one
-path_put (step ∷ path) v x apart h one = by_step (part_to step v) refl (λ c inside. path_put path c x (rest_of_none (is_node step) (has_node path) apart) inside one)
-  where
-    by_step : (q : Result Datum FaultKind) → part_to step v ≡ q → ((c : Datum) → IsOrdered c → IsOrdered (with_part path c x)) →
-        IsOrdered (where_found q v (λ p. with_step step v (with_part path p x)))
-    by_step (Ok c) leads rest = step_put step v (with_part path c x) (first_of_none (is_node step) (has_node path) apart) h (rest c (step_ordered step v c h leads))
-    by_step (Err fault) leads rest = h
 
 -- ---- elements
 
@@ -234,11 +204,11 @@ take_keeps v h order = h
 
 -- ---- neighbours that rise, or don't fall
 
-above_first : (x y : Datum) (ys : List Datum) → datum_cmp x y ≡ Less → AllByRecursion (λ z. datum_cmp y z ≡ Less) ys → AllByRecursion (λ z. datum_cmp x z ≡ Less) ys
+pub above_first : (x y : Datum) (ys : List Datum) → datum_cmp x y ≡ Less → AllByRecursion (λ z. datum_cmp y z ≡ Less) ys → AllByRecursion (λ z. datum_cmp x z ≡ Less) ys
 above_first x y [] less all = tt
 above_first x y (z ∷ ys) less all = (datum_total.trans x y z less all.0, above_first x y ys less all.1)
 
-is_less : (r : Ordering) → is_lt r ≡ true → r ≡ Less
+pub is_less : (r : Ordering) → is_lt r ≡ true → r ≡ Less
 is_less Less h = refl
 is_less Equal h = absurd cc
 is_less Greater h = absurd cc

@@ -7,3 +7,10 @@ mod Fronts
 mod Handing
 mod Keeping
 mod Staying
+mod Naming
+mod Rising
+mod Standing
+mod Walking
+mod Bounding
+mod Growing
+mod Enlarging

@@ -23,7 +23,7 @@ pub node_nowhere : (name name' : ℤ) (g : Datum) (vs : List Value) (xs : List D
 node_nowhere name name' g vs xs same nodes shown is =
     ap (value_at name) (sym nodes) ∙ ap (λ n. value_at n xs) (sym same) ∙ node_none name' xs (found_none (is_named name') vs xs is shown)
 
-shown_at : (vs : List Value) (i : ℕ) (v : Value) → i < length vs → v ≡ get_or vs i v → slice_get (map datum_of vs) i ≡ Some (datum_of v)
+pub shown_at : (vs : List Value) (i : ℕ) (v : Value) → i < length vs → v ≡ get_or vs i v → slice_get (map datum_of vs) i ≡ Some (datum_of v)
 shown_at [] i v h is = absurd (omega (arith, h))
 shown_at (x ∷ vs) zero v h is = ap (λ y. Some (datum_of y)) (sym is)
 shown_at (x ∷ vs) (suc i) v h is = shown_at vs i v (omega (arith, h)) is

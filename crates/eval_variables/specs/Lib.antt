@@ -4,3 +4,6 @@ pub mod Frames
 pub mod Lent
 pub mod Relations
 pub mod Ordered
+pub mod Naming
+pub mod Firm
+pub mod Bounded

@@ -1,12 +1,10 @@
 -- Values whose sets rise and whose bags never fall, at whatever depth: of these elements and nodes can be found by halving.
-use Rattle.std.specs.Prelude.{Bool, true, false, List, [], ◌∷◌}
-use Rattle.std.specs.List.{AllByRecursion, list_any}
+use Rattle.std.specs.Prelude.{List, [], ◌∷◌}
+use Rattle.std.specs.List.{AllByRecursion}
 use Rattle.std.specs.List.Sorted.{IsSorted, IsStrictlySortedBy}
 use Rattle.value_core.specs.Datum.{Data, Datum, list_of}
 use Rattle.value_core.specs.Datum as datum
 use Rattle.value_core.specs.Order.{datum_cmp}
-use Rattle.value_paths.specs.declared.step.Step.{Step}
-use Rattle.value_paths.specs.declared.step.Step.TheVariants.{Index, Field, Node}
 
 abbrev mutual
   pub IsOrdered : Datum → Type 0
@@ -33,12 +31,3 @@ AllOrdered xs = AllByRecursion IsOrdered xs
 abbrev pub Follow : (Datum → Datum → Type 0) → Datum → List Datum → Type 0
 Follow R x [] = Unit {0}
 Follow R x (y ∷ ys) = R x y × Follow R y ys
-
--- whether a path has a step to a node
-abbrev pub is_node : Step → Bool
-is_node (Index low index) = false
-is_node (Field place) = false
-is_node (Node name) = true
-
-abbrev pub has_node : List Step → Bool
-has_node path = list_any is_node path

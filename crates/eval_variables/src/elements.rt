@@ -1,6 +1,6 @@
 //! The elements of sets and bags, looked for one after the other.
 
-ghost use Rattle.std.specs.Prelude.{◌≡◌, OnOk, map, not, position};
+ghost use Rattle.std.specs.Prelude.{◌≡◌, ◌≢◌, ◌≤◌, OnOk, length, map, not, position};
 ghost use Rattle.std.specs.Ordering.{is_eq, is_lt};
 ghost use Rattle.value_core.specs.Datum.{data_of, list_of};
 ghost use Rattle.value_core.specs.Order.{datum_cmp};
@@ -19,6 +19,22 @@ fn elements_of(value: &Value) -> &[Value]
         Value::Set(parts) | Value::Bag(parts) => parts.as_parts().as_slice(),
         _ => &[],
     }
+}
+
+/// How many elements a set or bag has; other values have none.
+pub fn count(all: &Value) -> usize
+    ensures { result ≡ length (elements (datum_of all.now)) }
+{
+    elements_of(all).len()
+}
+
+/// So much, where a set or bag has more or fewer elements than it had, and else nothing.
+pub fn moved(size: u32, before: usize, all: &Value) -> u32
+    ensures moved { length (elements (datum_of all.now)) ≢ before → result ≡ size }
+    ensures stayed { length (elements (datum_of all.now)) ≡ before → result ≡ 0 }
+    ensures most { result ≤ size }
+{
+    if count(all) == before { 0 } else { size }
 }
 
 // Whether values have this one.

@@ -1,16 +1,20 @@
 //! The values of variables, of which some are lent until one of them is changed.
 
-ghost use Rattle.std.specs.Prelude.{◌≡◌, ◌++◌, ◌∷◌, IfOk, IsTrue, OnErr, OnOk, drop, false, is_ok, map, option_map, slice_get};
+ghost use Rattle.std.specs.Prelude.{◌≡◌, ◌++◌, ◌∷◌, IfOk, IsTrue, OnErr, OnOk, Some, drop, false, is_ok, map, option_map, slice_get, slice_set};
 ghost use Rattle.std.specs.Option.{option_copied};
-ghost use Rattle.value_core.specs.Datum.{list_of};
+ghost use Rattle.value_core.specs.Datum.{Datum, list_of};
 ghost use Rattle.value_core.specs.Sound.{AreSound};
 ghost use Rattle.value_core.specs.View.{data_in, datum_of};
 ghost use Rattle.meaning_rules.specs.States.{State};
+ghost use Rattle.eval_variables.specs.Bounded.{IsWithin};
 ghost use Rattle.eval_variables.specs.Exchanges.{Exchanges};
 ghost use Rattle.eval_variables.specs.Gives.{target_of};
-ghost use Rattle.eval_variables.specs.Ordered.{AllOrdered, IsOrdered, has_node as node_on};
+ghost use Rattle.eval_variables.specs.Firm.{IsFirmAt};
+ghost use Rattle.eval_variables.specs.Ordered.{AllOrdered, IsOrdered};
 
-use crate::orders::{are_ordered, has_node, is_ordered};
+use crate::bounds::Bounds;
+use crate::firm::is_firm;
+use crate::orders::{are_ordered, is_ordered};
 use crate::parts::exchange_part;
 use crate::steps::Target;
 use crate::stop::Stop;
@@ -25,15 +29,18 @@ use value_core::{Parts, Value};
 /// didn't change only at its end. The first change of one copies all that are lent, since what a body leaves is a whole state.
 ///
 /// What it keeps is its own, so that costs can be mended here with no change of a clause. A mark says that the sets and bags in all
-/// values are in order, at whatever depth, so that elements can be found by halving. Values are tested where they come, and what is
-/// lent is sound. The mark is lost where something is put that isn't known to be in order, or behind a step to a node, which may then
-/// stand at another place. A size beside each place would serve to add a difference where something is written: for it making a frame
-/// may lack memory.
+/// values are in order, at whatever depth, so that elements and nodes can be found by halving. Values are tested where they come, and
+/// what is lent is sound. The mark is lost where something is put that isn't known to be in order, or behind a node that isn't firm
+/// (specs/Firm.antt) and may then stand at another place.
+///
+/// Beside a value of many parts stands an upper bound of its size, where one was found: who writes forgets it (`exchange`), and notes a
+/// new one (`note`), by which no value is counted twice.
 #[derive(Drop)]
 pub struct Frame<'a> {
     own: Parts,
     behind: &'a [Value],
     in_order: bool,
+    bounds: Bounds,
 }
 
 impl<'a> Model for Frame<'a> {
@@ -49,9 +56,11 @@ impl<'a> Model for Frame<'a> {
     ghost view = { λ f. list_of f.own ++ map datum_of f.behind.now };
 
     ghost use Rattle.std.specs.Prelude.{IsTrue};
+    ghost use Rattle.eval_variables.specs.Bounded.{AreWithin};
     ghost use Rattle.eval_variables.specs.Ordered.{AllOrdered};
 
-    ghost invariant = { λ f. IsTrue f.in_order → AllOrdered (list_of f.own ++ map datum_of f.behind.now) };
+    ghost invariant = { λ f. (IsTrue f.in_order → AllOrdered (list_of f.own ++ map datum_of f.behind.now)) ×
+        AreWithin f.bounds (list_of f.own ++ map datum_of f.behind.now) };
 }
 
 // Puts copies of values behind others.
@@ -64,9 +73,17 @@ fn add_copies(alloc: Global, all: &mut Parts, values: &[Value]) -> Result<(), No
     Ok(())
 }
 
-// Puts a value at a target in variables that are all their own, and gives what stood there.
-fn exchange_own(alloc: Global, own: &mut Parts, to: &Target, value: Value) -> Result<Value, Stop>
-    ensures { (s : State) → s.frame ≡ list_of own.old →
+// Puts a value at a target in variables that are all their own and known to be in order, or not, and gives what stood there.
+fn exchange_own(
+    alloc: Global,
+    own: &mut Parts,
+    to: &Target,
+    value: Value,
+    in_order: bool,
+) -> Result<Value, Stop>
+    requires { IsTrue in_order → AllOrdered (list_of own.old) }
+    ensures others { (v : Datum) × (list_of own.new ≡ slice_set (list_of own.old) to.now.slot v) }
+    ensures exchanged { (s : State) → s.frame ≡ list_of own.old →
         Exchanges (target_of to.now) (datum_of value) s result (record s { frame = list_of own.new }) }
 {
     if to.slot >= own.len() {
@@ -74,17 +91,7 @@ fn exchange_own(alloc: Global, own: &mut Parts, to: &Target, value: Value) -> Re
             fault: FaultKind::IndexOutside,
         });
     }
-    exchange_part(alloc, own.part_mut(to.slot), &to.path, value)
-}
-
-// Whether values that are known to be in order, or not, stay so where such a value is put at the end of a path. Behind a step to a
-// node they may not, since a node that changes may stand at another place.
-fn stays_in_order(values: bool, value: bool, to: &Target) -> bool
-    ensures values { IsTrue result → IsTrue values }
-    ensures value { IsTrue result → IsTrue value }
-    ensures path { IsTrue result → node_on (target_of to.now).path ≡ false }
-{
-    values && value && !has_node(&to.path)
+    exchange_part(alloc, own.part_mut(to.slot), &to.path, value, in_order)
 }
 
 // Whether values that would stay in order do, where something was put.
@@ -100,7 +107,7 @@ impl<'a> Frame<'a> {
     ///
     /// # Errors
     /// Want of memory: none comes yet.
-    pub fn new(_alloc: Global, own: Parts) -> Result<Frame<'a>, NoMemory>
+    pub fn new(alloc: Global, own: Parts) -> Result<Frame<'a>, NoMemory>
         ensures { IfOk result (λ f. f ≡ list_of own) }
     {
         let in_order = are_ordered(own.as_slice());
@@ -108,6 +115,7 @@ impl<'a> Frame<'a> {
             own,
             behind: &[],
             in_order,
+            bounds: Bounds::new(alloc),
         })
     }
 
@@ -115,7 +123,7 @@ impl<'a> Frame<'a> {
     ///
     /// # Errors
     /// Want of memory: none comes yet.
-    pub fn over(_alloc: Global, own: Parts, behind: &'a [Value]) -> Result<Frame<'a>, NoMemory>
+    pub fn over(alloc: Global, own: Parts, behind: &'a [Value]) -> Result<Frame<'a>, NoMemory>
         requires { AreSound (data_in behind.now) }
         ensures { IfOk result (λ f. f ≡ list_of own ++ map datum_of behind.now) }
     {
@@ -124,6 +132,7 @@ impl<'a> Frame<'a> {
             own,
             behind,
             in_order,
+            bounds: Bounds::new(alloc),
         })
     }
 
@@ -144,6 +153,40 @@ impl<'a> Frame<'a> {
         ensures { IsTrue result → AllOrdered self.now }
     {
         self.in_order
+    }
+
+    // Whether values stay in order where one is put at a target that is known to be in order, or not. Behind a node they may not,
+    // since a node that changes may stand at another place.
+    fn stays_in_order(&self, to: &Target, value: bool) -> bool
+        ensures values { IsTrue result → AllOrdered self.now }
+        ensures value { IsTrue result → IsTrue value }
+        ensures firm { IsTrue result → IsFirmAt (target_of to.now) self.now }
+    {
+        if !self.is_in_order() {
+            return false;
+        }
+        if !value {
+            return false;
+        }
+        match self.get(to.slot) {
+            Some(whole) => is_firm(whole, &to.path, true),
+            None => false,
+        }
+    }
+
+    /// An upper bound of the size of the value at this place from 0, where one is known; else more than a variable may hold.
+    pub(crate) fn bound(&self, slot: usize) -> u32
+        ensures { (v : Datum) → slice_get self.now slot ≡ Some v → IsWithin result v }
+    {
+        self.bounds.get(slot)
+    }
+
+    /// Keeps an upper bound of the size of the value at this place from 0.
+    pub(crate) fn note(&mut self, slot: usize, bound: u32)
+        requires { (v : Datum) → slice_get self.old slot ≡ Some v → IsWithin bound v }
+        ensures { self.new ≡ self.old }
+    {
+        self.bounds.note(slot, bound);
     }
 
     /// All values, in order. It copies those that are still lent.
@@ -168,6 +211,7 @@ impl<'a> Frame<'a> {
     {
         let in_order = is_ordered(&value);
         self.own.insert(0, value)?;
+        self.bounds.add_front();
         self.in_order = self.in_order && in_order;
         Ok(())
     }
@@ -176,6 +220,7 @@ impl<'a> Frame<'a> {
     pub(crate) fn drop_front(&mut self)
         ensures { self.new ≡ drop 1 self.old }
     {
+        self.bounds.drop_front();
         if !self.own.is_empty() {
             self.own.remove(0);
             return;
@@ -201,16 +246,19 @@ impl<'a> Frame<'a> {
         ensures { (s : State) → s.frame ≡ self.old →
             Exchanges (target_of to.now) (datum_of value) s result (record s { frame = self.new }) }
     {
-        let stays = stays_in_order(self.in_order, in_order, to);
+        let stays = self.stays_in_order(to, in_order);
+        let were_in_order = self.in_order;
         self.in_order = false;
         if to.slot < self.own.len() {
-            let old = exchange_own(alloc, &mut self.own, to, value);
+            self.bounds.forget(to.slot);
+            let old = exchange_own(alloc, &mut self.own, to, value, were_in_order);
             self.in_order = stayed(stays, &old);
             return old;
         }
+        self.bounds.clear();
         add_copies(alloc, &mut self.own, self.behind)?;
         self.behind = &[];
-        let old = exchange_own(alloc, &mut self.own, to, value);
+        let old = exchange_own(alloc, &mut self.own, to, value, were_in_order);
         self.in_order = stayed(stays, &old);
         old
     }

@@ -1,15 +1,22 @@
 //! Graphs, taken apart and put together again.
 
 ghost use Rattle.std.specs.Int.{w64};
-ghost use Rattle.std.specs.Prelude.{◌≡◌, FitsSigned, IfOk, Some, map, pos, position, slice_get, unwrap_or};
+ghost use Rattle.std.specs.Prelude.{◌≡◌, ◌≤◌, ◌+◌, FitsSigned, IfOk, IsTrue, Some, map, pos, slice_get, unwrap_or};
+ghost use Rattle.std.specs.List.Sorted.{IsStrictlySortedBy};
 ghost use Rattle.value_core.specs.Datum as datum;
-ghost use Rattle.value_core.specs.Datum.{list_of};
+ghost use Rattle.value_core.specs.Datum.{data_of, list_of};
+ghost use Rattle.value_core.specs.Order.{datum_cmp};
+ghost use Rattle.value_core.specs.Size.{size_of, size_of_all};
 ghost use Rattle.value_core.specs.View.{datum_of};
 ghost use Rattle.graph_values.specs.Graphs as rules;
-ghost use Rattle.graph_values.specs.Graphs.{graph_of, is_named, name_in, node_of, nodes_in, value_in};
+ghost use Rattle.graph_values.specs.Graphs.{graph_of, name_in, node_of, nodes_in, value_in};
 ghost use Rattle.meaning_rules.specs.States.{State, gives};
 ghost use Rattle.eval_variables.specs.Gives.{Gives};
+ghost use Rattle.eval_variables.specs.Naming.{AreBefore};
+ghost use Rattle.eval_variables.specs.Ordered.{IsOrdered};
 
+use crate::nodes::{are_before, name_of, place_of};
+use crate::orders::is_ordered;
 use crate::stop::Stop;
 use orca_base::{FaultKind, NoMemory};
 use std::alloc::Global;
@@ -20,19 +27,6 @@ use value_core::{BoxedParts, Parts, Value};
 pub struct Graph {
     pub next: i64,
     pub nodes: Parts,
-}
-
-// The name of a node, or the next name of a graph; 0 of any other value.
-fn name_of(value: &Value) -> i64
-    ensures { result ≡ name_in (datum_of value.now) }
-{
-    match value {
-        Value::Fields(fields) => match fields.as_parts().get(0) {
-            Some(Value::Int(name)) => *name,
-            _ => 0,
-        },
-        _ => 0,
-    }
 }
 
 /// The nodes of a graph; of any other value none.
@@ -46,13 +40,6 @@ pub fn nodes_of(value: &Value) -> &[Value]
         },
         _ => &[],
     }
-}
-
-/// The place of the first node with this name. It looks at one node after the other.
-pub fn place_of(nodes: &[Value], name: i64) -> Option<usize>
-    ensures { result ≡ position (λ v. is_named name (datum_of v)) nodes.now }
-{
-    nodes.iter().position(|node| name_of(node) == name)
 }
 
 // The fields of a record; of any other value none.
@@ -141,13 +128,46 @@ pub fn value_of(alloc: Global, node: Value) -> Value
     taken(fields_in(alloc, node), 1)
 }
 
-/// A graph with one node more, and the node's name: `addnode`.
+/// What a node adds to the size of a graph beside its value: 2, and at most 4 where there was none, since what isn't a graph is taken
+/// for one.
+pub fn beside_node(graph: &Value) -> u32
+    ensures grows { size_of_all (data_of (nodes_in (datum_of graph.now))) + 5 ≤ size_of (datum_of graph.now) + result }
+    ensures few { result ≤ 4 }
+{
+    if nodes_of(graph).is_empty() { 4 } else { 2 }
+}
+
+// Whether nodes that are known to rise, or not, do so with a node of this name and value behind them, whose value is in order.
+fn may_follow(fresh: &Value, name: i64, nodes: &[Value], rising: bool) -> bool
+    requires { IsTrue rising → IsStrictlySortedBy datum_cmp (map datum_of nodes.now) }
+    ensures rising { IsTrue result → IsTrue rising }
+    ensures before { IsTrue result → AreBefore name (map datum_of nodes.now) }
+    ensures value { IsTrue result → IsOrdered (datum_of fresh.now) }
+{
+    if !rising {
+        return false;
+    }
+    if are_before(name, nodes) {
+        is_ordered(fresh)
+    } else {
+        false
+    }
+}
+
+/// A graph with one node more, the node's name, and whether the graph is known to be in order: `addnode`.
 ///
 /// # Errors
 /// `Overflow` where the graph has given its last name, and want of memory.
-pub fn added(alloc: Global, fresh: Value, value: Value) -> Result<(i64, Value), Stop>
+pub fn added(
+    alloc: Global,
+    fresh: Value,
+    value: Value,
+    in_order: bool,
+) -> Result<(i64, Value, bool), Stop>
+    requires { IsTrue in_order → IsOrdered (datum_of value) }
     ensures given { (s : State) → Gives (λ p. (p.0, datum_of p.1)) result s (gives (rules.added (datum_of fresh) (datum_of value)) s) }
     ensures range { IfOk result (λ p. FitsSigned w64 p.0) }
+    ensures ordered { IfOk result (λ p. IsTrue p.2 → IsOrdered (datum_of p.1)) }
 {
     let mut graph = Graph::of(alloc, value);
     let name = graph.next;
@@ -156,20 +176,23 @@ pub fn added(alloc: Global, fresh: Value, value: Value) -> Result<(i64, Value), 
             fault: FaultKind::Overflow,
         });
     }
+    let stays = may_follow(&fresh, name, graph.nodes.as_slice(), in_order);
     graph.nodes.push(node(alloc, name, fresh)?)?;
     graph.next = name + 1;
-    Ok((name, graph.value(alloc)?))
+    Ok((name, graph.value(alloc)?, stays))
 }
 
 /// A graph without the node of this name: `deletenode`.
 ///
 /// # Errors
 /// `IndexOutside` where it has none, and want of memory.
-pub fn deleted(alloc: Global, name: i64, value: Value) -> Result<Value, Stop>
-    ensures { (s : State) → Gives datum_of result s (gives (rules.deleted name (datum_of value)) s) }
+pub fn deleted(alloc: Global, name: i64, value: Value, in_order: bool) -> Result<Value, Stop>
+    requires { IsTrue in_order → IsOrdered (datum_of value) }
+    ensures ordered { IfOk result (λ v. IsTrue in_order → IsOrdered (datum_of v)) }
+    ensures given { (s : State) → Gives datum_of result s (gives (rules.deleted name (datum_of value)) s) }
 {
     let mut graph = Graph::of(alloc, value);
-    match place_of(graph.nodes.as_slice(), name) {
+    match place_of(graph.nodes.as_slice(), name, in_order) {
         None => Err(Stop::Faults {
             fault: FaultKind::IndexOutside,
         }),

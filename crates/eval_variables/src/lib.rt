@@ -3,18 +3,21 @@
 //! The floors above use `Run`, where an evaluation stands, and `Stop`, why one goes no further; what operators give; the values at
 //! the ends of paths, read and changed; actions and turns. Each call gives what a definition of meaning_rules gives, and where it may
 //! stop, as `Gives` says (specs/Gives.antt), of any values and paths: none asks that anything is of a type, since the definitions have
-//! an answer for all, and code follows them; but `Frame::over` asks for sound values. So elements are found by halving where the values
-//! of a frame are known to be in order, and else, as nodes are, one after the other. It stands on the crates of values and on
+//! an answer for all, and code follows them; but `Frame::over` asks for sound values. So elements and nodes are found by halving where the
+//! values of a frame are known to be in order, and else one after the other. It stands on the crates of values and on
 //! meaning_rules, and knows nothing of phrases, names and types.
 #![tactic(auto)]
 
 mod actions;
+mod bounds;
 mod calls;
 mod elements;
+mod firm;
 mod frame;
 mod graphs;
 mod halving;
 mod loops;
+mod nodes;
 mod operators;
 mod orders;
 mod parts;

@@ -8,10 +8,8 @@ ghost use Rattle.value_core.specs.Order.{datum_cmp};
 ghost use Rattle.value_core.specs.OrderLaws.{parts_in};
 ghost use Rattle.value_core.specs.View.{datum_of};
 ghost use Rattle.value_ops.specs.Elements.{IsInOrder};
-ghost use Rattle.eval_variables.specs.Gives.{path_of};
-ghost use Rattle.eval_variables.specs.Ordered.{AllOrdered, Follow, IsOrdered, has_node as node_on};
+ghost use Rattle.eval_variables.specs.Ordered.{AllOrdered, Follow, IsOrdered};
 
-use crate::steps::Step;
 use orca_base::VALUE_NESTING;
 use value_core::Value;
 
@@ -126,16 +124,4 @@ pub fn are_ordered(values: &[Value]) -> bool
     ensures { IsTrue result → AllOrdered (map datum_of values.now) }
 {
     are_ordered_within(values, VALUE_NESTING)
-}
-
-/// Whether a path has a step to a node.
-pub fn has_node(path: &[Step]) -> bool
-    ensures { result ≡ node_on (path_of path.now) }
-{
-    'path: for step in path {
-        if let Step::Node { .. } = step {
-            return true;
-        }
-    }
-    false
 }

@@ -1,6 +1,6 @@
 //! What is read from variables and done to them.
 
-ghost use Rattle.std.specs.Prelude.{◌≡◌, ◌≤◌, IfOk, IsTrue, Ok, option_map, pos};
+ghost use Rattle.std.specs.Prelude.{◌≡◌, ◌≤◌, IfOk, IsTrue, Ok, Some, option_map, pos, slice_get};
 ghost use Rattle.value_core.specs.Datum as datum;
 ghost use Rattle.value_core.specs.Datum.{Datum};
 ghost use Rattle.value_core.specs.View.{datum_of};
@@ -8,17 +8,21 @@ ghost use Rattle.orca_tree.specs.declared.tree.Operator.TheVariants.{In};
 ghost use Rattle.meaning_rules.specs.Operators.{applied, fitting};
 ghost use Rattle.meaning_rules.specs.States.{State, after, gives};
 ghost use Rattle.meaning_rules.specs.Variables as rules;
+ghost use Rattle.eval_variables.specs.Bounded.{IsBound, IsWithin};
 ghost use Rattle.eval_variables.specs.Exchanges.{Exchanges, IsPut, PutsBack};
 ghost use Rattle.eval_variables.specs.Gives.{Finds, Gives, state_of, target_of};
 ghost use Rattle.eval_variables.specs.Ordered.{AllOrdered, IsOrdered};
 
-use crate::graphs::{added, deleted};
+use crate::bounds::{UNKNOWN, grown};
+use crate::elements::{count, moved};
+use crate::firm::is_firm;
+use crate::graphs::{added, beside_node, deleted};
 use crate::halving::{delete, has, insert, take_least};
 use crate::operators::integer_in;
 use crate::orders::is_ordered;
-use crate::parts::part;
+use crate::parts::find_part;
 use crate::run::Run;
-use crate::sizes::fitting as fits;
+use crate::sizes::{size_beside, told_by, within};
 use crate::steps::Target;
 use crate::stop::Stop;
 use orca_base::FaultKind;
@@ -34,8 +38,10 @@ pub fn look<'a>(to: &Target, run: &'a Run<'_>, zero: &'a Value) -> Result<&'a Va
     requires { datum_of zero.now ≡ datum.int (pos 0) }
     ensures { Finds result (λ v. datum_of v.now) (state_of run.now) (rules.held (target_of to.now) (state_of run.now)) }
 {
-    let whole = run.frame.get(to.slot).ok_or(FaultKind::IndexOutside)?;
-    part(whole, &to.path, zero)
+    match run.frame.get(to.slot) {
+        Some(whole) => find_part(whole, &to.path, zero, run.frame.is_in_order()),
+        None => Err(FaultKind::IndexOutside),
+    }
 }
 
 /// Whether the set or bag at a target has this element: `in`, with nothing copied.
@@ -104,15 +110,38 @@ fn lower(
     Ok(())
 }
 
-// Whether the variable of a target is no larger than one may be.
-fn check(to: &Target, run: &Run<'_>) -> Result<(), Stop>
-    ensures { (whole : Datum) → rules.whole_at (target_of to.now) (state_of run.now) ≡ Ok whole →
-        Gives (λ _. whole) result (state_of run.now) (gives (fitting whole) (state_of run.now)) }
+// An upper bound of the size of a target's variable, if one is known and sizes add up where something is put there; else `UNKNOWN`.
+fn bound_at(to: &Target, run: &Run<'_>) -> u32
+    ensures { (whole : Datum) → slice_get run.now.frame to.now.slot ≡ Some whole → IsBound result (target_of to.now).path whole }
 {
     match run.frame.get(to.slot) {
-        Some(whole) => fits(whole),
-        None => Ok(()),
+        Some(whole) if is_firm(whole, &to.path, run.frame.is_in_order()) => {
+            run.frame.bound(to.slot)
+        }
+        _ => UNKNOWN,
     }
+}
+
+// Keeps an upper bound of the size of a target's variable.
+fn keep(to: &Target, bound: u32, run: &mut Run<'_>)
+    requires { (whole : Datum) → slice_get run.old.frame to.now.slot ≡ Some whole → IsWithin bound whole }
+    ensures left { run.new.left ≡ run.old.left }
+    ensures same { state_of run.new ≡ state_of run.old }
+{
+    run.frame.note(to.slot, bound);
+}
+
+// Whether the variable of a target is no larger than one may be. It is counted where its bound doesn't tell.
+fn check(to: &Target, bound: u32, run: &mut Run<'_>) -> Result<(), Stop>
+    requires { (whole : Datum) → slice_get run.old.frame to.now.slot ≡ Some whole → IsWithin bound whole }
+    ensures left { run.new.left ≡ run.old.left }
+    ensures same { state_of run.new ≡ state_of run.old }
+    ensures fits { (whole : Datum) → rules.whole_at (target_of to.now) (state_of run.old) ≡ Ok whole →
+        Gives (λ _. whole) result (state_of run.old) (gives (fitting whole) (state_of run.old)) }
+{
+    let size = told_by(bound, to.slot, &run.frame);
+    keep(to, size, run);
+    Ok(within(size)?)
 }
 
 /// Stores a value at a target.
@@ -124,8 +153,10 @@ pub fn store(alloc: Global, to: &Target, value: Value, run: &mut Run<'_>) -> Res
     ensures gives { Gives (λ u. u) result (state_of run.new) (rules.store (target_of to.now) (datum_of value) (state_of run.old)) }
 {
     let in_order = is_ordered(&value);
-    exchange(alloc, to, value, in_order, run)?;
-    check(to, run)
+    let bound = bound_at(to, run);
+    let more = size_beside(bound, &value);
+    let old = exchange(alloc, to, value, in_order, run)?;
+    check(to, grown(bound, more, size_beside(bound, &old)), run)
 }
 
 /// `insert`: adds an element to the set or bag at a target.
@@ -137,10 +168,14 @@ pub fn put(alloc: Global, to: &Target, element: Value, run: &mut Run<'_>) -> Res
     ensures gives { Gives (λ u. u) result (state_of run.new) (rules.put (target_of to.now) (datum_of element) (state_of run.old)) }
 {
     let in_order = run.frame.is_in_order();
+    let bound = bound_at(to, run);
+    let size = size_beside(bound, &element);
     let mut all = lift(alloc, to, run)?;
+    let before = count(&all);
     let in_order = insert(&mut all, element, in_order)?;
+    let more = moved(size, before, &all);
     lower(alloc, to, all, in_order, run)?;
-    check(to, run)
+    check(to, grown(bound, more, 0), run)
 }
 
 /// `delete`: takes an element out of the set or bag at a target, where it is there.
@@ -157,9 +192,14 @@ pub fn drop_element(
     ensures gives { Gives (λ u. u) result (state_of run.new) (rules.drop_element (target_of to.now) (datum_of element.now) (state_of run.old)) }
 {
     let in_order = run.frame.is_in_order();
+    let bound = bound_at(to, run);
     let mut all = lift(alloc, to, run)?;
+    let before = count(&all);
     delete(&mut all, element, in_order);
-    lower(alloc, to, all, in_order, run)
+    let less = moved(size_beside(bound, element), before, &all);
+    lower(alloc, to, all, in_order, run)?;
+    keep(to, grown(bound, 0, less), run);
+    Ok(())
 }
 
 /// `from`: takes the least element out of the set or bag at a target.
@@ -171,9 +211,11 @@ pub fn take(alloc: Global, to: &Target, run: &mut Run<'_>) -> Result<Value, Stop
     ensures gives { Gives datum_of result (state_of run.new) (rules.take (target_of to.now) (state_of run.old)) }
 {
     let in_order = run.frame.is_in_order();
+    let bound = bound_at(to, run);
     let mut all = lift(alloc, to, run)?;
     let least = take_least(&mut all)?;
     lower(alloc, to, all, in_order, run)?;
+    keep(to, grown(bound, 0, size_beside(bound, &least)), run);
     Ok(least)
 }
 
@@ -190,10 +232,14 @@ pub fn add_node(
     ensures left { run.new.left ≤ run.old.left }
     ensures gives { Gives (option_map datum_of) result (state_of run.new) (rules.add_node (target_of to.now) (datum_of fresh) (state_of run.old)) }
 {
+    let in_order = run.frame.is_in_order();
+    let bound = bound_at(to, run);
+    let size = size_beside(bound, &fresh);
     let old = lift(alloc, to, run)?;
-    let (name, graph) = added(alloc, fresh, old)?;
-    lower(alloc, to, graph, false, run)?;
-    check(to, run)?;
+    let more = size + beside_node(&old);
+    let (name, graph, in_order) = added(alloc, fresh, old, in_order)?;
+    lower(alloc, to, graph, in_order, run)?;
+    check(to, grown(bound, more, 0), run)?;
     Ok(Some(Value::Int(name)))
 }
 
@@ -210,8 +256,11 @@ pub fn delete_node(
     ensures left { run.new.left ≤ run.old.left }
     ensures gives { Gives (option_map datum_of) result (state_of run.new) (rules.delete_node (target_of to.now) (datum_of name.now) (state_of run.old)) }
 {
+    let in_order = run.frame.is_in_order();
+    let bound = bound_at(to, run);
     let old = lift(alloc, to, run)?;
-    let graph = deleted(alloc, integer_in(name), old)?;
-    lower(alloc, to, graph, false, run)?;
+    let graph = deleted(alloc, integer_in(name), old, in_order)?;
+    lower(alloc, to, graph, in_order, run)?;
+    keep(to, bound, run);
     Ok(None)
 }

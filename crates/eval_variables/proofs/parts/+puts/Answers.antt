@@ -1,16 +1,21 @@
-use Rattle.std.proofs.Common.{◌≡◌, drop, ap, ◌∙◌, sym, subst, Some, Ok, Err}
+use Rattle.std.proofs.Common.{◌≡◌, drop, ap, ◌∙◌, sym, subst, Some, Ok, Err, arith}
 use Rattle.std.specs.Int.{w64}
+use Rattle.std.specs.List.Sorted.{IsStrictlySortedBy}
 use Rattle.std.specs.Prelude.{position}
 use Rattle.std.proofs.lemmas.Int.{to_z-of_z}
 use Rattle.std.proofs.lemmas.Result.{err_from_is_err_and}
 use Rattle.value_core.specs.Datum.{list_of}
+use Rattle.value_core.specs.Order.{datum_cmp}
 use Rattle.value_core.specs.View.{datum_of}
 use Rattle.graph_values.specs.Graphs.{is_named, name_in, node_of, nodes_in}
 use Rattle.value_paths.specs.Paths.{and_then, found, part_at}
 use Rattle.meaning_rules.specs.States.{gives}
 use Rattle.eval_variables.specs.Gives.{path_of}
+use Rattle.eval_variables.specs.Ordered.{AllOrdered, IsOrdered}
+use Rattle.eval_variables.proofs.Keeping.{got, nodes_ordered, second_ordered}
 use Rattle.eval_variables.proofs.Pairing.{node_nowhere}
 use Rattle.eval_variables.proofs.Putting.{node_puts, together}
+use Rattle.eval_variables.proofs.Standing.{array_part, fields_part}
 use Rattle.eval_variables.proofs.parts.+puts.Goals as goal
 
 pub put_in_graph-returns-in_default : goal.put_in_graph-returns-in_default
@@ -39,3 +44,33 @@ put_in_graph-returns t c =
     let new = together c.args.name c.of-graph.result.next (name_in (datum_of c.args.value.now)) (list_of c.of-graph.result.nodes) (list_of c.replace-2.new.self) (list_of c.set.new.self) c.in-Some.place _ (datum_of c.in_ok-node.field-0) (datum_of c.put_from.new.value) (datum_of c.in_ok-value.field-0)
     next c.replace-2.ensures.new c.set.ensures node (c.in_ok-value.ensures {u = tt}) in
     (put.0, new ∙ put.1)
+
+-- what a part that is changed asks for
+pub put_in_array-put_from-requires : goal.put_in_array-put_from-requires
+put_in_array-put_from-requires t c = (
+  omega (arith, c.decreases),
+  λ u. array_part c.args.value.now c.in-Array.parts c.as_parts_mut-parts.result.now c.in_ok-place-in-Array.place (datum_of c.part_mut.result.now) (c.requires u)
+      c.in-Array.is (c.as_parts_mut-parts.ensures.value ∙ c.in-Array.parts-is) c.part_mut.ensures.value,
+)
+
+pub put_in_record-put_from-requires : goal.put_in_record-put_from-requires
+put_in_record-put_from-requires t c = (
+  omega (arith, c.decreases),
+  λ u. fields_part c.args.value.now c.in-Fields.fields c.as_parts_mut-fields.result.now c.args.place (datum_of c.part_mut.result.now) (c.requires u)
+      c.in-Fields.is (c.as_parts_mut-fields.ensures.value ∙ c.in-Fields.fields-is) c.part_mut.ensures.value,
+)
+
+pub put_in_graph-place_of-requires : goal.put_in_graph-place_of-requires
+put_in_graph-place_of-requires t c u =
+    let nodes = c.of-graph.ensures.nodes ∙ ap (λ x. nodes_in (datum_of x)) c.replace.ensures.value in
+    subst (IsStrictlySortedBy datum_cmp) (sym (c.as_slice.ensures ∙ nodes)) (nodes_ordered (datum_of c.args.value.now) (c.requires u)).1
+
+pub put_in_graph-put_from-requires : goal.put_in_graph-put_from-requires
+put_in_graph-put_from-requires t c =
+    let nodes = c.of-graph.ensures.nodes ∙ ap (λ x. nodes_in (datum_of x)) c.replace.ensures.value in (
+      omega (arith, c.decreases),
+      λ u.
+          subst IsOrdered (sym c.value_of-inside.ensures)
+          (second_ordered (datum_of c.replace-2.result)
+          (got (list_of c.of-graph.result.nodes) c.in-Some.place (datum_of c.replace-2.result) (subst AllOrdered (sym nodes) (nodes_ordered (datum_of c.args.value.now) (c.requires u)).0) c.replace-2.ensures.old)),
+    )

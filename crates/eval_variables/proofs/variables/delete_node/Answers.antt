@@ -1,4 +1,4 @@
-use Rattle.std.proofs.Common.{◌≡◌, ◌∙◌, ap, pos, subst, None}
+use Rattle.std.proofs.Common.{◌≡◌, ◌∙◌, ap, arith, pos, subst, sym, None}
 use Rattle.std.specs.Int.{w64}
 use Rattle.std.proofs.lemmas.Int.{to_z-of_z}
 use Rattle.std.proofs.lemmas.Result.{err_from_is_err_and}
@@ -10,6 +10,8 @@ use Rattle.meaning_rules.specs.States.{Goes, after, gives}
 use Rattle.meaning_rules.specs.Variables as rules
 use Rattle.eval_variables.specs.Gives.{Fails, state_of, target_of}
 use Rattle.eval_variables.proofs.Changing.{change_by_fails, changes}
+use Rattle.eval_variables.proofs.Enlarging.{delete_differs}
+use Rattle.eval_variables.proofs.Growing.{put_within}
 use Rattle.eval_variables.proofs.Stopping.{fails_then, fails_without, gives_ok}
 use Rattle.eval_variables.proofs.variables.delete_node.Goals as goal
 
@@ -21,7 +23,7 @@ returns-in_err-graph-clause-gives c =
     let why = c.in_err-graph.field-0.0 in
     let name = integer_in (datum_of c.args.name.now) in
     let back = to_z-of_z w64 c.integer_in.result (record { sfits = c.integer_in.type_inv }) ∙ c.integer_in.ensures in
-    let stops = subst (λ n. Fails why (gives (graphs.deleted n (datum_of c.in_ok-old.old)) s)) back (c.in_err-graph.ensures {u = tt} s) in
+    let stops = subst (λ n. Fails why (gives (graphs.deleted n (datum_of c.in_ok-old.old)) s)) back ((c.in_err-graph.ensures {u = tt}).given s) in
     rw (p.1, p.2) (fails_then why (rules.change to (graphs.deleted name) s) (λ u s1. Goes None s1)
     (change_by_fails to (graphs.deleted name) (datum_of c.in_ok-old.old) (datum.int (pos 0)) s (state_of c.lift.new.run) why (c.in_ok-old.ensures {u = tt}).lifted stops))
 
@@ -32,13 +34,27 @@ returns-in_err-lower-clause-gives c =
     rw (p.1, p.2) (fails_without c.in_err-lower.field-0.0 (rules.delete_node (target_of c.args.to.now) (datum_of c.args.name.now) s)
     ((c.in_err-lower.ensures {u = tt}).lowered s (datum_of c.in_ok-old.old) (c.in_ok-old.ensures {u = tt}).lifted))
 
+pub keep-requires : goal.keep-requires
+keep-requires c =
+    let old = datum_of c.in_ok-old.old in
+    let graph = datum_of c.in_ok-graph.graph in
+    let s = state_of c.args.run.now in
+    let name = integer_in (datum_of c.args.name.now) in
+    let back = to_z-of_z w64 c.integer_in.result (record { sfits = c.integer_in.type_inv }) ∙ c.integer_in.ensures in
+    let given = gives_ok (graphs.deleted name old) s graph (subst (λ n. gives (graphs.deleted n old) s ≡ Goes graph s) back ((c.in_ok-graph.ensures {u = tt}).given s)) in
+    put_within (target_of c.args.to.now) old graph s (state_of c.lower.new.run) c.bound_at-bound.result 0 0 c.bound_at-bound.result
+    ((c.in_ok-lower.ensures {u = tt}).lowered s old (c.in_ok-old.ensures {u = tt}).lifted) c.bound_at-bound.ensures
+    (λ known fits. delete_differs name old graph given) (λ known. (known, omega arith, omega arith))
+
 pub returns-clause-gives : goal.returns-clause-gives
 returns-clause-gives c =
     let s = state_of c.args.run.now in
     let to = target_of c.args.to.now in
+    let old = datum_of c.in_ok-old.old in
+    let graph = datum_of c.in_ok-graph.graph in
     let name = integer_in (datum_of c.args.name.now) in
     let back = to_z-of_z w64 c.integer_in.result (record { sfits = c.integer_in.type_inv }) ∙ c.integer_in.ensures in
-    let given = gives_ok (graphs.deleted name (datum_of c.in_ok-old.old)) s (datum_of c.in_ok-graph.graph)
-    (subst (λ n. gives (graphs.deleted n (datum_of c.in_ok-old.old)) s ≡ Goes (datum_of c.in_ok-graph.graph) s) back (c.in_ok-graph.ensures {u = tt} s)) in
+    let given = gives_ok (graphs.deleted name old) s graph (subst (λ n. gives (graphs.deleted n old) s ≡ Goes graph s) back ((c.in_ok-graph.ensures {u = tt}).given s)) in
     ap (λ o. after o (λ u s1. Goes None s1))
-    (changes to (graphs.deleted name) (datum_of c.in_ok-old.old) (datum_of c.in_ok-graph.graph) s (state_of c.lower.new.run) ((c.in_ok-lower.ensures {u = tt}).lowered s (datum_of c.in_ok-old.old) (c.in_ok-old.ensures {u = tt}).lifted) given)
+    (changes to (graphs.deleted name) old graph s (state_of c.lower.new.run) ((c.in_ok-lower.ensures {u = tt}).lowered s old (c.in_ok-old.ensures {u = tt}).lifted) given)
+    ∙ ap (Goes None) (sym c.keep.ensures.same)

@@ -1,9 +1,0 @@
-use Rattle.std.proofs.Common.{◌≡◌, drop}
-use Rattle.value_core.specs.View.{datum_of}
-use Rattle.value_paths.specs.Paths.{part_at}
-use Rattle.eval_variables.specs.Gives.{path_of}
-use Rattle.eval_variables.proofs.parts.part.Given as goal
-
--- the rest of the path leads from here to where the whole leads
-abbrev pub invariant-path : goal.invariant-path
-invariant-path l = part_at (path_of (drop l.step-index l.path)) (datum_of l.at) ≡ part_at (path_of l.path) (datum_of l.value)
