@@ -319,7 +319,7 @@ impl Drop for Value {
 impl Value {
     /// Its parts, which are the elements of a set or bag, moved out; of a value that has none no parts. It takes no memory.
     pub fn into_parts(self, alloc: Global) -> Parts
-        ensures { result ≡ parts_in (datum_of self) }
+        ensures { list_of result ≡ list_of (parts_in (datum_of self)) }
     {
         match self {
             Value::Array(parts) | Value::Fields(parts) | Value::Set(parts) | Value::Bag(parts) => {
