@@ -13,7 +13,7 @@ ghost use Rattle.eval_bodies.specs.Named.{value_at};
 ghost use Rattle.eval_bodies.specs.Sites.{IsSite};
 
 use eval_bodies::{Named, Site};
-use eval_variables::{Run, Step, Stop, part};
+use eval_variables::{Run, Step, Stop, find as find_own, part};
 use orca_base::{FaultKind, ObjectId};
 use orca_tree::Name;
 use std::alloc::Global;
@@ -32,10 +32,7 @@ fn find<'a>(
         (λ f. and_then (value_at is.now (state_of run.now)) (part_at (path_of path.now)) ≡ Err f) }
 {
     match is {
-        Named::Own { place } => {
-            let whole = run.frame.get(*place).ok_or(FaultKind::IndexOutside)?;
-            part(whole, path, zero)
-        }
+        Named::Own { place } => find_own(*place, path, run, zero),
         Named::Outer { value } => part(value, path, zero),
     }
 }

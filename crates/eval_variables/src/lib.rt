@@ -38,4 +38,6 @@ pub use run::Run;
 pub use sizes::{fitting, fitting_all, fitting_passed};
 pub use steps::{Passed, Step, Target};
 pub use stop::Stop;
-pub use variables::{add_node, delete_node, drop_element, has_at, held, look, put, store, take};
+pub use variables::{
+    add_node, delete_node, drop_element, find, has_at, held, look, put, store, take,
+};

@@ -1,16 +1,18 @@
 //! What is read from variables and done to them.
 
-ghost use Rattle.std.specs.Prelude.{◌≡◌, ◌≤◌, IfOk, IsTrue, Ok, Some, option_map, pos, slice_get};
+ghost use Rattle.std.specs.Prelude.{◌≡◌, ◌≤◌, Err, IfOk, IsTrue, MatchResult, Ok, Some, ok_or, option_map, pos, slice_get};
 ghost use Rattle.value_core.specs.Datum as datum;
 ghost use Rattle.value_core.specs.Datum.{Datum};
 ghost use Rattle.value_core.specs.View.{datum_of};
+ghost use Rattle.value_paths.specs.Paths.{part_at};
+ghost use Rattle.orca_base.specs.declared.fault.FaultKind.TheVariants.{IndexOutside};
 ghost use Rattle.orca_tree.specs.declared.tree.Operator.TheVariants.{In};
-ghost use Rattle.meaning_rules.specs.Operators.{applied, fitting};
+ghost use Rattle.meaning_rules.specs.Operators.{and_then, applied, fitting};
 ghost use Rattle.meaning_rules.specs.States.{State, after, gives};
 ghost use Rattle.meaning_rules.specs.Variables as rules;
 ghost use Rattle.eval_variables.specs.Bounded.{IsBound, IsWithin};
 ghost use Rattle.eval_variables.specs.Exchanges.{Exchanges, IsPut, PutsBack};
-ghost use Rattle.eval_variables.specs.Gives.{Finds, Gives, state_of, target_of};
+ghost use Rattle.eval_variables.specs.Gives.{Finds, Gives, path_of, state_of, target_of};
 ghost use Rattle.eval_variables.specs.Ordered.{AllOrdered, IsOrdered};
 
 use crate::bounds::{UNKNOWN, grown};
@@ -23,12 +25,33 @@ use crate::orders::is_ordered;
 use crate::parts::find_part;
 use crate::run::Run;
 use crate::sizes::{size_beside, told_by, within};
-use crate::steps::Target;
+use crate::steps::{Step, Target};
 use crate::stop::Stop;
 use orca_base::FaultKind;
 use std::alloc::Global;
 use value_core::Value;
 use value_paths::paths_law;
+
+/// The part at the end of a path of the variable in a slot, where it stands. `zero` stands for the value of what is no node.
+///
+/// # Errors
+/// `IndexOutside`.
+pub fn find<'a>(
+    slot: usize,
+    path: &[Step],
+    run: &'a Run<'_>,
+    zero: &'a Value,
+) -> Result<&'a Value, FaultKind>
+    requires { datum_of zero.now ≡ datum.int (pos 0) }
+    ensures { MatchResult result
+        (λ p. and_then (ok_or (slice_get (state_of run.now).frame slot) IndexOutside) (part_at (path_of path.now)) ≡ Ok (datum_of p.now))
+        (λ f. and_then (ok_or (slice_get (state_of run.now).frame slot) IndexOutside) (part_at (path_of path.now)) ≡ Err f) }
+{
+    match run.frame.get(slot) {
+        Some(whole) => find_part(whole, path, zero, run.frame.is_in_order()),
+        None => Err(FaultKind::IndexOutside),
+    }
+}
 
 /// What stands at a target, where it stands. `zero` stands for the value of what is no node.
 ///
@@ -38,10 +61,7 @@ pub fn look<'a>(to: &Target, run: &'a Run<'_>, zero: &'a Value) -> Result<&'a Va
     requires { datum_of zero.now ≡ datum.int (pos 0) }
     ensures { Finds result (λ v. datum_of v.now) (state_of run.now) (rules.held (target_of to.now) (state_of run.now)) }
 {
-    match run.frame.get(to.slot) {
-        Some(whole) => find_part(whole, &to.path, zero, run.frame.is_in_order()),
-        None => Err(FaultKind::IndexOutside),
-    }
+    find(to.slot, &to.path, run, zero)
 }
 
 /// Whether the set or bag at a target has this element: `in`, with nothing copied.
