@@ -1,100 +1,46 @@
-//! Runs worked texts by the top call, and compares its status and what it prints with the lines in front of them.
+//! What was worked out by hand, through the top call, and the runs that `bench/run` times.
 //!
-//! The lines were worked out by hand from docs/LANGUAGE.md, without a look at the definitions or at what any program printed. Of syntax:
-//! the first bad token of each production, the end of the text in mid-production, and units that use every alternative, of which linking
-//! says the first mistake (productions.txt). Of typing: breaches of each rule at its plain place, at the edge of its wording and beside
-//! another rule (rules.txt), programs that come near to each rule and break none (accepted.txt), the rules of linking (linking.txt), what
-//! follows from the rules only by reading them closely (corners.txt; docs/DECISIONS.md says how each was decided), and a second table of
-//! all of them by somebody who didn't see the first (again.txt). Of meaning: a program of each construct (constructs.txt).
-//!
-//! A part of a table begins with `=> ` and the words of a call; then come the status, the lines that are wanted, `-- ` and why, and each
-//! text behind a line `== ` with its file's name. Where the why names a lower rule, it is one with a lower number, which is told of two at
-//! one place. It is a program and not a test, since the gate lays files where a program runs. It prints each part that is answered
-//! otherwise, and for each table how many there are.
+//! Without words it answers the texts of its tables (texts.rt), the examples (examples.rt) and a run of a hundred calls (calls.rt), and prints
+//! what came of each; with four words it runs as many calls on as many members as they say. It is a program and not a test, since the gate
+//! lays files where a program runs; and one and not three, since each that stands on the top call is checked and built twice.
 #![tactic(auto)]
 
-use orca_base::SOURCE_BYTES;
-use orca_cli::orca_main;
-use orca_io::{FileShelf, MemoryShelf, MemorySink, Shelf};
-use std::alloc::{AllocError, Global};
-use std::io;
-use wires::{PlainWire, Wire};
+mod calls;
+mod examples;
+mod texts;
+mod top;
 
-const TABLES: [&str; 7] = [
-    "productions.txt",
-    "rules.txt",
-    "accepted.txt",
-    "linking.txt",
-    "corners.txt",
-    "again.txt",
-    "constructs.txt",
-];
+use std::process::ExitCode;
+use std::{env, io};
 
-// The words of a call.
-fn words_of(alloc: Global, line: &str) -> Result<Vec<String>, AllocError> {
-    let mut words = Vec::new(alloc);
-    for word in line.split(' ') {
-        words.push(String::from_str(alloc, word)?)?;
+fn main(rt: HostRuntime) -> ExitCode {
+    match run(&rt) {
+        Ok(true) => ExitCode::SUCCESS,
+        Ok(false) | Err(_) => ExitCode::FAILURE,
     }
-    Ok(words)
 }
 
-// The files of a call: each text behind `== ` and its name.
-fn files_of(alloc: Global, texts: &str) -> Result<Vec<(String, Vec<u8>)>, AllocError> {
-    let mut files = Vec::new(alloc);
-    for part in texts.split("== ").skip(1) {
-        let (name, text) = part.split_once('\n').unwrap_or((part, ""));
-        files.push((
-            String::from_str(alloc, name)?,
-            Vec::from_slice(alloc, text.as_bytes())?,
-        ))?;
-    }
-    Ok(files)
-}
-
-// The status of a call on a line, and behind it what it prints.
-fn answer(alloc: Global, words: &str, texts: &str) -> Result<String, AllocError> {
-    let words = words_of(alloc, words)?;
-    let mut shelf = MemoryShelf::new(files_of(alloc, texts)?, Vec::new(alloc));
-    let mut out = MemorySink::new(alloc, Vec::new(alloc));
-    let mut wires: Vec<Box<dyn Wire + Send>> = Vec::new(alloc);
-    wires.push(Box::new(alloc, PlainWire::new(alloc))?)?;
-    if wires.len() != 1 {
-        return Err(AllocError);
-    }
-    let ended = orca_main(alloc, &words, &mut shelf, &mut out, &mut wires);
-    let printed = String::from_utf8_lossy(alloc, out.bytes())?;
-    format!(in alloc; "{}\n{printed}", ended.status)
-}
-
-// Tries each part of a table.
-fn try_all(rt: &HostRuntime, name: &str, table: &str) -> io::Result<()> {
-    let mut tried = 0u32;
-    let mut same = 0u32;
-    for part in table.split("=> ").skip(1) {
-        let (words, rest) = part.split_once('\n').unwrap_or((part, ""));
-        let (wanted, rest) = rest.split_once("-- ").unwrap_or((rest, ""));
-        let found = answer(rt.alloc(), words, rest)?;
-        if found.as_str() == wanted {
-            same = same.saturating_add(1);
-        } else {
-            println!(rt; "wanted {wanted}found {found}for {words}\n{rest}")?;
+// Does what the words say: how many members the group has, how many of them may be lost, how many calls are made, and what befalls packets.
+// Whether they could be read.
+fn run(rt: &HostRuntime) -> io::Result<bool> {
+    let words: Vec<String> = env::args(rt)?.skip(1).collect(rt.alloc())?;
+    match words.as_slice() {
+        [] => {
+            texts::run(rt)?;
+            examples::run(rt)?;
+            calls::run(rt, "3", "1", 100, "")?;
+            Ok(true)
         }
-        tried = tried.saturating_add(1);
-    }
-    println!(rt; "{name}: {tried} programs, {same} answered as wanted")
-}
-
-fn main(rt: HostRuntime) -> io::Result<()> {
-    let mut shelf = FileShelf::new(&rt);
-    for name in TABLES {
-        match shelf.read_all(rt.alloc(), name, SOURCE_BYTES) {
-            Ok(table) => {
-                let table = String::from_utf8_lossy(rt.alloc(), &table)?;
-                try_all(&rt, name, table.as_str())?;
-            }
-            Err(_) => println!(rt; "no table {name}")?,
+        [nodes, resilience, calls, faults] => {
+            let Ok(calls) = calls.parse::<u32>() else {
+                return Ok(false);
+            };
+            let Some(script) = calls::script_of(faults.as_str()) else {
+                return Ok(false);
+            };
+            calls::run(rt, nodes.as_str(), resilience.as_str(), calls, script)?;
+            Ok(true)
         }
+        _ => Ok(false),
     }
-    Ok(())
 }

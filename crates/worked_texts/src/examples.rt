@@ -1,19 +1,14 @@
-//! Runs each program and each script of examples/ by the top call over real files, and compares what it prints with the file `.out` beside
-//! it.
-//!
-//! Behind that it runs each program once more with its history, which is printed behind the output, and has `replay` say of it that it is
-//! legal.
-//!
-//! It is a program and not a test, since the gate lays files where a program runs. It prints a line for each example. A script is run with
+//! The programs and scripts of examples/, over real files: what is printed is compared with the file `.out` beside each. A script is run with
 //! `one.orca` on three members, of which one may be lost.
-#![tactic(auto)]
+//!
+//! Behind that each program is run once more with its history, which is printed behind the output, and `replay` is to say of it that it is
+//! legal.
 
+use crate::top::{call, words_of};
 use orca_base::SOURCE_BYTES;
-use orca_cli::orca_main;
-use orca_io::{FileShelf, MemoryShelf, MemorySink, Shelf, ShelfFault};
+use orca_io::{FileShelf, MemoryShelf, Shelf, ShelfFault};
 use std::alloc::{AllocError, Global};
 use std::io;
-use wires::{ScriptWire, Wire};
 
 const PROGRAMS: [&str; 11] = [
     "buffer",
@@ -30,15 +25,6 @@ const PROGRAMS: [&str; 11] = [
 ];
 
 const SCRIPTS: [&str; 3] = ["abandoned", "lost", "suspected"];
-
-// These words.
-fn words_of(alloc: Global, texts: &[&str]) -> Result<Vec<String>, AllocError> {
-    let mut words = Vec::new(alloc);
-    for text in texts {
-        words.push(String::from_str(alloc, text)?)?;
-    }
-    Ok(words)
-}
 
 // The words that run a program.
 fn program_words(alloc: Global, name: &str) -> Result<Vec<String>, AllocError> {
@@ -63,15 +49,8 @@ fn printed<F: Shelf>(
     shelf: &mut F,
     words: &[String],
 ) -> Result<Vec<u8>, AllocError> {
-    let mut out = MemorySink::new(alloc, Vec::new(alloc));
-    let mut wires: Vec<Box<dyn Wire + Send>> = Vec::new(alloc);
-    let wire = ScriptWire::new(alloc).ok().ok_or(AllocError)?;
-    wires.push(Box::new(alloc, wire)?)?;
-    if wires.len() != 1 {
-        return Err(AllocError);
-    }
-    orca_main(alloc, words, shelf, &mut out, &mut wires);
-    Ok(Vec::from_slice(alloc, out.bytes())?)
+    let (_ended, printed) = call(alloc, words, shelf)?;
+    Ok(printed)
 }
 
 // The text of a file, or nothing where it can't be read.
@@ -133,9 +112,10 @@ fn answer(as_expected: bool) -> &'static str {
     }
 }
 
-fn main(rt: HostRuntime) -> io::Result<()> {
+/// Runs all examples, and prints of each whether its output, and its history, is as expected.
+pub fn run(rt: &HostRuntime) -> io::Result<()> {
     let alloc = rt.alloc();
-    let mut shelf = FileShelf::new(&rt);
+    let mut shelf = FileShelf::new(rt);
     for name in PROGRAMS {
         let words = program_words(alloc, name)?;
         let answer = answer(prints_its_output(alloc, &mut shelf, &words, name)?);
