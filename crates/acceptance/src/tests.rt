@@ -46,14 +46,14 @@ fn files(alloc: Global, name: &str, text: &[u8]) -> Result<Vec<(String, Vec<u8>)
 
 // How a call ended: its status, and what is seen of a run that was kept.
 #[derive(Clone, Copy)]
-struct Outcome {
+struct CallEnd {
     status: u8,
-    kept: Option<Seen>,
+    kept: Option<KeptRun>,
 }
 
 // Of a kept run: how many lines its history has, whether they are those wanted, with their replies, and whether the one process has ended.
 #[derive(Clone, Copy)]
-struct Seen {
+struct KeptRun {
     lines: usize,
     are_wanted: bool,
     has_ended: bool,
@@ -66,7 +66,7 @@ fn called<F: Shelf, K: Sink>(
     shelf: &mut F,
     out: &mut K,
     wanted: &[Line],
-) -> Result<Outcome, AllocError> {
+) -> Result<CallEnd, AllocError> {
     let mut wires: Vec<Box<dyn Wire + Send>> = Vec::new(alloc);
     wires.push(Box::new(alloc, PlainWire::new(alloc))?)?;
     if wires.len() != 1 {
@@ -77,16 +77,16 @@ fn called<F: Shelf, K: Sink>(
 }
 
 // What is seen of a call that ended so.
-fn seen(ended: &Ended, wanted: &[Line]) -> Outcome {
+fn seen(ended: &Ended, wanted: &[Line]) -> CallEnd {
     let kept = match &ended.kept {
-        Some(kept) => Some(Seen {
+        Some(kept) => Some(KeptRun {
             lines: kept.book.len(),
             are_wanted: has_lines(kept, wanted),
             has_ended: has_ended(kept),
         }),
         None => None,
     };
-    Outcome {
+    CallEnd {
         status: ended.status,
         kept,
     }
@@ -199,12 +199,12 @@ fn has_ended(kept: &Kept) -> bool {
 }
 
 // Whether the one cell kept its four lines, and its process has ended.
-fn is_whole(ended: &Outcome) -> bool {
+fn is_whole(ended: &CallEnd) -> bool {
     matches!(ended.kept, Some(run) if run.are_wanted && run.has_ended)
 }
 
 // A run of the file of the one cell, of which its four lines are wanted.
-fn run_over<F: Shelf, K: Sink>(alloc: Global, shelf: &mut F, out: &mut K) -> Result<Outcome, Fail> {
+fn run_over<F: Shelf, K: Sink>(alloc: Global, shelf: &mut F, out: &mut K) -> Result<CallEnd, Fail> {
     let wanted = four_lines(alloc)?;
     let words = words(alloc, &["run", "one.orca"])?;
     Ok(called(alloc, &words, shelf, out, &wanted)?)
