@@ -58,6 +58,11 @@ fn answer(alloc: Global, words: &str, texts: &str) -> Result<String, AllocError>
     format!(in alloc; "{}\n{printed}", ended.status)
 }
 
+// Prints what is wanted, and what was found in its place.
+fn print_other(rt: &HostRuntime, words: &str, wanted: &str, found: &str) -> io::Result<()> {
+    println!(rt; "for {words}: wanted {wanted}found {found}")
+}
+
 // Tries each part of a table.
 fn try_all(rt: &HostRuntime, name: &str, table: &str) -> io::Result<()> {
     let mut tried = 0u32;
@@ -69,7 +74,7 @@ fn try_all(rt: &HostRuntime, name: &str, table: &str) -> io::Result<()> {
         if found.as_str() == wanted {
             same = same.saturating_add(1);
         } else {
-            println!(rt; "wanted {wanted}found {found}for {words}\n{rest}")?;
+            print_other(rt, words, wanted, found.as_str())?;
         }
         tried = tried.saturating_add(1);
     }
