@@ -10,6 +10,7 @@ ghost use Rattle.meaning_rules.specs.Calls as rules;
 ghost use Rattle.meaning_rules.specs.Designators.{root_type};
 ghost use Rattle.meaning_rules.specs.Expressions.{eval, eval_all, eval_links, eval_passed, eval_path, eval_step, eval_target, linked};
 ghost use Rattle.meaning_rules.specs.Functions.{calls};
+ghost use Rattle.meaning_rules.specs.Operators as operators;
 ghost use Rattle.meaning_rules.specs.States.{after, gives};
 ghost use Rattle.meaning_rules.specs.Variables as variables;
 ghost use Rattle.eval_variables.specs.Gives.{Gives, passed_of, path_of, state_of, step_of, target_of};
@@ -22,12 +23,12 @@ use crate::invoking::invoke;
 use crate::levels::Levels;
 use crate::lists::add;
 use crate::operands::{Prefix, applied_to, result_of, string};
-use crate::reading::load;
+use crate::reading::{link_part, load, prefix_part};
 use crate::requests::operate;
 use eval_bodies::{Callee, Site, step_by};
 use eval_tables::Seen;
 use eval_variables::{Passed, Run, Step, Stop, Target, applied, decides, take};
-use orca_tree::{Designator, Expression, Link, Mode, Name, Selector};
+use orca_tree::{Designator, Expression, Link, Mode, Name, Operator, Selector};
 use std::alloc::Global;
 use value_core::Value;
 
@@ -91,8 +92,30 @@ fn prefix<C: Levels>(
     ensures gives { (w : Scope) → IsSite site.entry w → Gives datum_of result (state_of run.new)
         (after (eval (calls w.program C.levels) w (expr operand.now) (state_of run.old)) (λ x s. gives (prefixed prefix x) s)) }
 {
+    if let Expression::Get { from } = operand {
+        return prefix_place::<C>(alloc, site, prefix, from, run);
+    }
     let value = evaluate::<C>(alloc, site, operand, run)?;
     applied_to(prefix, &value)
+}
+
+// What stands before a designator, whose value stays where it stands.
+#[cycle(expressions)]
+#[inline(never)]
+fn prefix_place<C: Levels>(
+    alloc: Global,
+    site: Site<'_, '_>,
+    prefix: Prefix,
+    from: &Designator,
+    run: &mut Run<'_>,
+) -> Result<Value, Stop>
+    ensures left { run.new.left ≤ run.old.left }
+    ensures gives { (w : Scope) → IsSite site.entry w → Gives datum_of result (state_of run.new)
+        (after (eval (calls w.program C.levels) w (syn.Get from.now.name (path_shown from.now.path.items)) (state_of run.old))
+        (λ x s. gives (prefixed prefix x) s)) }
+{
+    let path = walk::<C>(alloc, site, site.root(&from.name), &from.path, run)?;
+    prefix_part(site, prefix, &from.name, &path, run)
 }
 
 // Operators behind a left operand.
@@ -133,8 +156,31 @@ fn link<C: Levels>(
     if decides(link.operator, &left) {
         return Ok(left);
     }
+    if let Expression::Get { from } = &link.right {
+        return link_place::<C>(alloc, site, link.operator, left, from, run);
+    }
     let right = evaluate::<C>(alloc, site, &link.right, run)?;
     applied(alloc, link.operator, &left, right)
+}
+
+// An operator between a value that doesn't decide and a designator, whose value stays where it stands if the operator compares.
+#[cycle(expressions)]
+#[inline(never)]
+fn link_place<C: Levels>(
+    alloc: Global,
+    site: Site<'_, '_>,
+    operator: Operator,
+    left: Value,
+    from: &Designator,
+    run: &mut Run<'_>,
+) -> Result<Value, Stop>
+    ensures left { run.new.left ≤ run.old.left }
+    ensures gives { (w : Scope) → IsSite site.entry w → Gives datum_of result (state_of run.new)
+        (after (eval (calls w.program C.levels) w (syn.Get from.now.name (path_shown from.now.path.items)) (state_of run.old))
+        (λ right s. gives (operators.applied operator (datum_of left) right) s)) }
+{
+    let path = walk::<C>(alloc, site, site.root(&from.name), &from.path, run)?;
+    link_part(alloc, site, operator, &left, &from.name, path, run)
 }
 
 // The value of a designator.
