@@ -97,7 +97,7 @@ fn has_part(
         Named::Own { place } => has_at(&Target { slot: place, path }, element, run),
         Named::Outer { value } => {
             let zero = Value::Int(0);
-            Ok(is_in(element, part(value, &path, &zero)?))
+            Ok(is_in(element, part(&value, &path, &zero)?))
         }
     }
 }
@@ -119,7 +119,7 @@ pub fn link_part(
     ensures { (w : Scope) → IsSite site.entry w → Gives datum_of result (state_of run.now)
         (after (rules.load w name.now (path_of path.items) (state_of run.now)) (λ right s. gives (operators.applied operator (datum_of left.now) right) s)) }
 {
-    if operator == Operator::In {
+    if matches!(operator, Operator::In) {
         return Ok(Value::Truth(has_part(site, left, name, path, run)?));
     }
     let is = site.named(name);
