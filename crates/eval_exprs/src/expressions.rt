@@ -157,7 +157,7 @@ fn link<C: Levels>(
         return Ok(left);
     }
     if let Expression::Get { from } = &link.right {
-        return link_place::<C>(alloc, site, link.operator, left, from, run);
+        return link_place::<C>(alloc, site, link.operator, from, &left, run);
     }
     let right = evaluate::<C>(alloc, site, &link.right, run)?;
     applied(alloc, link.operator, &left, right)
@@ -170,17 +170,17 @@ fn link_place<C: Levels>(
     alloc: Global,
     site: Site<'_, '_>,
     operator: Operator,
-    left: Value,
     from: &Designator,
+    left: &Value,
     run: &mut Run<'_>,
 ) -> Result<Value, Stop>
     ensures left { run.new.left ≤ run.old.left }
     ensures gives { (w : Scope) → IsSite site.entry w → Gives datum_of result (state_of run.new)
         (after (eval (calls w.program C.levels) w (syn.Get from.now.name (path_shown from.now.path.items)) (state_of run.old))
-        (λ right s. gives (operators.applied operator (datum_of left) right) s)) }
+        (λ right s. gives (operators.applied operator (datum_of left.now) right) s)) }
 {
     let path = walk::<C>(alloc, site, site.root(&from.name), &from.path, run)?;
-    link_part(alloc, site, operator, &left, &from.name, path, run)
+    link_part(alloc, site, operator, left, &from.name, path, run)
 }
 
 // The value of a designator.

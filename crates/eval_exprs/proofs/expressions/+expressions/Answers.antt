@@ -133,6 +133,12 @@ evaluate-returns-in-Ordinal-clause-gives g t c = λ w s.
 
 -- ---- operators
 
+pub prefix-returns-in-Get-clause-gives : goal.prefix-returns-in-Get-clause-gives
+prefix-returns-in-Get-clause-gives g t c = λ w s.
+    let call = calls w.program g.C.Levels.levels in
+    subst (λ (x : Expr). Gives datum_of c.prefix_place.result (state_of c.prefix_place.new.run) (after (eval call w x (state_of c.args.run.now)) (λ y s2. gives (prefixed c.args.prefix y) s2)))
+    (sym (ap expr c.in-Get.is ∙ get_is c.in-Get.from)) (c.prefix_place.ensures.gives w s)
+
 pub prefix-returns-clause-gives : goal.prefix-returns-clause-gives
 prefix-returns-clause-gives g t c = λ w s.
     let call = calls w.program g.C.Levels.levels in
@@ -146,6 +152,16 @@ prefix-returns-in_err-value-clause-gives g t c = λ w s.
     let call = calls w.program g.C.Levels.levels in
     rw (p.1, p.2) (fails_then c.in_err-value.field-0.0 (eval call w (expr c.args.operand.now) (state_of c.args.run.now)) (λ x s2. gives (prefixed c.args.prefix x) s2)
     ((c.in_err-value.ensures {u = tt}).gives w s))
+
+pub link-returns-in-Get-clause-gives : goal.link-returns-in-Get-clause-gives
+link-returns-in-Get-clause-gives g t c = λ w s.
+    let call = calls w.program g.C.Levels.levels in
+    let l = c.args.link.now in
+    let left = datum_of c.args.left in
+    let s0 = state_of c.args.run.now in
+    subst (Gives datum_of c.link_place.result (state_of c.link_place.new.run)) (sym (right_asked l.operator left (eval call w (expr l.right)) s0 (sym c.decides.ensures ∙ c.if-decides.false)))
+    (subst (λ (x : Expr). Gives datum_of c.link_place.result (state_of c.link_place.new.run) (after (eval call w x s0) (λ y s2. gives (applied l.operator left y) s2)))
+    (sym (ap expr c.in-Get.is ∙ get_is c.in-Get.from)) (c.link_place.ensures.gives w s))
 
 pub link-returns-clause-gives : goal.link-returns-clause-gives
 link-returns-clause-gives g t c = λ w s.
