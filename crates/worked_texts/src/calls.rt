@@ -76,13 +76,16 @@ fn files_of(alloc: Global, calls: u32, script: &str) -> Result<Vec<(String, Vec<
     let each = format!(in alloc; "{calls}")?;
     let text = CALLER.replace(alloc, "CALLS", each.as_str())?;
     let mut files = Vec::new(alloc);
-    for (name, told) in [("many.orca", text.as_str()), ("faults.txt", script)] {
-        files.push((
-            String::from_str(alloc, name)?,
-            Vec::from_slice(alloc, told.as_bytes())?,
-        ))?;
-    }
+    files.push(file(alloc, "many.orca", text.as_str())?)?;
+    files.push(file(alloc, "faults.txt", script)?)?;
     Ok(files)
+}
+
+// A file of this name and text.
+fn file(alloc: Global, name: &str, text: &str) -> Result<(String, Vec<u8>), AllocError> {
+    let name = String::from_str(alloc, name)?;
+    let bytes = Vec::from_slice(alloc, text.as_bytes())?;
+    Ok((name, bytes))
 }
 
 // How many packets were sent.
