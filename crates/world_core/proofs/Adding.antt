@@ -20,9 +20,10 @@ use Rattle.node_core.specs.Shown.{Left, Stood}
 use Rattle.node_core.specs.Stands.{StandsAs, sent}
 use Rattle.node_core.specs.declared.node.Node.{Node}
 use Rattle.node_core.specs.declared.resident.Resident.{Resident}
-use Rattle.world_core.specs.Drafting.{AreLetters, AreNodes, AreOutgoing, HasSpelled, IsOutgoing, KeepTasks, taken}
+use Rattle.letter_bytes.specs.Letters.{IsOutgoing}
+use Rattle.world_core.specs.Drafting.{AreLetters, AreNodes, AreOutgoing, HasSpelled, KeepTasks, taken}
 use Rattle.world_core.specs.declared.draft.Part.{Part}
-use Rattle.world_core.specs.declared.letters.Outgoing.{Outgoing}
+use Rattle.letter_bytes.specs.declared.letters.Outgoing.{Outgoing}
 
 -- ---- lists with one changed
 

@@ -29,7 +29,7 @@ use Rattle.world_core.specs.Drafting.{AreOutgoing, Drafts, IsDraft, MayNotBe}
 use Rattle.world_core.specs.Stepping.{IsRefused, is_going}
 use Rattle.world_core.specs.declared.draft.Draft.{Draft}
 use Rattle.world_core.specs.declared.draft.Part.{Part}
-use Rattle.world_core.specs.declared.letters.Outgoing.{Outgoing}
+use Rattle.letter_bytes.specs.declared.letters.Outgoing.{Outgoing}
 use Rattle.world_core.specs.declared.step.StepError.{StepError}
 use Rattle.world_core.specs.declared.step.StepError.TheVariants.{NoMemory as Without, NotEnabled}
 use Rattle.world_core.proofs.Doing.{Here, within_of}

@@ -19,7 +19,7 @@ use Rattle.world_rules.specs.Worlds.{World}
 use Rattle.node_core.specs.Shown.{Left, Stood}
 use Rattle.world_parts.specs.Standing.{CanBeRead, IsWorld, Stands, cut_at, spelled}
 use Rattle.world_parts.specs.declared.parts.Parts.{Parts}
-use Rattle.world_core.specs.Drafting.{IsIncoming}
+use Rattle.letter_bytes.specs.Letters.{IsIncoming}
 use Rattle.world_core.proofs.Asking.{ready_here}
 
 -- ---- the copy

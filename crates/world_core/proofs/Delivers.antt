@@ -23,7 +23,8 @@ use Rattle.node_core.specs.Stands.{IsPostOf}
 use Rattle.node_core.specs.declared.node.Node.{Node}
 use Rattle.world_parts.specs.Standing.{IsWorld, Stands}
 use Rattle.world_parts.specs.declared.parts.Parts.{Parts}
-use Rattle.world_core.specs.Drafting.{AddsLetter, IsDraft, IsIncoming, MayAddLetter}
+use Rattle.letter_bytes.specs.Letters.{IsIncoming}
+use Rattle.world_core.specs.Drafting.{AddsLetter, IsDraft, MayAddLetter}
 use Rattle.world_core.specs.declared.draft.Draft.{Draft}
 use Rattle.world_core.proofs.Coming.{Found, Lengths, Prefixes, come_cut, come_whole, few_spelled, found, to_is}
 use Rattle.world_core.proofs.Doing.{Here, one_comes, one_draft, one_may, quiet_draft, within_of}

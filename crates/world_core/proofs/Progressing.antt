@@ -30,7 +30,7 @@ use Rattle.world_core.specs.Growing.{HasDrafted, Progress}
 use Rattle.world_core.specs.Stepping.{is_burst_of}
 use Rattle.world_core.specs.declared.draft.Draft.{Draft}
 use Rattle.world_core.specs.declared.draft.Part.{Part}
-use Rattle.world_core.specs.declared.letters.Outgoing.{Outgoing}
+use Rattle.letter_bytes.specs.declared.letters.Outgoing.{Outgoing}
 use Rattle.world_core.proofs.Adding.{letters_added, nodes_added, stays_at, stirred_added, taken_length, taken_push, tasks_added, with_other, with_own}
 use Rattle.world_core.proofs.Handing.{seen_there}
 use Rattle.world_core.proofs.StayOut.{OutComputes, outs_kept, still_out}

@@ -54,7 +54,7 @@ use Rattle.world_core.specs.Drafting.{AreOutgoing, IsDraft, out_in, taken}
 use Rattle.world_core.specs.declared.burst.Ran.{Ran}
 use Rattle.world_core.specs.declared.draft.Draft.{Draft}
 use Rattle.world_core.specs.declared.draft.Part.{Part}
-use Rattle.world_core.specs.declared.letters.Outgoing.{Outgoing}
+use Rattle.letter_bytes.specs.declared.letters.Outgoing.{Outgoing}
 use Rattle.world_core.proofs.Adding.{nodes_added, tasks_added, with_other, with_own}
 use Rattle.world_core.proofs.Computed.{burst_leaves}
 use Rattle.world_core.proofs.Doing.{low_all, not_both}

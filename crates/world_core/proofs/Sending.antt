@@ -17,9 +17,10 @@ use Rattle.world_rules.specs.Steps.{posts, posts_all, told_of}
 use Rattle.world_rules.specs.Worlds.{Told, World}
 use Rattle.world_parts.specs.Standing.{spelled}
 use Rattle.world_core.specs.Closing.{asked_all, sent_all}
-use Rattle.world_core.specs.Drafting.{AreOutgoing, IsOutgoing}
+use Rattle.letter_bytes.specs.Letters.{IsOutgoing}
+use Rattle.world_core.specs.Drafting.{AreOutgoing}
 use Rattle.world_core.specs.Stepping.{told_so}
-use Rattle.world_core.specs.declared.letters.Outgoing.{Outgoing}
+use Rattle.letter_bytes.specs.declared.letters.Outgoing.{Outgoing}
 
 -- what a fate makes of a letter, seen as bytes, is what it makes of the bytes
 copies_seen : (nodes number from to : ℕ) (mail : Mail) (one : Fate) →

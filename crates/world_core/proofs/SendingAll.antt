@@ -7,7 +7,7 @@ use Rattle.net_rules.specs.declared.asked.Asked.{Asked}
 use Rattle.net_rules.specs.declared.fate.Fate.{Fate}
 use Rattle.net_rules.specs.declared.flight.Flight.{Flight}
 use Rattle.world_core.specs.Closing.{asked_all, sent_all}
-use Rattle.world_core.specs.declared.letters.Outgoing.{Outgoing}
+use Rattle.letter_bytes.specs.declared.letters.Outgoing.{Outgoing}
 use Rattle.world_core.proofs.Numbering.{UpTo, sent_low}
 
 sent_push : (sent last : ℕ) (done : List Outgoing) (fates : List Fate) (one : Outgoing) (given : Fate) (flights : List (Flight (List ℕ))) → length fates ≡ length done → last ≡ sent + length done

@@ -5,8 +5,9 @@ use Rattle.value_core.specs.declared.action.Reply.{Reply}
 use Rattle.value_core.specs.declared.message.Message.{Message}
 use Rattle.group_member.specs.declared.sends.Letter.{Letter}
 use Rattle.group_packets.specs.Sound.{IsSoundPacket}
-use Rattle.world_core.specs.Drafting.{AreLetters, HasSpelled, IsOutgoing}
-use Rattle.world_core.specs.declared.letters.Outgoing.{Outgoing}
+use Rattle.letter_bytes.specs.Letters.{IsOutgoing}
+use Rattle.world_core.specs.Drafting.{AreLetters, HasSpelled}
+use Rattle.letter_bytes.specs.declared.letters.Outgoing.{Outgoing}
 use Rattle.world_core.proofs.Eventing.{one_of}
 
 -- one item more of a list

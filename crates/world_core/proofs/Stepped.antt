@@ -32,7 +32,7 @@ use Rattle.world_parts.specs.declared.parts.Parts.{Parts}
 use Rattle.world_core.specs.Closing.{flights_after, lives_after, sent_all, swaps_after}
 use Rattle.world_core.specs.Drafting.{AreNodes, AreOutgoing, IsDraft}
 use Rattle.world_core.specs.declared.draft.Draft.{Draft}
-use Rattle.world_core.specs.declared.letters.Outgoing.{Outgoing}
+use Rattle.letter_bytes.specs.declared.letters.Outgoing.{Outgoing}
 use Rattle.world_core.proofs.Adding.{got_set, set_length, with_other, with_own}
 use Rattle.world_core.proofs.Doing.{Here}
 use Rattle.world_core.proofs.Eventing.{leads_push}

@@ -15,7 +15,7 @@ use Rattle.world_parts.specs.Recorded.{of_pieces}
 use Rattle.world_parts.specs.declared.parts.Parts.{Parts}
 use Rattle.world_core.specs.Drafting.{taken}
 use Rattle.world_core.specs.declared.draft.Draft.{Draft}
-use Rattle.world_core.specs.declared.letters.Outgoing.{Outgoing}
+use Rattle.letter_bytes.specs.declared.letters.Outgoing.{Outgoing}
 
 -- ---- room
 

@@ -7,14 +7,11 @@ use Rattle.object_manager.specs.Viewed.{Viewed}
 use Rattle.book_law.specs.Performed.{Performed, placed}
 use Rattle.book_law.specs.declared.placing.Placed.{Placed}
 use Rattle.group_member.specs.declared.sends.Letter.{Letter}
-use Rattle.group_packets.specs.Packet.{kind_of}
 use Rattle.group_packets.specs.declared.packet.Packet.{Packet}
 use Rattle.group_rules.specs.Steps.{is_empty}
-use Rattle.packet_bytes.specs.Sound.{IsPacket}
-use Rattle.packet_bytes.specs.Spelling.{packet_spelling}
 use Rattle.world_rules.specs.declared.event.Event.{Event}
 use Rattle.world_rules.specs.Frame.{Frame}
-use Rattle.world_rules.specs.Mail.{Mail, bytes_in, posted}
+use Rattle.world_rules.specs.Mail.{Mail, posted}
 use Rattle.world_rules.specs.Steps.{AtWork, Known, Possible, happens, has_stirred}
 use Rattle.world_rules.specs.Worlds.{World, agreed, singles_in}
 use Rattle.node_core.specs.Pieces.{resident_at}
@@ -38,21 +35,11 @@ use Rattle.world_parts.specs.Standing.{Is, outs_of}
 use Rattle.world_parts.specs.declared.parts.Parts.{Parts}
 use Rattle.world_core.specs.declared.draft.Draft.{Draft}
 use Rattle.world_core.specs.declared.draft.Part.{Part}
-use Rattle.world_core.specs.declared.letters.Outgoing.{Outgoing}
+use Rattle.letter_bytes.specs.declared.letters.Outgoing.{Outgoing}
+use Rattle.letter_bytes.specs.Letters.{IsOutgoing}
 use Rattle.world_core.specs.Stepping.{is_burst_of}
 
 -- ---- packets
-
--- it is this packet in bytes, twice, and what a wire is told of it
-pub record IsOutgoing (one : Outgoing) (from to : ℕ) (packet : Packet Message Reply) : Type 0 where
-  pub sender : one.from ≡ from
-  pub receiver : one.to ≡ to
-  pub kind : one.kind ≡ kind_of packet
-  pub told : one.length ≡ bytes_in packet
-  pub bytes : one.bytes ≡ packet_spelling packet
-  pub twin : one.twin ≡ one.bytes
-  pub read : IsPacket packet
-  pub short : one.length < 2 ^ 32 - 1
 
 -- one for each letter, in order
 abbrev pub AreOutgoing : ℕ → List Outgoing → List Mail → Type 0
@@ -61,11 +48,6 @@ AreOutgoing nodes (one ∷ more) (mail ∷ mails) =
     IsOutgoing one (posted nodes mail).from (posted nodes mail).to (posted nodes mail).packet × AreOutgoing nodes more mails
 AreOutgoing nodes [] (mail ∷ mails) = ⊥
 AreOutgoing nodes (one ∷ more) [] = ⊥
-
--- the bytes are this packet's; none, where they are no packet's
-abbrev pub IsIncoming : List ℕ → Option (Packet Message Reply) → Type 0
-IsIncoming bytes (Some packet) = IsPacket packet × (bytes ≡ packet_spelling packet)
-IsIncoming bytes None = (packet : Packet Message Reply) → IsPacket packet → bytes ≡ packet_spelling packet → ⊥
 
 -- ---- members
 

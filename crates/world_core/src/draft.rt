@@ -7,7 +7,7 @@ ghost use Rattle.value_core.specs.Sound.{IsSoundMessage, IsSoundReply};
 ghost use Rattle.world_parts.specs.Recorded.{of_piece, of_pieces};
 ghost use Rattle.world_core.specs.Drafting.{HasAdded, HasSpelled, behind, lines_behind};
 
-use crate::letters::{Outgoing, spelled};
+use letter_bytes::{Outgoing, spelled};
 use book_law::Placed;
 use group_member::Letter;
 use history_buffer::Shared;

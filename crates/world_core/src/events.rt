@@ -19,7 +19,7 @@ ghost use Rattle.world_parts.specs.Standing.{Is, Stands};
 
 use crate::burst::{run_on, with_burst};
 use crate::draft::Draft;
-use crate::letters::incoming;
+use letter_bytes::incoming;
 use crate::step::StepError;
 use group_packets::Packet;
 use history_buffer::Shared;

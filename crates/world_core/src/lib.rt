@@ -11,7 +11,6 @@ mod burst;
 mod draft;
 mod ends;
 mod events;
-mod letters;
 mod step;
 mod world;
 

@@ -14,7 +14,7 @@ ghost use Rattle.std.specs.List.{AllByRecursion as Each};
 
 use crate::draft::{Draft, Part};
 use crate::events::happens;
-use crate::letters::Outgoing;
+use letter_bytes::Outgoing;
 use history_buffer::Shared;
 use lossy_net::Net;
 use net_rules::Fate;

@@ -3,7 +3,7 @@ use Rattle.std.specs.List.{AllByRecursion as Each}
 use Rattle.std.specs.Vec.Iter.{into_iter_items}
 use Rattle.net_rules.specs.Flights.{travels}
 use Rattle.node_core.proofs.Reaching.{empty_left, none_left, some_left}
-use Rattle.world_core.specs.declared.letters.Outgoing.{Outgoing}
+use Rattle.letter_bytes.specs.declared.letters.Outgoing.{Outgoing}
 use Rattle.world_core.proofs.Numbering.{next_new}
 use Rattle.world_core.proofs.SendingAll.{SentAll, sent_first, sent_next, sent_over}
 use Rattle.world_core.proofs.step.send_all.Goals as goal

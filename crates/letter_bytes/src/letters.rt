@@ -3,7 +3,7 @@
 ghost use Rattle.std.specs.Prelude.{◌≡◌, ◌<◌, ◌^◌, IfOk, length};
 ghost use Rattle.value_core.specs.Sound.{IsSoundMessage, IsSoundReply};
 ghost use Rattle.group_packets.specs.Sound.{IsSoundPacket};
-ghost use Rattle.world_core.specs.Drafting.{IsIncoming, IsOutgoing};
+ghost use Rattle.letter_bytes.specs.Letters.{IsIncoming, IsOutgoing};
 
 use group_member::Letter;
 use group_packets::{Join, News, Packet, PacketKind, packet_length};
@@ -15,17 +15,17 @@ use value_core::Message;
 
 /// A packet that is about to be sent: what a wire is told of it, and its bytes, twice.
 #[derive(Drop)]
-pub(crate) struct Outgoing {
-    pub(crate) from: u8,
-    pub(crate) to: u8,
-    pub(crate) kind: PacketKind,
-    pub(crate) length: u32,
-    pub(crate) bytes: Items<u8>,
-    pub(crate) twin: Items<u8>,
+pub struct Outgoing {
+    pub from: u8,
+    pub to: u8,
+    pub kind: PacketKind,
+    pub length: u32,
+    pub bytes: Items<u8>,
+    pub twin: Items<u8>,
 }
 
 /// A member's letter, in bytes. One of 2^32 bytes or more finds no memory.
-pub(crate) fn spelled(
+pub fn spelled(
     alloc: Global,
     from: u8,
     letter: &Letter<Shared<Message>>,
@@ -51,7 +51,7 @@ pub(crate) fn spelled(
 }
 
 /// The packet that these bytes are; none, where they were cut.
-pub(crate) fn incoming(
+pub fn incoming(
     alloc: Global,
     bytes: &[u8],
 ) -> Result<Option<Packet<Shared<Message>>>, NoMemory>

@@ -1,5 +1,5 @@
 use Rattle.std.proofs.Common.{◌≡◌, take}
-use Rattle.world_core.proofs.letters.owned_messages.Given as goal
+use Rattle.letter_bytes.proofs.letters.owned_messages.Given as goal
 
 abbrev pub invariant-messages : goal.invariant-messages
 invariant-messages l = l.copied.items ≡ take l.message-index l.messages
