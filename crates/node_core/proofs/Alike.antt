@@ -4,12 +4,12 @@ use Rattle.group_member.specs.StandsFor.{StandsFor}
 use Rattle.group_rules.specs.Member.{Member as RulesMember}
 use Rattle.value_core.specs.declared.message.Message.{Message}
 use Rattle.world_rules.specs.Frame.{Frame, group}
-use Rattle.node_core.specs.Shown.{IsPlayedIf, Left, Stood, on_errand, on_given}
+use Rattle.node_parts.specs.Shown.{IsPlayedIf, Left, Stood, on_errand, on_given}
 use Rattle.node_core.specs.Stands.{StandsAlike}
-use Rattle.node_core.specs.declared.errand.Errand.{Errand}
-use Rattle.node_core.specs.declared.errand.Given.{Given}
+use Rattle.node_parts.specs.declared.errand.Errand.{Errand}
+use Rattle.node_parts.specs.declared.errand.Given.{Given}
 use Rattle.node_core.specs.declared.node.Node.{Node}
-use Rattle.node_core.specs.declared.resident.Resident.{Resident}
+use Rattle.node_parts.specs.declared.resident.Resident.{Resident}
 
 pub alike : {P S : Type 0} (stood : Stood S) (left : Left S) (s t : Node P S)
     → ((f : Frame) (m : ℕ) (v : RulesMember Message) → StandsFor (group f) m s.member v → StandsFor (group f) m t.member v)

@@ -11,11 +11,11 @@ use Rattle.world_rules.specs.Played.{Played, receives}
 use Rattle.node_rules.specs.Handing.{MayReceive}
 use Rattle.node_core.specs.Entries.{MayAnswer, MayAnswerHere}
 use Rattle.node_core.specs.Pieces.{Becomes, BecomesIn, MayBeHanded, resident_at}
-use Rattle.node_core.specs.Shown.{IsPlayedIf, Left, Stood}
+use Rattle.node_parts.specs.Shown.{IsPlayedIf, Left, Stood}
 use Rattle.node_core.specs.Stands.{IsWork, StandsAs}
-use Rattle.node_core.specs.declared.moved.Moved.{Moved}
+use Rattle.node_parts.specs.declared.moved.Moved.{Moved}
 use Rattle.node_core.specs.declared.node.Node.{Node}
-use Rattle.node_core.specs.declared.resident.Resident.{Resident}
+use Rattle.node_parts.specs.declared.resident.Resident.{Resident}
 use Rattle.node_core.specs.declared.work.Work.{Work}
 
 -- ---- in the world

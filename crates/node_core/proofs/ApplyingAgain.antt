@@ -22,7 +22,7 @@ use Rattle.world_rules.specs.Processes.{Begun, singles_of}
 use Rattle.node_rules.specs.Entries.{MayTakeAgain}
 use Rattle.node_core.specs.Earlier.{HasViewed, MayViewAfter}
 use Rattle.node_core.specs.Entries.{KnowsAs}
-use Rattle.node_core.specs.Shown.{Left, Stood}
+use Rattle.node_parts.specs.Shown.{Left, Stood}
 use Rattle.node_core.specs.declared.node.Node.{Node}
 
 -- ---- one entry

@@ -15,12 +15,12 @@ use Rattle.world_rules.specs.Played.{newborn}
 use Rattle.world_rules.specs.Processes.{Begun, begun_by, member_named}
 use Rattle.node_core.specs.Entries.{Begins, MayBegin, newborn_at}
 use Rattle.node_core.specs.Pieces.{Becomes, HasPut}
-use Rattle.node_core.specs.Shown.{IsPlayed, Left, Stood, on_stage}
+use Rattle.node_parts.specs.Shown.{IsPlayed, Left, Stood, on_stage}
 use Rattle.node_core.specs.Stands.{IsMoved, IsWork, on_known}
-use Rattle.node_core.specs.declared.moved.Moved.{Moved}
+use Rattle.node_parts.specs.declared.moved.Moved.{Moved}
 use Rattle.node_core.specs.declared.node.Known.{Known}
-use Rattle.node_core.specs.declared.resident.Resident.{Resident}
-use Rattle.node_core.specs.declared.resident.Stage.TheVariants as at_stage
+use Rattle.node_parts.specs.declared.resident.Resident.{Resident}
+use Rattle.node_parts.specs.declared.resident.Stage.TheVariants as at_stage
 use Rattle.node_core.specs.declared.work.Work.{Work}
 use Rattle.node_core.proofs.Working.{stands_put}
 

@@ -30,10 +30,10 @@ use Rattle.world_rules.specs.Processes.{Begun, home_in}
 use Rattle.node_rules.specs.Conditions.{Fitness}
 use Rattle.node_core.specs.Calls.{HasKept, MayPerformCall, given_at, gives_kept}
 use Rattle.node_core.specs.Pieces.{Becomes, BecomesIn, MayBeHanded, resident_at}
-use Rattle.node_core.specs.Shown.{IsPlayedIf, Left, Stood, on_errand, on_given}
+use Rattle.node_parts.specs.Shown.{IsPlayedIf, Left, Stood, on_errand, on_given}
 use Rattle.node_core.specs.Stands.{IsMoved, IsWork, StandsAs, on_known, sent}
-use Rattle.node_core.specs.declared.errand.Given.{Given}
-use Rattle.node_core.specs.declared.moved.Moved.{Moved}
+use Rattle.node_parts.specs.declared.errand.Given.{Given}
+use Rattle.node_parts.specs.declared.moved.Moved.{Moved}
 use Rattle.node_core.specs.declared.node.Node.{Node}
 use Rattle.node_core.specs.declared.work.Work.{Work}
 use Rattle.node_core.proofs.Handing.{MayHandRest, hand_first, hand_from, hand_rest, one_hands}

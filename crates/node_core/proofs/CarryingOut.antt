@@ -32,11 +32,11 @@ use Rattle.node_core.specs.Calls.{Asks, IsCallOf, MayAsk, MayReadFirst, ReadsFir
 use Rattle.node_core.specs.Entries.{KnowsAs}
 use Rattle.node_core.specs.Events.{HasStarted, HasSubmitted, MayStart, acting_as, acting_at, called_single, is_read_by, message_by, reads_nothing}
 use Rattle.node_core.specs.Pieces.{resident_at}
-use Rattle.node_core.specs.Shown.{IsPlayedIf, Left, Stood, on_stage}
+use Rattle.node_parts.specs.Shown.{IsPlayedIf, Left, Stood, on_stage}
 use Rattle.node_core.specs.Stands.{IsWork}
-use Rattle.node_core.specs.declared.resident.Resident.{Resident}
-use Rattle.node_core.specs.declared.resident.Stage.{Stage}
-use Rattle.node_core.specs.declared.resident.Stage.TheVariants as at_stage
+use Rattle.node_parts.specs.declared.resident.Resident.{Resident}
+use Rattle.node_parts.specs.declared.resident.Stage.{Stage}
+use Rattle.node_parts.specs.declared.resident.Stage.TheVariants as at_stage
 use Rattle.node_core.specs.declared.work.Work.{Work}
 use Rattle.node_core.proofs.NextEntry.{knows}
 

@@ -17,9 +17,9 @@ use Rattle.node_rules.proofs.Ending.{catching_up_ends}
 use Rattle.node_rules.proofs.Walking.{due_rest, one_more}
 use Rattle.node_core.specs.Entries.{AppliesNext, Gathers}
 use Rattle.node_core.specs.Pieces.{GoesOn, IsSomewhere}
-use Rattle.node_core.specs.Shown.{Left, Stood}
+use Rattle.node_parts.specs.Shown.{Left, Stood}
 use Rattle.node_core.specs.Stands.{IsAt}
-use Rattle.node_core.specs.declared.errand.Errand.{Errand}
+use Rattle.node_parts.specs.declared.errand.Errand.{Errand}
 use Rattle.node_core.specs.declared.work.Work.{Work}
 use Rattle.node_core.proofs.Gathering.{entries_more}
 use Rattle.node_core.proofs.NextEntry.{due_there}

@@ -30,7 +30,7 @@ use Rattle.node_rules.specs.Starts.{EventFits, JoinFits, KindFits, NewsFits, beg
 use Rattle.node_rules.specs.Starts.Start.{Comes}
 use Rattle.node_core.specs.Events.{HasCome, IsTakenBy, MayBeTaken, MayComeFrom, TakesGrouped}
 use Rattle.node_core.specs.Pieces.{Becomes}
-use Rattle.node_core.specs.Shown.{Left, Stood}
+use Rattle.node_parts.specs.Shown.{Left, Stood}
 use Rattle.node_core.specs.Stands.{IsPostOf, IsWork}
 use Rattle.node_core.specs.declared.work.Work.{Work}
 use Rattle.node_core.proofs.Noting.{joined as joins_group}

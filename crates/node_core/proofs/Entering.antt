@@ -15,9 +15,9 @@ use Rattle.node_rules.specs.Conditions.{Fitness}
 use Rattle.node_rules.specs.Moments.{IsDue, Moment}
 use Rattle.node_rules.specs.Moments.Walks.{Stays}
 use Rattle.node_core.specs.Pieces.{IsNext}
-use Rattle.node_core.specs.Shown.{Left, Stood}
+use Rattle.node_parts.specs.Shown.{Left, Stood}
 use Rattle.node_core.specs.Stands.{IsAt, on_known}
-use Rattle.node_core.specs.declared.errand.Errand.{Errand}
+use Rattle.node_parts.specs.declared.errand.Errand.{Errand}
 use Rattle.node_core.specs.declared.node.Known.{Known}
 use Rattle.node_core.specs.declared.work.Work.{Work}
 

@@ -14,8 +14,8 @@ use Rattle.world_rules.specs.Processes.{home_in}
 use Rattle.node_rules.specs.Conditions.{AreSmall}
 use Rattle.node_rules.specs.Handing.{MayHandAll, MayReceive}
 use Rattle.node_core.specs.Pieces.{MayBeHanded}
-use Rattle.node_core.specs.Shown.{IsPlayedIf, Left, Stood}
-use Rattle.node_core.specs.declared.resident.Resident.{Resident}
+use Rattle.node_parts.specs.Shown.{IsPlayedIf, Left, Stood}
+use Rattle.node_parts.specs.declared.resident.Resident.{Resident}
 
 -- each of these lines may be handed to its process, where that is here, and no two are of one process here
 pub record MayHandRest (fits_reply : ReplyFits) (played : ℕ → Option Played) (lines : List Line) : Type 0 where

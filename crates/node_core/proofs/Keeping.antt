@@ -28,13 +28,13 @@ use Rattle.node_core.specs.Entries.{HasTaken, Refused}
 use Rattle.node_core.specs.Events.{acting_as, acting_at}
 use Rattle.node_core.specs.Keeping.{IsCopy, KeepsBelow, KeepsTasks}
 use Rattle.node_core.specs.Pieces.{HasPut, IsSomewhere, MayBeHanded, resident_at}
-use Rattle.node_core.specs.Shown.{IsPlayedIf, Left, Stood, on_stage}
-use Rattle.node_core.specs.declared.errand.Given.{Given}
+use Rattle.node_parts.specs.Shown.{IsPlayedIf, Left, Stood, on_stage}
+use Rattle.node_parts.specs.declared.errand.Given.{Given}
 use Rattle.node_core.specs.declared.node.Known.{Known}
 use Rattle.node_core.specs.declared.node.Node.{Node}
-use Rattle.node_core.specs.declared.resident.Resident.{Resident}
-use Rattle.node_core.specs.declared.resident.Stage.{Stage}
-use Rattle.node_core.specs.declared.resident.Stage.TheVariants as at_stage
+use Rattle.node_parts.specs.declared.resident.Resident.{Resident}
+use Rattle.node_parts.specs.declared.resident.Stage.{Stage}
+use Rattle.node_parts.specs.declared.resident.Stage.TheVariants as at_stage
 use Rattle.node_core.specs.declared.work.Work.{Work}
 use Rattle.node_core.proofs.NextEntry.{HasTakenIn, knows}
 

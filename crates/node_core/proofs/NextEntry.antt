@@ -29,10 +29,10 @@ use Rattle.node_rules.specs.Moments.Walks.{Stays}
 use Rattle.node_rules.specs.Entries.{MayTakeEntry}
 use Rattle.node_core.specs.Entries.{AppliesNext, Begins, IsBorn, KnowsAs, MayAnswer, MayAnswerHere, MayBegin, Refused, Took}
 use Rattle.node_core.specs.Pieces.{BecomesIn, GoesOn, IsNext, IsSomewhere}
-use Rattle.node_core.specs.Shown.{IsPlayedIf, Left, Stood, on_errand, on_given}
+use Rattle.node_parts.specs.Shown.{IsPlayedIf, Left, Stood, on_errand, on_given}
 use Rattle.node_core.specs.Stands.{IsAt, IsMoved, IsWork, StandsAs, on_known}
-use Rattle.node_core.specs.declared.errand.Errand.{Errand}
-use Rattle.node_core.specs.declared.moved.Moved.{Moved}
+use Rattle.node_parts.specs.declared.errand.Errand.{Errand}
+use Rattle.node_parts.specs.declared.moved.Moved.{Moved}
 use Rattle.node_core.specs.declared.node.Known.{Known}
 use Rattle.node_core.specs.declared.node.Node.{Node}
 use Rattle.node_core.specs.declared.work.Work.{Work}

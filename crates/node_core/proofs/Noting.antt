@@ -14,7 +14,7 @@ use Rattle.node_rules.specs.Entries.{told_lines}
 use Rattle.node_rules.specs.Moments.{Goes, Moment, works}
 use Rattle.node_rules.specs.Moments.Goes.{Notes}
 use Rattle.node_rules.specs.Moments.Walks.{Stays, Then}
-use Rattle.node_core.specs.declared.errand.Errand.{Errand}
+use Rattle.node_parts.specs.declared.errand.Errand.{Errand}
 use Rattle.group_member.specs.declared.sends.Letter.{Letter}
 use Rattle.group_rules.specs.OnWire.{post_of, posts_of}
 use Rattle.group_rules.specs.Work as group_work
@@ -24,9 +24,9 @@ use Rattle.world_rules.specs.Mail.{Mail}
 use Rattle.world_rules.specs.Nodes.{Deed, NodeWork, aside_of, entries_of, joins, mails_of}
 use Rattle.world_rules.specs.Nodes.Deed.{Acts}
 use Rattle.world_rules.specs.Processes.{processes_in}
-use Rattle.node_core.specs.Shown.{IsPlayedIf, Left, Stood, on_errand, on_given}
+use Rattle.node_parts.specs.Shown.{IsPlayedIf, Left, Stood, on_errand, on_given}
 use Rattle.node_core.specs.Stands.{IsAt, IsWork, on_known, sent}
-use Rattle.node_core.specs.declared.moved.Moved.{Moved}
+use Rattle.node_parts.specs.declared.moved.Moved.{Moved}
 use Rattle.node_core.specs.declared.node.Node.{Node}
 use Rattle.node_core.specs.declared.work.Work.{Work}
 

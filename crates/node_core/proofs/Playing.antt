@@ -5,9 +5,9 @@ use Rattle.value_core.specs.declared.action.Reply.{Reply}
 use Rattle.world_rules.specs.Played.{Played, Stage, receives}
 use Rattle.world_rules.specs.Played.Stage.{Computing, Acting, Submitted, Reading, Asking, Over}
 use Rattle.node_rules.specs.Handing.{waits_with}
-use Rattle.node_core.specs.Shown.{IsPlayed, Left, LeftAt, Stood, on_stage}
-use Rattle.node_core.specs.declared.resident.Resident.{Resident}
-use Rattle.node_core.specs.declared.resident.Stage.TheVariants as at_stage
+use Rattle.node_parts.specs.Shown.{IsPlayed, Left, LeftAt, Stood, on_stage}
+use Rattle.node_parts.specs.declared.resident.Resident.{Resident}
+use Rattle.node_parts.specs.declared.resident.Stage.TheVariants as at_stage
 
 some_same : {A : Type 0} (x y : A) → Some x ≡ Some y → x ≡ y
 some_same x y is = cc is

@@ -14,9 +14,9 @@ use Rattle.node_rules.specs.Moments.Goes.{Holds, Opens, Takes}
 use Rattle.node_rules.specs.Moments.Walks.{Stays, Then}
 use Rattle.node_core.specs.Calls.{GoesFree, IsFree, MayTakeNext}
 use Rattle.node_core.specs.Pieces.{Becomes, BecomesIn}
-use Rattle.node_core.specs.Shown.{Left, Stood, on_errand}
+use Rattle.node_parts.specs.Shown.{Left, Stood, on_errand}
 use Rattle.node_core.specs.Stands.{IsAt, IsWork}
-use Rattle.node_core.specs.declared.errand.Errand.{Errand}
+use Rattle.node_parts.specs.declared.errand.Errand.{Errand}
 use Rattle.node_core.specs.declared.work.Work.{Work}
 
 -- what is so of a value that is there, and of none

@@ -29,10 +29,10 @@ use Rattle.world_rules.specs.Played.{Played, Stage as RulesStage, receives}
 use Rattle.world_rules.specs.Played.Stage.{Reading}
 use Rattle.node_rules.specs.Handing.{MayReceive, waits_with}
 use Rattle.node_core.specs.Pieces.{MayBeHanded, MayRead, MayReadAs, MayReadAt, line_as, line_if, line_read}
-use Rattle.node_core.specs.Shown.{IsPlayedIf, Left, Stood, on_stage}
-use Rattle.node_core.specs.declared.resident.Resident.{Resident}
-use Rattle.node_core.specs.declared.resident.Stage.{Stage}
-use Rattle.node_core.specs.declared.resident.Stage.TheVariants as at_stage
+use Rattle.node_parts.specs.Shown.{IsPlayedIf, Left, Stood, on_stage}
+use Rattle.node_parts.specs.declared.resident.Resident.{Resident}
+use Rattle.node_parts.specs.declared.resident.Stage.{Stage}
+use Rattle.node_parts.specs.declared.resident.Stage.TheVariants as at_stage
 
 -- ---- it may be tried
 

@@ -34,9 +34,9 @@ use Rattle.world_rules.specs.Played.{Played, at_action, halted, stage_at}
 use Rattle.node_rules.specs.Bursting.{ReadsOn}
 use Rattle.node_rules.specs.Bursting.ReadsOn.{Stays, Then}
 use Rattle.node_rules.specs.Conditions.{Fitness}
-use Rattle.node_core.specs.Shown.{Left, LeftAt, Stood, on_stage}
+use Rattle.node_parts.specs.Shown.{Left, LeftAt, Stood, on_stage}
 use Rattle.node_core.specs.Tasks.{Computed, HasRun, IsCame, IsStart, MayAnswer, MayRun, Tasked}
-use Rattle.node_core.specs.declared.resident.Stage.{Stage}
+use Rattle.node_parts.specs.declared.resident.Stage.{Stage}
 use Rattle.node_core.specs.declared.task.Came.{Came}
 use Rattle.node_core.specs.declared.task.Came.TheVariants as came
 use Rattle.node_core.proofs.Reading.{RepliesFit}

@@ -28,12 +28,12 @@ use Rattle.world_rules.specs.Processes.{Begun, home_in, owner_in}
 use Rattle.node_rules.specs.Conditions.{Fitness}
 use Rattle.node_core.specs.Calls.{Asks, HasMoved, IsCallOf, MayAsk, MayPerformCall, MayReadFirst, ReadsFirst, asked_as, asked_at, asked_by}
 use Rattle.node_core.specs.Pieces.{Becomes, BecomesIn, MayCallHere, MayTryRead, resident_at}
-use Rattle.node_core.specs.Shown.{IsPlayed, IsPlayedIf, Left, LeftAt, Stood, on_stage}
+use Rattle.node_parts.specs.Shown.{IsPlayed, IsPlayedIf, Left, LeftAt, Stood, on_stage}
 use Rattle.node_core.specs.Stands.{IsMoved, IsWork, on_known}
-use Rattle.node_core.specs.declared.moved.Moved.{Moved}
-use Rattle.node_core.specs.declared.resident.Resident.{Resident}
-use Rattle.node_core.specs.declared.resident.Stage.{Stage}
-use Rattle.node_core.specs.declared.resident.Stage.TheVariants as at_stage
+use Rattle.node_parts.specs.declared.moved.Moved.{Moved}
+use Rattle.node_parts.specs.declared.resident.Resident.{Resident}
+use Rattle.node_parts.specs.declared.resident.Stage.{Stage}
+use Rattle.node_parts.specs.declared.resident.Stage.TheVariants as at_stage
 use Rattle.node_core.specs.declared.work.Work.{Work}
 use Rattle.node_core.proofs.Calling.{mailed}
 use Rattle.node_core.proofs.Working.{none_here, stands_put}

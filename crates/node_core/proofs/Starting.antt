@@ -35,13 +35,13 @@ use Rattle.node_core.specs.Calls.{GoesFree, HasGathered, HasMoved, IsFree}
 use Rattle.node_core.specs.Entries.{Gathers}
 use Rattle.node_core.specs.Events.{HasCome, HasDelivered, HasDone, HasStarted, HasSubmitted, IsIdle, MayComeFrom, MayStart}
 use Rattle.node_core.specs.Pieces.{Becomes, GoesOn, IsSomewhere, resident_at}
-use Rattle.node_core.specs.Shown.{Left, Stood}
+use Rattle.node_parts.specs.Shown.{Left, Stood}
 use Rattle.node_core.specs.Stands.{Does as DoesEvent, IsAt, IsDone, IsWork, MayDo, MayTakePacket, StandsAlike, TakesPacket}
-use Rattle.node_core.specs.declared.moved.Moved.{Moved}
+use Rattle.node_parts.specs.declared.moved.Moved.{Moved}
 use Rattle.node_core.specs.declared.node.Node.{Node}
-use Rattle.node_core.specs.declared.resident.Resident.{Resident}
-use Rattle.node_core.specs.declared.resident.Stage.{Stage}
-use Rattle.node_core.specs.declared.resident.Stage.TheVariants as at_stage
+use Rattle.node_parts.specs.declared.resident.Resident.{Resident}
+use Rattle.node_parts.specs.declared.resident.Stage.{Stage}
+use Rattle.node_parts.specs.declared.resident.Stage.TheVariants as at_stage
 use Rattle.node_core.specs.declared.work.Work.{Work}
 use Rattle.node_core.proofs.Gathering.{kept_again, kept_reached}
 use Rattle.node_core.proofs.Noting.{joined}

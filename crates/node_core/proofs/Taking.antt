@@ -22,14 +22,14 @@ use Rattle.node_rules.specs.Conditions.{AreSmall, Fitness, is_later}
 use Rattle.node_rules.specs.Handing.{MayHear, MayReceive, waits_with}
 use Rattle.node_core.specs.Calls.{MayPerformCall, MayTakeNew, MayTakeNext, asks_as, asks_call, call_given, given_at, gives_kept}
 use Rattle.node_core.specs.Pieces.{Becomes, BecomesIn, MayBeHanded, resident_at}
-use Rattle.node_core.specs.Shown.{IsPlayedIf, Left, Stood, on_errand, on_given, on_stage}
+use Rattle.node_parts.specs.Shown.{IsPlayedIf, Left, Stood, on_errand, on_given, on_stage}
 use Rattle.node_core.specs.Stands.{IsWork}
-use Rattle.node_core.specs.declared.errand.Errand.{Errand}
-use Rattle.node_core.specs.declared.errand.Errand.TheVariants as errands
-use Rattle.node_core.specs.declared.errand.Given.{Given}
-use Rattle.node_core.specs.declared.resident.Resident.{Resident}
-use Rattle.node_core.specs.declared.resident.Stage.{Stage}
-use Rattle.node_core.specs.declared.resident.Stage.TheVariants as at_stage
+use Rattle.node_parts.specs.declared.errand.Errand.{Errand}
+use Rattle.node_parts.specs.declared.errand.Errand.TheVariants as errands
+use Rattle.node_parts.specs.declared.errand.Given.{Given}
+use Rattle.node_parts.specs.declared.resident.Resident.{Resident}
+use Rattle.node_parts.specs.declared.resident.Stage.{Stage}
+use Rattle.node_parts.specs.declared.resident.Stage.TheVariants as at_stage
 use Rattle.node_core.specs.declared.work.Work.{Work}
 
 -- ---- which call was answered last

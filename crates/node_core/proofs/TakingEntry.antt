@@ -23,9 +23,9 @@ use Rattle.node_rules.specs.Conditions.{Fitness}
 use Rattle.node_core.specs.Entries.{AppliesNext, Begins, HasTaken, IsBorn, KnowsAs, Refused, Took, listed}
 use Rattle.node_core.specs.Calls.{GoesFree}
 use Rattle.node_core.specs.Pieces.{IsNext}
-use Rattle.node_core.specs.Shown.{Left, Stood}
+use Rattle.node_parts.specs.Shown.{Left, Stood}
 use Rattle.node_core.specs.Stands.{IsMoved, StandsAs}
-use Rattle.node_core.specs.declared.moved.Moved.{Moved}
+use Rattle.node_parts.specs.declared.moved.Moved.{Moved}
 use Rattle.node_core.specs.declared.node.Known.{Known}
 use Rattle.node_core.specs.declared.node.Node.{Node}
 use Rattle.node_core.specs.declared.work.Work.{Work}

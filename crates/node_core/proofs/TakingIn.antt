@@ -26,15 +26,15 @@ use Rattle.world_rules.specs.Processes.{first_process}
 use Rattle.node_rules.specs.Conditions.{Fitness}
 use Rattle.node_core.specs.CheckingIn.{BecomesComputed, HasChanged, HasCheckedIn, HasRecalled, IsOutFor, MayHandOut, after_burst, recalled}
 use Rattle.node_core.specs.Pieces.{resident_at}
-use Rattle.node_core.specs.Shown.{IsPlayed, IsPlayedIf, Left, Stood, on_errand, on_given, on_stage}
+use Rattle.node_parts.specs.Shown.{IsPlayed, IsPlayedIf, Left, Stood, on_errand, on_given, on_stage}
 use Rattle.node_core.specs.Stands.{StandsAlike, StandsAs}
 use Rattle.node_core.specs.Tasks.{Computed, HasRun, MayRun, Tasked}
-use Rattle.node_core.specs.declared.errand.Errand.{Errand}
-use Rattle.node_core.specs.declared.errand.Given.{Given}
+use Rattle.node_parts.specs.declared.errand.Errand.{Errand}
+use Rattle.node_parts.specs.declared.errand.Given.{Given}
 use Rattle.node_core.specs.declared.node.Node.{Node}
-use Rattle.node_core.specs.declared.resident.Resident.{Resident}
-use Rattle.node_core.specs.declared.resident.Stage.{Stage}
-use Rattle.node_core.specs.declared.resident.Stage.TheVariants as at_stage
+use Rattle.node_parts.specs.declared.resident.Resident.{Resident}
+use Rattle.node_parts.specs.declared.resident.Stage.{Stage}
+use Rattle.node_parts.specs.declared.resident.Stage.TheVariants as at_stage
 use Rattle.node_core.specs.declared.task.CheckedIn.{CheckedIn}
 use Rattle.node_core.proofs.Working.{some_here, stands_put}
 

@@ -14,9 +14,9 @@ use Rattle.node_rules.specs.Moments.{works}
 use Rattle.node_rules.specs.Moments.Goes.{Tries_read}
 use Rattle.node_rules.specs.Moments.Walks.{Stays}
 use Rattle.node_core.specs.Pieces.{Becomes, BecomesIn, GoesOn, IsSomewhere, MayBeHanded, MayReadAt, MayTryRead, line_read, resident_at}
-use Rattle.node_core.specs.Shown.{Left, Stood}
+use Rattle.node_parts.specs.Shown.{Left, Stood}
 use Rattle.node_core.specs.Stands.{IsAt, IsWork, StandsAs}
-use Rattle.node_core.specs.declared.moved.Moved.{Moved}
+use Rattle.node_parts.specs.declared.moved.Moved.{Moved}
 use Rattle.node_core.specs.declared.node.Node.{Node}
 use Rattle.node_core.specs.declared.work.Work.{Work}
 use Rattle.node_core.proofs.Noting.{goes_at}

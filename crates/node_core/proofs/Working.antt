@@ -9,12 +9,12 @@ use Rattle.world_rules.specs.Nodes.{NodeWork, changes, if_played, plays}
 use Rattle.world_rules.specs.Played.{Played}
 use Rattle.node_core.specs.Calls.{HasKept, given_at}
 use Rattle.node_core.specs.Pieces.{HasPut, resident_at}
-use Rattle.node_core.specs.Shown.{IsPlayed, IsPlayedIf, Left, Stood, on_errand, on_given}
+use Rattle.node_parts.specs.Shown.{IsPlayed, IsPlayedIf, Left, Stood, on_errand, on_given}
 use Rattle.node_core.specs.Stands.{IsMoved, IsWork, StandsAs}
-use Rattle.node_core.specs.declared.errand.Given.{Given}
-use Rattle.node_core.specs.declared.moved.Moved.{Moved}
+use Rattle.node_parts.specs.declared.errand.Given.{Given}
+use Rattle.node_parts.specs.declared.moved.Moved.{Moved}
 use Rattle.node_core.specs.declared.node.Node.{Node}
-use Rattle.node_core.specs.declared.resident.Resident.{Resident}
+use Rattle.node_parts.specs.declared.resident.Resident.{Resident}
 use Rattle.node_core.specs.declared.work.Work.{Work}
 
 -- a process that isn't here isn't here in the world's node
@@ -29,11 +29,6 @@ pub some_here : {S : Type 0} (stood : Stood S) (left : Left S) (i : ℕ) (s : Op
 some_here stood left i None a r is here = absurd (cc is)
 some_here stood left i (Some s) a None is here = absurd here
 some_here stood left i (Some s) a (Some p) is here = (p, refl, (let e : s ≡ a = cc is in subst (λ (x : Resident _). IsPlayed stood left i x p) e here))
-
--- a value put in its place: the others are as they were
-pub with_same : {A : Type 0} (xs ys : List (Option A)) (k : ℕ) (x : Option A) (i : ℕ) → slice_index_or xs i None ≡ slice_index_or ys i None
-    → with_at (λ j. slice_index_or xs j None) k x i ≡ with_at (λ j. slice_index_or ys j None) k x i
-with_same {A} xs ys k x i same = ap (λ (y : Option A). if i == k then x else y) same
 
 pub has_put : {P S : Type 0} (k : ℕ) (s : Resident S) (old new : Node P S) → new ≡ record old { residents = new.residents }
     → ((i : ℕ) → resident_at new i ≡ with_at (resident_at old) k (Some s) i) → HasPut k s old new

@@ -23,13 +23,13 @@ use Rattle.world_rules.specs.Processes.{home_in, owner_in}
 use Rattle.node_rules.specs.Conditions.{AreSmall, Fitness, MayTake, MayTakeCall}
 use Rattle.node_rules.specs.Moments.{Moment, works}
 use Rattle.node_core.specs.Pieces.{HasPut, MayCallHere, MayTry}
-use Rattle.node_core.specs.Shown.{Left, Stood}
+use Rattle.node_parts.specs.Shown.{Left, Stood}
 use Rattle.node_core.specs.Stands.{IsAt, IsWork}
-use Rattle.node_core.specs.declared.errand.Given.{Given}
+use Rattle.node_parts.specs.declared.errand.Given.{Given}
 use Rattle.node_core.specs.declared.node.Node.{Node}
-use Rattle.node_core.specs.declared.resident.Resident.{Resident}
-use Rattle.node_core.specs.declared.resident.Stage.{Stage}
-use Rattle.node_core.specs.declared.resident.Stage.TheVariants as at_stage
+use Rattle.node_parts.specs.declared.resident.Resident.{Resident}
+use Rattle.node_parts.specs.declared.resident.Stage.{Stage}
+use Rattle.node_parts.specs.declared.resident.Stage.TheVariants as at_stage
 use Rattle.node_core.specs.declared.work.Work.{Work}
 
 -- ---- the processes here

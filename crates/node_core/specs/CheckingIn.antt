@@ -10,11 +10,11 @@ use Rattle.world_rules.specs.Played.{Played}
 use Rattle.node_rules.specs.Bursting.{BurstFits}
 use Rattle.node_rules.specs.Conditions.{Fitness}
 use Rattle.node_core.specs.Pieces.{HasPut, resident_at}
-use Rattle.node_core.specs.Shown.{Left, Stood}
+use Rattle.node_parts.specs.Shown.{Left, Stood}
 use Rattle.node_core.specs.Stands.{StandsAs}
 use Rattle.node_core.specs.Tasks.{Computed, HasEnded, Tasked}
 use Rattle.node_core.specs.declared.node.Node.{Node}
-use Rattle.node_core.specs.declared.resident.Resident.{Resident}
+use Rattle.node_parts.specs.declared.resident.Resident.{Resident}
 use Rattle.node_core.specs.declared.task.CheckedIn.{CheckedIn}
 
 -- nothing changed but the process of this number, which was here and is this one now

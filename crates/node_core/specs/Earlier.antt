@@ -13,7 +13,7 @@ use Rattle.world_rules.specs.Processes.{Begun, singles_of}
 use Rattle.world_rules.specs.Steps.{objects_after}
 use Rattle.node_rules.specs.Entries.{MayApplyAgain}
 use Rattle.node_core.specs.Entries.{KnowsAs}
-use Rattle.node_core.specs.Shown.{Left, Stood}
+use Rattle.node_parts.specs.Shown.{Left, Stood}
 use Rattle.node_core.specs.Stands.{StandsAs}
 use Rattle.node_core.specs.declared.node.Node.{Node}
 

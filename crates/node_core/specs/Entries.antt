@@ -25,9 +25,9 @@ use Rattle.world_rules.specs.Processes.{Begun, begun_by, home_in, singles_of}
 use Rattle.node_rules.specs.Conditions.{Fitness}
 use Rattle.node_rules.specs.Handing.{MayHandAll}
 use Rattle.node_rules.specs.Moments.{IsDue, Moment, works}
-use Rattle.node_core.specs.Shown.{Left, Stood}
+use Rattle.node_parts.specs.Shown.{Left, Stood}
 use Rattle.node_core.specs.Stands.{IsAt, IsWork, on_known}
-use Rattle.node_core.specs.declared.errand.Errand.{Errand}
+use Rattle.node_parts.specs.declared.errand.Errand.{Errand}
 use Rattle.node_core.specs.declared.node.Known.{Known}
 use Rattle.node_core.specs.declared.node.Node.{Node}
 use Rattle.node_core.specs.declared.work.Work.{Work}

@@ -3,8 +3,8 @@ use Rattle.std.specs.Prelude.{◌≡◌, ◌<◌, ◌≤◌, ℕ, Some}
 use Rattle.object_manager.specs.Viewed.{Viewed}
 use Rattle.node_core.specs.Pieces.{resident_at}
 use Rattle.node_core.specs.declared.node.Node.{Node}
-use Rattle.node_core.specs.declared.resident.Resident.{Resident}
-use Rattle.node_core.specs.declared.resident.Stage.TheVariants.{Computing}
+use Rattle.node_parts.specs.declared.resident.Resident.{Resident}
+use Rattle.node_parts.specs.declared.resident.Stage.TheVariants.{Computing}
 
 -- all is equal in both but their members in the group
 pub record IsCopy {P S : Type 0} (old new : Node P S) : Type 0 where

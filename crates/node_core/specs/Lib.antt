@@ -1,7 +1,3 @@
-pub mod Runs
-pub mod Names
-pub mod Named
-pub mod Shown
 pub mod Stands
 pub mod Pieces
 pub mod Entries

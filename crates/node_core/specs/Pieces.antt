@@ -28,13 +28,13 @@ use Rattle.world_rules.specs.Played.Stage.{Reading}
 use Rattle.node_rules.specs.Conditions.{AreSmall, Fitness, MayPerform}
 use Rattle.node_rules.specs.Handing.{MayReceive}
 use Rattle.node_rules.specs.Moments.{Moment, works}
-use Rattle.node_core.specs.Shown.{IsPlayed, Left, Stood}
+use Rattle.node_parts.specs.Shown.{IsPlayed, Left, Stood}
 use Rattle.node_core.specs.Stands.{IsAt, IsWork}
-use Rattle.node_core.specs.declared.errand.Errand.{Errand}
+use Rattle.node_parts.specs.declared.errand.Errand.{Errand}
 use Rattle.node_core.specs.declared.node.Node.{Node}
-use Rattle.node_core.specs.declared.resident.Resident.{Resident}
-use Rattle.node_core.specs.declared.resident.Stage.{Stage}
-use Rattle.node_core.specs.declared.resident.Stage.TheVariants as at_stage
+use Rattle.node_parts.specs.declared.resident.Resident.{Resident}
+use Rattle.node_parts.specs.declared.resident.Stage.{Stage}
+use Rattle.node_parts.specs.declared.resident.Stage.TheVariants as at_stage
 use Rattle.node_core.specs.declared.work.Work.{Work}
 
 -- ---- the processes here

@@ -17,9 +17,9 @@ use Rattle.node_rules.specs.Entries.{told_lines}
 use Rattle.node_rules.specs.Moments.{Moment, Walks}
 use Rattle.node_rules.specs.Starts.{EventFits, Start, part}
 use Rattle.node_rules.specs.Starts.Start.{Comes}
-use Rattle.node_core.specs.Shown.{IsPlayedIf, Left, Stood, on_errand, on_given}
-use Rattle.node_core.specs.declared.errand.Errand.{Errand}
-use Rattle.node_core.specs.declared.moved.Moved.{Moved}
+use Rattle.node_parts.specs.Shown.{IsPlayedIf, Left, Stood, on_errand, on_given}
+use Rattle.node_parts.specs.declared.errand.Errand.{Errand}
+use Rattle.node_parts.specs.declared.moved.Moved.{Moved}
 use Rattle.node_core.specs.declared.node.Known.{Known}
 use Rattle.node_core.specs.declared.node.Node.{Node}
 use Rattle.node_core.specs.declared.work.Work.{Work}

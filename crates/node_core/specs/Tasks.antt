@@ -22,8 +22,8 @@ use Rattle.world_rules.specs.Frame.{Frame}
 use Rattle.world_rules.specs.Played.{Played, stage_at}
 use Rattle.node_rules.specs.Bursting.{BurstFits}
 use Rattle.node_rules.specs.Conditions.{Fitness}
-use Rattle.node_core.specs.Shown.{Left, LeftAt, Stood, on_stage}
-use Rattle.node_core.specs.declared.resident.Stage.{Stage}
+use Rattle.node_parts.specs.Shown.{Left, LeftAt, Stood, on_stage}
+use Rattle.node_parts.specs.declared.resident.Stage.{Stage}
 use Rattle.node_core.specs.declared.task.Came.{Came}
 use Rattle.node_core.specs.declared.task.Came.TheVariants as came
 

@@ -17,11 +17,10 @@ ghost use Rattle.node_core.specs.Pieces.{Becomes, BecomesIn, GoesOn, IsNext, IsS
 ghost use Rattle.node_core.specs.Stands.{fitness_of, on_known};
 
 use crate::node::Known;
-use crate::resident::{Resident, Stage};
-use crate::run::OneRun;
 use crate::work::Work;
 use guard_queue::Answered;
 use history_buffer::{Shared, Slot};
+use node_parts::{OneRun, Resident, Stage};
 use object_manager::ApplyError;
 use orca_base::{Body, Items, NoMemory, ProcessNo, TextNo};
 use std::alloc::Global;

@@ -6,9 +6,9 @@ ghost use Rattle.node_rules.specs.Entries.{MayTakeAgain, MayTakeEntry};
 ghost use Rattle.node_core.specs.Earlier.{HasTakenAgain, HasViewed, MayViewAfter};
 
 use crate::node::Node;
-use crate::run::OneRun;
 use guard_queue::Answered;
 use history_buffer::Shared;
+use node_parts::OneRun;
 use object_manager::{ApplyError, Copies, View};
 use orca_base::NoMemory;
 use std::alloc::Global;

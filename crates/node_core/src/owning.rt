@@ -7,16 +7,13 @@ ghost use Rattle.world_rules.specs.Parts.{asks_again, asks_again_of};
 ghost use Rattle.node_core.specs.Calls.{GoesFree, HasKept, IsFree, MayPerformCall, MayTakeNew, MayTakeNext, asked_at, asks_as, asks_call, call_given, given_at, gives_kept};
 ghost use Rattle.node_core.specs.Keeping.{KeepsTasks};
 ghost use Rattle.node_core.specs.Pieces.{Becomes, BecomesIn, MayBeHanded, resident_at};
-ghost use Rattle.node_core.specs.Shown.{on_errand};
+ghost use Rattle.node_parts.specs.Shown.{on_errand};
 ghost use Rattle.node_core.specs.Stands.{fitness_of};
 
-use crate::errand::{Errand, Given};
-use crate::places::put_at;
-use crate::resident::Stage;
-use crate::run::OneRun;
 use crate::work::Work;
 use group_packets::Packet;
 use history_buffer::Shared;
+use node_parts::{Errand, Given, OneRun, Stage, put_at};
 use orca_base::{CallNo, NoMemory, ObjectId, ProcessNo};
 use std::alloc::Global;
 use std::mem;

@@ -16,17 +16,13 @@ ghost use Rattle.node_core.specs.Keeping.{KeepsTasks};
 ghost use Rattle.node_core.specs.Pieces.{resident_at};
 ghost use Rattle.node_core.specs.Stands.{Does, MayDo, MayTakePacket, TakesPacket, fitness_of};
 
-use crate::errand::Errand;
-use crate::moved::Moved;
 use crate::node::Node;
-use crate::places::take_place;
-use crate::resident::Stage;
-use crate::run::OneRun;
 use crate::work::{Work, message_for};
 use group_member::{Member, Sends, Timed};
 use group_packets::Packet;
 use group_reset::{announced, coordinate, invited, joined};
 use history_buffer::Shared;
+use node_parts::{Errand, Moved, OneRun, Stage, take_place};
 use orca_base::{NoMemory, ObjectId, ProcessNo};
 use std::alloc::Global;
 use value_core::{Action, Class, Message};

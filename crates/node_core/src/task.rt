@@ -6,15 +6,12 @@ ghost use Rattle.world_rules.specs.Bursts.{read_on};
 ghost use Rattle.world_rules.specs.Played.{at_action as action_stage};
 ghost use Rattle.node_core.specs.CheckingIn.{HandsOut, HasChanged, HasCheckedIn, HasRecalled, IsOutFor, IsStray, MayHandOut, recalled};
 ghost use Rattle.node_core.specs.Pieces.{resident_at};
-ghost use Rattle.node_core.specs.Shown.{on_stage};
+ghost use Rattle.node_parts.specs.Shown.{on_stage};
 ghost use Rattle.node_core.specs.Stands.{StandsAlike, fitness_of};
 ghost use Rattle.node_core.specs.Tasks.{HasRun, IsCame, IsOf, MayAnswer, MayRun, answer_of};
 
-use crate::kept::Kept;
 use crate::node::Node;
-use crate::places::set_at;
-use crate::resident::{Resident, Stage};
-use crate::run::OneRun;
+use node_parts::{Kept, OneRun, Resident, Stage, set_at};
 use object_manager::View;
 use orca_base::{CallNo, NoMemory, ProcessNo};
 use std::alloc::Global;

@@ -7,14 +7,12 @@ ghost use Rattle.node_core.specs.Events.{IsIdle, message_by};
 ghost use Rattle.node_core.specs.Keeping.{IsCopy, KeepsTasks};
 ghost use Rattle.node_core.specs.Pieces.{Becomes, CanReceive, MayBeHanded, Received, resident_at};
 
-use crate::moved::Moved;
 use crate::node::Node;
-use crate::resident::Resident;
-use crate::run::OneRun;
 use book_law::Placed;
 use group_member::{Letter, Sends};
 use group_packets::Packet;
 use history_buffer::Shared;
+use node_parts::{Moved, OneRun, Resident};
 use orca_base::{CallNo, NoMemory, ProcessNo};
 use std::alloc::Global;
 use value_core::{Action, Line, Message, Reply};

@@ -10,7 +10,7 @@ ghost use Rattle.run_loop.specs.Driven.{HasAnswered, HasStopped, IsDriven, IsDue
 use crate::asking::{ask, event_of, swaps_of};
 use crate::order::{Bursts, chosen};
 use net_rules::WireAct;
-use node_core::OneRun;
+use node_parts::OneRun;
 use orca_base::NoMemory;
 use std::alloc::Global;
 use wires::Wire;

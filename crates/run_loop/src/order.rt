@@ -5,7 +5,7 @@ ghost use Rattle.world_parts.specs.Choosing.{is_ready};
 ghost use Rattle.world_parts.specs.Seen.{Of};
 ghost use Rattle.world_rules.specs.Standings.{process_count};
 
-use node_core::OneRun;
+use node_parts::OneRun;
 use orca_base::{NoMemory, PROCESSES, ProcessNo};
 use std::alloc::Global;
 use world_core::World;

@@ -6,7 +6,7 @@ ghost use Rattle.run_loop.specs.Asked.{HaveToldOn, WereAskedIn};
 ghost use Rattle.run_loop.specs.Left.{HasRun, run_of};
 
 use crate::drive::Driver;
-use node_core::{OneRun, RunMachine, RunName};
+use node_parts::{OneRun, RunMachine, RunName};
 use std::alloc::Global;
 use std::marker::Brand;
 use value_core::Processor;

@@ -16,10 +16,10 @@ use Rattle.world_rules.specs.Nodes.{NodeWork, aside_of, mails_of}
 use Rattle.world_rules.specs.Steps.{AtWork, after_part, has_stirred, has_stirred_at, has_stirred_below}
 use Rattle.world_rules.specs.Worlds.{World}
 use Rattle.node_core.specs.Pieces.{resident_at}
-use Rattle.node_core.specs.Shown.{Left, Stood}
+use Rattle.node_parts.specs.Shown.{Left, Stood}
 use Rattle.node_core.specs.Stands.{StandsAs, sent}
 use Rattle.node_core.specs.declared.node.Node.{Node}
-use Rattle.node_core.specs.declared.resident.Resident.{Resident}
+use Rattle.node_parts.specs.declared.resident.Resident.{Resident}
 use Rattle.letter_bytes.specs.Letters.{IsOutgoing}
 use Rattle.world_core.specs.Drafting.{AreLetters, AreNodes, AreOutgoing, HasSpelled, KeepTasks, taken}
 use Rattle.world_core.specs.declared.draft.Part.{Part}

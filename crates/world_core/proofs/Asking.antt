@@ -17,7 +17,7 @@ use Rattle.world_rules.specs.Mail.{Mail}
 use Rattle.world_rules.specs.Standings.{standing}
 use Rattle.world_rules.specs.Steps.{Known, Replays, happens}
 use Rattle.world_rules.specs.Worlds.{World, agreed, singles_in}
-use Rattle.node_core.specs.Shown.{Left, Stood}
+use Rattle.node_parts.specs.Shown.{Left, Stood}
 use Rattle.node_core.specs.declared.node.Node.{Node}
 use Rattle.world_parts.proofs.Worlds.{is_world}
 use Rattle.world_parts.specs.Seen.{all_outs, tasks_out}

@@ -15,7 +15,7 @@ use Rattle.world_rules.specs.Parts.{computes}
 use Rattle.world_rules.specs.Standings.{standing}
 use Rattle.world_rules.specs.Steps.{Burst, IsBurst, Next, Replays, after_part, after_step, bursts, untouched}
 use Rattle.world_rules.specs.Worlds.{World, home_of, played_in}
-use Rattle.node_core.specs.Shown.{Left, Stood}
+use Rattle.node_parts.specs.Shown.{Left, Stood}
 use Rattle.node_core.specs.Stands.{StandsAs}
 use Rattle.node_core.specs.declared.node.Node.{Node}
 use Rattle.world_parts.proofs.Worlds.{home_within, is_world}

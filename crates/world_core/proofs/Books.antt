@@ -15,9 +15,9 @@ use Rattle.world_rules.specs.Frame.{Frame}
 use Rattle.world_rules.specs.Played.{Played}
 use Rattle.world_rules.specs.Standings.{process_count}
 use Rattle.world_rules.specs.Worlds.{Book, World, agreed, home_of, played_in, singles_in}
-use Rattle.node_core.specs.Shown.{IsPlayedIf, Left, Stood}
+use Rattle.node_parts.specs.Shown.{IsPlayedIf, Left, Stood}
 use Rattle.node_core.specs.declared.node.Node.{Node}
-use Rattle.node_core.specs.declared.resident.Resident.{Resident}
+use Rattle.node_parts.specs.declared.resident.Resident.{Resident}
 use Rattle.world_parts.proofs.Keeping.{one_more}
 use Rattle.world_parts.specs.Recorded.{of_piece, of_pieces}
 use Rattle.world_parts.specs.Standing.{IsWorld, Stands}

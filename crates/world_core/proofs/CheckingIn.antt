@@ -20,11 +20,11 @@ use Rattle.world_rules.specs.Steps.{Burst, IsBurst, Next, Replays, after_part, a
 use Rattle.world_rules.specs.Worlds.{World, home_of, played_in}
 use Rattle.node_core.specs.CheckingIn.{HasCheckedIn, IsOutFor, IsStray, after_burst}
 use Rattle.node_core.specs.Pieces.{resident_at}
-use Rattle.node_core.specs.Shown.{IsPlayedIf, Left, Stood}
+use Rattle.node_parts.specs.Shown.{IsPlayedIf, Left, Stood}
 use Rattle.node_core.specs.Stands.{StandsAs}
 use Rattle.node_core.specs.Tasks.{Computed}
 use Rattle.node_core.specs.declared.node.Node.{Node}
-use Rattle.node_core.specs.declared.resident.Resident.{Resident}
+use Rattle.node_parts.specs.declared.resident.Resident.{Resident}
 use Rattle.node_core.specs.declared.task.CheckedIn.{CheckedIn}
 use Rattle.node_core.proofs.TakingIn.{within_of}
 use Rattle.world_parts.proofs.Worlds.{home_within, is_world}

@@ -23,13 +23,13 @@ use Rattle.world_rules.specs.declared.event.Step.{Step}
 use Rattle.book_law.specs.Performed.{Performed}
 use Rattle.node_core.specs.CheckingIn.{HandsOut, MayHandOut}
 use Rattle.node_core.specs.Pieces.{resident_at}
-use Rattle.node_core.specs.Shown.{IsPlayed, IsPlayedIf, Left, Stood, on_stage}
+use Rattle.node_parts.specs.Shown.{IsPlayed, IsPlayedIf, Left, Stood, on_stage}
 use Rattle.node_core.specs.Stands.{StandsAlike, StandsAs}
 use Rattle.node_core.specs.Tasks.{Tasked}
 use Rattle.node_core.specs.declared.node.Node.{Node}
-use Rattle.node_core.specs.declared.resident.Resident.{Resident}
-use Rattle.node_core.specs.declared.resident.Stage.{Stage as StageHere}
-use Rattle.node_core.specs.declared.resident.Stage.TheVariants as here_stage
+use Rattle.node_parts.specs.declared.resident.Resident.{Resident}
+use Rattle.node_parts.specs.declared.resident.Stage.{Stage as StageHere}
+use Rattle.node_parts.specs.declared.resident.Stage.TheVariants as here_stage
 use Rattle.node_core.proofs.TakingIn.{within_of}
 use Rattle.world_parts.proofs.Outs.{seen_out}
 use Rattle.world_parts.proofs.Worlds.{is_world}

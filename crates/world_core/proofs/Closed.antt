@@ -16,10 +16,10 @@ use Rattle.world_rules.specs.Standings.{standing}
 use Rattle.world_rules.specs.Steps.{Known, Possible, Replays, after_step, happens, idle_after, posts_all, untouched}
 use Rattle.world_rules.specs.Worlds.{Told, World}
 use Rattle.node_core.specs.Pieces.{resident_at}
-use Rattle.node_core.specs.Shown.{Left, Stood}
+use Rattle.node_parts.specs.Shown.{Left, Stood}
 use Rattle.node_core.specs.Stands.{StandsAs}
 use Rattle.node_core.specs.declared.node.Node.{Node}
-use Rattle.node_core.specs.declared.resident.Resident.{Resident}
+use Rattle.node_parts.specs.declared.resident.Resident.{Resident}
 use Rattle.world_parts.proofs.Worlds.{is_world}
 use Rattle.world_parts.specs.Recorded.{Recorded, of_pieces}
 use Rattle.world_parts.specs.Seen.{Out, all_outs, tasks_out}

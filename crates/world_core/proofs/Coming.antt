@@ -16,7 +16,7 @@ use Rattle.world_law.specs.Packets.{IsNumbered}
 use Rattle.world_rules.specs.Frame.{Frame}
 use Rattle.world_rules.specs.Mail.{Carried, Mail, bytes_in, is_whole, is_whole_at, posted, receiver_of}
 use Rattle.world_rules.specs.Worlds.{World}
-use Rattle.node_core.specs.Shown.{Left, Stood}
+use Rattle.node_parts.specs.Shown.{Left, Stood}
 use Rattle.world_parts.specs.Standing.{CanBeRead, IsWorld, Stands, cut_at, spelled}
 use Rattle.world_parts.specs.declared.parts.Parts.{Parts}
 use Rattle.letter_bytes.specs.Letters.{IsIncoming}

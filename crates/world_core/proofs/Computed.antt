@@ -22,7 +22,7 @@ use Rattle.world_rules.specs.Steps.{AtWork, Burst, bursts, has_stirred, has_stir
 use Rattle.world_rules.specs.Worlds.{World, agreed, applied_at, home_of, longer_of, longest, singles_in}
 use Rattle.world_parts.specs.Standing.{IsWorld}
 use Rattle.world_parts.specs.declared.parts.Parts.{Parts}
-use Rattle.node_core.specs.Shown.{Left, Stood}
+use Rattle.node_parts.specs.Shown.{Left, Stood}
 use Rattle.world_core.specs.Drafting.{AreOutgoing}
 use Rattle.world_core.proofs.Adding.{stays_at, stirred_added, with_other, with_own}
 use Rattle.world_core.proofs.Progressing.{still}

@@ -18,7 +18,7 @@ use Rattle.world_rules.specs.Mail.{Carried, is_whole, posted, receiver_of}
 use Rattle.world_rules.specs.Standings.{standing}
 use Rattle.world_rules.specs.Steps.{after_part, comes, comes_whole, happens, lives_in, untouched}
 use Rattle.world_rules.specs.Worlds.{World}
-use Rattle.node_core.specs.Shown.{Left, Stood}
+use Rattle.node_parts.specs.Shown.{Left, Stood}
 use Rattle.node_core.specs.Stands.{IsPostOf}
 use Rattle.node_core.specs.declared.node.Node.{Node}
 use Rattle.world_parts.specs.Standing.{IsWorld, Stands}

@@ -16,7 +16,7 @@ use Rattle.world_rules.specs.Nodes as nodes_of
 use Rattle.world_rules.specs.Standings.{standing}
 use Rattle.world_rules.specs.Steps.{AtWork, Known, Possible, after_part, happens, lives_in, untouched}
 use Rattle.world_rules.specs.Worlds.{World, agreed}
-use Rattle.node_core.specs.Shown.{Left, Stood}
+use Rattle.node_parts.specs.Shown.{Left, Stood}
 use Rattle.node_core.specs.Stands.{IsDone, StandsAs}
 use Rattle.node_core.specs.declared.node.Node.{Node}
 use Rattle.world_parts.specs.Standing.{IsWorld, Stands}

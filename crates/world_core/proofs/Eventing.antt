@@ -29,7 +29,7 @@ use Rattle.world_rules.specs.Nodes.{aside_of, entries_of, mails_of}
 use Rattle.world_rules.specs.Standings.{standing}
 use Rattle.world_rules.specs.Steps.{Known, Leads, Next, Possible, Replays, after_step, happens, posts, posts_all}
 use Rattle.world_rules.specs.Worlds.{World, agreed, applied_at}
-use Rattle.node_core.specs.Shown.{Left, Stood}
+use Rattle.node_parts.specs.Shown.{Left, Stood}
 use Rattle.node_core.specs.Stands.{StandsAs}
 use Rattle.node_core.specs.declared.node.Node.{Node}
 use Rattle.world_parts.proofs.Leading.{applied_length}

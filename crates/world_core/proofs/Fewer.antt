@@ -3,7 +3,7 @@ use Rattle.std.proofs.Common.{◌≡◌, ◌≤◌, ◌∙◌, ℕ, zero, suc, B
 use Rattle.object_manager.specs.Viewed.{Viewed}
 use Rattle.node_core.specs.Pieces.{resident_at}
 use Rattle.node_core.specs.declared.node.Node.{Node}
-use Rattle.node_core.specs.declared.resident.Resident.{Resident}
+use Rattle.node_parts.specs.declared.resident.Resident.{Resident}
 use Rattle.world_parts.proofs.Outs.{seen_out}
 use Rattle.world_parts.specs.Seen.{all_outs, outs}
 use Rattle.world_parts.specs.Standing.{has_out, out_of, outs_of}

@@ -6,7 +6,7 @@ use Rattle.group_rules.specs.Sets.{with_at}
 use Rattle.node_core.specs.CheckingIn.{HasChanged}
 use Rattle.node_core.specs.Pieces.{resident_at}
 use Rattle.node_core.specs.declared.node.Node.{Node}
-use Rattle.node_core.specs.declared.resident.Resident.{Resident}
+use Rattle.node_parts.specs.declared.resident.Resident.{Resident}
 use Rattle.world_parts.specs.Seen.{Out, Seen, all_outs, outs, out_at}
 use Rattle.world_parts.proofs.Outs.{seen_out}
 use Rattle.world_parts.specs.Standing.{has_out, out_of, outs_of, seen_of}

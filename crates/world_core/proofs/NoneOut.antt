@@ -17,10 +17,10 @@ use Rattle.world_rules.specs.Standings.{is_quiet, lives_at_home, process_count, 
 use Rattle.world_rules.specs.Steps.{objects_after}
 use Rattle.world_rules.specs.Worlds.{World, agreed, applied_at, home_of, played_in}
 use Rattle.node_core.specs.Pieces.{resident_at}
-use Rattle.node_core.specs.Shown.{IsPlayed, IsPlayedIf, Left, Stood, on_stage}
+use Rattle.node_parts.specs.Shown.{IsPlayed, IsPlayedIf, Left, Stood, on_stage}
 use Rattle.node_core.specs.Stands.{StandsAs}
 use Rattle.node_core.specs.declared.node.Node.{Node}
-use Rattle.node_core.specs.declared.resident.Resident.{Resident}
+use Rattle.node_parts.specs.declared.resident.Resident.{Resident}
 use Rattle.world_parts.proofs.Worlds.{one_list}
 use Rattle.world_parts.specs.Seen.{Out, all_outs, outs, tasks_out}
 use Rattle.world_parts.specs.Standing.{IsTask, IsWorld, Stands, out_of, outs_of, seen_of}

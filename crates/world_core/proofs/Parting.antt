@@ -18,9 +18,9 @@ use Rattle.world_rules.specs.Nodes as nodes
 use Rattle.world_rules.specs.Nodes.{mails_of}
 use Rattle.node_core.proofs.Keeping.{keeps_copy, keeps_on}
 use Rattle.node_core.specs.Keeping.{IsCopy, KeepsTasks}
-use Rattle.node_core.specs.Shown.{Left, Stood}
+use Rattle.node_parts.specs.Shown.{Left, Stood}
 use Rattle.node_core.specs.Stands.{Does, IsDone, IsPostOf, MayDo, MayTakePacket, StandsAlike, StandsAs, TakesPacket, sent}
-use Rattle.node_core.specs.declared.moved.Moved.{Moved}
+use Rattle.node_parts.specs.declared.moved.Moved.{Moved}
 use Rattle.node_core.specs.declared.node.Node.{Node}
 use Rattle.world_parts.specs.declared.parts.Parts.{Parts}
 use Rattle.world_core.specs.Drafting.{AddsLetter, AddsPart, HasAdded, MayAdd, MayAddLetter}

@@ -18,9 +18,9 @@ use Rattle.world_rules.specs.Nodes.{NodeWork, aside_of, entries_of, mails_of}
 use Rattle.world_rules.specs.Steps.{AtWork, after_part, has_stirred, has_stirred_at, has_stirred_below, untouched}
 use Rattle.world_rules.specs.Worlds.{World, agreed}
 use Rattle.node_core.specs.Keeping.{KeepsTasks}
-use Rattle.node_core.specs.Shown.{Left, Stood}
+use Rattle.node_parts.specs.Shown.{Left, Stood}
 use Rattle.node_core.specs.Stands.{IsDone, StandsAs}
-use Rattle.node_core.specs.declared.moved.Moved.{Moved}
+use Rattle.node_parts.specs.declared.moved.Moved.{Moved}
 use Rattle.node_core.specs.declared.node.Node.{Node}
 use Rattle.world_parts.specs.Recorded.{of_pieces}
 use Rattle.world_parts.specs.Standing.{IsWorld}

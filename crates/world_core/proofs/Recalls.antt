@@ -5,10 +5,10 @@ use Rattle.std.proofs.lemmas.Option.{slice_get_within}
 use Rattle.world_rules.specs.Frame.{Frame}
 use Rattle.node_core.specs.CheckingIn.{HasRecalled, recalled}
 use Rattle.node_core.specs.Pieces.{resident_at}
-use Rattle.node_core.specs.Shown.{Left, Stood}
+use Rattle.node_parts.specs.Shown.{Left, Stood}
 use Rattle.node_core.specs.Stands.{StandsAlike}
 use Rattle.node_core.specs.declared.node.Node.{Node}
-use Rattle.node_core.specs.declared.resident.Resident.{Resident}
+use Rattle.node_parts.specs.declared.resident.Resident.{Resident}
 use Rattle.world_parts.proofs.Opening.{nobody_out}
 use Rattle.world_parts.specs.Seen.{tasks_out}
 use Rattle.world_parts.specs.Standing.{IsWorld, Stands, seen_of}

@@ -37,11 +37,11 @@ use Rattle.node_core.specs.CheckingIn.{HandsOut, HasCheckedIn, IsOutFor, MayHand
 use Rattle.node_core.specs.Earlier.{HasViewed, MayViewAfter}
 use Rattle.node_core.specs.Keeping.{IsCopy}
 use Rattle.node_core.specs.Pieces.{resident_at}
-use Rattle.node_core.specs.Shown.{IsPlayedIf, Left, Stood}
+use Rattle.node_parts.specs.Shown.{IsPlayedIf, Left, Stood}
 use Rattle.node_core.specs.Stands.{StandsAlike, StandsAs}
 use Rattle.node_core.specs.Tasks.{Computed, IsOf, Tasked}
 use Rattle.node_core.specs.declared.node.Node.{Node}
-use Rattle.node_core.specs.declared.resident.Resident.{Resident}
+use Rattle.node_parts.specs.declared.resident.Resident.{Resident}
 use Rattle.node_core.specs.declared.task.CheckedIn.{CheckedIn}
 use Rattle.world_parts.proofs.Worlds.{home_within, one_list}
 use Rattle.world_parts.specs.Choosing.{may_compute}

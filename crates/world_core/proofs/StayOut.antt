@@ -7,10 +7,10 @@ use Rattle.world_rules.specs.Frame.{Frame}
 use Rattle.world_rules.specs.Worlds.{World}
 use Rattle.node_core.specs.Keeping.{KeepsTasks}
 use Rattle.node_core.specs.Pieces.{resident_at}
-use Rattle.node_core.specs.Shown.{Left, Stood}
+use Rattle.node_parts.specs.Shown.{Left, Stood}
 use Rattle.node_core.specs.declared.node.Node.{Node}
-use Rattle.node_core.specs.declared.resident.Resident.{Resident}
-use Rattle.node_core.specs.declared.resident.Stage.TheVariants.{Computing}
+use Rattle.node_parts.specs.declared.resident.Resident.{Resident}
+use Rattle.node_parts.specs.declared.resident.Stage.TheVariants.{Computing}
 use Rattle.world_parts.proofs.Outs.{none_past}
 use Rattle.world_parts.specs.Seen.{Out}
 use Rattle.world_parts.specs.Standing.{IsWorld, Stands, has_out, out_of, outs_of}

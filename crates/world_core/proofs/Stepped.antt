@@ -21,10 +21,10 @@ use Rattle.world_rules.specs.Steps.{AtWork, Known, Next, Replays, after_step, co
 use Rattle.value_core.specs.declared.message.Message.{Message}
 use Rattle.world_rules.specs.Worlds.{Told, World, agreed, singles_in}
 use Rattle.node_core.specs.Pieces.{resident_at}
-use Rattle.node_core.specs.Shown.{Left, Stood}
+use Rattle.node_parts.specs.Shown.{Left, Stood}
 use Rattle.node_core.specs.Stands.{StandsAs}
 use Rattle.node_core.specs.declared.node.Node.{Node}
-use Rattle.node_core.specs.declared.resident.Resident.{Resident}
+use Rattle.node_parts.specs.declared.resident.Resident.{Resident}
 use Rattle.world_parts.specs.Recorded.{of_pieces}
 use Rattle.world_parts.specs.Seen.{tasks_out}
 use Rattle.world_parts.specs.Standing.{CanBeRead, IsTask, IsWorld, seen_of, spelled}

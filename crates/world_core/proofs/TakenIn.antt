@@ -10,11 +10,11 @@ use Rattle.world_rules.specs.Standings.{standing}
 use Rattle.world_rules.specs.Steps.{Burst, IsBurst, objects_after}
 use Rattle.world_rules.specs.Worlds.{World, home_of}
 use Rattle.node_core.specs.CheckingIn.{HasCheckedIn}
-use Rattle.node_core.specs.Shown.{IsPlayed, IsPlayedIf, Left, Stood, on_stage}
+use Rattle.node_parts.specs.Shown.{IsPlayed, IsPlayedIf, Left, Stood, on_stage}
 use Rattle.node_core.specs.Stands.{StandsAs}
 use Rattle.node_core.specs.Tasks.{Computed}
 use Rattle.node_core.specs.declared.node.Node.{Node}
-use Rattle.node_core.specs.declared.resident.Resident.{Resident}
+use Rattle.node_parts.specs.declared.resident.Resident.{Resident}
 use Rattle.node_core.specs.declared.task.CheckedIn.{CheckedIn}
 use Rattle.world_parts.specs.Standing.{IsWorld, Stands}
 use Rattle.world_parts.specs.declared.parts.Parts.{Parts}

@@ -12,7 +12,7 @@ use Rattle.world_rules.specs.Frame.{Frame}
 use Rattle.world_rules.specs.Standings.{is_quiet, standing}
 use Rattle.world_rules.specs.Steps.{AtWork}
 use Rattle.world_rules.specs.Worlds.{World}
-use Rattle.node_core.specs.Shown.{Left, Stood}
+use Rattle.node_parts.specs.Shown.{Left, Stood}
 use Rattle.node_core.specs.Stands.{IsDone, StandsAs}
 use Rattle.node_core.specs.declared.node.Node.{Node}
 use Rattle.world_parts.specs.Standing.{IsWorld, Stands}

@@ -11,10 +11,10 @@ use Rattle.world_rules.specs.Parts.{computes}
 use Rattle.world_rules.specs.Played.{Played}
 use Rattle.world_rules.specs.Worlds.{World, home_of, played_in}
 use Rattle.node_core.specs.Pieces.{resident_at}
-use Rattle.node_core.specs.Shown.{Left, Stood}
+use Rattle.node_parts.specs.Shown.{Left, Stood}
 use Rattle.node_core.specs.Stands.{StandsAs}
 use Rattle.node_core.specs.declared.node.Node.{Node}
-use Rattle.node_core.specs.declared.resident.Resident.{Resident}
+use Rattle.node_parts.specs.declared.resident.Resident.{Resident}
 use Rattle.world_parts.specs.Choosing.{may_compute}
 use Rattle.world_parts.specs.declared.parts.Parts.{Parts}
 use Rattle.world_core.specs.declared.burst.Ran.{Ran}

@@ -15,7 +15,7 @@ use Rattle.world_rules.specs.Mail.{Mail, posted}
 use Rattle.world_rules.specs.Steps.{AtWork, Known, Possible, happens, has_stirred}
 use Rattle.world_rules.specs.Worlds.{World, agreed, singles_in}
 use Rattle.node_core.specs.Pieces.{resident_at}
-use Rattle.node_core.specs.Shown.{Left, Stood}
+use Rattle.node_parts.specs.Shown.{Left, Stood}
 use Rattle.node_core.specs.Keeping.{KeepsTasks}
 use Rattle.node_core.specs.Stands.{IsDone, IsPostOf, StandsAs}
 use Rattle.node_rules.specs.Conditions.{Fitness}
@@ -26,9 +26,9 @@ use Rattle.world_law.specs.SoundPackets.{IsSoundMail}
 use Rattle.world_rules.specs.Nodes as nodes
 use Rattle.world_rules.specs.Nodes.{mails_of}
 use Rattle.std.specs.List.{AllByRecursion as Each}
-use Rattle.node_core.specs.declared.moved.Moved.{Moved}
+use Rattle.node_parts.specs.declared.moved.Moved.{Moved}
 use Rattle.node_core.specs.declared.node.Node.{Node}
-use Rattle.node_core.specs.declared.resident.Resident.{Resident}
+use Rattle.node_parts.specs.declared.resident.Resident.{Resident}
 use Rattle.world_parts.specs.Recorded.{of_pieces}
 use Rattle.world_parts.specs.Seen.{Out}
 use Rattle.world_parts.specs.Standing.{Is, outs_of}

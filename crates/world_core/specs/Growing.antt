@@ -8,7 +8,7 @@ use Rattle.run_law.specs.Growing.{lines_at}
 use Rattle.world_rules.specs.Frame.{Frame}
 use Rattle.world_rules.specs.Steps.{AtWork, has_stirred}
 use Rattle.world_rules.specs.Worlds.{World, agreed}
-use Rattle.node_core.specs.Shown.{Left, Stood}
+use Rattle.node_parts.specs.Shown.{Left, Stood}
 use Rattle.world_parts.specs.Recorded.{of_pieces}
 use Rattle.world_parts.specs.declared.parts.Parts.{Parts}
 use Rattle.world_core.specs.Drafting.{AreNodes, AreOutgoing, KeepTasks, out_in, taken}

@@ -1,7 +1,7 @@
 -- All tasks of a run are ended.
 use Rattle.std.specs.Prelude.{◌≡◌, ℕ, List, length, Some, slice_get}
 use Rattle.node_core.specs.CheckingIn.{HasRecalled}
-use Rattle.node_core.specs.Shown.{Left, Stood}
+use Rattle.node_parts.specs.Shown.{Left, Stood}
 use Rattle.node_core.specs.Stands.{StandsAlike}
 use Rattle.node_core.specs.declared.node.Node.{Node}
 

@@ -5,10 +5,10 @@ use Rattle.value_core.specs.declared.action.Line.{Line}
 use Rattle.value_core.specs.declared.action.Reply.{Reply}
 use Rattle.world_rules.specs.Nodes as nodes
 use Rattle.world_rules.specs.Standings.{process_count}
-use Rattle.node_core.specs.Shown.{Left, Stood, on_stage}
+use Rattle.node_parts.specs.Shown.{Left, Stood, on_stage}
 use Rattle.node_core.specs.Stands.{StandsAs}
 use Rattle.node_core.specs.declared.node.Node.{Node}
-use Rattle.node_core.specs.declared.resident.Resident.{Resident}
+use Rattle.node_parts.specs.declared.resident.Resident.{Resident}
 use Rattle.object_manager.specs.Singles.{IsBoth}
 use Rattle.world_rules.specs.Frame.{Frame}
 use Rattle.world_rules.specs.Worlds.{World}

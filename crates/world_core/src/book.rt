@@ -3,7 +3,7 @@
 ghost use Rattle.std.specs.Prelude.{◌≡◌, ◌++◌, ◌∷◌, [], if◌then◌else◌, nat_lt, List, IfOk, OnOk, length, map, None};
 ghost use Rattle.std.specs.Option.{option_copied};
 ghost use Rattle.book_law.specs.Performed.{IsBook, placed};
-ghost use Rattle.node_core.specs.Shown.{on_stage};
+ghost use Rattle.node_parts.specs.Shown.{on_stage};
 ghost use Rattle.value_core.specs.declared.action.Line.{Line as LineOf};
 ghost use Rattle.world_facts.specs.Ends.{end_at, end_crashed, end_living, end_of, end_over, process_end, replies_in};
 ghost use Rattle.world_rules.specs.Worlds.{Book, played_in};
@@ -15,7 +15,8 @@ ghost use Rattle.world_core.specs.Telling.{AreNodeEnds, AreProcessEnds, HasHeard
 use crate::ends::{NodeEnd, ProcessEnd, ProcessStanding, RunEnd};
 use crate::events::{member_of, turns_of};
 use book_law::{Placed, sort_by_place};
-use node_core::{Node, OneRun, Resident, Stage};
+use node_core::Node;
+use node_parts::{OneRun, Resident, Stage};
 use orca_base::{Items, NoMemory, ProcessNo};
 use std::alloc::Global;
 use value_core::{Action, Line, Reply};

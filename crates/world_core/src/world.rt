@@ -19,7 +19,8 @@ ghost use Rattle.world_core.specs.Telling.{AreNodeEnds, AreProcessEnds, EndsMean
 use crate::ends::{NodeEnd, ProcessEnd, RunEnd};
 use crate::step::StepError;
 use crate::{book, burst, step};
-use node_core::{Done, Node, OneRun, Stray, Task};
+use node_core::{Done, Node, Stray, Task};
+use node_parts::OneRun;
 use orca_base::{NoMemory, ProcessNo};
 use std::alloc::Global;
 use std::marker::Model;

@@ -18,7 +18,7 @@ use Rattle.world_rules.specs.Frame.{Frame, group}
 use Rattle.world_rules.specs.Processes.{processes_in}
 use Rattle.world_rules.specs.Standings.{process_count}
 use Rattle.world_rules.specs.Worlds.{World, agreed, applied_at, longest, processes_of, singles_in}
-use Rattle.node_core.specs.Shown.{Left, Stood}
+use Rattle.node_parts.specs.Shown.{Left, Stood}
 use Rattle.node_core.specs.Stands.{on_known}
 use Rattle.node_core.specs.declared.node.Node.{Node}
 use Rattle.world_parts.specs.Choosing.{longest_below}

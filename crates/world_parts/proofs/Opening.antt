@@ -12,10 +12,10 @@ use Rattle.world_rules.specs.Nodes.{opening_node}
 use Rattle.world_rules.specs.Steps.{Replays}
 use Rattle.world_rules.specs.Worlds.{agreed, longer_of, longest, opening_world, singles_in}
 use Rattle.node_core.specs.Pieces.{resident_at}
-use Rattle.node_core.specs.Shown.{Left, Stood}
+use Rattle.node_parts.specs.Shown.{Left, Stood}
 use Rattle.node_core.specs.Stands.{StandsAs}
 use Rattle.node_core.specs.declared.node.Node.{Node}
-use Rattle.node_core.specs.declared.resident.Resident.{Resident}
+use Rattle.node_parts.specs.declared.resident.Resident.{Resident}
 use Rattle.world_parts.proofs.Outs.{seen_out}
 use Rattle.world_parts.specs.Opening.{AreOpening}
 use Rattle.world_parts.specs.Seen.{all_outs, outs, tasks_out}

@@ -8,9 +8,9 @@ use Rattle.object_manager.specs.Limits.{most_processes}
 use Rattle.world_rules.specs.Frame.{Frame}
 use Rattle.world_rules.specs.Played.{Played}
 use Rattle.node_core.specs.Pieces.{resident_at}
-use Rattle.node_core.specs.Shown.{IsPlayedIf, Left, Stood}
+use Rattle.node_parts.specs.Shown.{IsPlayedIf, Left, Stood}
 use Rattle.node_core.specs.declared.node.Node.{Node}
-use Rattle.node_core.specs.declared.resident.Resident.{Resident}
+use Rattle.node_parts.specs.declared.resident.Resident.{Resident}
 use Rattle.world_parts.specs.Seen.{Out, all_outs, is_out, outs}
 use Rattle.world_parts.specs.Standing.{Stands, has_out, out_of, outs_of, seen_of}
 use Rattle.world_parts.specs.declared.parts.Parts.{Parts}

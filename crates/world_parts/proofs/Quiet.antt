@@ -12,7 +12,7 @@ use Rattle.world_rules.specs.Nodes as nodes
 use Rattle.world_rules.specs.Played.{is_ready}
 use Rattle.world_rules.specs.Standings.{is_quiet, some_process, stands}
 use Rattle.world_rules.specs.Worlds.{World}
-use Rattle.node_core.specs.Shown.{Left, Stood}
+use Rattle.node_parts.specs.Shown.{Left, Stood}
 use Rattle.node_core.specs.Stands.{StandsAs}
 use Rattle.node_core.specs.declared.node.Node.{Node}
 use Rattle.world_parts.proofs.Worlds.{first_due}

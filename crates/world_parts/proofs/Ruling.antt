@@ -22,10 +22,10 @@ use Rattle.world_rules.specs.Steps.{lives_in}
 use Rattle.world_rules.specs.Worlds.{Book, World, agreed, home_of, singles_in}
 use Rattle.world_rules.specs.declared.standing.Standing.{Standing}
 use Rattle.world_rules.specs.declared.standing.Standing.TheVariants.{OutOfTurns, OutOfEvents, NoGroup, Faulted, Blocked, Finished, Going}
-use Rattle.node_core.specs.Shown.{IsPlayedIf, Left, Stood, on_stage}
+use Rattle.node_parts.specs.Shown.{IsPlayedIf, Left, Stood, on_stage}
 use Rattle.node_core.specs.Stands.{StandsAs}
 use Rattle.node_core.specs.declared.node.Node.{Node}
-use Rattle.node_core.specs.declared.resident.Resident.{Resident}
+use Rattle.node_parts.specs.declared.resident.Resident.{Resident}
 use Rattle.world_parts.proofs.Lines.{lines_counted}
 use Rattle.world_parts.proofs.Worlds.{slice_get_some}
 use Rattle.world_parts.specs.Rows.{Stops, has_applied_all, how_ended, waits_at}

@@ -1,7 +1,7 @@
 -- What a process's stage says, in code as in the world.
 use Rattle.std.proofs.Common.{◌≡◌, ℕ, Bool, false, Option, Some, None, ap, refl}
-use Rattle.node_core.specs.Shown.{IsPlayedIf, Left, Stood, on_stage}
-use Rattle.node_core.specs.declared.resident.Resident.{Resident}
+use Rattle.node_parts.specs.Shown.{IsPlayedIf, Left, Stood, on_stage}
+use Rattle.node_parts.specs.declared.resident.Resident.{Resident}
 use Rattle.world_rules.specs.Played.{Played, Stage}
 use Rattle.world_rules.specs.Standings.{stands}
 use Rattle.world_rules.specs.Steps.{is_acting, may_act_as}

@@ -10,8 +10,8 @@ use Rattle.world_rules.specs.Steps.{Replays, lives_in}
 use Rattle.world_rules.specs.Standings.{lives_at_home}
 use Rattle.world_rules.specs.Worlds.{World, home_of, played_in}
 use Rattle.node_core.specs.Pieces.{resident_at}
-use Rattle.node_core.specs.Shown.{IsPlayedIf, Left, Stood}
-use Rattle.node_core.specs.declared.resident.Resident.{Resident}
+use Rattle.node_parts.specs.Shown.{IsPlayedIf, Left, Stood}
+use Rattle.node_parts.specs.declared.resident.Resident.{Resident}
 use Rattle.node_core.specs.declared.node.Node.{Node}
 use Rattle.world_parts.specs.Seen.{Seen}
 use Rattle.world_parts.specs.Standing.{IsWorld, Stands, seen_of, spelled}

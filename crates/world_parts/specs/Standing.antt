@@ -31,11 +31,11 @@ use Rattle.run_law.specs.Parts.{AllTicksApart, InAllParts}
 use Rattle.run_law.specs.Replies.{RepliesOffBooks}
 use Rattle.run_law.specs.Sending.{SendsOwn}
 use Rattle.node_core.specs.Pieces.{resident_at}
-use Rattle.node_core.specs.Shown.{Left, Stood}
+use Rattle.node_parts.specs.Shown.{Left, Stood}
 use Rattle.node_core.specs.Stands.{StandsAs}
 use Rattle.node_core.specs.declared.node.Node.{Node}
-use Rattle.node_core.specs.declared.resident.Resident.{Resident}
-use Rattle.node_core.specs.declared.resident.Stage.TheVariants.{Computing}
+use Rattle.node_parts.specs.declared.resident.Resident.{Resident}
+use Rattle.node_parts.specs.declared.resident.Stage.TheVariants.{Computing}
 use Rattle.world_rules.specs.declared.settings.Settings.{Settings}
 use Rattle.world_parts.specs.declared.parts.Numbers.{Numbers}
 use Rattle.world_parts.specs.declared.parts.Parts.{Parts}

@@ -4,7 +4,7 @@ ghost use Rattle.std.specs.Prelude.{◌≡◌, ◌≤◌, ◌<◌, ◌&&◌, ℕ
 ghost use Rattle.std.specs.Option.{option_copied};
 ghost use Rattle.net_rules.specs.Flights.{first_ready};
 ghost use Rattle.node_core.specs.Pieces.{resident_at};
-ghost use Rattle.node_core.specs.Shown.{IsPlayedIf, on_stage};
+ghost use Rattle.node_parts.specs.Shown.{IsPlayedIf, on_stage};
 ghost use Rattle.object_manager.specs.Limits.{most_processes};
 ghost use Rattle.world_rules.specs.Played as played;
 ghost use Rattle.world_rules.specs.Standings as rules;
@@ -16,7 +16,8 @@ ghost use Rattle.world_parts.specs.Seen.{is_out, outs, tasks_out};
 ghost use Rattle.world_parts.specs.Standing.{Is, Stands, has_out, outs_of, seen_of};
 
 use crate::parts::Parts;
-use node_core::{Node, OneRun, Resident, Stage};
+use node_core::Node;
+use node_parts::{OneRun, Resident, Stage};
 use orca_base::ProcessNo;
 
 impl<P: OneRun> Parts<P> {

@@ -10,7 +10,8 @@ ghost use Rattle.world_parts.specs.Standing.{HasNumbers, Is, Laws, Stands, seen_
 use crate::ledger::Ledger;
 use group_member::Config;
 use lossy_net::Net;
-use node_core::{Kept, Node, OneRun};
+use node_core::Node;
+use node_parts::{Kept, OneRun};
 use orca_base::{Choice, Items, NoMemory};
 use run_law::{letters_are_own, limits_stop, replies_stand, ticks_are_apart};
 use std::alloc::Global;

@@ -7,7 +7,7 @@ use crate::cells::Cells;
 use crate::driving::{computes, due, hands_out, settings};
 use crate::full_wire::FullWire;
 use lossy_net::PlainWire;
-use node_core::{OneRun, RunMachine, RunName};
+use node_parts::{OneRun, RunMachine, RunName};
 use orca_base::{NoMemory, ProcessNo};
 use std::alloc::Global;
 use std::marker::Brand;

@@ -4,7 +4,8 @@ ghost use Rattle.std.specs.Prelude.{◌≡◌, ◌+◌, ◌*◌, ◌<◌, ◌≤
 ghost use Rattle.world_rules.specs.Frame.{AreSettings};
 
 use net_rules::WireAct;
-use node_core::{OneRun, RunMachine, RunName, Task};
+use node_core::Task;
+use node_parts::{OneRun, RunMachine, RunName};
 use orca_base::{Items, NoMemory, ProcessNo};
 use std::alloc::Global;
 use std::marker::Brand;

@@ -3,7 +3,7 @@ use Rattle.orca_base.specs.declared.ids.TextNo.{TextNo}
 use Rattle.value_core.specs.Datum.{Data}
 use Rattle.value_core.specs.Datum as datum
 use Rattle.value_core.specs.Meaning.{Computes}
-use Rattle.node_core.specs.declared.resident.Resident.{Resident}
+use Rattle.node_parts.specs.declared.resident.Resident.{Resident}
 use Rattle.node_core.proofs.Keeping.{opened_none}
 use Rattle.node_core.proofs.TakingIn.{no_values, opens_here}
 use Rattle.node_core.proofs.node.opening_residents.Goals as goal

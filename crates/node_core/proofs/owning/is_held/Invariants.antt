@@ -1,6 +1,6 @@
 use Rattle.std.proofs.Common.{◌≡◌, drop, map}
 use Rattle.world_rules.specs.Owners.{is_held}
-use Rattle.node_core.specs.Shown.{on_errand}
+use Rattle.node_parts.specs.Shown.{on_errand}
 use Rattle.node_core.proofs.owning.is_held.Given as goal
 
 -- what is asked of all is asked of those that are left

@@ -1,6 +1,6 @@
 use Rattle.std.proofs.Common.{◌+◌, ◌∙◌, ap, refl, arith}
 use Rattle.object_manager.specs.After.{Copied}
-use Rattle.node_core.specs.declared.resident.Resident.{Resident}
+use Rattle.node_parts.specs.declared.resident.Resident.{Resident}
 use Rattle.std.proofs.Common.{Option, cond}
 use Rattle.world_parts.proofs.Outs.{counted_all, counted_first, counted_next}
 use Rattle.world_parts.specs.Standing.{has_out}

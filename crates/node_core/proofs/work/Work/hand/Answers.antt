@@ -1,5 +1,5 @@
 use Rattle.std.proofs.Common.{refl}
-use Rattle.node_core.specs.declared.errand.Given.{Given}
+use Rattle.node_parts.specs.declared.errand.Given.{Given}
 use Rattle.node_core.proofs.Calling.{hands_away, hands_here}
 use Rattle.node_core.proofs.Working.{ok_map}
 use Rattle.node_core.proofs.Keeping.{keeps_given, keeps_on, keeps_same}

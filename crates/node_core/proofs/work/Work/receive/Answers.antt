@@ -2,7 +2,7 @@ use Rattle.std.proofs.Common.{Option, ap, sym, subst, refl, ◌∙◌}
 use Rattle.std.specs.Option.{option_copied}
 use Rattle.node_core.specs.Pieces.{MayBeHanded}
 use Rattle.world_rules.specs.Played.{receives}
-use Rattle.node_core.specs.declared.resident.Resident.{Resident}
+use Rattle.node_parts.specs.declared.resident.Resident.{Resident}
 use Rattle.node_core.proofs.Working.{ok_map, played}
 use Rattle.node_core.proofs.Keeping.{handed_waits, keeps_none, keeps_put}
 use Rattle.node_core.proofs.work.Work.receive.Goals as goal

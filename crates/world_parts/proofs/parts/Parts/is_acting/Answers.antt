@@ -1,7 +1,7 @@
 use Rattle.std.proofs.Common.{◌∙◌, ap}
 use Rattle.world_rules.specs.Steps.{is_acting}
 use Rattle.world_rules.specs.Worlds.{played_in}
-use Rattle.node_core.specs.Shown.{on_stage}
+use Rattle.node_parts.specs.Shown.{on_stage}
 use Rattle.world_parts.proofs.Staging.{acts_none, acts_there}
 use Rattle.world_parts.proofs.parts.Parts.is_acting.Goals as goal
 

@@ -1,7 +1,7 @@
 use Rattle.std.proofs.Common.{◌∙◌, ap}
 use Rattle.world_rules.specs.Played.{is_ready}
 use Rattle.world_rules.specs.Worlds.{played_in}
-use Rattle.node_core.specs.Shown.{on_stage}
+use Rattle.node_parts.specs.Shown.{on_stage}
 use Rattle.world_parts.proofs.Staging.{says_none, says_there}
 use Rattle.world_parts.proofs.parts.Parts.is_at_work.Goals as goal
 

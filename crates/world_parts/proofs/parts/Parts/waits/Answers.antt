@@ -1,7 +1,7 @@
 use Rattle.std.proofs.Common.{◌∙◌, ap}
 use Rattle.world_rules.specs.Standings.{waits_for_group_at}
 use Rattle.world_rules.specs.Worlds.{played_in}
-use Rattle.node_core.specs.Shown.{on_stage}
+use Rattle.node_parts.specs.Shown.{on_stage}
 use Rattle.world_parts.proofs.Ruling.{waits_none, waits_there}
 use Rattle.world_parts.proofs.parts.Parts.waits.Goals as goal
 

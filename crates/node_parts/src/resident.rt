@@ -1,7 +1,7 @@
 //! A process as its member knows it.
 
 ghost use Rattle.std.specs.Prelude.{◌≡◌, ◌==◌, ◌<◌, ◌+◌, ◌^◌, IfOk, None, Some, if◌then◌else◌, is_some};
-ghost use Rattle.node_core.specs.declared.resident.Stage.TheVariants.{Computing};
+ghost use Rattle.node_parts.specs.declared.resident.Stage.TheVariants.{Computing};
 
 use crate::kept::Kept;
 use object_manager::View;
@@ -29,17 +29,23 @@ pub enum Stage {
 /// A process that began at a member: its machine's state, which its tasks share, and where it stands.
 #[derive(Drop)]
 pub struct Resident<S: Drop> {
-    pub(crate) state: Kept<S>,
-    pub(crate) turns: u64,
-    pub(crate) place: u64,
-    pub(crate) calls: u64,
-    pub(crate) stage: Stage,
-    pub(crate) out: Option<View>,
+    /// What its machine left of it.
+    pub state: Kept<S>,
+    /// The turns that it took in all.
+    pub turns: u64,
+    /// The place of its last line, or of the fork that made it, or 0.
+    pub place: u64,
+    /// How many replies it received.
+    pub calls: u64,
+    /// Where it stands.
+    pub stage: Stage,
+    /// What the task that is out of it sees of the objects.
+    pub out: Option<View>,
 }
 
 impl Stage {
-    // An equal one.
-    pub(crate) fn copy(&self, alloc: Global) -> Result<Stage, NoMemory>
+    /// An equal one.
+    pub fn copy(&self, alloc: Global) -> Result<Stage, NoMemory>
         ensures { IfOk result (λ stage. stage ≡ self.now) }
     {
         match self {
@@ -99,8 +105,8 @@ impl<S: Drop> Resident<S> {
         self.out.is_some()
     }
 
-    // A process that begins at this place, in this state.
-    pub(crate) fn newborn(alloc: Global, state: S, place: u64) -> Result<Resident<S>, NoMemory>
+    /// A process that begins at this place, in this state.
+    pub fn newborn(alloc: Global, state: S, place: u64) -> Result<Resident<S>, NoMemory>
         ensures { IfOk result (λ resident. resident
             ≡ record { state = state; turns = 0; place = place; calls = 0; stage = Computing; out = None }) }
     {
@@ -114,8 +120,8 @@ impl<S: Drop> Resident<S> {
         })
     }
 
-    // An equal one, which shares its state.
-    pub(crate) fn copy(&self, alloc: Global) -> Result<Resident<S>, NoMemory>
+    /// An equal one, which shares its state.
+    pub fn copy(&self, alloc: Global) -> Result<Resident<S>, NoMemory>
         ensures { IfOk result (λ resident. resident ≡ self.now) }
     {
         let out = copy_view(alloc, &self.out)?;
@@ -131,8 +137,8 @@ impl<S: Drop> Resident<S> {
         })
     }
 
-    // The process in this state, with one reply more, to its line of this place.
-    pub(crate) fn after_reply(
+    /// The process in this state, with one reply more, to its line of this place.
+    pub fn after_reply(
         alloc: Global,
         before: &Resident<S>,
         state: S,
@@ -152,8 +158,8 @@ impl<S: Drop> Resident<S> {
         })
     }
 
-    // The same with a task out, over this view.
-    pub(crate) fn handed_out(&self, view: View) -> Result<Resident<S>, NoMemory>
+    /// The same with a task out, over this view.
+    pub fn handed_out(&self, view: View) -> Result<Resident<S>, NoMemory>
         requires { self.now.stage ≡ Computing }
         ensures { IfOk result (λ resident. resident ≡ record self.now { out = Some view }) }
     {
@@ -167,8 +173,8 @@ impl<S: Drop> Resident<S> {
         })
     }
 
-    // The process after a burst that ended so, with so many reads at this place.
-    pub(crate) fn after_burst(
+    /// The process after a burst that ended so, with so many reads at this place.
+    pub fn after_burst(
         &self,
         end: Kept<S>,
         turns: u64,
@@ -196,8 +202,8 @@ impl<S: Drop> Resident<S> {
         }
     }
 
-    // The same at another stage, with no task out.
-    pub(crate) fn moved_to(&self, stage: Stage) -> Result<Resident<S>, NoMemory>
+    /// The same at another stage, with no task out.
+    pub fn moved_to(&self, stage: Stage) -> Result<Resident<S>, NoMemory>
         ensures { IfOk result (λ resident. resident ≡ record self.now { stage = stage; out = None }) }
     {
         Ok(Resident {

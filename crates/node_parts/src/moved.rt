@@ -25,8 +25,8 @@ pub struct Moved {
 }
 
 impl Moved {
-    // Nothing yet.
-    pub(crate) fn nothing(alloc: Global) -> Moved
+    /// Nothing yet.
+    pub fn nothing(alloc: Global) -> Moved
         ensures sends { result.sends.items ≡ [] }
         ensures entries { result.entries.items ≡ [] }
         ensures messages { result.messages.items ≡ [] }

@@ -29,7 +29,7 @@ pub trait RunName<M> {
 
 impl<M> RunName<M> for Brand {
     ghost use Rattle.std.specs.Prelude.{[], None};
-    ghost use Rattle.node_core.specs.Names.{some_settings};
+    ghost use Rattle.node_parts.specs.Names.{some_settings};
 
     ghost machine = { None };
 
@@ -173,8 +173,8 @@ impl<M: Processor, T: RunName<M>> Processor for RunMachine<'_, M, T> {
 }
 
 impl<M: Processor, T: RunName<M>> OneRun for RunMachine<'_, M, T> {
-    ghost use Rattle.node_core.specs.Named.{alike, named_is, of_named, to_named};
-    ghost use Rattle.node_core.specs.Names.{IfNamed, named_computes, named_performs, named_run};
+    ghost use Rattle.node_parts.specs.Named.{alike, named_is, of_named, to_named};
+    ghost use Rattle.node_parts.specs.Names.{IfNamed, named_computes, named_performs, named_run};
 
     ghost run = { named_run M.performs M.computes T.machine T.settings T.told T.scripts };
 

@@ -9,12 +9,12 @@ use Rattle.world_rules.specs.Mail as mail
 use Rattle.world_rules.specs.Nodes as nodes
 use Rattle.world_rules.specs.Played as played
 use Rattle.world_rules.specs.Played.{Played, Stage as stage}
-use Rattle.node_core.specs.declared.errand.Errand.{Errand}
-use Rattle.node_core.specs.declared.errand.Errand.TheVariants as errand
-use Rattle.node_core.specs.declared.errand.Given.{Given}
-use Rattle.node_core.specs.declared.resident.Resident.{Resident}
-use Rattle.node_core.specs.declared.resident.Stage.{Stage}
-use Rattle.node_core.specs.declared.resident.Stage.TheVariants as stood
+use Rattle.node_parts.specs.declared.errand.Errand.{Errand}
+use Rattle.node_parts.specs.declared.errand.Errand.TheVariants as errand
+use Rattle.node_parts.specs.declared.errand.Given.{Given}
+use Rattle.node_parts.specs.declared.resident.Resident.{Resident}
+use Rattle.node_parts.specs.declared.resident.Stage.{Stage}
+use Rattle.node_parts.specs.declared.resident.Stage.TheVariants as stood
 
 abbrev pub on_errand : Errand → mail.Errand
 on_errand (errand.Ask place message) = mail.Errand.Ask place message

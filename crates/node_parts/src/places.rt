@@ -5,8 +5,8 @@ ghost use Rattle.group_rules.specs.Sets.{with_at};
 
 use orca_base::NoMemory;
 
-// This value stands at this place, and the others as they were.
-pub(crate) fn put_at<T: Drop>(
+/// This value stands at this place, and the others as they were.
+pub fn put_at<T: Drop>(
     list: &mut Vec<Option<T>>,
     place: usize,
     value: T,
@@ -19,8 +19,8 @@ pub(crate) fn put_at<T: Drop>(
     Ok(())
 }
 
-// The same of a place that is there: there are as many places afterwards.
-pub(crate) fn set_at<T: Drop>(list: &mut Vec<Option<T>>, place: usize, value: T)
+/// The same of a place that is there: there are as many places afterwards.
+pub fn set_at<T: Drop>(list: &mut Vec<Option<T>>, place: usize, value: T)
     requires { place < length list.old.items }
     ensures put { (i : ℕ) → slice_index_or list.new.items i None
         ≡ with_at (λ j. slice_index_or list.old.items j None) place (Some value) i }
@@ -40,8 +40,8 @@ fn reach<T: Drop>(list: &mut Vec<Option<T>>, place: usize) -> Result<(), NoMemor
     Ok(())
 }
 
-// The value takes this place, where all was done, and what goes beside it comes back.
-pub(crate) fn take_place<T: Drop, R: Drop>(
+/// The value takes this place, where all was done, and what goes beside it comes back.
+pub fn take_place<T: Drop, R: Drop>(
     place: &mut T,
     value: T,
     beside: R,

@@ -9,7 +9,7 @@ use Rattle.value_core.specs.declared.meaning.Tried.TheVariants as tried
 use Rattle.net_rules.specs.declared.asked.Asked.{Asked}
 use Rattle.net_rules.specs.declared.line.ScriptLine.{ScriptLine}
 use Rattle.world_rules.specs.declared.settings.Settings.{Settings}
-use Rattle.node_core.specs.Runs.{Run}
+use Rattle.node_parts.specs.Runs.{Run}
 
 -- P of the machine, where one is named
 abbrev pub IfNamed : {M : Type 0} → Option M → (M → Type 0) → Type 0

@@ -16,7 +16,7 @@ pub trait OneRun: Processor {
     ghost use Rattle.value_core.specs.Fits.{Kinds};
     ghost use Rattle.value_core.specs.declared.action.Action.{Action};
     ghost use Rattle.value_core.specs.declared.action.Reply.{Reply};
-    ghost use Rattle.node_core.specs.Runs.{Run};
+    ghost use Rattle.node_parts.specs.Runs.{Run};
 
     /// The run.
     ghost run: { Run };

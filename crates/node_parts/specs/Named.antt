@@ -1,7 +1,7 @@
 -- Laws of names: all machines under one name are one.
 use Rattle.std.specs.Prelude.{◌≡◌, Option, Some}
 use Rattle.std.proofs.Common.{ap, subst, sym}
-use Rattle.node_core.specs.Names.{IfNamed}
+use Rattle.node_parts.specs.Names.{IfNamed}
 
 -- what is so of this machine is so of the one that is named
 pub to_named : {M : Type 0} (named : Option M) (m : M) → named ≡ Some m → (P : M → Type 0) → P m → IfNamed named P

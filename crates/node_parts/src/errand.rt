@@ -3,7 +3,7 @@
 ghost use Rattle.std.specs.Prelude.{◌≡◌, IfOk};
 ghost use Rattle.group_packets.specs.declared.packet.Packet.TheVariants.{Answer};
 ghost use Rattle.world_rules.specs.Mail.{place_of, same_errand};
-ghost use Rattle.node_core.specs.Shown.{on_errand};
+ghost use Rattle.node_parts.specs.Shown.{on_errand};
 
 use group_packets::Packet;
 use history_buffer::Shared;
@@ -40,8 +40,8 @@ pub struct Given {
 }
 
 impl Errand {
-    // How many entries its receiver has to have applied.
-    pub(crate) fn place(&self) -> u64
+    /// How many entries its receiver has to have applied.
+    pub fn place(&self) -> u64
         ensures { result ≡ place_of (on_errand self.now) }
     {
         match self {
@@ -50,8 +50,8 @@ impl Errand {
         }
     }
 
-    // Whether both are Asks, or both Answers, of one call.
-    pub(crate) fn is_same(&self, other: &Errand) -> bool
+    /// Whether both are Asks, or both Answers, of one call.
+    pub fn is_same(&self, other: &Errand) -> bool
         ensures { result ≡ same_errand (on_errand self.now) (on_errand other.now) }
     {
         match (self, other) {
@@ -78,8 +78,8 @@ impl Errand {
         }
     }
 
-    // An equal one.
-    pub(crate) fn copy(&self, alloc: Global) -> Result<Errand, NoMemory>
+    /// An equal one.
+    pub fn copy(&self, alloc: Global) -> Result<Errand, NoMemory>
         ensures { IfOk result (λ errand. errand ≡ self.now) }
     {
         match self {
@@ -103,8 +103,8 @@ impl Errand {
 }
 
 impl Given {
-    // An equal one.
-    pub(crate) fn copy(&self, alloc: Global) -> Result<Given, NoMemory>
+    /// An equal one.
+    pub fn copy(&self, alloc: Global) -> Result<Given, NoMemory>
         ensures { IfOk result (λ given. given ≡ self.now) }
     {
         Ok(Given {
@@ -114,8 +114,8 @@ impl Given {
         })
     }
 
-    // The packet that brings it to its process.
-    pub(crate) fn packet(
+    /// The packet that brings it to its process.
+    pub fn packet(
         &self,
         alloc: Global,
         incarnation: u64,
