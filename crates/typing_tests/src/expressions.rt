@@ -1,12 +1,12 @@
 //! The types of expressions, and their first breach.
 
-use crate::reading::{index_of, units_of};
 use link_rules::NamedUnit;
 use orca_base::{Items, NoMemory};
 use orca_tree::{Block, Declaration, Expression, Statement};
 use std::alloc::Global;
 use std::collections::BTreeMap;
 use std::test::Fail;
+use test_texts::{index_of, units_of};
 use type_exprs::{Local, Scope, plain, typed};
 use type_forms::{Forms, Found, Index, View, chains_of, parts_of, types_of};
 use type_rules::{Base, Chain, DataType, Formal, LocalRole, Measured, Owner, Signature};

@@ -1,9 +1,9 @@
 //! The limits of a program beside the rules of typing.
 
-use crate::reading::program_of;
 use program_limits::{PassedLimit, within_limits};
 use std::alloc::{AllocError, Global};
 use std::test::Fail;
+use test_texts::program_of;
 
 // A program with a function of so many parameters.
 fn text_with(alloc: Global, parameters: usize) -> Result<String, AllocError> {

@@ -1,7 +1,7 @@
 //! What names stand for, and where constants lead.
 
-use crate::reading::{index_of, units_of};
 use std::test::Fail;
+use test_texts::{index_of, units_of};
 use type_forms::{Standing, chains_of};
 use type_rules::Chain;
 

@@ -1,12 +1,12 @@
 //! The names of a program by the numbers by which its histories go.
 
-use crate::reading::program_of;
 use history_text::Names;
 use orca_base::Text;
 use orca_modules::Program;
 use program_names::names;
 use std::alloc::Global;
 use std::test::Fail;
+use test_texts::program_of;
 use type_decls::check;
 
 // A module with an object type and a process, and one that imports it, with a type whose specification stands behind its implementation.

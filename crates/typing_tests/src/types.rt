@@ -1,11 +1,11 @@
 //! Types with their sizes and nesting, and the first breach of a type phrase.
 
-use crate::reading::{index_of, units_of};
 use orca_base::{NoMemory, Place};
 use orca_tree::Definition;
 use std::alloc::{AllocError, Global};
 use std::collections::BTreeMap;
 use std::test::Fail;
+use test_texts::{index_of, units_of};
 use type_cycles::holds_themselves;
 use type_forms::{Forms, Index, Names, Top, View, What, chains_of, kind_found, parts_of, types_of};
 use type_rules::{Breach, Measured};

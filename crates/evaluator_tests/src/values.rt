@@ -1,6 +1,5 @@
 //! The code of a program: what its variables open with, and the values of its expressions.
 
-use crate::reading::{code_of, program_of, run_over, value_of, values_of};
 use eval_bodies::{Code, Site};
 use eval_exprs::{Levels, evaluate};
 use eval_tables::Seen;
@@ -9,6 +8,7 @@ use orca_base::{FaultKind, KindNo};
 use orca_tree::{Expression, Statement};
 use std::alloc::Global;
 use std::test::Fail;
+use test_texts::{code_of, program_of, run_over, value_of, values_of};
 use type_rules::DataType;
 use value_core::{Action, Reply, Value};
 

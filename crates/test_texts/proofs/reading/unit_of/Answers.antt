@@ -1,6 +1,6 @@
 use Rattle.std.proofs.Common.{◌≡◌}
 use Rattle.orca_syntax.proofs.TextOnce.{text_syntax}
-use Rattle.typing_tests.proofs.reading.unit_of.Goals as goal
+use Rattle.test_texts.proofs.reading.unit_of.Goals as goal
 
 pub returns-in-Ok : goal.returns-in-Ok
 returns-in-Ok c =

@@ -1,6 +1,5 @@
 //! What is done to variables: by paths, in a loop, and behind a call.
 
-use crate::reading::{run_over, value_of, values_of};
 use eval_variables::{
     Frame, Passed, Run, Step, Stop, Target, add_name, add_node, delete_node, drop_element,
     drop_name, exchange_frame, hand_back, has_at, held, put, rounds, store, take,
@@ -8,6 +7,7 @@ use eval_variables::{
 use orca_base::NoMemory;
 use std::alloc::Global;
 use std::test::Fail;
+use test_texts::{run_over, value_of, values_of};
 use value_core::{Parts, Value};
 
 // An integer, an array from -2, a set, a bag and a graph.

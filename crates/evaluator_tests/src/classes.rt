@@ -1,11 +1,11 @@
 //! Which operations of a program are reads.
 
-use crate::reading::program_of;
 use access_analysis::{class_listed, classes_of};
 use orca_base::{KindNo, OpNo};
 use orca_modules::Program;
 use std::alloc::Global;
 use std::test::Fail;
+use test_texts::program_of;
 use type_decls::check;
 use value_core::Class;
 
