@@ -96,7 +96,7 @@ fn prefix<C: Levels>(
         return prefix_place::<C>(alloc, site, prefix, from, run);
     }
     let value = evaluate::<C>(alloc, site, operand, run)?;
-    applied_to(prefix, &value)
+    Ok(applied_to(prefix, &value)?)
 }
 
 // What stands before a designator, whose value stays where it stands.
@@ -115,7 +115,7 @@ fn prefix_place<C: Levels>(
         (λ x s. gives (prefixed prefix x) s)) }
 {
     let path = walk::<C>(alloc, site, site.root(&from.name), &from.path, run)?;
-    prefix_part(site, prefix, &from.name, &path, run)
+    Ok(prefix_part(site, prefix, &from.name, &path, run)?)
 }
 
 // Operators behind a left operand.

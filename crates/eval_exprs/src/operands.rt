@@ -1,6 +1,6 @@
 //! Operators before one operand, and values that stand in a text.
 
-ghost use Rattle.std.specs.Prelude.{◌≡◌, option_map};
+ghost use Rattle.std.specs.Prelude.{◌≡◌, Ok, Err, MatchResult, option_map};
 ghost use Rattle.value_core.specs.Datum as datum;
 ghost use Rattle.value_core.specs.View.{datum_of};
 ghost use Rattle.meaning_rules.specs.Expressions as rules;
@@ -9,11 +9,11 @@ ghost use Rattle.meaning_rules.specs.States.{State, gives};
 ghost use Rattle.eval_variables.specs.Gives.{Gives};
 ghost use Rattle.eval_exprs.specs.Prefixes.{prefixed};
 
-use eval_variables::{Stop, fitting, negated, truth_in};
-use orca_base::Text;
+use eval_variables::{Stop, fitting, integer_in, truth_in};
+use orca_base::{FaultKind, Text};
 use std::alloc::Global;
 use value_core::{TextValue, Value};
-use value_ops::{count, ordinal};
+use value_ops::{count, negate, ordinal};
 
 /// What stands before one operand.
 #[derive(Clone, Copy, Debug)]
@@ -32,12 +32,13 @@ pub enum Prefix {
 ///
 /// # Errors
 /// `Overflow`.
-pub fn applied_to(prefix: Prefix, operand: &Value) -> Result<Value, Stop>
-    ensures { (s : State) → Gives datum_of result s (gives (prefixed prefix (datum_of operand.now)) s) }
+pub fn applied_to(prefix: Prefix, operand: &Value) -> Result<Value, FaultKind>
+    ensures { MatchResult result (λ value. prefixed prefix (datum_of operand.now) ≡ Ok (datum_of value))
+        (λ fault. prefixed prefix (datum_of operand.now) ≡ Err fault) }
 {
     match prefix {
         Prefix::Not => Ok(Value::Truth(!truth_in(operand))),
-        Prefix::Negative => negated(operand),
+        Prefix::Negative => Ok(Value::Int(negate(integer_in(operand))?)),
         Prefix::Size => Ok(Value::Int(count(operand))),
         Prefix::Ordinal => Ok(Value::Int(ordinal(operand))),
     }

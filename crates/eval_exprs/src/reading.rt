@@ -73,8 +73,8 @@ pub fn prefix_part(
     name: &Name,
     path: &[Step],
     run: &Run<'_>,
-) -> Result<Value, Stop>
-    ensures { (w : Scope) → IsSite site.entry w → Gives datum_of result (state_of run.now)
+) -> Result<Value, FaultKind>
+    ensures { (w : Scope) → IsSite site.entry w → Finds result datum_of (state_of run.now)
         (after (rules.load w name.now (path_of path.now) (state_of run.now)) (λ x s. gives (prefixed prefix x) s)) }
 {
     let is = site.named(name);

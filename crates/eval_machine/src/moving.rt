@@ -1,8 +1,9 @@
 //! How the point of a process is moved forward.
 
-ghost use Rattle.std.specs.Prelude.{◌≡◌, ◌↔◌, ◌<◌, ◌^◌, List, IfOk, IfSome, None, Some, false, length};
+ghost use Rattle.std.specs.Prelude.{◌≡◌, ◌↔◌, ◌<◌, ◌^◌, List, IfOk, IfSome, MatchResult, None, Some, false, length};
 ghost use Rattle.link_rules.specs.Units.{Source};
 ghost use Rattle.accepted_law.specs.Numbers.{AreNumbers};
+ghost use Rattle.eval_variables.specs.declared.stop.Stop.TheVariants.{NoMemory as Without};
 ghost use Rattle.eval_bodies.specs.Blocks.{IsBlockCode, Routine, process_at};
 ghost use Rattle.eval_bodies.specs.Codes.{IsCode};
 ghost use Rattle.eval_points.specs.Advances.{Advances, left_at};
@@ -27,7 +28,9 @@ struct First {
 }
 
 // Hands want of memory on, and no other stop.
-fn hand_on(stop: Stop) -> Result<(), NoMemory> {
+fn hand_on(stop: Stop) -> Result<(), NoMemory>
+    ensures { MatchResult result (λ _. stop ≡ Without → ⊥) (λ _. stop ≡ Without) }
+{
     match stop {
         Stop::NoMemory => Err(NoMemory),
         _ => Ok(()),

@@ -2,12 +2,10 @@
 
 ghost use Rattle.std.specs.Prelude.{◌≡◌, ◌≤◌, ◌<◌, ◌+◌, ◌^◌, ◌↔◌, IfOk, IfSome, IsTrue, false};
 ghost use Rattle.value_core.specs.Datum.{list_of};
-ghost use Rattle.meaning_rules.specs.Functions.{all_calls};
 ghost use Rattle.eval_variables.specs.Gives.{state_of};
 ghost use Rattle.eval_bodies.specs.Blocks.{IsBlockCode, Routine};
 ghost use Rattle.eval_bodies.specs.Codes.{IsCode};
 ghost use Rattle.eval_points.specs.Moves.{Steps};
-ghost use Rattle.eval_points.specs.Places.{left as left_rule};
 ghost use Rattle.eval_points.specs.Advances.{Advances, left_at};
 
 use crate::place::Place;
