@@ -1,8 +1,9 @@
-use Rattle.std.proofs.Common.{◌≡◌, ◌+◌, List, Option, drop, map, sym, ap, ◌∙◌, subst, arith, rules}
+use Rattle.std.proofs.Common.{◌≡◌, ◌+◌, List, Option, Result, drop, map, sym, ap, ◌∙◌, subst, arith, rules}
 use Rattle.std.specs.Prelude.{option_map}
 use Rattle.std.proofs.Math.ListN.{drop_of_length-le}
 use Rattle.std.proofs.lemmas.List.{map_push}
 use Rattle.std.proofs.lemmas.Result.{err_from_is_err_and}
+use Rattle.orca_base.specs.declared.fault.FaultKind.{FaultKind}
 use Rattle.orca_tree.specs.declared.tree.Expression.{Expression}
 use Rattle.orca_tree.specs.declared.tree.Link.{Link}
 use Rattle.orca_tree.specs.declared.tree.Mode.{Mode}
@@ -141,10 +142,14 @@ prefix-returns-in-Get-clause-gives g t c = λ w s.
 
 pub prefix-returns-clause-gives : goal.prefix-returns-clause-gives
 prefix-returns-clause-gives g t c = λ w s.
-    let call = calls w.program g.C.Levels.levels in
-    let s1 = state_of c.evaluate.new.run in
-    goes_then datum_of c.applied_to.result s1 (eval call w (expr c.args.operand.now) (state_of c.args.run.now)) (λ x s2. gives (prefixed c.args.prefix x) s2) _ s1
-    ((c.in_ok-value.ensures {u = tt}).gives w s) (c.applied_to.ensures s1)
+    ap (λ (o : Out Datum). after o (λ x s2. gives (prefixed c.args.prefix x) s2)) ((c.in_ok-value.ensures {u = tt}).gives w s)
+    ∙ ap (λ (q : Result Datum FaultKind). gives q (state_of c.evaluate.new.run)) c.in_ok-applied_to.ensures
+
+pub prefix-returns-in_err-applied_to-clause-gives : goal.prefix-returns-in_err-applied_to-clause-gives
+prefix-returns-in_err-applied_to-clause-gives g t c = λ w s.
+    let p = err_from_is_err_and c.from_residual-in_err-applied_to.result c.from_residual-in_err-applied_to.ensures.1 in
+    rw (p.1, p.2) (ap (λ (o : Out Datum). after o (λ x s2. gives (prefixed c.args.prefix x) s2)) ((c.in_ok-value.ensures {u = tt}).gives w s)
+    ∙ ap (λ (q : Result Datum FaultKind). gives q (state_of c.evaluate.new.run)) c.in_err-applied_to.ensures)
 
 pub prefix-returns-in_err-value-clause-gives : goal.prefix-returns-in_err-value-clause-gives
 prefix-returns-in_err-value-clause-gives g t c = λ w s.
