@@ -51,10 +51,7 @@ pub fn spelled(
 }
 
 /// The packet that these bytes are; none, where they were cut.
-pub fn incoming(
-    alloc: Global,
-    bytes: &[u8],
-) -> Result<Option<Packet<Shared<Message>>>, NoMemory>
+pub fn incoming(alloc: Global, bytes: &[u8]) -> Result<Option<Packet<Shared<Message>>>, NoMemory>
     requires { length bytes.now < 2 ^ 32 }
     ensures { IfOk result (λ packet. IsIncoming bytes.now packet) }
 {

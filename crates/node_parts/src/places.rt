@@ -6,11 +6,7 @@ ghost use Rattle.group_rules.specs.Sets.{with_at};
 use orca_base::NoMemory;
 
 /// This value stands at this place, and the others as they were.
-pub fn put_at<T: Drop>(
-    list: &mut Vec<Option<T>>,
-    place: usize,
-    value: T,
-) -> Result<(), NoMemory>
+pub fn put_at<T: Drop>(list: &mut Vec<Option<T>>, place: usize, value: T) -> Result<(), NoMemory>
     ensures { OnOk result ((i : ℕ) → slice_index_or list.new.items i None
         ≡ with_at (λ j. slice_index_or list.old.items j None) place (Some value) i) }
 {

@@ -28,11 +28,11 @@ use Rattle.world_facts.specs.Ends as facts
 use Rattle.world_facts.specs.Ends.{EndsStand, Stand, StandsBy, end_of, process_end, process_ends, replies_in}
 use Rattle.world_facts.specs.Places.{IsPlaced, book_behind, lines_to}
 use Rattle.world_facts.specs.Processes.{HomesAreMembers}
-use Rattle.world_core.specs.Telling.{AreNodeEnds, AreProcessEnds, EndsMean, IsNodeEnd, on_process_end, on_standing}
-use Rattle.world_core.specs.declared.ends.NodeEnd.{NodeEnd}
-use Rattle.world_core.specs.declared.ends.ProcessEnd.{ProcessEnd}
-use Rattle.world_core.specs.declared.ends.ProcessStanding.{ProcessStanding}
-use Rattle.world_core.specs.declared.ends.ProcessStanding.TheVariants as standing
+use Rattle.run_ends.specs.Telling.{AreNodeEnds, AreProcessEnds, EndsMean, IsNodeEnd, on_process_end, on_standing}
+use Rattle.run_ends.specs.declared.ends.NodeEnd.{NodeEnd}
+use Rattle.run_ends.specs.declared.ends.ProcessEnd.{ProcessEnd}
+use Rattle.run_ends.specs.declared.ends.ProcessStanding.{ProcessStanding}
+use Rattle.run_ends.specs.declared.ends.ProcessStanding.TheVariants as standing
 use Rattle.orca_cli.specs.declared.kept.Kept.{Kept}
 use Rattle.orca_cli.specs.Kept.{HasCopies, IsEndOf, IsHistory, IsHome, IsProcess}
 

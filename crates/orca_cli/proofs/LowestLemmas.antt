@@ -7,7 +7,7 @@ use Rattle.world_rules.specs.declared.standing.Standing.{Standing}
 use Rattle.world_rules.specs.declared.standing.Standing.TheVariants.{Limit, OutOfTurns, OutOfEvents, NoGroup, Faulted, Blocked, Finished, Going}
 use Rattle.world_rules.specs.Frame.{Frame}
 use Rattle.world_rules.specs.Worlds.{World}
-use Rattle.world_core.specs.declared.ends.ProcessEnd.{ProcessEnd}
+use Rattle.run_ends.specs.declared.ends.ProcessEnd.{ProcessEnd}
 use Rattle.orca_cli.specs.declared.kept.Kept.{Kept}
 use Rattle.orca_cli.specs.Lines.{blocked_line, faulted_line, turns_line}
 use Rattle.orca_cli.specs.Rows.{KeptRow}

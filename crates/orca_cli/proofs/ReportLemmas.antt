@@ -7,7 +7,7 @@ use Rattle.orca_io.specs.declared.sink.SinkFault.TheVariants as faults
 use Rattle.orca_io.specs.Sinks.{Puts}
 use Rattle.world_rules.specs.declared.standing.Standing.{Standing}
 use Rattle.world_rules.specs.declared.standing.Standing.TheVariants.{Limit, OutOfTurns, OutOfEvents, NoGroup, Faulted, Blocked, Finished, Going}
-use Rattle.world_core.specs.declared.ends.ProcessEnd.{ProcessEnd}
+use Rattle.run_ends.specs.declared.ends.ProcessEnd.{ProcessEnd}
 use Rattle.command_output.specs.declared.statuses.TheConstants.{NO_MEMORY, WRITE_FAULT}
 use Rattle.command_output.specs.Printed.{Ends, EndsAs, Grew, HasStopped, WroteOf}
 use Rattle.value_core.specs.declared.action.Line.{Line}

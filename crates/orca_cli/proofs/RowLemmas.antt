@@ -36,11 +36,11 @@ use Rattle.world_facts.specs.Processes.{IsPlayed, ProcessesStand, is_last}
 use Rattle.world_facts.specs.Processes as played
 use Rattle.world_facts.specs.Rows as rows
 use Rattle.world_facts.specs.Rows.{AllRead, IsBegun}
-use Rattle.world_core.specs.Telling.{on_process_end, on_standing}
-use Rattle.world_core.specs.declared.ends.NodeEnd.{NodeEnd}
-use Rattle.world_core.specs.declared.ends.ProcessEnd.{ProcessEnd}
-use Rattle.world_core.specs.declared.ends.ProcessStanding.{ProcessStanding}
-use Rattle.world_core.specs.declared.ends.ProcessStanding.TheVariants as standing
+use Rattle.run_ends.specs.Telling.{on_process_end, on_standing}
+use Rattle.run_ends.specs.declared.ends.NodeEnd.{NodeEnd}
+use Rattle.run_ends.specs.declared.ends.ProcessEnd.{ProcessEnd}
+use Rattle.run_ends.specs.declared.ends.ProcessStanding.{ProcessStanding}
+use Rattle.run_ends.specs.declared.ends.ProcessStanding.TheVariants as standing
 use Rattle.orca_cli.specs.declared.kept.Kept.{Kept}
 use Rattle.orca_cli.specs.Kept.{IsEndOf}
 use Rattle.orca_cli.specs.Rows.{AllEnded, HaveTurns, KeptRow, LostTooMany, NoneFaulted, ShownRows, SomeBusy, SomeStuck, StandsAt}

@@ -12,10 +12,10 @@ use Rattle.world_rules.specs.Steps.{Replays}
 use Rattle.world_rules.specs.Worlds.{Book, World, places}
 use Rattle.world_facts.specs.Ends.{StandsBy}
 use Rattle.world_facts.specs.Places.{lines_to}
-use Rattle.world_core.specs.Telling.{AreNodeEnds, AreProcessEnds, on_standing}
-use Rattle.world_core.specs.declared.ends.NodeEnd.{NodeEnd}
-use Rattle.world_core.specs.declared.ends.ProcessEnd.{ProcessEnd}
-use Rattle.world_core.specs.declared.ends.ProcessStanding.TheVariants as standing
+use Rattle.run_ends.specs.Telling.{AreNodeEnds, AreProcessEnds, on_standing}
+use Rattle.run_ends.specs.declared.ends.NodeEnd.{NodeEnd}
+use Rattle.run_ends.specs.declared.ends.ProcessEnd.{ProcessEnd}
+use Rattle.run_ends.specs.declared.ends.ProcessStanding.TheVariants as standing
 use Rattle.orca_cli.specs.declared.kept.Kept.{Kept}
 
 -- the kept events lead to this world, and the book, the members and the processes are this world's

@@ -13,10 +13,10 @@ use Rattle.world_rules.specs.Frame.{Frame}
 use Rattle.world_rules.specs.Worlds.{World}
 use Rattle.world_facts.specs.Rows.{IsLimited, IsOver, IsUnlimited, LacksGroup, MayGoOn, is_limit}
 use Rattle.world_rules.specs.Standings as rules
-use Rattle.world_core.specs.declared.ends.NodeEnd.{NodeEnd}
-use Rattle.world_core.specs.declared.ends.ProcessEnd.{ProcessEnd}
-use Rattle.world_core.specs.declared.ends.ProcessStanding.{ProcessStanding}
-use Rattle.world_core.specs.declared.ends.ProcessStanding.TheVariants as standing
+use Rattle.run_ends.specs.declared.ends.NodeEnd.{NodeEnd}
+use Rattle.run_ends.specs.declared.ends.ProcessEnd.{ProcessEnd}
+use Rattle.run_ends.specs.declared.ends.ProcessStanding.{ProcessStanding}
+use Rattle.run_ends.specs.declared.ends.ProcessStanding.TheVariants as standing
 use Rattle.orca_cli.specs.declared.kept.Kept.{Kept}
 
 -- process i is kept, and stands so

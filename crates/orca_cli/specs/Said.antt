@@ -6,7 +6,7 @@ use Rattle.orca_front.specs.Lines.{limit_line}
 use Rattle.value_core.specs.declared.action.Action.{Action}
 use Rattle.world_rules.specs.declared.standing.Standing.{Standing}
 use Rattle.world_rules.specs.declared.standing.Standing.TheVariants.{Limit, OutOfTurns, OutOfEvents, NoGroup, Faulted, Blocked, Finished, Going}
-use Rattle.world_core.specs.declared.ends.ProcessEnd.{ProcessEnd}
+use Rattle.run_ends.specs.declared.ends.ProcessEnd.{ProcessEnd}
 use Rattle.orca_cli.specs.Lines.{blocked_line, events_line, faulted_line, no_group_line, turns_line, what_name}
 use Rattle.orca_cli.specs.Standings.{awaited_of, fault_of, spent_of}
 

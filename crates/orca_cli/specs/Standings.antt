@@ -12,9 +12,9 @@ use Rattle.history_text.specs.Spelling.{called_name, history_text}
 use Rattle.history_text.specs.declared.names.Names.{Names}
 use Rattle.world_rules.specs.declared.standing.Standing.{Standing}
 use Rattle.world_rules.specs.declared.standing.Standing.TheVariants.{Limit, OutOfTurns, OutOfEvents, NoGroup, Faulted, Blocked, Finished, Going}
-use Rattle.world_core.specs.declared.ends.ProcessEnd.{ProcessEnd}
-use Rattle.world_core.specs.declared.ends.ProcessStanding.{ProcessStanding}
-use Rattle.world_core.specs.declared.ends.ProcessStanding.TheVariants as process
+use Rattle.run_ends.specs.declared.ends.ProcessEnd.{ProcessEnd}
+use Rattle.run_ends.specs.declared.ends.ProcessStanding.{ProcessStanding}
+use Rattle.run_ends.specs.declared.ends.ProcessStanding.TheVariants as process
 use Rattle.command_output.specs.declared.statuses.TheConstants.{BLOCKED, FAULTED, FINISHED, LIMIT, NO_GROUP, NO_MEMORY, OUT_OF_EVENTS, OUT_OF_TURNS, WRITE_FAULT}
 use Rattle.orca_cli.specs.Lines.{blocked_line, events_line, faulted_line, no_group_line, turns_line, what_name}
 

@@ -14,8 +14,8 @@ use Rattle.world_rules.specs.Worlds.{Book, World, opening_world}
 use Rattle.world_book.specs.Promise.{AllStuck, IsKept}
 use Rattle.world_parts.specs.Choosing.{longest_log}
 use Rattle.world_parts.specs.Seen.{Of, Seen, tasks_out}
-use Rattle.world_core.specs.Telling.{AreNodeEnds, AreProcessEnds, EndsMean}
-use Rattle.world_core.specs.declared.ends.RunEnd.{RunEnd}
+use Rattle.run_ends.specs.Telling.{AreNodeEnds, AreProcessEnds, EndsMean}
+use Rattle.run_ends.specs.declared.ends.RunEnd.{RunEnd}
 use Rattle.run_loop.specs.Asked.{AreInTime, HaveToldOn, NoneAskedBehind, WereAskedIn, WereUsedSo, asked_since}
 use Rattle.run_loop.specs.Driven.{HasStopped, IsDriven}
 use Rattle.run_loop.specs.Left.{HasRun}

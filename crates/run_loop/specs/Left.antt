@@ -9,8 +9,8 @@ use Rattle.world_rules.specs.Standings as rules
 use Rattle.world_rules.specs.Steps.{Replays}
 use Rattle.world_rules.specs.Worlds.{Book, World}
 use Rattle.world_book.specs.Promise.{AllStuck, IsKept}
-use Rattle.world_core.specs.Telling.{AreNodeEnds, AreProcessEnds, EndsMean}
-use Rattle.world_core.specs.declared.ends.RunEnd.{RunEnd}
+use Rattle.run_ends.specs.Telling.{AreNodeEnds, AreProcessEnds, EndsMean}
+use Rattle.run_ends.specs.declared.ends.RunEnd.{RunEnd}
 use Rattle.world_parts.specs.Choosing.{longest_log}
 use Rattle.run_loop.specs.Asked.{AreInTime, NoneAskedBehind, WereUsedSo, asked_since}
 

@@ -24,17 +24,13 @@ use Rattle.letter_bytes.specs.Letters.{IsOutgoing}
 use Rattle.world_core.specs.Drafting.{AreLetters, AreNodes, AreOutgoing, HasSpelled, KeepTasks, taken}
 use Rattle.world_core.specs.declared.draft.Part.{Part}
 use Rattle.letter_bytes.specs.declared.letters.Outgoing.{Outgoing}
+use Rattle.world_parts.proofs.Lists.{got_set, set_length}
 
 -- ---- lists with one changed
 
 pub taken_push : {P S : Type 0} (parts : List (Part P S)) (part : Part P S) (ns : List (Node P S)) → taken (parts ++ part ∷ []) ns ≡ slice_set (taken parts ns) part.member part.node
 taken_push [] part ns = refl
 taken_push (first ∷ parts) part ns = taken_push parts part (slice_set ns first.member first.node)
-
-pub set_length : {A : Type 0} (xs : List A) (k : ℕ) (x : A) → length (slice_set xs k x) ≡ length xs
-set_length [] k x = refl
-set_length (y ∷ xs) zero x = refl
-set_length (y ∷ xs) (suc k) x = ap suc (set_length xs k x)
 
 -- a list of no length is empty
 pub none_in : {A : Type 0} (xs : List A) (n : ℕ) → n ≡ length xs → (n == 0) ≡ is_empty xs
@@ -45,15 +41,6 @@ none_in {A} (x ∷ xs) n is = ne_eqb n 0 (λ e. absurd (omega (arith, e, is)))
 pub taken_length : {P S : Type 0} (parts : List (Part P S)) (nodes : List (Node P S)) → length (taken parts nodes) ≡ length nodes
 taken_length [] nodes = refl
 taken_length {P} {S} (part ∷ parts) nodes = taken_length parts (slice_set nodes part.member part.node) ∙ set_length nodes part.member part.node
-
--- what stands where in it
-pub got_set : {A : Type 0} (xs : List A) (k j : ℕ) (x y : A) → slice_get (slice_set xs k x) j ≡ Some y → ((j ≡ k) × (x ≡ y)) ⊎ ((j ≡ k → ⊥) × (slice_get xs j ≡ Some y))
-got_set [] k j x y is = absurd (cc is)
-got_set (z ∷ xs) zero zero x y is = let e : x ≡ y = cc in inl (refl, e)
-got_set (z ∷ xs) zero (suc j) x y is = inr ((λ e. absurd (omega (arith, e))), is)
-got_set (z ∷ xs) (suc k) zero x y is = inr ((λ e. absurd (omega (arith, e))), is)
-got_set (z ∷ xs) (suc k) (suc j) x y is =
-    ⊎_elim (λ (own : (j ≡ k) × (x ≡ y)). inl (omega (arith, own.0), own.1)) (λ (other : (j ≡ k → ⊥) × (slice_get xs j ≡ Some y)). inr ((λ e. other.0 (omega (arith, e))), other.1)) (got_set xs k j x y is)
 
 pub with_own : {A : Type 0} (f : ℕ → A) (k : ℕ) (v : A) → with_at f k v k ≡ v
 with_own f k v = ap (λ (b : Bool). cond b v (f k)) (eq-eqb k k refl)

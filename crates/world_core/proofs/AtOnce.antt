@@ -18,6 +18,7 @@ use Rattle.world_rules.specs.Worlds.{World, home_of, played_in}
 use Rattle.node_parts.specs.Shown.{Left, Stood}
 use Rattle.node_core.specs.Stands.{StandsAs}
 use Rattle.node_core.specs.declared.node.Node.{Node}
+use Rattle.world_parts.proofs.Lists.{map_set}
 use Rattle.world_parts.proofs.Worlds.{home_within, is_world}
 use Rattle.world_parts.specs.Seen.{Out, all_outs, out_at, tasks_out}
 use Rattle.world_parts.specs.Standing.{HasNumbers, IsWorld, Stands, out_of, outs_of, seen_of}
@@ -32,7 +33,7 @@ use Rattle.world_core.proofs.CheckingIn.{none_of, told_none}
 use Rattle.world_core.proofs.CheckingOut.{Ready, set_same}
 use Rattle.world_core.proofs.Computed.{burst_leaves}
 use Rattle.world_core.proofs.Doing.{Here}
-use Rattle.world_core.proofs.Handing.{got_map, map_set}
+use Rattle.world_core.proofs.Handing.{got_map}
 use Rattle.world_core.proofs.Running.{Bursts, applied_low, ran_so, ran_there, viewed_now, viewing}
 use Rattle.world_core.proofs.Stepped.{Changed, Leaves, outgoing_count, step_world}
 use Rattle.world_core.proofs.StayOut.{out_none}

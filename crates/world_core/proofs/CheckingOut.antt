@@ -31,6 +31,7 @@ use Rattle.node_parts.specs.declared.resident.Resident.{Resident}
 use Rattle.node_parts.specs.declared.resident.Stage.{Stage as StageHere}
 use Rattle.node_parts.specs.declared.resident.Stage.TheVariants as here_stage
 use Rattle.node_core.proofs.TakingIn.{within_of}
+use Rattle.world_parts.proofs.Lists.{got_set, set_length}
 use Rattle.world_parts.proofs.Outs.{seen_out}
 use Rattle.world_parts.proofs.Worlds.{is_world}
 use Rattle.world_parts.specs.Choosing.{is_ready, may_compute}
@@ -40,7 +41,7 @@ use Rattle.world_parts.specs.Standing.{HasNumbers, IsTask, IsWorld, Stands, out_
 use Rattle.world_parts.specs.declared.parts.Numbers.{Numbers}
 use Rattle.world_parts.specs.declared.parts.Parts.{Parts}
 use Rattle.world_core.specs.Stepping.{HandsOutOf, out_as}
-use Rattle.world_core.proofs.Adding.{got_set, set_length, with_other, with_own}
+use Rattle.world_core.proofs.Adding.{with_other, with_own}
 use Rattle.world_core.proofs.Handing.{all_changed, outs_changed, puts_out, seen_there}
 use Rattle.world_core.proofs.Running.{both, computing_is}
 use Rattle.world_core.proofs.TakenIn.{played_as}

@@ -20,6 +20,7 @@ use Rattle.node_parts.specs.Shown.{Left, Stood}
 use Rattle.node_core.specs.Stands.{StandsAs}
 use Rattle.node_core.specs.declared.node.Node.{Node}
 use Rattle.node_parts.specs.declared.resident.Resident.{Resident}
+use Rattle.world_parts.proofs.Lists.{got_set, set_length}
 use Rattle.world_parts.proofs.Worlds.{is_world}
 use Rattle.world_parts.specs.Recorded.{Recorded, of_pieces}
 use Rattle.world_parts.specs.Seen.{Out, all_outs, tasks_out}
@@ -30,7 +31,7 @@ use Rattle.world_core.specs.Closing.{HasClosed, HasEnded, HasLeft, HasLost, HasR
 use Rattle.world_core.specs.Drafting.{AreNodes, Drafts, IsDraft, KeepTasks, out_in, taken}
 use Rattle.world_core.specs.Stepping.{KeepsOut, Leads, OutBefore, Stepped, is_burst_of, is_crash_of, told_so}
 use Rattle.world_core.specs.declared.draft.Draft.{Draft}
-use Rattle.world_core.proofs.Adding.{got_set, set_length, with_other}
+use Rattle.world_core.proofs.Adding.{with_other}
 use Rattle.world_core.proofs.Doing.{Here}
 use Rattle.world_core.proofs.Fewer.{tasks_fewer}
 use Rattle.world_core.proofs.Handing.{out_before}

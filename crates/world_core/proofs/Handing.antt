@@ -8,12 +8,13 @@ use Rattle.node_core.specs.Pieces.{resident_at}
 use Rattle.node_core.specs.declared.node.Node.{Node}
 use Rattle.node_parts.specs.declared.resident.Resident.{Resident}
 use Rattle.world_parts.specs.Seen.{Out, Seen, all_outs, outs, out_at}
+use Rattle.world_parts.proofs.Lists.{map_set, set_length}
 use Rattle.world_parts.proofs.Outs.{seen_out}
 use Rattle.world_parts.specs.Standing.{has_out, out_of, outs_of, seen_of}
 use Rattle.world_parts.specs.declared.parts.Parts.{Parts}
 use Rattle.world_core.specs.Drafting.{KeepTasks}
 use Rattle.world_core.specs.Stepping.{OutBefore}
-use Rattle.world_core.proofs.Adding.{set_length, with_other, with_own}
+use Rattle.world_core.proofs.Adding.{with_other, with_own}
 
 outs_set : {A : Type 0} (bs : List (Option A)) (k : ℕ) (b : Option A) → k < length bs → outs (slice_set bs k b) + cond (is_some (get_or bs k None)) 1 0 ≡ outs bs + cond (is_some b) 1 0
 outs_set [] k b lt = absurd (omega (arith, lt))
@@ -24,11 +25,6 @@ all_set : {A : Type 0} (bss : List (List (Option A))) (k : ℕ) (bs : List (Opti
 all_set [] k bs lt = absurd (omega (arith, lt))
 all_set (cs ∷ bss) zero bs lt = omega arith
 all_set (cs ∷ bss) (suc k) bs lt = let e = all_set bss k bs (omega (arith, lt)) in omega (arith, e)
-
-pub map_set : {A B : Type 0} (f : A → B) (xs : List A) (k : ℕ) (x : A) → map f (slice_set xs k x) ≡ slice_set (map f xs) k (f x)
-map_set f [] k x = refl
-map_set f (y ∷ xs) zero x = refl
-map_set {A} {B} f (y ∷ xs) (suc k) x = ap (λ (l : List B). f y ∷ l) (map_set f xs k x)
 
 pub map_count : {A B : Type 0} (f : A → B) (xs : List A) → length (map f xs) ≡ length xs
 map_count f [] = refl

@@ -29,4 +29,3 @@ pub mod CheckingIn
 pub mod AtOnce
 pub mod NoneOut
 pub mod Spelled
-pub mod Books

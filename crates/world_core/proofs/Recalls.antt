@@ -9,12 +9,12 @@ use Rattle.node_parts.specs.Shown.{Left, Stood}
 use Rattle.node_core.specs.Stands.{StandsAlike}
 use Rattle.node_core.specs.declared.node.Node.{Node}
 use Rattle.node_parts.specs.declared.resident.Resident.{Resident}
+use Rattle.world_parts.proofs.Lists.{got_set, set_length}
 use Rattle.world_parts.proofs.Opening.{nobody_out}
 use Rattle.world_parts.specs.Seen.{tasks_out}
 use Rattle.world_parts.specs.Standing.{IsWorld, Stands, seen_of}
 use Rattle.world_parts.specs.declared.parts.Parts.{Parts}
 use Rattle.world_core.specs.Recalling.{AreRecalled, IsRecalled}
-use Rattle.world_core.proofs.Adding.{got_set, set_length}
 
 -- what the loop knows: those before this member are, the others are as they were
 pub record RecalledTo {P S : Type 0} (stood : Stood S) (left : Left S) (k : ℕ) (old new : List (Node P S)) : Type 0 where

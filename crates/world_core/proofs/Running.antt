@@ -422,14 +422,6 @@ pub between_none : {S : Type 0} (stood : Stood S) (left : Left S) (i place now :
 between_none stood left i place now None h = refl
 between_none stood left i place now (Some p) h = absurd h
 
-pub took_there : {S : Type 0} (stood : Stood S) (left : Left S) (i : ℕ) (r : Resident S) (o : Option Played) → IsPlayedIf stood left i (Some r) o → r.turns ≡ turns_in o
-took_there stood left i r None h = absurd h
-took_there stood left i r (Some p) h = h.turns
-
-pub took_none : {S : Type 0} (stood : Stood S) (left : Left S) (i : ℕ) (o : Option Played) → IsPlayedIf {S = S} stood left i None o → 0 ≡ turns_in o
-took_none stood left i None h = refl
-took_none stood left i (Some p) h = absurd h
-
 pub applied_there : {P S : Type 0} (stood : Stood S) (left : Left S) (f : Frame) (s : Parts P S) (w : World) (home i : ℕ) (node : Node P S) → IsWorld stood left f s w → home ≡ home_of f w i → Some node ≡ slice_get s.nodes.items home
     → node.member.applied ≡ (w.nodes (home_of f w i)).member.applied
 applied_there stood left f s w home i node is at_home at = sym (is.nodes home node (sym at)).member.applied ∙ ap (λ (m : ℕ). (w.nodes m).member.applied) at_home

@@ -9,12 +9,7 @@ use Rattle.letter_bytes.specs.Letters.{IsOutgoing}
 use Rattle.world_core.specs.Drafting.{AreLetters, HasSpelled}
 use Rattle.letter_bytes.specs.declared.letters.Outgoing.{Outgoing}
 use Rattle.world_core.proofs.Eventing.{one_of}
-
--- one item more of a list
-pub take_next : {A : Type 0} (xs : List A) (k : ℕ) (x : A) → slice_get xs k ≡ Some x → take (suc k) xs ≡ take k xs ++ x ∷ []
-take_next [] k x at = absurd (cc at)
-take_next {A} (y ∷ xs) zero x at = let e : y ≡ x = cc in ap (λ (a : A). a ∷ []) e
-take_next {A} (y ∷ xs) (suc k) x at = ap (λ (l : List A). y ∷ l) (take_next xs k x at)
+use Rattle.world_parts.proofs.Lists.{take_next}
 
 letters_push : (from : ℕ) (letters : List (Letter Message Reply)) (more : List Outgoing) (letter : Letter Message Reply) (one : Outgoing) → AreLetters from letters more → IsOutgoing one from letter.to letter.packet
     → AreLetters from (letters ++ letter ∷ []) (more ++ one ∷ [])

@@ -11,13 +11,14 @@ use Rattle.node_parts.specs.Shown.{Left, Stood}
 use Rattle.node_core.specs.declared.node.Node.{Node}
 use Rattle.node_parts.specs.declared.resident.Resident.{Resident}
 use Rattle.node_parts.specs.declared.resident.Stage.TheVariants.{Computing}
+use Rattle.world_parts.proofs.Lists.{map_set}
 use Rattle.world_parts.proofs.Outs.{none_past}
 use Rattle.world_parts.specs.Seen.{Out}
 use Rattle.world_parts.specs.Standing.{IsWorld, Stands, has_out, out_of, outs_of}
 use Rattle.world_parts.specs.declared.parts.Parts.{Parts}
 use Rattle.world_core.specs.Drafting.{out_in}
 use Rattle.world_core.specs.Stepping.{out_as}
-use Rattle.world_core.proofs.Handing.{got_else, got_map, got_own, has_at, map_count, map_set, out_some}
+use Rattle.world_core.proofs.Handing.{got_else, got_map, got_own, has_at, map_count, out_some}
 
 -- what stands in a list with one changed
 pub put_at : {A : Type 0} (d : A) (xs : List A) (k j : ℕ) (x : A) → k < length xs → get_or (slice_set xs k x) j d ≡ cond (j == k) x (get_or xs j d)

@@ -25,6 +25,7 @@ use Rattle.node_parts.specs.Shown.{Left, Stood}
 use Rattle.node_core.specs.Stands.{StandsAs}
 use Rattle.node_core.specs.declared.node.Node.{Node}
 use Rattle.node_parts.specs.declared.resident.Resident.{Resident}
+use Rattle.world_parts.proofs.Lists.{got_set, set_length}
 use Rattle.world_parts.specs.Recorded.{of_pieces}
 use Rattle.world_parts.specs.Seen.{tasks_out}
 use Rattle.world_parts.specs.Standing.{CanBeRead, IsTask, IsWorld, seen_of, spelled}
@@ -33,7 +34,7 @@ use Rattle.world_core.specs.Closing.{flights_after, lives_after, sent_all, swaps
 use Rattle.world_core.specs.Drafting.{AreNodes, AreOutgoing, IsDraft}
 use Rattle.world_core.specs.declared.draft.Draft.{Draft}
 use Rattle.letter_bytes.specs.declared.letters.Outgoing.{Outgoing}
-use Rattle.world_core.proofs.Adding.{got_set, set_length, with_other, with_own}
+use Rattle.world_core.proofs.Adding.{with_other, with_own}
 use Rattle.world_core.proofs.Doing.{Here}
 use Rattle.world_core.proofs.Eventing.{leads_push}
 use Rattle.world_core.proofs.Leaving.{agreed_by, event_flights, one_or, performed_by, seen_after}

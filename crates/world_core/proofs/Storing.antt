@@ -4,11 +4,11 @@ use Rattle.std.specs.List.{AllByRecursion as Each}
 use Rattle.value_core.specs.declared.message.Message.{Message}
 use Rattle.book_law.specs.declared.placing.Placed.{Placed}
 use Rattle.node_core.specs.declared.node.Node.{Node}
+use Rattle.world_parts.proofs.Lists.{set_length}
 use Rattle.world_parts.specs.Recorded.{Recorded, of_piece, of_pieces}
 use Rattle.world_parts.specs.declared.ledger.Piece.{Piece}
 use Rattle.world_core.specs.Drafting.{taken}
 use Rattle.world_core.specs.declared.draft.Part.{Part}
-use Rattle.world_core.proofs.Adding.{set_length}
 
 -- ---- entries
 

@@ -1,5 +1,4 @@
 pub mod Stepping
-pub mod Telling
 pub mod Drafting
 pub mod Closing
 pub mod Growing

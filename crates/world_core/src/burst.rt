@@ -17,7 +17,7 @@ ghost use Rattle.world_parts.specs.Seen.{tasks_out};
 ghost use Rattle.world_parts.specs.Standing.{Is, Stands, seen_of};
 
 use crate::draft::{Draft, reads_of};
-use crate::events::{budget, member_of, turns_of};
+use crate::events::budget;
 use crate::step::is_going;
 use node_core::{CheckedIn, Done, Node, Stray, Task};
 use node_parts::OneRun;
@@ -98,7 +98,7 @@ pub(crate) fn check_out<P: OneRun>(
 {
     calls_fit(machine);
     let home = parts.home_of(process) as usize;
-    let turns = turns_of(parts, process);
+    let turns = parts.turns_of(process);
     let tasks = parts.tasks_out() as usize + 1;
     parts.ledger.make_room(tasks, 0, tasks)?;
     let budget = budget(parts, turns);
@@ -123,7 +123,7 @@ pub(crate) fn check_in<P: OneRun>(parts: &mut Parts<P>, done: Done<P>) -> Result
     }
     let process = done.process();
     let home = parts.home_of(process) as usize;
-    let before = turns_of(parts, process);
+    let before = parts.turns_of(process);
     let after = done.turns();
     let burst = parts.nodes[home].check_in(done)?;
     let event = Event::Burst {
@@ -158,7 +158,7 @@ pub(crate) fn compute<P: OneRun>(
     ensures err { OnErr result (seen_of parts.new ≡ seen_of parts.old) }
 {
     let home = parts.home_of(process);
-    let start = turns_of(parts, process);
+    let start = parts.turns_of(process);
     let ran = run_now(parts, alloc, machine, process, home, start)?;
     let tasks = parts.tasks_out() as usize + 1;
     parts.ledger.make_room(tasks, 0, tasks)?;
@@ -188,7 +188,7 @@ fn run_now<P: OneRun>(
     ensures { IfOk result (HasRunNow P.stood P.left P.run.frame process home parts.now) }
 {
     calls_fit(machine);
-    let before = member_of(parts, home);
+    let before = parts.member_of(home);
     let view = before.copies().view(alloc)?;
     let budget = budget(parts, start);
     let ran = run_on(alloc, machine, before, process, view, budget)?;

@@ -7,10 +7,10 @@ ghost use Rattle.value_core.specs.Sound.{IsSoundMessage, IsSoundReply};
 ghost use Rattle.world_parts.specs.Recorded.{of_piece, of_pieces};
 ghost use Rattle.world_core.specs.Drafting.{HasAdded, HasSpelled, behind, lines_behind};
 
-use letter_bytes::{Outgoing, spelled};
 use book_law::Placed;
 use group_member::Letter;
 use history_buffer::Shared;
+use letter_bytes::{Outgoing, spelled};
 use node_core::{CheckedIn, Node};
 use node_parts::{Moved, OneRun};
 use orca_base::{Items, NoMemory};

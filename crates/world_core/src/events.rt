@@ -1,10 +1,9 @@
 //! What each event leaves, where it is possible.
 
-ghost use Rattle.std.specs.Prelude.{◌≡◌, ◌<◌, ◌≤◌, ◌-◌, ◌&&◌, Err, IfOk, OnOk, Some, is_some, length, min, nat_le, slice_get, suc, true};
+ghost use Rattle.std.specs.Prelude.{◌≡◌, ◌<◌, ◌≤◌, ◌-◌, ◌&&◌, Err, IfOk, OnOk, is_some, length, min, nat_le, suc, true};
 ghost use Rattle.net_rules.specs.Flights.{ready_copy};
 ghost use Rattle.orca_base.specs.declared.limits.TheConstants.{BURST_TURNS};
 ghost use Rattle.run_law.specs.Earlier.{view_at};
-ghost use Rattle.world_facts.specs.Ends.{turns_in};
 ghost use Rattle.world_rules.specs.Worlds.{home_of, played_in};
 ghost use Rattle.world_core.specs.Bursting.{is_between, may_burst};
 ghost use Rattle.node_core.specs.Stands.{fitness_of};
@@ -19,10 +18,10 @@ ghost use Rattle.world_parts.specs.Standing.{Is, Stands};
 
 use crate::burst::{run_on, with_burst};
 use crate::draft::Draft;
-use letter_bytes::incoming;
 use crate::step::StepError;
 use group_packets::Packet;
 use history_buffer::Shared;
+use letter_bytes::incoming;
 use node_core::Node;
 use node_parts::{OneRun, Resident};
 use node_rules::walking_law;
@@ -154,7 +153,7 @@ fn applied_for<P: OneRun>(parts: &Parts<P>, process: ProcessNo) -> u64
     ensures { Is P.stood P.left P.run.frame parts.now (λ w. result ≡ (w.nodes (home_of P.run.frame w process.0)).member.applied) }
 {
     let home = parts.home_of(process);
-    let node = member_of(parts, home);
+    let node = parts.member_of(home);
     node.member().applied()
 }
 
@@ -176,26 +175,15 @@ fn computes<P: OneRun>(
     replay_law(machine);
     run_law::run_law(machine);
     let home = parts.home_of(process);
-    let before = member_of(parts, home);
+    let before = parts.member_of(home);
     let view = view_at(parts, alloc, machine, home, place)?;
-    let start = turns_of(parts, process);
+    let start = parts.turns_of(process);
     let budget = budget(parts, start);
     let ran = run_on(alloc, machine, before, process, view, budget)?;
     if ran.turns - start == u64::from(turns) {
         Ok(with_burst(alloc, home, ran)?)
     } else {
         Err(StepError::NotEnabled)
-    }
-}
-
-/// The turns that the process took in all.
-pub(crate) fn turns_of<P: OneRun>(parts: &Parts<P>, process: ProcessNo) -> u64
-    requires { Stands P.stood P.left P.run.frame parts.now }
-    ensures { Is P.stood P.left P.run.frame parts.now (λ w. result ≡ turns_in (played_in P.run.frame w process.0)) }
-{
-    match parts.resident(process) {
-        Some(resident) => resident.turns(),
-        None => 0,
     }
 }
 
@@ -221,7 +209,7 @@ fn view_at<P: OneRun>(
     ensures { IfOk result (λ view. Is P.stood P.left P.run.frame parts.now (λ w. view ≡ view_at P.run.frame (w.nodes member) place)) }
 {
     run_law::run_law(machine);
-    let node = member_of(parts, member);
+    let node = parts.member_of(member);
     if place == node.copies().applied() {
         node.copies().view(alloc)
     } else {
@@ -247,7 +235,7 @@ fn carries_out<P: OneRun>(
     if parts.may_act(process) {
         let mut draft = Draft::nothing(alloc);
         let home = parts.home_of(process);
-        let before = member_of(parts, home);
+        let before = parts.member_of(home);
         acts_at(parts, alloc, machine, before, process, &mut draft)?;
         Ok(draft)
     } else {
@@ -298,7 +286,7 @@ fn arrives<P: OneRun>(
     }
     match incoming(alloc, flight.packet.as_slice())? {
         Some(one) => {
-            let before = member_of(parts, flight.to);
+            let before = parts.member_of(flight.to);
             comes_to(parts, alloc, machine, before, flight.from, one, &mut draft)?;
             Ok(draft)
         },
@@ -354,7 +342,7 @@ fn tick<P: OneRun>(
     parts_fit_apart(machine);
     walking_law();
     if parts.lives(member) {
-        let before = member_of(parts, member);
+        let before = parts.member_of(member);
         ticks_at(parts, alloc, machine, before, draft)?;
     }
     Ok(())
@@ -376,7 +364,7 @@ fn suspects<P: OneRun>(
     walking_law();
     if parts.lives(member) {
         let mut draft = Draft::nothing(alloc);
-        let before = member_of(parts, member);
+        let before = parts.member_of(member);
         suspects_at(parts, alloc, machine, before, &mut draft)?;
         Ok(draft)
     } else {
@@ -459,18 +447,6 @@ fn suspects_at<P: OneRun>(
     let listed = listed(parts);
     draft.add_part(alloc, listed, before, after, moved)?;
     Ok(())
-}
-
-/// The member of this number.
-pub(crate) fn member_of<P: OneRun>(parts: &Parts<P>, member: u8) -> &Node<P>
-    requires stands { Stands P.stood P.left P.run.frame parts.now }
-    requires within { member < P.run.frame.settings.nodes }
-    ensures { Some result.now ≡ slice_get parts.now.nodes.items member }
-{
-    match parts.node(member) {
-        Some(node) => node,
-        None => unreachable!(),
-    }
 }
 
 // How many entries the list of the run has.

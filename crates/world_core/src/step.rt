@@ -14,8 +14,8 @@ ghost use Rattle.std.specs.List.{AllByRecursion as Each};
 
 use crate::draft::{Draft, Part};
 use crate::events::happens;
-use letter_bytes::Outgoing;
 use history_buffer::Shared;
+use letter_bytes::Outgoing;
 use lossy_net::Net;
 use net_rules::Fate;
 use node_core::Node;

@@ -14,14 +14,14 @@ ghost use Rattle.world_book.specs.Promise.{AllStuck, IsKept};
 ghost use Rattle.world_parts.specs.Choosing.{due_act, is_ready, longest_log, spent_process};
 ghost use Rattle.world_parts.specs.Seen.{Of, tasks_out};
 ghost use Rattle.world_core.specs.Stepping.{AreOut, ChecksIn, HandsOutOf, HasComputed, IsAstray, IsRefused, KeepsOut, OutBefore, Stepped};
-ghost use Rattle.world_core.specs.Telling.{AreNodeEnds, AreProcessEnds, EndsMean};
+ghost use Rattle.run_ends.specs.Telling.{AreNodeEnds, AreProcessEnds, EndsMean};
 
-use crate::ends::{NodeEnd, ProcessEnd, RunEnd};
 use crate::step::StepError;
-use crate::{book, burst, step};
+use crate::{burst, step};
 use node_core::{Done, Node, Stray, Task};
 use node_parts::OneRun;
 use orca_base::{NoMemory, ProcessNo};
+use run_ends::{NodeEnd, ProcessEnd, RunEnd};
 use std::alloc::Global;
 use std::marker::Model;
 use value_core::Line;
@@ -288,7 +288,7 @@ impl<P: OneRun> World<P> {
         ensures legal { IfOk result (λ lines. Legal P.run.frame.performs P.run.frame.computes lines.items) }
         ensures kept { Of P.run.frame self.now (IsKept P.run.frame) }
     {
-        book::book(&self.parts, alloc)
+        run_ends::book(&self.parts, alloc)
     }
 
     /// The members as they stand, by their numbers.
@@ -296,7 +296,7 @@ impl<P: OneRun> World<P> {
         ensures ends { Of P.run.frame self.now (λ w. IfOk result (λ ends. AreNodeEnds P.run.frame w ends.items)) }
         ensures kept { Of P.run.frame self.now (IsKept P.run.frame) }
     {
-        book::node_ends(&self.parts, alloc)
+        run_ends::node_ends(&self.parts, alloc)
     }
 
     /// The processes as they stand, by their numbers. Each that its member began stands at what it does next after its replies (`mean`).
@@ -305,7 +305,7 @@ impl<P: OneRun> World<P> {
         ensures mean { Of P.run.frame self.now (EndsMean P.run.frame) }
         ensures kept { Of P.run.frame self.now (IsKept P.run.frame) }
     {
-        book::process_ends(&self.parts, alloc)
+        run_ends::process_ends(&self.parts, alloc)
     }
 
     /// All that is kept of the run, as `book`, `node_ends` and `process_ends` tell it: nothing of its history is copied but replies. Where
@@ -323,6 +323,6 @@ impl<P: OneRun> World<P> {
         ensures kept { Of P.run.frame self (IsKept P.run.frame) }
     {
         let World { parts } = self;
-        book::into_end(parts, alloc)
+        run_ends::into_end(parts, alloc)
     }
 }

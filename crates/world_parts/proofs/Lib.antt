@@ -10,3 +10,5 @@ pub mod Opening
 pub mod Outs
 pub mod Ruling
 pub mod Quiet
+pub mod Lists
+pub mod Turns

@@ -1,11 +1,12 @@
 //! What may come next, and who is where. None of these takes memory, and none goes over what was sent, done or performed before.
 
-ghost use Rattle.std.specs.Prelude.{◌≡◌, ◌≤◌, ◌<◌, ◌&&◌, ℕ, false, if◌then◌else◌, not, option_map, slice_get};
+ghost use Rattle.std.specs.Prelude.{◌≡◌, ◌≤◌, ◌<◌, ◌&&◌, ℕ, Some, false, if◌then◌else◌, not, option_map, slice_get};
 ghost use Rattle.std.specs.Option.{option_copied};
 ghost use Rattle.net_rules.specs.Flights.{first_ready};
 ghost use Rattle.node_core.specs.Pieces.{resident_at};
 ghost use Rattle.node_parts.specs.Shown.{IsPlayedIf, on_stage};
 ghost use Rattle.object_manager.specs.Limits.{most_processes};
+ghost use Rattle.world_facts.specs.Ends.{turns_in};
 ghost use Rattle.world_rules.specs.Played as played;
 ghost use Rattle.world_rules.specs.Standings as rules;
 ghost use Rattle.world_rules.specs.Standings.{lives_at_home, process_count};
@@ -35,6 +36,29 @@ impl<P: OneRun> Parts<P> {
         ensures { Is P.stood P.left P.run.frame self.now (λ w. result ≡ home_of P.run.frame w process.0) }
     {
         self.nodes[self.leader()].home_of(process.0)
+    }
+
+    /// The member of this number.
+    pub fn member_of(&self, member: u8) -> &Node<P>
+        requires stands { Stands P.stood P.left P.run.frame self.now }
+        requires within { member < P.run.frame.settings.nodes }
+        ensures { Some result.now ≡ slice_get self.now.nodes.items member }
+    {
+        match self.node(member) {
+            Some(node) => node,
+            None => unreachable!(),
+        }
+    }
+
+    /// The turns that a process took in all: none before its member begins it.
+    pub fn turns_of(&self, process: ProcessNo) -> u64
+        requires { Stands P.stood P.left P.run.frame self.now }
+        ensures { Is P.stood P.left P.run.frame self.now (λ w. result ≡ turns_in (played_in P.run.frame w process.0)) }
+    {
+        match self.resident(process) {
+            Some(resident) => resident.turns(),
+            None => 0,
+        }
     }
 
     /// Whether the member of a process lives.

@@ -1,5 +1,5 @@
 use Rattle.std.proofs.Common.{◌∙◌, sym}
-use Rattle.world_core.specs.declared.ends.ProcessEnd.{ProcessEnd}
+use Rattle.run_ends.specs.declared.ends.ProcessEnd.{ProcessEnd}
 use Rattle.orca_cli.specs.Standings.{fault_of}
 use Rattle.orca_cli.proofs.ReportLemmas.{first_found, first_none, first_passed}
 use Rattle.orca_cli.proofs.report.first_faulted.Goals as goal

@@ -1,6 +1,6 @@
 use Rattle.std.proofs.Common.{◌∙◌, ap, sym}
 use Rattle.std.specs.Prelude.{option_map}
-use Rattle.world_core.specs.declared.ends.ProcessEnd.{ProcessEnd}
+use Rattle.run_ends.specs.declared.ends.ProcessEnd.{ProcessEnd}
 use Rattle.orca_cli.specs.Standings.{awaited_of}
 use Rattle.orca_cli.proofs.ReportLemmas.{first_found, first_none, first_passed}
 use Rattle.orca_cli.proofs.report.first_waiting.Goals as goal

@@ -1,5 +1,5 @@
 use Rattle.std.proofs.Common.{◌≡◌, drop}
-use Rattle.world_core.specs.declared.ends.ProcessEnd.{ProcessEnd}
+use Rattle.run_ends.specs.declared.ends.ProcessEnd.{ProcessEnd}
 use Rattle.orca_cli.specs.Said.{first_of, first_waiting}
 use Rattle.orca_cli.specs.Standings.{awaited_of}
 use Rattle.orca_cli.proofs.report.first_waiting.Given as goal

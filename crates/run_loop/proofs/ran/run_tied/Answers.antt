@@ -2,7 +2,7 @@ use Rattle.std.proofs.Common.{◌∙◌, IfSome, List, Option, map, subst, sym}
 use Rattle.std.specs.Result.{result_ok}
 use Rattle.std.proofs.lemmas.List.{length-map}
 use Rattle.net_rules.specs.declared.asked.Asked.{Asked}
-use Rattle.world_core.specs.declared.ends.RunEnd.{RunEnd}
+use Rattle.run_ends.specs.declared.ends.RunEnd.{RunEnd}
 use Rattle.run_loop.specs.Asked.{WereAskedIn}
 use Rattle.run_loop.specs.Left.{HasRun}
 use Rattle.run_loop.proofs.Ending.{asked_in, asked_nothing, gone, opens_as, ran}

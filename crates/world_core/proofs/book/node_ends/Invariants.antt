@@ -1,5 +1,0 @@
-use Rattle.world_core.proofs.Books.{Ended}
-use Rattle.world_core.proofs.book.node_ends.Given as goal
-
-abbrev pub invariant-members : goal.invariant-members
-invariant-members g l = Ended g.P.OneRun.stood g.P.OneRun.left g.P.OneRun.run.frame l.parts l.member l.ends.items
