@@ -1,2 +1,1 @@
 pub mod OneCell
-pub mod Words

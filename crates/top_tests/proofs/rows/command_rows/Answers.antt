@@ -2,7 +2,7 @@ use Rattle.std.proofs.Common.{refl}
 use Rattle.clap.proofs.OnLiterals.{clap_on_literals}
 use Rattle.command_line.specs.Command.{Command, found_in}
 use Rattle.command_line.specs.Rules.{app}
-use Rattle.acceptance.proofs.rows.command_rows.Goals as goal
+use Rattle.top_tests.proofs.rows.command_rows.Goals as goal
 
 pub returns-clause-check : goal.returns-clause-check
 unfolding Command found_in app clap_on_literals

@@ -3,9 +3,9 @@ use Rattle.std.specs.Str.Iter.{HasSubslice}
 use Rattle.command_line.specs.Help.{help_of}
 use Rattle.command_line.specs.declared.request.CommandName.{CommandName}
 use Rattle.command_line.specs.declared.request.CommandName.TheVariants.{Check, Run, Code, Choice, Replay, Make, Join}
-use Rattle.acceptance.specs.Words.{help_line, usage}
-use Rattle.acceptance.proofs.Places.{stands}
-use Rattle.acceptance.proofs.rows.help_rows.Goals as goal
+use Rattle.top_tests.specs.Words.{help_line, usage}
+use Rattle.top_tests.proofs.Places.{stands}
+use Rattle.top_tests.proofs.rows.help_rows.Goals as goal
 
 has_line : (name : CommandName) → HasSubslice (help_of None) (help_line name)
 unfolding help_of
