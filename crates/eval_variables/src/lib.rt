@@ -32,7 +32,7 @@ pub use calls::{exchange_frame, hand_back};
 pub use elements::is_in;
 pub use frame::Frame;
 pub use loops::{add_name, drop_name, rounds};
-pub use operators::{applied, decides, integer_in, negated, related, truth_in};
+pub use operators::{applied, decides, integer_in, related, truth_in};
 pub use parts::part;
 pub use run::Run;
 pub use sizes::{fitting, fitting_all, fitting_passed};

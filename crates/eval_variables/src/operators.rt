@@ -4,7 +4,6 @@ ghost use Rattle.std.specs.Prelude.{◌≡◌, MatchOption, Ok, false};
 ghost use Rattle.value_core.specs.Datum as datum;
 ghost use Rattle.value_core.specs.History.{string_in};
 ghost use Rattle.value_core.specs.View.{datum_of};
-ghost use Rattle.value_ops.specs.Integers.{negative_of};
 ghost use Rattle.value_ops.specs.Texts.{joined};
 ghost use Rattle.meaning_rules.specs.Operators as rules;
 ghost use Rattle.meaning_rules.specs.States.{State, gives};
@@ -17,7 +16,7 @@ use orca_base::{FaultKind, TEXT_LENGTH, Text};
 use orca_tree::Operator;
 use std::alloc::Global;
 use value_core::{TextValue, Value};
-use value_ops::{add, divide, multiply, negate, remainder, subtract};
+use value_ops::{add, divide, multiply, remainder, subtract};
 
 /// The integer that a value is, and 0 of any other value.
 pub fn integer_in(value: &Value) -> i64
@@ -133,12 +132,4 @@ pub fn applied(alloc: Global, operator: Operator, left: &Value, right: Value) ->
         Some(truth) => Ok(Value::Truth(truth)),
         None => combined(alloc, operator, left, right),
     }
-}
-
-/// `-` before an operand.
-pub fn negated(value: &Value) -> Result<Value, Stop>
-    ensures { (s : State) → Gives datum_of result s
-        (gives (rules.of_integer (negative_of (rules.integer_in (datum_of value.now)))) s) }
-{
-    calculated(negate(integer_in(value)))
 }

@@ -16,16 +16,22 @@ use value_core::Message;
 /// A packet that is about to be sent: what a wire is told of it, and its bytes, twice.
 #[derive(Drop)]
 pub struct Outgoing {
+    /// The member that sends it.
     pub from: u8,
+    /// The member to which it goes.
     pub to: u8,
+    /// Which kind of packet it is.
     pub kind: PacketKind,
+    /// How many bytes it has.
     pub length: u32,
+    /// Its bytes.
     pub bytes: Items<u8>,
+    /// The same once more, for the second copy, where the wire sends it twice.
     pub twin: Items<u8>,
 }
 
-/// A member's letter, in bytes. One of 2^32 bytes or more finds no memory.
-pub fn spelled(
+/// A member's letter, in bytes. One of 2^32 - 1 bytes or more finds no memory.
+pub fn write_letter(
     alloc: Global,
     from: u8,
     letter: &Letter<Shared<Message>>,
@@ -50,8 +56,8 @@ pub fn spelled(
     })
 }
 
-/// The packet that these bytes are; none, where they were cut.
-pub fn incoming(alloc: Global, bytes: &[u8]) -> Result<Option<Packet<Shared<Message>>>, NoMemory>
+/// The packet that these bytes are; none, where they are no packet's, as those of a cut one are (`spelling_law` of `packet_bytes`).
+pub fn read_letter(alloc: Global, bytes: &[u8]) -> Result<Option<Packet<Shared<Message>>>, NoMemory>
     requires { length bytes.now < 2 ^ 32 }
     ensures { IfOk result (λ packet. IsIncoming bytes.now packet) }
 {

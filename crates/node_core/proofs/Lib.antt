@@ -24,3 +24,4 @@ pub mod CarryingOut
 pub mod Running
 pub mod TakingIn
 pub mod Keeping
+pub mod Putting

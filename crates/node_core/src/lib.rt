@@ -17,6 +17,7 @@ mod earlier;
 mod node;
 mod owning;
 mod parts;
+mod places;
 mod task;
 mod work;
 

@@ -16,9 +16,10 @@ ghost use Rattle.node_parts.specs.Shown.{IsPlayedIf};
 ghost use Rattle.node_core.specs.Stands.{StandsAlike, StandsAs, on_known};
 ghost use Rattle.node_parts.specs.declared.resident.Resident.{Resident};
 
+use crate::places::put_at;
 use group_member::{Config, Member};
 use history_buffer::Shared;
-use node_parts::{Errand, Given, Kept, OneRun, Resident, Stage, put_at};
+use node_parts::{Errand, Given, Kept, OneRun, Resident, Stage};
 use object_manager::Copies;
 use orca_base::{Choice, Items, NoMemory, ObjectId, ProcessNo, TextNo};
 use std::alloc::Global;

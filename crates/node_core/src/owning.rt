@@ -10,10 +10,11 @@ ghost use Rattle.node_core.specs.Pieces.{Becomes, BecomesIn, MayBeHanded, reside
 ghost use Rattle.node_parts.specs.Shown.{on_errand};
 ghost use Rattle.node_core.specs.Stands.{fitness_of};
 
+use crate::places::put_at;
 use crate::work::Work;
 use group_packets::Packet;
 use history_buffer::Shared;
-use node_parts::{Errand, Given, OneRun, Stage, put_at};
+use node_parts::{Errand, Given, OneRun, Stage};
 use orca_base::{CallNo, NoMemory, ObjectId, ProcessNo};
 use std::alloc::Global;
 use std::mem;

@@ -1,6 +1,6 @@
 //! One member's part of each event.
 
-ghost use Rattle.std.specs.Prelude.{◌≡◌, ◌<◌, ◌^◌, IfOk, List, Ok, OnErr, OnOk, Some};
+ghost use Rattle.std.specs.Prelude.{◌≡◌, ◌<◌, ◌^◌, IfOk, IsErr, List, Ok, OnErr, OnOk, Some};
 ghost use Rattle.group_rules.specs.Steps.{timer};
 ghost use Rattle.group_member.specs.AtWork.{Does as MemberDoes};
 ghost use Rattle.group_member.specs.StandsFor.{IsMember};
@@ -17,12 +17,13 @@ ghost use Rattle.node_core.specs.Pieces.{resident_at};
 ghost use Rattle.node_core.specs.Stands.{Does, MayDo, MayTakePacket, TakesPacket, fitness_of};
 
 use crate::node::Node;
+use crate::places::take_place;
 use crate::work::{Work, message_for};
 use group_member::{Member, Sends, Timed};
 use group_packets::Packet;
 use group_reset::{announced, coordinate, invited, joined};
 use history_buffer::Shared;
-use node_parts::{Errand, Moved, OneRun, Stage, take_place};
+use node_parts::{Errand, Moved, OneRun, Stage};
 use orca_base::{NoMemory, ObjectId, ProcessNo};
 use std::alloc::Global;
 use value_core::{Action, Class, Message};
@@ -98,6 +99,7 @@ impl<P: OneRun> Node<P> {
     fn take_over(&mut self, work: Work<P>, done: Result<(), NoMemory>) -> Result<Moved, NoMemory>
         ensures ok { IfOk result (λ moved. (done ≡ Ok tt) × (self.new ≡ work.node) × (moved ≡ work.moved)) }
         ensures err { OnErr result (self.new ≡ self.old) }
+        ensures failed { OnErr result (IsErr done) }
     {
         take_place(self, work.node, work.moved, done)
     }

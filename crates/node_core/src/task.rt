@@ -11,7 +11,8 @@ ghost use Rattle.node_core.specs.Stands.{StandsAlike, fitness_of};
 ghost use Rattle.node_core.specs.Tasks.{HasRun, IsCame, IsOf, MayAnswer, MayRun, answer_of};
 
 use crate::node::Node;
-use node_parts::{Kept, OneRun, Resident, Stage, set_at};
+use crate::places::set_at;
+use node_parts::{Kept, OneRun, Resident, Stage};
 use object_manager::View;
 use orca_base::{CallNo, NoMemory, ProcessNo};
 use std::alloc::Global;

@@ -84,45 +84,6 @@ fn copy_line(
     Ok(())
 }
 
-// What was performed, piece by piece.
-fn taken(alloc: Global, pieces: Vec<Piece>) -> Result<Vec<Placed>, NoMemory>
-    ensures { IfOk result (λ performed. performed.items ≡ of_pieces pieces.items) }
-{
-    let mut performed = Vec::new(alloc);
-    'pieces: for piece in pieces {
-        take_piece(&mut performed, piece)?;
-    }
-    Ok(performed)
-}
-
-// What came together, one by one.
-fn take_piece(performed: &mut Vec<Placed>, piece: Piece) -> Result<(), NoMemory>
-    ensures { OnOk result (performed.new.items ≡ performed.old.items ++ of_piece piece) }
-{
-    match piece {
-        Piece::Lines { place, lines } => take_lines(performed, place, lines.into_vec()),
-        Piece::One { placed } => take_one(performed, placed),
-    }
-}
-
-// Lines, all at one place.
-fn take_lines(performed: &mut Vec<Placed>, place: u64, lines: Vec<Line>) -> Result<(), NoMemory>
-    ensures { OnOk result (performed.new.items ≡ performed.old.items ++ placed place lines.items) }
-{
-    'lines: for line in lines {
-        take_one(performed, Placed { place, line })?;
-    }
-    Ok(())
-}
-
-// One operation.
-fn take_one(performed: &mut Vec<Placed>, one: Placed) -> Result<(), NoMemory>
-    ensures { OnOk result (performed.new.items ≡ performed.old.items ++ one ∷ []) }
-{
-    performed.push(one)?;
-    Ok(())
-}
-
 // The lines by place.
 fn sorted(alloc: Global, performed: Vec<Placed>) -> Result<Vec<Line>, NoMemory>
     ensures { IfOk result (λ lines. (sorted : List Placed) × IsBook performed.items sorted × (lines.items ≡ map (λ (r : Placed). r.line) sorted)) }
@@ -183,9 +144,21 @@ pub fn process_ends<P: OneRun>(parts: &Parts<P>, alloc: Global) -> Result<Vec<Pr
     ensures { Is P.stood P.left P.run.frame parts.now (λ w. IfOk result (λ ends. AreProcessEnds P.run.frame w ends.items)) }
 {
     let lines = book(parts, alloc)?;
-    let replies = heard(parts, alloc, lines.as_slice())?;
-    let ends = ends_with(parts, alloc, replies)?;
-    Ok(ends)
+    ends_by(parts, alloc, lines.as_slice())
+}
+
+// The processes as they stand, by these lines, which are the book.
+fn ends_by<P: OneRun>(
+    parts: &Parts<P>,
+    alloc: Global,
+    lines: &[Line],
+) -> Result<Vec<ProcessEnd>, NoMemory>
+    requires stands { Stands P.stood P.left P.run.frame parts.now }
+    requires book { Is P.stood P.left P.run.frame parts.now (λ w. lines.now ≡ Book P.run.frame w) }
+    ensures { Is P.stood P.left P.run.frame parts.now (λ w. IfOk result (λ ends. AreProcessEnds P.run.frame w ends.items)) }
+{
+    let replies = heard(parts, alloc, lines)?;
+    ends_with(parts, alloc, replies)
 }
 
 // The replies that the processes received, off these lines, which are the book.
@@ -387,7 +360,7 @@ fn over(alloc: Global, action: &Action) -> Result<ProcessStanding, NoMemory>
 
 // ---- all of it
 
-/// All that is kept of the run. Where there is no memory, it is gone.
+/// All that is kept of the run. The history is copied once. Where there is no memory, it is gone.
 pub fn into_end<P: OneRun>(parts: Parts<P>, alloc: Global) -> Result<RunEnd, NoMemory>
     requires { Stands P.stood P.left P.run.frame parts }
     ensures steps { IfOk result (λ end. end.steps.items ≡ parts.ledger.steps) }
@@ -397,13 +370,12 @@ pub fn into_end<P: OneRun>(parts: Parts<P>, alloc: Global) -> Result<RunEnd, NoM
     ensures processes { Is P.stood P.left P.run.frame parts (λ w. IfOk result (λ end. AreProcessEnds P.run.frame w end.processes.items)) }
 {
     let nodes = node_ends(&parts, alloc)?;
-    let processes = process_ends(&parts, alloc)?;
+    let lines = book(&parts, alloc)?;
+    let processes = ends_by(&parts, alloc, lines.as_slice())?;
     let longest = parts.longest_log();
-    let (steps, pieces) = parts.ledger.into_parts();
-    let performed = taken(alloc, pieces)?;
-    let book = sorted(alloc, performed)?;
+    let (steps, _) = parts.ledger.into_parts();
     Ok(RunEnd {
-        book,
+        book: lines,
         steps,
         longest,
         nodes,

@@ -10,7 +10,7 @@ ghost use Rattle.world_core.specs.Drafting.{HasAdded, HasSpelled, behind, lines_
 use book_law::Placed;
 use group_member::Letter;
 use history_buffer::Shared;
-use letter_bytes::{Outgoing, spelled};
+use letter_bytes::{Outgoing, write_letter};
 use node_core::{CheckedIn, Node};
 use node_parts::{Moved, OneRun};
 use orca_base::{Items, NoMemory};
@@ -139,7 +139,7 @@ fn spell_all(
     ensures { OnOk result (HasSpelled from letters.now outgoing.old.items outgoing.new.items) }
 {
     'letters: for letter in letters {
-        let one = spelled(alloc, from, letter)?;
+        let one = write_letter(alloc, from, letter)?;
         outgoing.push(one)?;
     }
     Ok(())

@@ -21,7 +21,7 @@ use crate::draft::Draft;
 use crate::step::StepError;
 use group_packets::Packet;
 use history_buffer::Shared;
-use letter_bytes::incoming;
+use letter_bytes::read_letter;
 use node_core::Node;
 use node_parts::{OneRun, Resident};
 use node_rules::walking_law;
@@ -284,7 +284,7 @@ fn arrives<P: OneRun>(
     if !parts.lives(flight.to) {
         return Ok(draft);
     }
-    match incoming(alloc, flight.packet.as_slice())? {
+    match read_letter(alloc, flight.packet.as_slice())? {
         Some(one) => {
             let before = parts.member_of(flight.to);
             comes_to(parts, alloc, machine, before, flight.from, one, &mut draft)?;

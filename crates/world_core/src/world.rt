@@ -308,8 +308,8 @@ impl<P: OneRun> World<P> {
         run_ends::process_ends(&self.parts, alloc)
     }
 
-    /// All that is kept of the run, as `book`, `node_ends` and `process_ends` tell it: nothing of its history is copied but replies. Where
-    /// there is no memory, it is gone.
+    /// All that is kept of the run, as `book`, `node_ends` and `process_ends` tell it. Its history is copied once. Where there is no
+    /// memory, it is gone.
     pub fn into_end(self, alloc: Global) -> Result<RunEnd, NoMemory>
         ensures steps { IfOk result (λ end. end.steps.items ≡ self.steps) }
         ensures longest { Of P.run.frame self (λ w. IfOk result (λ end. end.longest ≡ longest_log P.run.frame w)) }

@@ -38,7 +38,7 @@ impl<P: OneRun> Parts<P> {
         self.nodes[self.leader()].home_of(process.0)
     }
 
-    /// The member of this number.
+    /// The member of this number, which is one of the run's.
     pub fn member_of(&self, member: u8) -> &Node<P>
         requires stands { Stands P.stood P.left P.run.frame self.now }
         requires within { member < P.run.frame.settings.nodes }

@@ -1,11 +1,5 @@
-use Rattle.std.proofs.Common.{◌∙◌, List, map, subst}
-use Rattle.value_core.specs.declared.action.Line.{Line}
-use Rattle.run_ends.specs.Telling.{HasHeard}
+use Rattle.std.proofs.Common.{◌∙◌}
 use Rattle.run_ends.proofs.telling.process_ends.Goals as goal
 
-pub ends_with-requires-clause-heard : goal.ends_with-requires-clause-heard
-ends_with-requires-clause-heard g c w is =
-    subst (λ (l : List Line). HasHeard g.P.OneRun.run.frame w l (map (λ v. v.items) c.in_ok-replies.replies.items)) (c.as_slice.ensures.value ∙ (c.in_ok-lines.ensures {u = tt}) w is) ((c.in_ok-replies.ensures {u = tt}) w is)
-
-pub returns : goal.returns
-returns g c w is = (c.in_ok-ends.ensures {u = tt}) w is
+pub ends_by-requires-clause-book : goal.ends_by-requires-clause-book
+ends_by-requires-clause-book g c w is = c.as_slice.ensures.value ∙ (c.in_ok-lines.ensures {u = tt}) w is

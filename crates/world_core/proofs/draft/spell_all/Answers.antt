@@ -11,8 +11,8 @@ use Rattle.world_core.proofs.draft.spell_all.Goals as goal
 pub letters-init : goal.letters-init
 letters-init c = spelled_first c.args.from c.args.outgoing.now.items
 
-pub spelled-requires : goal.spelled-requires
-spelled-requires c =
+pub write_letter-requires : goal.write_letter-requires
+write_letter-requires c =
     letter_sound c.args.letters.now c.letters.letter-index c.letter-item.result c.requires
     (slice_get_read c.args.letters.now (length c.args.letters.now) c.letters.letter-index c.letter-item.result refl c.letters-test.true c.letter-item.is)
 

@@ -13,8 +13,8 @@ returns-then-not-lives g c w is =
     (record { parts = c.nothing-draft.ensures.parts; outgoing = c.nothing-draft.ensures.outgoing; entries = c.nothing-draft.ensures.entries; pieces = ap of_pieces c.nothing-draft.ensures.pieces; stirred = c.nothing-draft.ensures.stirred }) in
     (tt, left.0.possible, left.1)
 
-pub incoming-requires : goal.incoming-requires
-incoming-requires g c =
+pub read_letter-requires : goal.read_letter-requires
+read_letter-requires g c =
     let few = few_bytes g.P.OneRun.stood g.P.OneRun.left g.P.OneRun.run.frame c.args.parts.now c.requires.stands.world c.args.packet c.args.copy c.look-flight.result.now c.requires.stands c.requires.stands.is c.look-flight.ensures c.spelling_law.ensures.told in
     omega (arith, few, ap length c.as_slice.ensures)
 

@@ -1,12 +1,16 @@
 //! Lists with a place for each process, by its number; and what takes another's place.
 
-ghost use Rattle.std.specs.Prelude.{◌≡◌, ◌<◌, ℕ, IfOk, None, Ok, OnErr, OnOk, Some, length, slice_index_or};
+ghost use Rattle.std.specs.Prelude.{◌≡◌, ◌<◌, ℕ, IfOk, IsErr, None, Ok, OnErr, OnOk, Some, length, slice_index_or};
 ghost use Rattle.group_rules.specs.Sets.{with_at};
 
 use orca_base::NoMemory;
 
 /// This value stands at this place, and the others as they were.
-pub fn put_at<T: Drop>(list: &mut Vec<Option<T>>, place: usize, value: T) -> Result<(), NoMemory>
+pub(crate) fn put_at<T: Drop>(
+    list: &mut Vec<Option<T>>,
+    place: usize,
+    value: T,
+) -> Result<(), NoMemory>
     ensures { OnOk result ((i : ℕ) → slice_index_or list.new.items i None
         ≡ with_at (λ j. slice_index_or list.old.items j None) place (Some value) i) }
 {
@@ -16,7 +20,7 @@ pub fn put_at<T: Drop>(list: &mut Vec<Option<T>>, place: usize, value: T) -> Res
 }
 
 /// The same of a place that is there: there are as many places afterwards.
-pub fn set_at<T: Drop>(list: &mut Vec<Option<T>>, place: usize, value: T)
+pub(crate) fn set_at<T: Drop>(list: &mut Vec<Option<T>>, place: usize, value: T)
     requires { place < length list.old.items }
     ensures put { (i : ℕ) → slice_index_or list.new.items i None
         ≡ with_at (λ j. slice_index_or list.old.items j None) place (Some value) i }
@@ -37,7 +41,7 @@ fn reach<T: Drop>(list: &mut Vec<Option<T>>, place: usize) -> Result<(), NoMemor
 }
 
 /// The value takes this place, where all was done, and what goes beside it comes back.
-pub fn take_place<T: Drop, R: Drop>(
+pub(crate) fn take_place<T: Drop, R: Drop>(
     place: &mut T,
     value: T,
     beside: R,
@@ -45,6 +49,7 @@ pub fn take_place<T: Drop, R: Drop>(
 ) -> Result<R, NoMemory>
     ensures ok { IfOk result (λ back. (done ≡ Ok tt) × (place.new ≡ value) × (back ≡ beside)) }
     ensures err { OnErr result (place.new ≡ place.old) }
+    ensures failed { OnErr result (IsErr done) }
 {
     done?;
     *place = value;

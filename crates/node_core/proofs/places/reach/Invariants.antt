@@ -1,5 +1,5 @@
 use Rattle.std.proofs.Common.{◌≡◌, ◌-◌, ◌+◌, ℕ, None, length, slice_index_or}
-use Rattle.node_parts.proofs.places.reach.Given as goal
+use Rattle.node_core.proofs.places.reach.Given as goal
 
 abbrev pub invariant-places : goal.invariant-places
 invariant-places g l = (i : ℕ) → slice_index_or l.list.items i None ≡ slice_index_or l.initial.list.items i None
