@@ -1,8 +1,8 @@
 //! Texts that were worked out by hand: status and what is printed are compared with the lines in front of them.
 //!
 //! The lines were worked out by hand from docs/LANGUAGE.md, without a look at the definitions or at what any program printed. Of syntax:
-//! the first bad token of each production, the end of the text in mid-production, and units that use every alternative, of which linking
-//! says the first mistake (productions.txt). Of typing: breaches of each rule at its plain place, at the edge of its wording and beside
+//! the first bad token of each production, the end of the text in mid-production, nesting up to its limit, and units that use every
+//! alternative, of which linking says the first mistake (productions.txt), and where a refusal is told (refusals_with_places.txt). Of typing: breaches of each rule at its plain place, at the edge of its wording and beside
 //! another rule (rules.txt), programs that come near to each rule and break none (accepted.txt), the rules of linking (linking.txt), what
 //! follows from the rules only by reading them closely (corners.txt; docs/DECISIONS.md says how each was decided), and a second table of
 //! all of them by somebody who didn't see the first (again.txt). Of meaning: a program of each construct (constructs.txt).
@@ -17,8 +17,9 @@ use orca_io::{FileShelf, MemoryShelf, Shelf};
 use std::alloc::{AllocError, Global};
 use std::io;
 
-const TABLES: [&str; 7] = [
+const TABLES: [&str; 8] = [
     "productions.txt",
+    "refusals_with_places.txt",
     "rules.txt",
     "accepted.txt",
     "linking.txt",
