@@ -1,13 +1,13 @@
 //! A program as code.
 
-ghost use Rattle.std.specs.Prelude.{◌≡◌, ℕ, List, IfOk, option_map, slice_get};
+ghost use Rattle.std.specs.Prelude.{◌≡◌, ℕ, List, IfOk, option_and_then, option_map, slice_get};
 ghost use Rattle.link_rules.specs.Units.{Source};
 ghost use Rattle.type_tables.specs.Tables.{AreTables};
 ghost use Rattle.type_exprs.specs.Scoped.{local_as};
 ghost use Rattle.type_decls.specs.Symbols.{AreSymbols};
-ghost use Rattle.meaning_rules.specs.Programs.{object_type};
+ghost use Rattle.meaning_rules.specs.Programs.{object_type, process_texts, specifications, specified};
 ghost use Rattle.eval_tables.specs.Tables.{AreCoded};
-ghost use Rattle.eval_bodies.specs.Blocks.{IsBlockCode, function_at, process_at};
+ghost use Rattle.eval_bodies.specs.Blocks.{IsBlockCode, function_at, process_at, process_of};
 ghost use Rattle.eval_bodies.specs.Codes.{AreFew, IsCode, loop_local, sources};
 ghost use Rattle.eval_bodies.specs.Matching.{Both, or_none};
 ghost use Rattle.eval_bodies.specs.Objects.{IsObjectCode};
@@ -127,6 +127,14 @@ impl<'p> Code<'p> {
         at_number(&self.processes, usize::from(text.0))
     }
 
+    /// The process that is this one of the processes, if there is one.
+    pub fn process_at(&self, place: usize) -> Option<&BlockCode<'p>>
+        ensures { (us : List Source) → IsCode us self.now →
+            Both (λ c r. IsBlockCode c.now r) result (option_and_then (process_of us) (slice_get (process_texts us) place)) }
+    {
+        at_number(&self.processes, place)
+    }
+
     /// The object type with this number, if it has an implementation. The output object's has none.
     pub fn object_type(&self, kind: KindNo) -> Option<&ObjectCode<'p>>
         ensures { (us : List Source) → IsCode us self.now → Both (λ c t. IsObjectCode us c.now t) result (object_type us kind) }
@@ -135,5 +143,13 @@ impl<'p> Code<'p> {
             return None;
         }
         at_number(&self.objects, usize::from(kind.0 - 1))
+    }
+
+    /// The object type that has this one of the specifications, if it has an implementation.
+    pub fn specified_at(&self, place: usize) -> Option<&ObjectCode<'p>>
+        ensures { (us : List Source) → IsCode us self.now →
+            Both (λ c t. IsObjectCode us c.now t) result (option_and_then (specified us) (slice_get (specifications us) place)) }
+    {
+        at_number(&self.objects, place)
     }
 }

@@ -5,3 +5,4 @@ pub mod Answered
 pub mod Examples
 pub mod Flights
 pub mod FlightExamples
+pub mod Passing

@@ -25,4 +25,4 @@ pub use command_output::{
 pub use kept::{Ended, Kept};
 pub use laws::endings_law;
 pub use run_loop::{NodeEnd, ProcessEnd, ProcessStanding, Step};
-pub use top::orca_main;
+pub use top::{orca_main, orca_main_over};

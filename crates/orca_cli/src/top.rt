@@ -337,8 +337,8 @@ fn run_files<F: Shelf, K: Sink, W: Wire>(
     run_program(alloc, &machine, options, &script, out, wires)
 }
 
-// Does what the words ask for, over wires of any kind.
-fn does<F: Shelf, K: Sink, W: Wire>(
+/// What `orca_main` does, over wires of one kind, of which its owner may know how they answer.
+pub fn orca_main_over<F: Shelf, K: Sink, W: Wire>(
     alloc: Global,
     words: &[String],
     shelf: &mut F,
@@ -428,5 +428,5 @@ pub fn orca_main<F: Shelf, K: Sink>(
     ensures read { F.faults shelf.old ≤ F.faults shelf.new }
     ensures written { K.faults out.old ≤ K.faults out.new }
 {
-    does(alloc, words, shelf, out, wires)
+    orca_main_over(alloc, words, shelf, out, wires)
 }

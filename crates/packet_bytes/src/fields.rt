@@ -28,8 +28,9 @@ pub(crate) fn choice_of(end: u32, bytes: &[u8]) -> Read<'_, u8>
     }
 }
 
+/// An object's name: for readers of longer forms.
 #[tactic(auto, unfolding(crate::specs::Reading::object_at))]
-pub(crate) fn object_of(end: u32, bytes: &[u8]) -> Read<'_, ObjectId>
+pub fn object_of(end: u32, bytes: &[u8]) -> Read<'_, ObjectId>
     ensures { Gives (λ x. (x.0, x.1.now)) result (object_at end bytes.now) }
 {
     let (process, rest) = u16_at(end, bytes)?;

@@ -15,6 +15,10 @@ mod reading;
 mod writing;
 
 pub use fault::PacketError;
+pub use fields::object_of;
 pub use laws::{reading_law, spelling_law};
+pub use messages::{message_of, messages_of};
 pub use reading::{read_message, read_packet};
-pub use writing::{write_message, write_packet};
+pub use writing::{
+    put_eight, put_message, put_messages, put_object, put_two, write_message, write_packet,
+};

@@ -91,8 +91,9 @@ fn fork_of(
     ))
 }
 
+/// A message from the front of these bytes, where `end` bytes were given in all: for readers of longer forms.
 #[tactic(auto, unfolding(crate::specs::Reading::message_at))]
-pub(crate) fn message_of(alloc: Global, end: u32, bytes: &[u8]) -> Read<'_, Message>
+pub fn message_of(alloc: Global, end: u32, bytes: &[u8]) -> Read<'_, Message>
     ensures { Gives (λ x. (x.0, x.1.now)) result (message_at end bytes.now) }
 {
     let (process, rest) = u16_at(end, bytes)?;
@@ -120,8 +121,9 @@ fn some_of(alloc: Global, end: u32, count: u32, bytes: &[u8]) -> Read<'_, Vec<Me
     Ok((messages, rest))
 }
 
+/// The number of messages, and the messages: for readers of longer forms.
 #[tactic(auto, unfolding(crate::specs::Reading::messages_at))]
-pub(crate) fn messages_of(alloc: Global, end: u32, bytes: &[u8]) -> Read<'_, Items<Message>>
+pub fn messages_of(alloc: Global, end: u32, bytes: &[u8]) -> Read<'_, Items<Message>>
     ensures { Gives (λ x. (x.0, x.1.now)) result (messages_at end bytes.now) }
 {
     let (count, rest) = u32_at(end, bytes)?;

@@ -15,9 +15,9 @@ use std::alloc::Global;
 use value_bytes::push_value;
 use value_core::{Action, Message, Parts, Reply};
 
-// Adds 2 bytes.
+/// Adds 2 bytes: for writers of longer forms.
 #[tactic(auto, unfolding(crate::specs::Spelling::two))]
-fn put_two(out: &mut Vec<u8>, number: u16) -> Result<(), NoMemory>
+pub fn put_two(out: &mut Vec<u8>, number: u16) -> Result<(), NoMemory>
     ensures spelled { OnOk result (out.new.items ≡ out.old.items ++ two number) }
     ensures fits { Fits2 number }
 {
@@ -25,9 +25,9 @@ fn put_two(out: &mut Vec<u8>, number: u16) -> Result<(), NoMemory>
     Ok(())
 }
 
-// Adds 8 bytes.
+/// Adds 8 bytes: for writers of longer forms.
 #[tactic(auto, unfolding(crate::specs::Spelling::eight))]
-fn put_eight(out: &mut Vec<u8>, number: u64) -> Result<(), NoMemory>
+pub fn put_eight(out: &mut Vec<u8>, number: u64) -> Result<(), NoMemory>
     ensures spelled { OnOk result (out.new.items ≡ out.old.items ++ eight number) }
     ensures fits { Fits8 number }
 {
@@ -35,9 +35,9 @@ fn put_eight(out: &mut Vec<u8>, number: u64) -> Result<(), NoMemory>
     Ok(())
 }
 
-// Adds an object's name.
+/// Adds an object's name: for writers of longer forms.
 #[tactic(auto, unfolding(crate::specs::Spelling::four, crate::specs::Spelling::object_spelling))]
-fn put_object(out: &mut Vec<u8>, object: ObjectId) -> Result<(), NoMemory>
+pub fn put_object(out: &mut Vec<u8>, object: ObjectId) -> Result<(), NoMemory>
     ensures spelled { OnOk result (out.new.items ≡ out.old.items ++ object_spelling object) }
     ensures fits { OnOk result (ObjectFits object) }
 {
@@ -112,9 +112,9 @@ fn put_action(out: &mut Vec<u8>, action: &Action) -> Result<(), NoMemory>
     }
 }
 
-// Adds a message.
+/// Adds a message: for writers of longer forms.
 #[tactic(auto, unfolding(crate::specs::Spelling::message_spelling))]
-fn put_message(out: &mut Vec<u8>, message: &Message) -> Result<(), NoMemory>
+pub fn put_message(out: &mut Vec<u8>, message: &Message) -> Result<(), NoMemory>
     requires { IsSoundMessage message.now }
     ensures spelled { OnOk result (out.new.items ≡ out.old.items ++ message_spelling message.now) }
     ensures is { OnOk result (IsMessage message.now) }
@@ -124,9 +124,9 @@ fn put_message(out: &mut Vec<u8>, message: &Message) -> Result<(), NoMemory>
     put_action(out, &message.action)
 }
 
-// Adds the number of the messages, and the messages.
+/// Adds the number of the messages, and the messages: for writers of longer forms.
 #[tactic(auto, unfolding(crate::specs::Spelling::four, crate::specs::Spelling::messages_spelling))]
-fn put_messages(out: &mut Vec<u8>, messages: &[Message]) -> Result<(), NoMemory>
+pub fn put_messages(out: &mut Vec<u8>, messages: &[Message]) -> Result<(), NoMemory>
     requires { AreSoundEntries IsSoundMessage messages.now }
     ensures spelled { OnOk result (out.new.items ≡ out.old.items ++ messages_spelling messages.now) }
     ensures are { OnOk result (AreSoundEntries IsMessage messages.now) }

@@ -221,11 +221,7 @@ fn no_types(alloc: Global, count: usize) -> Result<Vec<Option<Measured>>, NoMemo
 fn none_settled(alloc: Global, count: usize) -> Result<Vec<bool>, NoMemory>
     ensures { IfOk result (λ v. v.items ≡ replicate count false) }
 {
-    let mut settled = Vec::new(alloc);
-    'names: for _name in 0..count {
-        settled.push(false)?;
-    }
-    Ok(settled)
+    Ok(vec![in alloc; false; count]?)
 }
 
 // Numbers in an order in which each stands behind its parts, but where they go round. Nothing is proved of that: it saves passes. Each part

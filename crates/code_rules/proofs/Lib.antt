@@ -1,0 +1,10 @@
+pub mod Lists
+pub mod Pieces
+pub mod Facts
+pub mod Knot
+pub mod Means
+pub mod Makes
+pub mod Processes
+pub mod Operations
+pub mod Resuming
+pub mod Sources

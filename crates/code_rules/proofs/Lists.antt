@@ -1,0 +1,47 @@
+-- Lists, and instructions that stand in code at a place.
+use Rattle.std.proofs.Common.{◌≡◌, ℕ, zero, suc, ◌+◌, ◌<◌, List, [], ◌∷◌, ◌++◌, length, Some, None, refl, ap, ◌∙◌, subst, arith, append_assoc, length-append}
+use Rattle.std.specs.Prelude.{slice_get, slice_set, option_map}
+use Rattle.std.proofs.Math.Seq.{get_or-append_seam}
+use Rattle.std.proofs.lemmas.Option.{slice_get-get_or}
+use Rattle.code_rules.specs.Instr.{Instr}
+
+pub get_set : {A : Type 0} (xs : List A) (i : ℕ) (x : A) → slice_get (slice_set xs i x) i ≡ option_map (λ y. x) (slice_get xs i)
+get_set [] i x = refl
+get_set (z ∷ xs) zero x = refl
+get_set (z ∷ xs) (suc i) x = get_set xs i x
+
+pub set_apart : {A : Type 0} (xs : List A) (a b : ℕ) (x : A) → (a ≡ b → slice_get xs b ≡ None) → slice_get (slice_set xs a x) b ≡ slice_get xs b
+set_apart [] a b x h = refl
+set_apart (z ∷ xs) zero zero x h = absurd (cc (h refl))
+set_apart (z ∷ xs) zero (suc b) x h = refl
+set_apart (z ∷ xs) (suc a) zero x h = refl
+set_apart (z ∷ xs) (suc a) (suc b) x h = set_apart xs a b x (λ e. h (ap suc e))
+
+-- the instructions stand in the code at this place
+abbrev pub HasAt : List Instr → ℕ → List Instr → Type 0
+HasAt code pc [] = Unit {0}
+HasAt code pc (i ∷ is) = (slice_get code pc ≡ Some i) × HasAt code (pc + 1) is
+
+pub has_front : (code : List Instr) (pc : ℕ) (a b : List Instr) → HasAt code pc (a ++ b) → HasAt code pc a
+has_front code pc [] b h = tt
+has_front code pc (i ∷ a) b h = (h.0, has_front code (pc + 1) a b h.1)
+
+pub has_back : (code : List Instr) (pc : ℕ) (a b : List Instr) → HasAt code pc (a ++ b) → HasAt code (pc + length a) b
+has_back code pc [] b h = let e : pc ≡ pc + 0 = omega arith in subst (λ n. HasAt code n b) e h
+has_back code pc (i ∷ a) b h =
+    let e : pc + 1 + length a ≡ pc + length (i ∷ a) = omega arith in
+    subst (λ n. HasAt code n b) e (has_back code (pc + 1) a b h.1)
+
+pub has_all : (is pre : List Instr) → HasAt (pre ++ is) (length pre) is
+has_all [] pre = tt
+has_all (i ∷ is) pre =
+    let within : length pre < length (pre ++ i ∷ is) = omega (arith, length-append pre (i ∷ is)) in
+    let here = slice_get-get_or (pre ++ i ∷ is) (length pre) i within ∙ ap Some (get_or-append_seam pre i is i) in
+    let n : length (pre ++ i ∷ []) ≡ length pre + 1 = omega (arith, length-append pre (i ∷ [])) in
+    let rest = has_all is (pre ++ i ∷ []) in
+    let rest' = subst (λ l. HasAt l (length (pre ++ i ∷ [])) is) (append_assoc pre (i ∷ []) is) rest in
+    (here, subst (λ m. HasAt (pre ++ i ∷ is) m is) n rest')
+
+pub append_none : {A : Type 0} (xs : List A) → xs ++ [] ≡ xs
+append_none [] = refl
+append_none (x ∷ xs) = ap (λ l. x ∷ l) (append_none xs)

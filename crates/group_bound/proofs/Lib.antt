@@ -1,0 +1,19 @@
+pub mod Folds
+pub mod Views
+pub mod Followers
+pub mod Leaders
+pub mod Ordering
+pub mod Replies
+pub mod Arrivals
+pub mod Quiet
+pub mod Members
+pub mod Moves
+pub mod Logs
+pub mod Submits
+pub mod Bodies
+pub mod Owing
+pub mod Flows
+pub mod Enough
+pub mod Counting
+pub mod Paying
+mod Alone

@@ -1,0 +1,4 @@
+pub mod Flow
+pub mod Enough
+pub mod Worked
+pub mod Wrong

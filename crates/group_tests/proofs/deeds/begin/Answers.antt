@@ -1,6 +1,0 @@
-use Rattle.group_rules.specs.Reset.{coordinate}
-use Rattle.group_tests.proofs.Testing.{after_row}
-use Rattle.group_tests.proofs.deeds.begin.Goals as goal
-
-pub returns : goal.returns
-returns c = after_row c.args.member.now c.coordinate.new.member _ (coordinate) c.requires c.in_ok-coordinate.ensures.row

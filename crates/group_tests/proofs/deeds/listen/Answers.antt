@@ -1,6 +1,0 @@
-use Rattle.group_rules.specs.Reset.{listens}
-use Rattle.group_tests.proofs.Testing.{after_change}
-use Rattle.group_tests.proofs.deeds.listen.Goals as goal
-
-pub returns : goal.returns
-returns c = after_change c.args.member.now c.listen.new.self (λ g which. listens g c.args.from c.args.incarnation) c.requires c.listen.ensures.row

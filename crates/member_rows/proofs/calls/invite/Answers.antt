@@ -1,0 +1,6 @@
+use Rattle.group_rules.specs.Reset.{invited}
+use Rattle.member_rows.proofs.Testing.{after_call}
+use Rattle.member_rows.proofs.calls.invite.Goals as goal
+
+pub returns : goal.returns
+returns c = after_call c.args.member.now c.invited.new.member (λ sends. sends.items) c.invited.result (λ g which. invited g which c.args.from c.args.incarnation) c.requires c.invited.ensures.row

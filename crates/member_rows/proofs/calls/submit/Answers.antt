@@ -1,0 +1,6 @@
+use Rattle.group_rules.specs.Steps.{submit}
+use Rattle.member_rows.proofs.Testing.{after_call}
+use Rattle.member_rows.proofs.calls.submit.Goals as goal
+
+pub returns : goal.returns
+returns c = after_call c.args.member.now c.submit.new.self (λ sends. sends.items) c.submit.result (λ g which. submit g which c.args.message) c.requires c.submit.ensures.row

@@ -1,0 +1,31 @@
+use Rattle.orca_cli.specs.Endings as because
+use Rattle.orca_cli.specs.Lines as lines
+use Rattle.orca_cli.proofs.CliLemmas.{answer_of, deed_is, deed_none, if_none, within_is}
+use Rattle.orca_cli.proofs.top.orca_main_over.Goals as goal
+
+pub returns-in-Ok-Some-Says-clause-refused : goal.returns-in-Ok-Some-Says-clause-refused
+returns-in-Ok-Some-Says-clause-refused g c =
+    if_none _ _ (answer_of (λ l. l.items) c.whole.result _ _ _ _ _ 0 _ c.in-Ok-Some-Says.text.now c.whole.ensures c.said.ensures.printed c.said.ensures.silent c.said.ensures.status (because.said c.in-Ok-Some-Says.text.now (deed_is _ _ _ _ c.in-Ok-Some-Says.ensures.is c.in-Ok-Some-Says.field-0-is c.in-Ok-Some-Says.field-0-0-is)))
+
+pub returns-in-Ok-None-clause-refused : goal.returns-in-Ok-None-clause-refused
+returns-in-Ok-None-clause-refused g c =
+    if_none _ _ (answer_of (λ l. l.items) c.usage_line.result _ _ _ _ _ 2 _ lines.usage_line c.usage_line.ensures c.said-in-Ok-None.ensures.printed c.said-in-Ok-None.ensures.silent c.said-in-Ok-None.ensures.status (because.usage (deed_none _ _ c.in-Ok-None.ensures.is c.in-Ok-None.field-0-is)))
+
+pub returns-in-Ok-Some-Replays-clause-refused : goal.returns-in-Ok-Some-Replays-clause-refused
+returns-in-Ok-Some-Replays-clause-refused g c =
+    if_none _ _ ((rw c.deref-in-Ok-Some-Replays.ensures.value at c.replay.ensures.said) _ (deed_is _ _ _ _ c.in-Ok-Some-Replays.ensures.is c.in-Ok-Some-Replays.field-0-is c.in-Ok-Some-Replays.field-0-0-is))
+
+pub run_files-requires-clause-options : goal.run_files-requires-clause-options
+run_files-requires-clause-options g c = within_is _ _ _ c.in-Ok-Some-Runs.ensures.within c.in-Ok-Some-Runs.field-0-is c.in-Ok-Some-Runs.field-0-0-is
+
+pub returns-in-Ok-Some-Runs-clause-refused : goal.returns-in-Ok-Some-Runs-clause-refused
+returns-in-Ok-Some-Runs-clause-refused g c =
+    (rw c.deref-in-Ok-Some-Runs.ensures.value at c.run_files.ensures.refused) _ (deed_is _ _ _ _ c.in-Ok-Some-Runs.ensures.is c.in-Ok-Some-Runs.field-0-is c.in-Ok-Some-Runs.field-0-0-is)
+
+pub returns-in-Ok-Some-Runs-clause-untouched : goal.returns-in-Ok-Some-Runs-clause-untouched
+returns-in-Ok-Some-Runs-clause-untouched g c =
+    (rw c.deref-in-Ok-Some-Runs.ensures.value at c.run_files.ensures.untouched) _ (deed_is _ _ _ _ c.in-Ok-Some-Runs.ensures.is c.in-Ok-Some-Runs.field-0-is c.in-Ok-Some-Runs.field-0-0-is)
+
+pub returns-in-Ok-Some-Runs-clause-headline : goal.returns-in-Ok-Some-Runs-clause-headline
+returns-in-Ok-Some-Runs-clause-headline g c =
+    (rw c.deref-in-Ok-Some-Runs.ensures.value at c.run_files.ensures.kept) _ (deed_is _ _ _ _ c.in-Ok-Some-Runs.ensures.is c.in-Ok-Some-Runs.field-0-is c.in-Ok-Some-Runs.field-0-0-is)

@@ -1,0 +1,6 @@
+use Rattle.std.proofs.Common.{inr, refl}
+use Rattle.orca_door.proofs.TwoWires.{none_made}
+use Rattle.orca_door.proofs.serving.serve.Goals as goal
+
+pub returns-in-Err-clause-served : goal.returns-in-Err-clause-served
+returns-in-Err-clause-served g c = none_made _ _ _ _ _ (inr (refl, refl))

@@ -1,0 +1,43 @@
+-- What the program does for its words over its own two wires: the first does what the script of the words says, and on the second nothing
+-- happens.
+use Rattle.std.specs.Prelude.{◌≡◌, ℕ, List, [], ◌∷◌, Option, reverse}
+use Rattle.net_rules.specs.Answered.{Answered}
+use Rattle.net_rules.specs.declared.asked.Asked.{Asked}
+use Rattle.net_rules.specs.declared.line.ScriptLine.{ScriptLine}
+use Rattle.orca_io.specs.Files.{File}
+use Rattle.command_files.specs.Sources.{Word}
+use Rattle.orca_cli.specs.declared.kept.Kept.{Kept}
+use Rattle.orca_cli.specs.Endings.{IsAnswer}
+use Rattle.orca_cli.specs.Headline.{AreUntouched, IsRunOf, Wires, wires_of}
+use Rattle.wires.specs.Wired.{Wired, by_script, plain}
+
+-- ---- the wires
+
+-- two wires that weren't asked anything, with the empty script
+abbrev pub fresh : Wires
+fresh = record { told = [] ∷ [] ∷ []; scripts = [] ∷ [] ∷ []; loaded = 0 ∷ 0 ∷ [] }
+
+-- what wires tell that answer by scripts
+abbrev pub wired : List Wired → Wires
+wired wires = wires_of (λ w. w.told) (λ w. w.script) (λ w. w.loaded) wires
+
+-- there are two. All that the first answered is what its script says; the second has no script, let every packet pass, and gave no act
+pub record HaveAnswered (wires : Wires) : Type 0 where
+  pub first : List Asked
+  pub second : List Asked
+  pub lines : List ScriptLine
+  pub told : wires.told ≡ first ∷ second ∷ []
+  pub scripts : wires.scripts ≡ lines ∷ [] ∷ []
+  pub scripted : Answered (by_script lines) (reverse first)
+  pub passed : Answered plain (reverse second)
+
+-- ---- what is done
+
+-- Nothing is kept: an ending by its cause with its line, or want of memory, over wires that are as they were made, unless memory lacked for
+-- the run that the words name. Or a run was kept, and is the one that the words ask for. Either way the wires answered so; where a run was
+-- begun, the lines of the first are those that the words name (`AreLoaded` of orca_cli)
+pub data IsServed (words : List Word) (files : Option (List File)) (rose : Type 0) (old new : Option (List ℕ)) (status : ℕ) : Type 0 where
+  ended : (after : Wires) → HaveAnswered after → IsAnswer words files rose old new status → AreUntouched words files status fresh after →
+      IsServed words files rose old new status
+  ran : (k : Kept) (after : Wires) → HaveAnswered after → IsRunOf words files k status old new fresh after →
+      IsServed words files rose old new status

@@ -1,0 +1,82 @@
+//! The one call of the program.
+
+ghost use Rattle.std.specs.Prelude.{◌≡◌, ◌⊎◌, ◌<◌, ◌≤◌, IfOk, length, map, string_bytes};
+ghost use Rattle.command_output.specs.Printed.{HasStopped};
+ghost use Rattle.orca_io.specs.Causes.{Rose};
+ghost use Rattle.orca_door.specs.Obeying.{AreTwo};
+ghost use Rattle.orca_door.specs.Served.{IsServed, fresh, wired};
+
+use orca_base::NoMemory;
+use orca_cli::{NO_MEMORY, READ_FAULT, WRITE_FAULT, orca_main_over};
+use orca_io::{Shelf, Sink};
+use std::alloc::Global;
+use wires::ScriptWire;
+
+// Two wires that do what their scripts say, and have the empty one.
+fn two_wires(alloc: Global) -> Result<Vec<ScriptWire>, NoMemory>
+    ensures { IfOk result (λ wires. wired wires.items ≡ fresh) }
+{
+    let mut wires = Vec::new(alloc);
+    wires.push(ScriptWire::new(alloc)?)?;
+    wires.push(ScriptWire::new(alloc)?)?;
+    Ok(wires)
+}
+
+// That two wires answered by their scripts. A call of this function does nothing.
+fn answered(wires: &[ScriptWire])
+    requires { length wires.now ≡ 2 }
+    ensures { AreTwo wires.now }
+{
+    let _first = wires[0].told();
+    let _second = wires[1].told();
+}
+
+// Does what the words ask for over two wires that were just made.
+fn served<F: Shelf, K: Sink>(
+    alloc: Global,
+    words: &[String],
+    shelf: &mut F,
+    out: &mut K,
+    wires: &mut [ScriptWire],
+) -> u8
+    requires { wired wires.old ≡ fresh }
+    ensures served { IsServed (map string_bytes words.now) (F.told shelf.old) (Rose (F.faults shelf.old) (F.faults shelf.new))
+        (K.told out.old) (K.told out.new) result }
+    ensures write_fault { result ≡ WRITE_FAULT → Rose (K.faults out.old) (K.faults out.new) }
+    ensures stopped { K.faults out.old < K.faults out.new → HasStopped result }
+    ensures same { F.told shelf.new ≡ F.told shelf.old }
+    ensures read_fault { F.faults shelf.old < F.faults shelf.new → (result ≡ READ_FAULT) ⊎ HasStopped result }
+    ensures read { F.faults shelf.old ≤ F.faults shelf.new }
+    ensures written { K.faults out.old ≤ K.faults out.new }
+{
+    let ended = orca_main_over(alloc, words, shelf, out, wires);
+    answered(wires);
+    ended.status
+}
+
+/// Does what the words ask for, over a network that the script of the words tells, and gives the status of docs/FORMATS.md.
+///
+/// `words` leaves out the program's name. There are two wires: the first does what that script says, or lets all pass where the words name
+/// none; the second, to which the script may swap, lets all pass. Where memory lacks for the wires, the status says so.
+pub fn serve<F: Shelf, K: Sink>(alloc: Global, words: &[String], shelf: &mut F, out: &mut K) -> u8
+    // An ending by its cause, with its line, or want of memory; or the run that the words ask for, whose network answered by their script.
+    ensures served { IsServed (map string_bytes words.now) (F.told shelf.old) (Rose (F.faults shelf.old) (F.faults shelf.new))
+        (K.told out.old) (K.told out.new) result }
+
+    // A write fault is told only where the sink's count of faults rose; and where it rose, that or want of memory is told.
+    ensures write_fault { result ≡ WRITE_FAULT → Rose (K.faults out.old) (K.faults out.new) }
+    ensures stopped { K.faults out.old < K.faults out.new → HasStopped result }
+    ensures same { F.told shelf.new ≡ F.told shelf.old }
+
+    // A read fault is told only where the shelf's count of faults rose; and where it rose, that is told, unless its line couldn't be.
+    ensures read_fault { F.faults shelf.old < F.faults shelf.new → (result ≡ READ_FAULT) ⊎ HasStopped result }
+
+    // The counts of faults don't fall.
+    ensures read { F.faults shelf.old ≤ F.faults shelf.new }
+    ensures written { K.faults out.old ≤ K.faults out.new }
+{
+    match two_wires(alloc) {
+        Ok(mut wires) => served(alloc, words, shelf, out, &mut wires),
+        Err(_) => NO_MEMORY,
+    }
+}

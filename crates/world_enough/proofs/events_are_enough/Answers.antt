@@ -1,0 +1,6 @@
+use Rattle.world_enough.proofs.Faulty.{enough}
+use Rattle.world_enough.proofs.events_are_enough.Goals as goal
+
+pub returns : goal.returns
+returns g c = λ f same_p same_q settings none steps w run.
+    enough f w steps (λ v. c.standings_mean.ensures f v) run (λ well. c.faultless_runs_go_well.ensures f same_p same_q settings none steps w well)

@@ -1,0 +1,124 @@
+-- How many events are enough (docs/EVENTS.md): the bound, and what is so of a faultless run and of one that is out of events.
+use Rattle.std.specs.Prelude.{◌≡◌, ◌≤◌, ◌<◌, ◌⊎◌, ◌+◌, ◌*◌, ◌/◌, ℕ, Bool, true, false, List, [], length, Option, None, Some}
+use Rattle.orca_base.specs.declared.limits.TheConstants.{BURST_TURNS}
+use Rattle.value_core.specs.Meaning.{Computes, Performs}
+use Rattle.group_rules.specs.Sets.{count}
+use Rattle.world_rules.specs.declared.event.Step.{Step}
+use Rattle.world_rules.specs.declared.standing.Standing.{Standing}
+use Rattle.world_rules.specs.declared.standing.Standing.TheVariants.{Limit, OutOfTurns, OutOfEvents, NoGroup, Faulted, Blocked, Finished, Going}
+use Rattle.world_rules.specs.Frame.{AreSettings, Frame}
+use Rattle.world_rules.specs.Played.{Stage}
+use Rattle.world_rules.specs.Played.Stage.{Computing, Acting, Submitted, Reading, Asking, Over}
+use Rattle.world_rules.specs.Standings.{process_count, standing, stands}
+use Rattle.world_rules.specs.Worlds.{Book, World, opening_world, played_in}
+use Rattle.world_facts.specs.Ends.{turns_in}
+use Rattle.world_enough.specs.Logs.{longest_log}
+use Rattle.world_enough.specs.Faultless.{IsFaulty, LeadsFirst, NoTick, OfFaultlessRuns, delivered, worked}
+use Rattle.world_enough.specs.Paid.{IsSpent, sum}
+
+-- ---- the bound
+
+-- a process is at an action, carried out or not, that has no reply
+abbrev pub is_at_action : Stage → Bool
+is_at_action Computing = false
+is_at_action (Acting act) = true
+is_at_action (Submitted act) = true
+is_at_action (Reading act) = true
+is_at_action (Asking act) = true
+is_at_action (Over act) = false
+
+-- C: the lines of the book, and the processes at an action
+abbrev pub calls_of : Frame → World → ℕ
+calls_of f w = length (Book f w) + count (process_count f w) (λ i. stands is_at_action (played_in f w i))
+
+-- T: the turns of all processes
+abbrev pub all_turns : Frame → World → ℕ
+all_turns f w = sum (process_count f w) (λ i. turns_in (played_in f w i))
+
+-- with N members and L entries: 6 N (L + 1) deliveries; an act and a burst for each call; a burst for each 10,000 turns; and one for each
+-- process, in which it ends
+abbrev pub bound : Frame → World → ℕ
+bound f w =
+    (6 * (f.settings.nodes * (longest_log f w + 1)) + 2 * calls_of f w) + (all_turns f w / BURST_TURNS + process_count f w)
+
+-- ---- its parts
+
+-- bursts and acts
+abbrev pub most_work : Frame → World → ℕ
+most_work f w = (2 * calls_of f w + process_count f w) + all_turns f w / BURST_TURNS
+
+-- packets that are delivered, by the sequencer's log
+abbrev pub most_deliveries : Frame → World → ℕ
+most_deliveries f w = 6 * (f.settings.nodes * (length (w.nodes 0).member.log + 1))
+
+abbrev pub most_events : Frame → World → ℕ
+most_events f w = most_deliveries f w + most_work f w
+
+-- at most so many, and one more where a process has no turns left
+abbrev pub IsWithin : Frame → World → ℕ → ℕ → Type 0
+IsWithin f w n most = (n ≤ most) ⊎ (IsSpent f w × (n ≤ most + 1))
+
+abbrev pub FaultlessRunsDeliver : Performs → Computes → Type 0
+FaultlessRunsDeliver p q = OfFaultlessRuns p q (λ f w steps. delivered steps ≤ most_deliveries f w)
+
+abbrev pub FaultlessRunsWork : Performs → Computes → Type 0
+FaultlessRunsWork p q = OfFaultlessRuns p q (λ f w steps. IsWithin f w (worked steps) (most_work f w))
+
+abbrev pub FaultlessRunsNeedNoMore : Performs → Computes → Type 0
+FaultlessRunsNeedNoMore p q = OfFaultlessRuns p q (λ f w steps. IsWithin f w (length steps) (most_events f w))
+
+-- ---- how a faultless run stands
+
+-- out of turns; or at a limit, which stands above that in the table
+abbrev pub IsOutOfTurns : Standing → Type 0
+IsOutOfTurns (Limit what number) = Unit {0}
+IsOutOfTurns OutOfTurns = Unit {0}
+IsOutOfTurns OutOfEvents = ⊥
+IsOutOfTurns NoGroup = ⊥
+IsOutOfTurns Faulted = ⊥
+IsOutOfTurns Blocked = ⊥
+IsOutOfTurns Finished = ⊥
+IsOutOfTurns Going = ⊥
+
+-- neither out of events nor without a group: such a run ended by what its program means, or at a limit, or goes on
+abbrev pub Ends : Standing → Type 0
+Ends (Limit what number) = Unit {0}
+Ends OutOfTurns = Unit {0}
+Ends OutOfEvents = ⊥
+Ends NoGroup = ⊥
+Ends Faulted = Unit {0}
+Ends Blocked = Unit {0}
+Ends Finished = Unit {0}
+Ends Going = Unit {0}
+
+-- no tick came, and every member lives. There were at most so many events, and one more where it is out of turns or at a limit; where more
+-- were stated it ends; and it never lacks a group
+pub record GoesWell (f : Frame) (w : World) (steps : List Step) : Type 0 where
+  pub ticks : NoTick steps
+  pub lives : (m : ℕ) → w.lives m ≡ true
+  pub bounded : (length steps ≤ bound f w) ⊎ (IsOutOfTurns (standing f w) × (length steps ≤ bound f w + 1))
+  pub ends : bound f w < f.settings.events → Ends (standing f w)
+  pub group : standing f w ≡ NoGroup → ⊥
+
+abbrev pub FaultlessRunsGoWell : Performs → Computes → Type 0
+FaultlessRunsGoWell p q = OfFaultlessRuns p q (λ f w steps. GoesWell f w steps)
+
+-- ---- any run in which of the packets that are ready the first comes
+
+abbrev pub OfRunsInOrder : Performs → Computes → (Frame → World → List Step → Type 0) → Type 0
+OfRunsInOrder p q P =
+    (f : Frame) → f.performs ≡ p → f.computes ≡ q → AreSettings f.settings → f.settings.choices ≡ [] → (steps : List Step) (w : World) →
+    LeadsFirst f (opening_world f) steps w → P f w steps
+
+-- the row of a run that is out of events: as many as stated, and there was a fault, or those stated are no more than the bound
+pub record OutOfEventsRow (f : Frame) (w : World) (steps : List Step) : Type 0 where
+  pub all : length steps ≡ f.settings.events
+  pub cause : IsFaulty steps ⊎ (f.settings.events ≤ bound f w)
+
+-- `well`, without a fault it goes well; `row`, where it is out of events its row stands
+pub record IsEnough (f : Frame) (w : World) (steps : List Step) : Type 0 where
+  pub well : (IsFaulty steps → ⊥) → GoesWell f w steps
+  pub row : standing f w ≡ OutOfEvents → OutOfEventsRow f w steps
+
+abbrev pub EventsAreEnough : Performs → Computes → Type 0
+EventsAreEnough p q = OfRunsInOrder p q (λ f w steps. IsEnough f w steps)

@@ -1,0 +1,141 @@
+//! Enough events, the world's half: how many events are enough where the network loses nothing and no member fails (docs/EVENTS.md).
+//!
+//! A run is faultless where each packet's fate is Pass, no member crashes or is suspected, no wire is exchanged, and of the packets that
+//! are ready the first is delivered; actions and bursts may come in any order. Its group is then what a list of the group's moves leads
+//! to, and the letters in flight are what that list has on its way. All of it is of lawful programs without single objects, by settings
+//! that a run may have. It has no code: its functions are laws, whose bodies are empty or call the laws below.
+#![tactic(auto)]
+
+ghost use Rattle.std.specs.Prelude.{◌≡◌};
+ghost use Rattle.world_enough.specs.Bound.{
+  EventsAreEnough,
+  FaultlessRunsDeliver,
+  FaultlessRunsGoWell,
+  FaultlessRunsNeedNoMore,
+  FaultlessRunsWork,
+  bound,
+};
+ghost use Rattle.world_enough.specs.Faultless.{LeadsFaultless};
+ghost use Rattle.world_enough.specs.Paid.{FaultlessRunsPay};
+ghost use Rattle.world_enough.specs.Tie.{FaultlessRunsHaveGroup, FaultlessRunsNeedNoTick};
+ghost use Rattle.world_rules.specs.OneCell.{one_cell, one_cell_end, one_cell_steps};
+ghost use Rattle.world_rules.specs.Worlds.{opening_world};
+
+use group_bound::enough_events;
+use group_law::agreement_law;
+use group_rules::wire_law;
+use run_law::replies_stand;
+use value_core::{Message, Processor, Reply};
+use world_book::legal_book;
+use world_facts::{processes_stand, standings_mean};
+use world_law::{group_steps, members_catch_up, processes_are_home};
+
+/// No tick comes in a faultless run, and its group is what a list of the group's moves leads to. A call of this function does nothing.
+pub fn faultless_runs_need_no_tick<P: Processor>(machine: &P)
+    ensures { FaultlessRunsNeedNoTick (P.performs machine.now) (P.computes machine.now) }
+{
+    agreement_law::<Message>();
+    wire_law::<Message, Reply>();
+    group_steps();
+    members_catch_up();
+    standings_mean();
+    processes_stand();
+    legal_book(machine);
+    enough_events::<Message>();
+}
+
+/// Each burst and each act of a faultless run is paid by what its process has done, in turns, but for one more where a process that
+/// computes has no turns left. A call of this function does nothing.
+pub fn faultless_runs_pay<P: Processor>(machine: &P)
+    ensures { FaultlessRunsPay (P.performs machine.now) (P.computes machine.now) }
+{
+    agreement_law::<Message>();
+    wire_law::<Message, Reply>();
+    group_steps();
+    processes_are_home();
+    standings_mean();
+    processes_stand();
+    legal_book(machine);
+    faultless_runs_need_no_tick(machine);
+}
+
+/// A faultless run never lacks a group. A call of this function does nothing.
+pub fn faultless_runs_have_group<P: Processor>(machine: &P)
+    ensures { FaultlessRunsHaveGroup (P.performs machine.now) (P.computes machine.now) }
+{
+    standings_mean();
+    enough_events::<Message>();
+    faultless_runs_need_no_tick(machine);
+}
+
+/// At every moment of a faultless run at most 6 N (L + 1) packets were delivered, with N members and L entries in the sequencer's log. A
+/// call of this function does nothing.
+pub fn faultless_runs_deliver<P: Processor>(machine: &P)
+    ensures { FaultlessRunsDeliver (P.performs machine.now) (P.computes machine.now) }
+{
+    agreement_law::<Message>();
+    wire_law::<Message, Reply>();
+    group_steps();
+    processes_stand();
+    legal_book(machine);
+    enough_events::<Message>();
+    faultless_runs_need_no_tick(machine);
+}
+
+/// There are at most two bursts and acts for each line of the book and each process at an action, one for each process, and one for each
+/// 10,000 turns; and one more where a process has no turns left. A call of this function does nothing.
+pub fn faultless_runs_work<P: Processor>(machine: &P)
+    ensures { FaultlessRunsWork (P.performs machine.now) (P.computes machine.now) }
+{
+    agreement_law::<Message>();
+    wire_law::<Message, Reply>();
+    group_steps();
+    processes_are_home();
+    standings_mean();
+    processes_stand();
+    legal_book(machine);
+    replies_stand(machine);
+    faultless_runs_pay(machine);
+}
+
+/// So a faultless run has no more events than these deliveries, bursts and acts. A call of this function does nothing.
+pub fn faultless_runs_need_no_more<P: Processor>(machine: &P)
+    ensures { FaultlessRunsNeedNoMore (P.performs machine.now) (P.computes machine.now) }
+{
+    faultless_runs_need_no_tick(machine);
+    faultless_runs_deliver(machine);
+    faultless_runs_work(machine);
+}
+
+/// A faultless run goes well: no tick, no member lost, no more events than its bound, but for one where it is out of turns or at a limit;
+/// it has a group; and where more events were stated than its bound it isn't out of events. A call of this function does nothing.
+pub fn faultless_runs_go_well<P: Processor>(machine: &P)
+    ensures { FaultlessRunsGoWell (P.performs machine.now) (P.computes machine.now) }
+{
+    agreement_law::<Message>();
+    wire_law::<Message, Reply>();
+    group_steps();
+    processes_are_home();
+    standings_mean();
+    processes_stand();
+    legal_book(machine);
+    faultless_runs_need_no_tick(machine);
+    faultless_runs_have_group(machine);
+    faultless_runs_need_no_more(machine);
+}
+
+/// In every run in which of the packets that are ready the first comes: without a fault it goes well; and where it is out of events it had
+/// as many as were stated, and some fate was other than Pass, or a member crashed or was suspected, or a wire was exchanged, or the events
+/// stated are no more than its bound. A call of this function does nothing.
+pub fn events_are_enough<P: Processor>(machine: &P)
+    ensures { EventsAreEnough (P.performs machine.now) (P.computes machine.now) }
+{
+    standings_mean();
+    faultless_runs_go_well(machine);
+}
+
+/// The worked run of one cell on three members, of which one acknowledges, is faultless, and 81 events are its bound.
+pub fn one_cell_is_bounded()
+    ensures faultless { LeadsFaultless one_cell (opening_world one_cell) one_cell_steps one_cell_end }
+    ensures bound { bound one_cell one_cell_end ≡ 81 }
+{}
