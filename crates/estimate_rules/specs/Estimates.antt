@@ -38,7 +38,8 @@ passed_counts summaries position _ = counts.zero
 
 -- of an object whose type has this number: a call of an operation counts 1, and passing it on what the parameter counts
 abbrev pub counts_once : Summaries → Scope → ℕ → UseKind → Counts
-counts_once summaries w number (Calls operation) = class_counts (class_of w.program (kind_of w.program number) (op_of w.program number operation))
+counts_once summaries w number (Calls operation) =
+    class_counts (class_of w.program (kind_of w.program number) (op_of w.program number operation))
 counts_once summaries w number (Passes to position) = passed_counts summaries position (stands_for w.program w.home to)
 
 abbrev pub use_counts : Summaries → Scope → ℕ → Use → Counts
@@ -95,7 +96,8 @@ is_site r position n = nat_le r.parameters position && is_some (object_type_numb
 abbrev pub sites_from : Summaries → List ℕ → Routine → ℕ → List Name → List Estimate
 sites_from summaries process r position [] = []
 sites_from summaries process r position (n ∷ ns) =
-    (if is_site r position n then estimated process n (name_counts summaries r position n) ∷ [] else []) ++ sites_from summaries process r (suc position) ns
+    (if is_site r position n then estimated process n (name_counts summaries r position n) ∷ [] else [])
+    ++ sites_from summaries process r (suc position) ns
 
 abbrev pub sites_in : Summaries → List ℕ → Routine → List Estimate
 sites_in summaries process r = sites_from summaries process r 0 r.names

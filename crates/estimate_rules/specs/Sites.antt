@@ -1,4 +1,5 @@
--- Sites and objects (docs/RUNTIME.md, Choice of copies): which object a site stands for, and how answers about sites become a run's choices.
+-- Sites and objects (docs/RUNTIME.md, Choice of copies): which object a site stands for, and how answers about sites become a run's
+-- choices.
 use Rattle.std.specs.Prelude.{◌≡◌, ℕ, suc, Bool, List, [], ◌∷◌, map, filter, flat_map, length, take, drop, slice_get, is_some, Some}
 use Rattle.std.specs.List.{zip}
 use Rattle.orca_base.specs.declared.ids.ProcessNo.{ProcessNo}
