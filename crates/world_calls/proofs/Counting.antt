@@ -54,12 +54,12 @@ goes_counted f w m s c u v laws lives moment (Tries_read i is) h = subst (λ (z 
 goes_counted f w m s c u v laws lives moment (Notes is) h = subst (λ (z : Moment). CountedAt f w m z.work s c) (sym is) (laws.notes w m s c u.work lives moment h)
 goes_counted f w m s c u v laws lives moment (Opens none inside is) h =
     subst (λ (z : Moment). CountedAt f w m z.work s c) (sym is)
-    (still_counts f w m s c u.work (holds_none u.work) laws h (record { member = refl; past = λ p. refl; applied = refl; others = λ o. o }))
+    (still_counts f w m s c u.work (holds_none u.work) laws h (record { member = refl; past = λ p. refl; applied = refl; letters = refl; others = λ o. o }))
 goes_counted f w m s c u v laws lives moment (Takes e es hand reached is) h =
     subst (λ (z : Moment). CountedAt f w m z.work s c) (sym is) (still_counts f w m s c u.work (takes f m e u.work) laws h (still_takes f (group f) m m e u.work))
 goes_counted f w m s c u v laws lives moment (Holds e es hand is) h =
     subst (λ (z : Moment). CountedAt f w m z.work s c) (sym is)
-    (still_counts f w m s c u.work (holds e u.work) laws h (record { member = refl; past = λ p. refl; applied = refl; others = λ o. o }))
+    (still_counts f w m s c u.work (holds e u.work) laws h (record { member = refl; past = λ p. refl; applied = refl; letters = refl; others = λ o. o }))
 goes_counted f w m s c u v laws lives moment (Asks_again i is) h =
     subst (λ (z : Moment). CountedAt f w m z.work s c) (sym is)
     (still_counts f w m s c u.work (asks_again_of f m i (u.work.node.played i) u.work) laws h (still_again_of f (group f) m m i (u.work.node.played i) u.work))
@@ -71,7 +71,7 @@ submits_counted : (f : Frame) (w : World) (m s c i : ℕ) (r : Played) (act : Ac
 submits_counted f w m s c i r act x laws lives may h =
     laws.submits w m s c x v lives
     (subst (λ (z : GroupWorld Message). may_submit (group f) z m x ≡ true) (sym (world_is f m v (untouched w) ∙ at_still (group f) w m (idle (w.nodes m)) v refl refl ∙ at_start (group f) w m)) may)
-    (still_counts f w m s c (idle (w.nodes m)) v laws h (record { member = refl; past = λ p. refl; applied = refl; others = λ o. o }))
+    (still_counts f w m s c (idle (w.nodes m)) v laws h (record { member = refl; past = λ p. refl; applied = refl; letters = refl; others = λ o. o }))
   where
     v : NodeWork
     v = plays i (moves_to (Submitted act) r) (idle (w.nodes m))

@@ -211,7 +211,7 @@ goes f fitness single w m u v known a (Opens none inside is) agrees =
       course = a.course;
       carries = held_carries f single w a.course m [] u.work a.carries (λ e is. absurd is);
       hand = n.held;
-      moment = still_moment f w m u.work (holds_none u.work) known.group a.moment (record { member = refl; past = λ p. refl; applied = refl; others = λ h. h });
+      moment = still_moment f w m u.work (holds_none u.work) known.group a.moment (record { member = refl; past = λ p. refl; applied = refl; letters = refl; others = λ h. h });
     }))
 goes f fitness single w m u v known a (Takes e es hand reached is) agrees =
     let first : ErrandStands f single a.course m e = a.hand e (subst (In e) (sym hand) (inl refl)) in
@@ -225,7 +225,7 @@ goes f fitness single w m u v known a (Holds e es hand is) agrees =
       course = a.course;
       carries = holds_carries f single w a.course m e u.work a.carries first;
       hand = λ one there. a.hand one (subst (In one) (sym hand) (inr there));
-      moment = still_moment f w m u.work (holds e u.work) known.group a.moment (record { member = refl; past = λ p. refl; applied = refl; others = λ h. h });
+      moment = still_moment f w m u.work (holds e u.work) known.group a.moment (record { member = refl; past = λ p. refl; applied = refl; letters = refl; others = λ h. h });
     }))
 goes f fitness single w m u v known a (Asks_again i is) agrees =
     subst (Gone f single w m a.course.list) (sym is) (same_at f single w m (works (asks_again_of f m i (u.work.node.played i) u.work) u) (record {

@@ -6,7 +6,7 @@ use Rattle.world_rules.specs.declared.standing.Standing.TheVariants.{Limit, OutO
 use Rattle.world_rules.specs.Frame.{Frame}
 use Rattle.world_rules.specs.Standings.{standing}
 use Rattle.world_rules.specs.Worlds.{World}
-use Rattle.world_enough.specs.Logs.{longest_below, longest_log}
+use Rattle.world_facts.specs.Logs.{longest_below, longest_log}
 use Rattle.world_facts.specs.Rows.{NoneSpent}
 use Rattle.world_enough.specs.Bound.{Ends, IsOutOfTurns, bound, most_events}
 use Rattle.world_enough.specs.Faultless.{LeadsFaultless}

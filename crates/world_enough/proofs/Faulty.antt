@@ -2,7 +2,6 @@
 use Rattle.std.proofs.Common.{◌≡◌, ◌≤◌, ◌<◌, ◌⊎◌, ◌+◌, inl, inr, ⊎_elim, Bool, true, false, List, [], ◌∷◌, length, refl, ap, subst, arith}
 use Rattle.std.proofs.lemmas.Bool.{cases_lt}
 use Rattle.net_rules.specs.declared.fate.Fate.{Fate}
-use Rattle.net_rules.specs.declared.fate.Fate.TheVariants as fate
 use Rattle.world_rules.specs.declared.event.Event as world
 use Rattle.world_rules.specs.declared.event.Event.TheVariants as event
 use Rattle.world_rules.specs.declared.event.Step.{Step}
@@ -13,27 +12,18 @@ use Rattle.world_rules.specs.Standings.{standing}
 use Rattle.world_rules.specs.Worlds.{World, opening_world}
 use Rattle.world_facts.specs.Rows.{ReadsStanding}
 use Rattle.world_enough.specs.Bound.{Ends, GoesWell, IsEnough, OutOfEventsRow, bound}
-use Rattle.world_enough.specs.Faultless.{AllPass, IsFaulty, IsPlain, LeadsFaultless, LeadsFirst}
+use Rattle.world_facts.specs.Passing.{AllPass, always_passes}
+use Rattle.world_enough.specs.Faultless.{IsFaulty, IsPlain, LeadsFaultless, LeadsFirst}
 
-abbrev is_pass : Fate → Bool
-is_pass fate.Pass = true
-is_pass fate.Drop = false
-is_pass fate.Twice = false
-is_pass (fate.Hold ticks) = false
-is_pass (fate.Cut length) = false
-
-pass_or : (one : Fate) → (one ≡ fate.Pass) ⊎ (one ≡ fate.Pass → ⊥)
-pass_or fate.Pass = inl refl
-pass_or fate.Drop = inr (λ e. let c : false ≡ true = ap is_pass e in absurd (cc c))
-pass_or fate.Twice = inr (λ e. let c : false ≡ true = ap is_pass e in absurd (cc c))
-pass_or (fate.Hold ticks) = inr (λ e. let c : false ≡ true = ap is_pass e in absurd (cc c))
-pass_or (fate.Cut length) = inr (λ e. let c : false ≡ true = ap is_pass e in absurd (cc c))
+true_or : (b : Bool) → (b ≡ true) ⊎ (b ≡ true → ⊥)
+true_or true = inl refl
+true_or false = inr (λ e. absurd (cc e))
 
 all_pass_or : (fates : List Fate) → AllPass fates ⊎ (AllPass fates → ⊥)
 all_pass_or [] = inl tt
 all_pass_or (one ∷ fates) = ⊎_elim
-    (λ (o : one ≡ fate.Pass). ⊎_elim (λ (r : AllPass fates). inl (o, r)) (λ (r : AllPass fates → ⊥). inr (λ h. r h.1)) (all_pass_or fates))
-    (λ (o : one ≡ fate.Pass → ⊥). inr (λ h. o h.0)) (pass_or one)
+    (λ (o : always_passes one ≡ true). ⊎_elim (λ (r : AllPass fates). inl (o, r)) (λ (r : AllPass fates → ⊥). inr (λ h. r h.1)) (all_pass_or fates))
+    (λ (o : always_passes one ≡ true → ⊥). inr (λ h. o h.0)) (true_or (always_passes one))
 
 plain_or : (e : world.Event) → IsPlain e ⊎ (IsPlain e → ⊥)
 plain_or (event.Burst process place turns) = inl tt

@@ -1,7 +1,3 @@
-mod Maps
-mod Still
-mod Applied
-mod AtWork
 mod Letters
 mod Flowing
 mod Tying
@@ -11,7 +7,6 @@ mod Steps
 mod Owning
 mod Waiters
 mod Quiet
-mod Onwards
 mod Weighing
 mod Paying
 mod Grouped

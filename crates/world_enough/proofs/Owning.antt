@@ -37,10 +37,11 @@ use Rattle.world_rules.specs.Worlds.{World, group_world, home_of, opening_world}
 use Rattle.world_law.specs.Grouped.{MaySubmit}
 use Rattle.world_book.specs.Processes.{has_out}
 use Rattle.world_enough.proofs.Letters.{AreLetters, IsLetter}
-use Rattle.world_enough.proofs.Onwards.{AreOnward, Onward, on_catches, on_read, stay}
-use Rattle.world_enough.specs.Faultless.{AllPass, IsFaultless, IsFirst, IsPlain, IsTick}
+use Rattle.world_law.proofs.Onwards.{AreOnward, Onward, on_catches, on_read, stay}
+use Rattle.world_facts.specs.Passing.{AllPass}
+use Rattle.world_enough.specs.Faultless.{IsFaultless, IsFirst, IsPlain, IsTick}
 use Rattle.world_enough.specs.Tie.{AreCalm}
-use Rattle.world_enough.proofs.Maps.{at_both, at_here}
+use Rattle.world_law.proofs.Maps.{at_both, at_here}
 use Rattle.world_enough.proofs.Plain.{Bare, NoErrand, bare_catches, bare_joins, bare_performed, bare_read, no_single, none_mails}
 use Rattle.world_enough.proofs.Posting.{Head, Posts, first_is, posts_each}
 

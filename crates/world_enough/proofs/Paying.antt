@@ -30,10 +30,10 @@ use Rattle.world_facts.specs.Rows.{IsBegun, ReadsStanding}
 use Rattle.world_law.specs.Holds.{Holds}
 use Rattle.world_law.specs.Homes.{StepsHome}
 use Rattle.world_law.specs.Lists.{ListsGrow, OneList}
-use Rattle.world_enough.proofs.Onwards.{AreOnward, on_arrives, on_catches, on_on, stay}
+use Rattle.world_law.proofs.Onwards.{AreOnward, on_arrives, on_catches, on_on, stay}
 use Rattle.world_enough.specs.Faultless.{IsFaultless, IsPlain, IsTick, LeadsFaultless, NoTick, worked, works_by}
 use Rattle.world_enough.specs.Paid.{IsPaid, IsSpent, node_weight, stage_weight, sum, weight, weight_in}
-use Rattle.world_enough.proofs.Maps.{at_both, at_here}
+use Rattle.world_law.proofs.Maps.{at_both, at_here}
 use Rattle.world_enough.proofs.Weighing.{Acted, Fresh, acted, burst_pays, node_over, node_up, ran_far, sum_over, sum_up}
 
 pub record Lore (f : Frame) : Type 0 where

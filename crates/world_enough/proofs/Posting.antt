@@ -7,7 +7,6 @@ use Rattle.value_core.specs.declared.message.Message.{Message}
 use Rattle.group_rules.specs.Member.{Letter}
 use Rattle.group_rules.specs.Work.{Act}
 use Rattle.net_rules.specs.declared.fate.Fate.{Fate}
-use Rattle.net_rules.specs.declared.fate.Fate.TheVariants as fate
 use Rattle.net_rules.specs.declared.flight.Flight.{Flight}
 use Rattle.net_rules.specs.Flights.{first_ready, is_ready, is_ready_copy, joined, ready_copy, without}
 use Rattle.world_rules.specs.Frame.{Frame}
@@ -17,10 +16,11 @@ use Rattle.world_rules.specs.Nodes.Deed.{Submits, Acts, Mails, Applies, Performs
 use Rattle.world_rules.specs.Steps.{posts, posts_all}
 use Rattle.world_rules.specs.Worlds.{World}
 use Rattle.world_enough.proofs.Letters.{AreLetters, IsLetter, letters_in}
-use Rattle.world_enough.specs.Faultless.{AllPass}
+use Rattle.world_facts.proofs.Passing.{flies_as_passed}
+use Rattle.world_facts.specs.Passing.{AllPass, always_passes}
 use Rattle.world_enough.specs.Tie.{AreCalm, IsCalm, letters_of, with_letter}
-use Rattle.world_enough.specs.Sent.{sent_letters}
-use Rattle.world_enough.proofs.AtWork.{if_true}
+use Rattle.world_law.specs.Moments.{sent_letters}
+use Rattle.world_law.proofs.AtWork.{if_true}
 use Rattle.world_enough.proofs.Plain.{AllLetters}
 
 -- ---- letters of lists
@@ -87,17 +87,17 @@ length_push : {A : Type 0} (xs : List A) (x : A) → length (xs ++ x ∷ []) ≡
 length_push [] x = refl
 length_push (y ∷ xs) x = ap suc (length_push xs x)
 
-posts_one : (f : Frame) (w : World) (mail : Mail) (one : Fate) → one ≡ fate.Pass → AreCalm w.sent w.flights → Posts f w (posts f w mail one) (mail ∷ [])
-posts_one f w mail one e calm = subst (λ z. Posts f w (posts f w mail z) (mail ∷ [])) (sym e) passes
+posts_one : (f : Frame) (w : World) (mail : Mail) (one : Fate) → always_passes one ≡ true → AreCalm w.sent w.flights → Posts f w (posts f w mail one) (mail ∷ [])
+posts_one f w mail one e calm = passed
   where
     new : Flight Carried
     new = record { number = suc w.sent; copy = 0; from = (posted f.settings.nodes mail).from; to = (posted f.settings.nodes mail).to; ticks = 0; packet = carried mail }
 
-    is : (posts f w mail fate.Pass).flights ≡ w.flights ++ new ∷ []
-    is = joined_last w.sent (new ∷ []) w.flights calm
+    is : (posts f w mail one).flights ≡ w.flights ++ new ∷ []
+    is = flies_as_passed f w mail one e ∙ joined_last w.sent (new ∷ []) w.flights calm
 
-    passes : Posts f w (posts f w mail fate.Pass) (mail ∷ [])
-    passes = record {
+    passed : Posts f w (posts f w mail one) (mail ∷ [])
+    passed = record {
       nodes = refl;
       lives = refl;
       past = refl;

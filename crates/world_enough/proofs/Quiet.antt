@@ -42,7 +42,7 @@ use Rattle.group_law.specs.Messages.{MessagesLaw}
 use Rattle.world_book.specs.Following.{HasCourse}
 use Rattle.world_enough.proofs.Owning.{Owned, opening_owned, owned_step}
 use Rattle.world_enough.proofs.Waiters.{waits_here}
-use Rattle.world_enough.proofs.AtWork.{if_true}
+use Rattle.world_law.proofs.AtWork.{if_true}
 use Rattle.world_enough.proofs.Steps.{Laws, tied_step}
 
 pub record Lore (f : Frame) : Type 0 where

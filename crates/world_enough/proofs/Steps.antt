@@ -22,11 +22,12 @@ use Rattle.world_law.specs.Grouped.{Submits as MayAll}
 use Rattle.world_law.specs.Moments.{Lives, MomentsHold}
 use Rattle.world_enough.proofs.Flowing.{FlowLaw}
 use Rattle.world_enough.proofs.Letters.{AreLetters, IsLetter}
-use Rattle.world_enough.specs.Faultless.{AllPass, IsFaultless, IsFirst, IsPlain, IsTick, delivers_by}
+use Rattle.world_facts.specs.Passing.{AllPass}
+use Rattle.world_enough.specs.Faultless.{IsFaultless, IsFirst, IsPlain, IsTick, delivers_by}
 use Rattle.world_enough.specs.Tie.{AreCalm, IsCalm, Tied, letters_of, with_letter}
-use Rattle.world_enough.proofs.AtWork.{both_true, if_true, world_of}
+use Rattle.world_law.proofs.AtWork.{both_true, if_true, world_of}
 use Rattle.world_enough.proofs.Posting.{Head, Posts, first_is, posts_each, sent_is}
-use Rattle.world_enough.proofs.Still.{still_on, still_performed}
+use Rattle.world_law.proofs.Still.{still_on, still_performed}
 use Rattle.world_enough.proofs.Tying.{Works, stands_acts, stands_delivered, starts, works_catches, works_on, world_is}
 
 pub record Laws (f : Frame) : Type 0 where

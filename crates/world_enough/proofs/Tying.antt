@@ -25,13 +25,13 @@ use Rattle.world_rules.specs.Played.Stage.{Computing, Acting, Submitted, Reading
 use Rattle.world_rules.specs.Processes.{singles_of}
 use Rattle.world_rules.specs.Worlds.{World, group_world}
 use Rattle.world_law.specs.CaughtUp.{MayCatchUp, RoundsEnd}
-use Rattle.world_enough.specs.Sent.{sent_letters}
+use Rattle.world_law.specs.Moments.{sent_letters}
 use Rattle.world_law.specs.Grouped.{Comes, Grouped}
 use Rattle.world_law.specs.Moments.{IsMoment, Lives, MomentsHold, world_at}
-use Rattle.world_enough.proofs.Applied.{applied_due}
-use Rattle.world_enough.proofs.AtWork.{at_start, at_still, at_work, both_true, if_true, row_is, world_of}
-use Rattle.world_enough.proofs.Maps.{at_here, at_image}
-use Rattle.world_enough.proofs.Still.{Still, still_asks, still_reached, still_reading}
+use Rattle.world_law.proofs.Applied.{applied_due}
+use Rattle.world_law.proofs.AtWork.{at_start, at_still, at_work, both_true, if_true, row_is, world_of}
+use Rattle.world_law.proofs.Maps.{at_here, at_image}
+use Rattle.world_law.proofs.Still.{Still, still_asks, still_reached, still_reading}
 
 -- ---- moves
 

@@ -24,9 +24,9 @@ use Rattle.world_rules.specs.Played.{Played, Stage, at_action, halted, moves_to,
 use Rattle.world_rules.specs.Played.Stage.{Computing, Acting, Submitted, Reading, Asking, Over}
 use Rattle.world_rules.specs.Processes.{owner_in, singles_of}
 use Rattle.world_facts.specs.Processes.{is_last}
-use Rattle.world_enough.proofs.Onwards.{AreOnward, Onward, on_call, on_read, stay}
+use Rattle.world_law.proofs.Onwards.{AreOnward, Onward, on_call, on_read, stay}
 use Rattle.world_enough.specs.Paid.{node_weight, stage_weight, sum, weight, weight_of}
-use Rattle.world_enough.proofs.Maps.{at_both, at_here}
+use Rattle.world_law.proofs.Maps.{at_both, at_here}
 
 -- ---- sums
 

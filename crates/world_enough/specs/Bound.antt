@@ -12,7 +12,7 @@ use Rattle.world_rules.specs.Played.Stage.{Computing, Acting, Submitted, Reading
 use Rattle.world_rules.specs.Standings.{process_count, standing, stands}
 use Rattle.world_rules.specs.Worlds.{Book, World, opening_world, played_in}
 use Rattle.world_facts.specs.Ends.{turns_in}
-use Rattle.world_enough.specs.Logs.{longest_log}
+use Rattle.world_facts.specs.Logs.{longest_log}
 use Rattle.world_enough.specs.Faultless.{IsFaulty, LeadsFirst, NoTick, OfFaultlessRuns, delivered, worked}
 use Rattle.world_enough.specs.Paid.{IsSpent, sum}
 
@@ -110,12 +110,12 @@ OfRunsInOrder p q P =
     (f : Frame) → f.performs ≡ p → f.computes ≡ q → AreSettings f.settings → f.settings.choices ≡ [] → (steps : List Step) (w : World) →
     LeadsFirst f (opening_world f) steps w → P f w steps
 
--- the row of a run that is out of events: as many as stated, and there was a fault, or those stated are no more than the bound
+-- the row of a run that is out of events: as many as stated, and it was faulty, or those stated are no more than the bound
 pub record OutOfEventsRow (f : Frame) (w : World) (steps : List Step) : Type 0 where
   pub all : length steps ≡ f.settings.events
   pub cause : IsFaulty steps ⊎ (f.settings.events ≤ bound f w)
 
--- `well`, without a fault it goes well; `row`, where it is out of events its row stands
+-- `well`, one that isn't faulty goes well; `row`, where it is out of events its row stands
 pub record IsEnough (f : Frame) (w : World) (steps : List Step) : Type 0 where
   pub well : (IsFaulty steps → ⊥) → GoesWell f w steps
   pub row : standing f w ≡ OutOfEvents → OutOfEventsRow f w steps

@@ -1,8 +1,7 @@
--- Faultless runs: each packet's fate is Pass, no wire acts, and of the packets that are ready the first is delivered.
+-- Faultless runs: each packet's fate is Pass, or a Hold for no ticks, no wire acts, and of the packets that are ready the first is delivered.
+-- A Cut counts as a fault, also where it leaves its packet whole: the steps don't show how long the packet was.
 use Rattle.std.specs.Prelude.{◌≡◌, ◌⊎◌, ◌+◌, ℕ, List, [], ◌∷◌, Some}
 use Rattle.value_core.specs.Meaning.{Computes, Performs}
-use Rattle.net_rules.specs.declared.fate.Fate.{Fate}
-use Rattle.net_rules.specs.declared.fate.Fate.TheVariants as fate
 use Rattle.net_rules.specs.Flights.{first_ready}
 use Rattle.world_rules.specs.declared.event.Event.{Event}
 use Rattle.world_rules.specs.declared.event.Event.TheVariants as event
@@ -10,12 +9,9 @@ use Rattle.world_rules.specs.declared.event.Step.{Step}
 use Rattle.world_rules.specs.Frame.{AreSettings, Frame}
 use Rattle.world_rules.specs.Steps.{Next}
 use Rattle.world_rules.specs.Worlds.{World, opening_world}
+use Rattle.world_facts.specs.Passing.{AllPass}
 
--- ---- fates and events
-
-abbrev pub AllPass : List Fate → Type 0
-AllPass [] = Unit {0}
-AllPass (one ∷ fates) = (one ≡ fate.Pass) × AllPass fates
+-- ---- events
 
 -- no crash, no suspicion, no exchange of the wire
 abbrev pub IsPlain : Event → Type 0
@@ -27,7 +23,7 @@ IsPlain (event.Crash node) = ⊥
 IsPlain (event.Suspect node) = ⊥
 IsPlain event.Swap = ⊥
 
--- some fate of these steps isn't Pass, or some event is a crash, a suspicion or an exchange
+-- some fate of these steps doesn't pass, or some event is a crash, a suspicion or an exchange
 abbrev pub IsFaulty : List Step → Type 0
 IsFaulty [] = ⊥
 IsFaulty (step ∷ steps) = ((AllPass step.fates → ⊥) ⊎ (IsPlain step.event → ⊥)) ⊎ IsFaulty steps

@@ -2,5 +2,3 @@ pub mod Faultless
 pub mod Paid
 pub mod Bound
 pub mod Tie
-pub mod Sent
-pub mod Logs

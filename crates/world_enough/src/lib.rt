@@ -1,9 +1,9 @@
 //! Enough events, the world's half: how many events are enough where the network loses nothing and no member fails (docs/EVENTS.md).
 //!
-//! A run is faultless where each packet's fate is Pass, no member crashes or is suspected, no wire is exchanged, and of the packets that
-//! are ready the first is delivered; actions and bursts may come in any order. Its group is then what a list of the group's moves leads
-//! to, and the letters in flight are what that list has on its way. All of it is of lawful programs without single objects, by settings
-//! that a run may have. It has no code: its functions are laws, whose bodies are empty or call the laws below.
+//! A run is faultless where each packet's fate is Pass, or a Hold for no ticks, no member crashes or is suspected, no wire is exchanged,
+//! and of the packets that are ready the first is delivered; actions and bursts may come in any order. Its group is then what a list of
+//! the group's moves leads to, and the letters in flight are what that list has on its way. All of it is of lawful programs without
+//! single objects, by settings that a run may have. It has no code: its functions are laws, whose bodies are empty or call the laws below.
 #![tactic(auto)]
 
 ghost use Rattle.std.specs.Prelude.{◌≡◌};
@@ -125,7 +125,7 @@ pub fn faultless_runs_go_well<P: Processor>(machine: &P)
 }
 
 /// In every run in which of the packets that are ready the first comes: without a fault it goes well; and where it is out of events it had
-/// as many as were stated, and some fate was other than Pass, or a member crashed or was suspected, or a wire was exchanged, or the events
+/// as many as were stated, and some fate didn't pass, or a member crashed or was suspected, or a wire was exchanged, or the events
 /// stated are no more than its bound. A call of this function does nothing.
 pub fn events_are_enough<P: Processor>(machine: &P)
     ensures { EventsAreEnough (P.performs machine.now) (P.computes machine.now) }

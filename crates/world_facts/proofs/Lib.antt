@@ -9,3 +9,4 @@ pub mod Ends
 pub mod WorkedEnds
 pub mod TooManyCrashes
 pub mod Meaning
+pub mod Passing

@@ -6,3 +6,5 @@ pub mod Processes
 pub mod Ends
 pub mod WorkedEnds
 pub mod TooManyCrashes
+pub mod Logs
+pub mod Passing

@@ -8,6 +8,7 @@
 
 ghost use Rattle.world_facts.specs.Counted.{AllCounted, StepsLeave};
 ghost use Rattle.world_facts.specs.Ends.{AllEndsStand, EndsMean, FinishedRunsEnd};
+ghost use Rattle.world_facts.specs.Passing.{IsTestOfPassing};
 ghost use Rattle.world_facts.specs.Places.{AllPlaced, FrontsOfBooks, WorkedPlaces};
 ghost use Rattle.world_facts.specs.Possible.{StepsMay};
 ghost use Rattle.world_facts.specs.Processes.{AllBegin, AllStand, HomesAreMembers};
@@ -91,4 +92,9 @@ pub fn premises_met()
 /// the run goes on. 205 steps, which the check computes.
 pub fn too_many_crashes()
     ensures { TooManyCrashes }
+{}
+
+/// Fates that pass whatever packet they come to: the test of them holds of just those that pass at every length of a packet.
+pub fn fates_pass()
+    ensures { IsTestOfPassing }
 {}

@@ -12,13 +12,15 @@ use Rattle.world_rules.specs.Applying.{answers, applies, applies_each, applies_o
 use Rattle.world_rules.specs.Frame.{Frame, group}
 use Rattle.world_rules.specs.Nodes.{NodeWork, known, past_after}
 use Rattle.world_rules.specs.Processes.{Begun, begun_by, home_in, singles_of}
+use Rattle.world_law.specs.Moments.{sent_letters}
 use Rattle.world_law.proofs.Still.{Others, Still, still_answers, still_begins, still_on, still_reads}
 
--- the member and what the group remembers stay, and the copies applied between none and so many entries more
+-- the member, what the group remembers and which of its letters were sent stay, and the copies applied between none and so many entries more
 pub record Applied (g : Group Message) (m more : ℕ) (v u : NodeWork) : Type 0 where
   pub member : u.node.member ≡ v.node.member
   pub past : (p : Past Message) → past_after g m u.deeds p ≡ past_after g m v.deeds p
   pub others : Others v.deeds → Others u.deeds
+  pub letters : sent_letters u.deeds ≡ sent_letters v.deeds
   pub least : v.node.copies.applied ≤ u.node.copies.applied
   pub most : u.node.copies.applied ≤ v.node.copies.applied + more
 
@@ -36,15 +38,15 @@ applied_with f g m k processes count place x v =
     still_on (still_answers g m place (lines_after (singles_of f processes) f.performs v.node.copies x) taken)
     (still_on (still_begins g m k count born told) (still_reads f g m u.node.copies.processes u)) in
     let n = one_more (singles_of f processes) f.performs v.node.copies x (home_in processes x.process.0 == k) in
-    record { member = s.member; past = λ p. s.past p; others = s.others; least = omega (arith, s.applied, n); most = omega (arith, s.applied, n) }
+    record { member = s.member; past = λ p. s.past p; others = s.others; letters = s.letters; least = omega (arith, s.applied, n); most = omega (arith, s.applied, n) }
 
 pub applied_one : (f : Frame) (g : Group Message) (m k : ℕ) (x : Message) (v : NodeWork) → Applied g m 1 v (applies_one f k x v)
 applied_one f g m k x v = applied_with f g m k (known f v.node) v.node.copies.processes (suc v.node.copies.applied) x v
 
 applied_none : (g : Group Message) (m more : ℕ) (v : NodeWork) → Applied g m more v v
-applied_none g m more v = record { member = refl; past = λ p. refl; others = λ h. h; least = omega arith; most = omega arith }
+applied_none g m more v = record { member = refl; past = λ p. refl; others = λ h. h; letters = refl; least = omega arith; most = omega arith }
 
-applied_each : (f : Frame) (g : Group Message) (m k : ℕ) (xs : List Message) (v : NodeWork) → Applied g m (length xs) v (applies_each f k xs v)
+pub applied_each : (f : Frame) (g : Group Message) (m k : ℕ) (xs : List Message) (v : NodeWork) → Applied g m (length xs) v (applies_each f k xs v)
 applied_each f g m k [] v = applied_none g m 0 v
 applied_each f g m k (x ∷ xs) v = cond_both (passes_limit f v.node x) _ _ (λ u. Applied g m (length (x ∷ xs)) v u) (λ e. applied_none g m _ v)
     (λ e.
@@ -54,6 +56,7 @@ applied_each f g m k (x ∷ xs) v = cond_both (passes_limit f v.node x) _ _ (λ 
       member = rest.member ∙ one.member;
       past = λ p. rest.past p ∙ one.past p;
       others = λ h. rest.others (one.others h);
+      letters = rest.letters ∙ one.letters;
       least = omega (arith, one.least, rest.least);
       most = omega (arith, one.most, rest.most);
     })
@@ -66,7 +69,7 @@ applied_due f g m k v below =
     let n : length (due_entries v.node) ≡ min v.node.member.accepted (length v.node.member.log) - v.node.copies.applied =
     length-drop v.node.copies.applied (take v.node.member.accepted v.node.member.log) ∙
     ap (λ z. z - v.node.copies.applied) (length-take v.node.member.accepted v.node.member.log) in
-    record { member = due.member; past = due.past; others = due.others; least = due.least; most = omega (arith, due.most, n) }
+    record { member = due.member; past = due.past; others = due.others; letters = due.letters; least = due.least; most = omega (arith, due.most, n) }
 
 -- one entry is one more
 pub applied_exactly : (f : Frame) (m : ℕ) (x : Message) (v : NodeWork) → (applies_one f m x v).node.copies.applied ≡ v.node.copies.applied + 1

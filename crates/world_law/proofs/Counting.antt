@@ -279,7 +279,7 @@ count_walks laws f small = record {
       let v : NodeWork = idle (w.nodes m) in
       count_part f m s c (computes i.0 place burst.reads burst.end (w.nodes m)) (untouched w)
       (at_stills f w m s c v (computes i.0 place burst.reads burst.end (w.nodes m))
-      (still_on (still_performed (group f) m place burst.reads v) (record { member = refl; past = λ p. refl; applied = refl; others = λ e. e }))
+      (still_on (still_performed (group f) m place burst.reads v) (record { member = refl; past = λ p. refl; applied = refl; letters = refl; others = λ e. e }))
       (at_idle f w m s c h));
   taken = λ w number copy s c h. h;
   waited = λ w s c h. h;

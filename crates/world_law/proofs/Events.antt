@@ -94,7 +94,7 @@ good_submits : (laws : Laws) (f : Frame) (w : World) (m i : ℕ) (r : Played) (a
     may_submit (group f) (group_world w) m x ≡ true → Good (group f) h.events w m (submits f m i r act x (idle (w.nodes m)))
 good_submits laws f w m i r act x small on h may =
     let v : NodeWork = plays i (moves_to (Submitted act) r) (idle (w.nodes m)) in
-    let s : Still (group f) m (idle (w.nodes m)) v = record { member = refl; past = λ p. refl; applied = refl; others = λ h. h } in
+    let s : Still (group f) m (idle (w.nodes m)) v = record { member = refl; past = λ p. refl; applied = refl; letters = refl; others = λ h. h } in
     let same : group_world w ≡ at_work (group f) w m v = sym (at_still (group f) w m (idle (w.nodes m)) v refl refl ∙ at_start (group f) w m) in
     good_submit laws (group f) w m x v small on (subst (λ z. may_submit (group f) z m x ≡ true) same may)
     (good_still (group f) w m (idle (w.nodes m)) v s (start_good laws f w m small h))
@@ -239,7 +239,7 @@ going_happens laws f w (event.Burst process place turns) burst small may submit 
     part_goes f (home_of f w process.0) (computes process.0 place burst.reads burst.end (w.nodes (home_of f w process.0))) (untouched w) (going f w h)
     (rounded_still laws f w (home_of f w process.0) _ small h
     (still_on (still_performed (group f) (home_of f w process.0) place burst.reads (idle (w.nodes (home_of f w process.0))))
-    (record { member = refl; past = λ p. refl; applied = refl; others = λ e. e })))
+    (record { member = refl; past = λ p. refl; applied = refl; letters = refl; others = λ e. e })))
 going_happens laws f w (event.Act process) given small may submit h =
     part_goes f (home_of f w process.0) (acts f (home_of f w process.0) process.0 (w.nodes (home_of f w process.0))) (untouched w) (going f w h)
     (rounded_acts laws f w (home_of f w process.0) process.0 small

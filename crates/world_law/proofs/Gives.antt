@@ -89,7 +89,7 @@ kept_submits : (more : MoreLaws) (f : Frame) → 2 * (group f).resilience < (gro
     KeepsEntries (w.nodes m) (submits f m i r act x (idle (w.nodes m))).node
 kept_submits more f small w m i r act x grouped on may =
     let v : NodeWork = plays i (moves_to (Submitted act) r) (idle (w.nodes m)) in
-    let s : Still (group f) m (idle (w.nodes m)) v = record { member = refl; past = λ p. refl; applied = refl; others = λ h. h } in
+    let s : Still (group f) m (idle (w.nodes m)) v = record { member = refl; past = λ p. refl; applied = refl; letters = refl; others = λ h. h } in
     let same : group_world w ≡ at_work (group f) w m v = sym (at_still (group f) w m (idle (w.nodes m)) v refl refl ∙ at_start (group f) w m) in
     kept_by more f small w m v (submits f m i r act x (idle (w.nodes m))) (Event.Submit m x)
     (good_still (group f) w m (idle (w.nodes m)) v s (start more f small w m grouped))

@@ -3,6 +3,7 @@ pub mod Maps
 pub mod Still
 pub mod Applied
 pub mod AtWork
+pub mod Onwards
 pub mod Grouping
 pub mod Travels
 pub mod Homes

@@ -1,6 +1,6 @@
 -- The group at each moment of an event, while a member does its part: it is still the world of a run of the group. Whoever walks
 -- through a member's part, as `catches_up` does it, has here what the group says on the way.
-use Rattle.std.specs.Prelude.{◌≡◌, ◌≤◌, ◌<◌, ◌*◌, ◌&&◌, ℕ, true, nat_lt, List, [], ◌∷◌, Some, slice_get, take}
+use Rattle.std.specs.Prelude.{◌≡◌, ◌≤◌, ◌<◌, ◌*◌, ◌&&◌, ℕ, true, nat_lt, List, [], ◌∷◌, ◌++◌, Some, slice_get, take}
 use Rattle.value_core.specs.declared.message.Message.{Message}
 use Rattle.group_rules.specs.Member.{Letter, Member}
 use Rattle.group_rules.specs.Reset.{coordinate}
@@ -33,6 +33,19 @@ Others (Acts (Act.Begins k log answers) ∷ deeds) = Others deeds
 Others (Mails mail ∷ deeds) = IsErrand mail × Others deeds
 Others (Applies lines ∷ deeds) = Others deeds
 Others (Performs performed ∷ deeds) = Others deeds
+
+-- the group's letters that were sent, in order: the latest deed is the first
+abbrev pub sent_letters : List Deed → List (Letter Message)
+sent_letters [] = []
+sent_letters (Submits x ∷ deeds) = sent_letters deeds
+sent_letters (Acts (Act.Sends letter) ∷ deeds) = sent_letters deeds ++ letter ∷ []
+sent_letters (Acts (Act.Keeps packet) ∷ deeds) = sent_letters deeds
+sent_letters (Acts (Act.Orders k x) ∷ deeds) = sent_letters deeds
+sent_letters (Acts (Act.Begins k log answers) ∷ deeds) = sent_letters deeds
+sent_letters (Mails (Mail.Grouped letter) ∷ deeds) = sent_letters deeds ++ letter ∷ []
+sent_letters (Mails (Mail.Sends incarnation from to errand) ∷ deeds) = sent_letters deeds
+sent_letters (Applies lines ∷ deeds) = sent_letters deeds
+sent_letters (Performs performed ∷ deeds) = sent_letters deeds
 
 -- the world while member m is at this work
 abbrev pub world_at : Frame → World → ℕ → NodeWork → World

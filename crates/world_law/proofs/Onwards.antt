@@ -24,12 +24,13 @@ use Rattle.world_rules.specs.Mail.Errand.{Ask, Answer}
 use Rattle.world_rules.specs.Nodes.{Given, NodeWork, becomes, changes, does, if_played, joins, known, plays}
 use Rattle.world_rules.specs.Nodes.Deed.{Performs as PerformsDeed}
 use Rattle.world_rules.specs.Owners.{arrives, hands, hands_all, hands_to, hears_as, hears_of, holds, is_held, performs_call, takes, takes_asked, takes_call, takes_each, takes_reached, waits_here}
-use Rattle.world_rules.specs.Parts.{catches_up}
+use Rattle.value_core.specs.declared.action.Action.TheVariants as action
+use Rattle.guard_queue.specs.declared.queue.Suspended.{Suspended}
+use Rattle.world_rules.specs.Parts.{asks_again, asks_again_at, asks_again_by, asks_again_of, asks_below, asks_owner, catches_up}
 use Rattle.world_rules.specs.Played.{Played, Stage, newborn, receives}
 use Rattle.world_rules.specs.Played.Stage.{Computing, Acting, Submitted, Reading, Asking, Over}
-use Rattle.world_rules.specs.Processes.{Begun, begun_by, home_in, singles_of}
-use Rattle.world_facts.specs.Ends.{turns_in}
-use Rattle.world_enough.proofs.Maps.{at_both}
+use Rattle.world_rules.specs.Processes.{Begun, begun_by, home_in, owner_in, singles_of}
+use Rattle.world_law.proofs.Maps.{at_both}
 
 -- ---- the relation
 
@@ -61,6 +62,10 @@ pub record AreOnward (v u : NodeWork) : Type 0 where
 
 pub stay : (v u : NodeWork) → u.node.copies.processes ≡ v.node.copies.processes → u.node.played ≡ v.node.played → AreOnward v u
 stay v u count played = record { more = omega (arith, count); each = λ i. inl (ap (λ (p : ℕ → Option Played). p i) played) }
+
+abbrev turns_in : Option Played → ℕ
+turns_in None = 0
+turns_in (Some r) = r.turns
 
 abbrev replies_in : Option Played → ℕ
 replies_in None = 0
@@ -160,12 +165,12 @@ on_begins n i (process ∷ processes) v u free h = cond_both (process.home == n)
 on_hands_to : (k home place : ℕ) (l : Line) (v : NodeWork) → AreOnward v (hands_to k home place l v)
 on_hands_to k home place l v = cond_both (home == k) _ _ (λ u. AreOnward v u) (λ e. on_changes place l.reply l.process.0 v) (λ e. stay v _ refl refl)
 
-on_hands : (f : Frame) (k : ℕ) (l : Line) (v : NodeWork) → AreOnward v (hands f k l v)
+pub on_hands : (f : Frame) (k : ℕ) (l : Line) (v : NodeWork) → AreOnward v (hands f k l v)
 on_hands f k l v =
     let u : NodeWork = does (PerformsDeed (record { place = v.node.copies.applied; line = l })) v in
     on_on (stay v u refl refl) (on_hands_to k (home_in (known f v.node) l.process.0) v.node.copies.applied l u)
 
-on_hands_all : (f : Frame) (k : ℕ) (ls : List Line) (v : NodeWork) → AreOnward v (hands_all f k ls v)
+pub on_hands_all : (f : Frame) (k : ℕ) (ls : List Line) (v : NodeWork) → AreOnward v (hands_all f k ls v)
 on_hands_all f k [] v = stay v v refl refl
 on_hands_all f k (l ∷ ls) v = on_on (on_hands f k l v) (on_hands_all f k ls (hands f k l v))
 
@@ -197,18 +202,18 @@ on_hears : (place i : ℕ) (call : CallNo) (reply : Reply) (r : Option Played) (
 on_hears place i call reply None v is = stay v v refl refl
 on_hears place i call reply (Some r) v is = on_hears_as place i call reply r r.stage v is
 
-on_takes : (f : Frame) (k : ℕ) (errand : Errand) (v : NodeWork) → AreOnward v (takes f k errand v)
+pub on_takes : (f : Frame) (k : ℕ) (errand : Errand) (v : NodeWork) → AreOnward v (takes f k errand v)
 on_takes f k (Ask place x) v = on_asked f k x (v.node.given x.process.0) v
 on_takes f k (Answer place i call reply) v = on_hears place i.0 call reply (v.node.played i.0) v refl
 
-on_each : (f : Frame) (k : ℕ) (errands : List Errand) (v : NodeWork) → AreOnward v (takes_each f k errands v)
+pub on_each : (f : Frame) (k : ℕ) (errands : List Errand) (v : NodeWork) → AreOnward v (takes_each f k errands v)
 on_each f k [] v = stay v v refl refl
 on_each f k (errand ∷ errands) v = on_on
     (cond_both (nat_le (place_of errand) v.node.copies.applied) (takes f k errand v) (holds errand v) (λ u. AreOnward v u)
     (λ e. on_takes f k errand v) (λ e. stay v (holds errand v) refl refl))
     (on_each f k errands _)
 
-on_reached : (f : Frame) (k : ℕ) (v : NodeWork) → AreOnward v (takes_reached f k v)
+pub on_reached : (f : Frame) (k : ℕ) (v : NodeWork) → AreOnward v (takes_reached f k v)
 on_reached f k v = cond_both v.node.member.outside _ _ (λ u. AreOnward v u) (λ e. stay v v refl refl)
     (λ e. on_on (stay v (becomes (record v.node { held = [] }) v) refl refl) (on_each f k v.node.held (becomes (record v.node { held = [] }) v)))
 
@@ -243,9 +248,40 @@ on_round f m v = on_on (on_applies_each f m (due_entries v.node) v)
     (cond_both (nat_lt (applies f m v).node.member.applied (applies f m v).node.copies.applied) _ _ (λ u. AreOnward (applies f m v) u)
     (λ e. on_joins _ (applies f m v)) (λ e. stay (applies f m v) (applies f m v) refl refl))
 
-on_rounds : (f : Frame) (m : ℕ) (waiting : List (Waiting Message)) (v : NodeWork) → AreOnward v (rounds f m waiting v)
+pub on_rounds : (f : Frame) (m : ℕ) (waiting : List (Waiting Message)) (v : NodeWork) → AreOnward v (rounds f m waiting v)
 on_rounds f m [] v = on_round f m v
 on_rounds f m (one ∷ more) v = on_on (on_round f m v) (on_rounds f m more (round f m v))
 
 pub on_catches : (f : Frame) (m : ℕ) (v : NodeWork) → AreOnward v (catches_up f m v)
 on_catches f m v = on_on (on_rounds f m v.node.member.waiting v) (on_reached f m (applies_all f m v))
+
+-- ---- a tick
+
+on_owner : (f : Frame) (k : ℕ) (r : Played) (call : Suspended) (v : NodeWork) → AreOnward v (asks_owner f k r call v)
+on_owner f k r call v = cond_both (owner_in (known f v.node) call.object == k) _ _ (λ u. AreOnward v u) (λ e. stay v v refl refl) (λ e. stay v _ refl refl)
+
+on_again_by : (f : Frame) (k i : ℕ) (r : Played) (act : Action) (v : NodeWork) → AreOnward v (asks_again_by f k i r act v)
+on_again_by f k i r (action.Call kind op object args) v = on_owner f k r _ v
+on_again_by f k i r (action.Make kind object) v = stay v v refl refl
+on_again_by f k i r (action.Fork text args place_on) v = stay v v refl refl
+on_again_by f k i r action.Ended v = stay v v refl refl
+on_again_by f k i r (action.Faulted fault) v = stay v v refl refl
+
+on_again_at : (f : Frame) (k i : ℕ) (r : Played) (stage : Stage) (v : NodeWork) → AreOnward v (asks_again_at f k i r stage v)
+on_again_at f k i r (Asking act) v = on_again_by f k i r act v
+on_again_at f k i r Computing v = stay v v refl refl
+on_again_at f k i r (Acting act) v = stay v v refl refl
+on_again_at f k i r (Submitted act) v = stay v v refl refl
+on_again_at f k i r (Reading act) v = stay v v refl refl
+on_again_at f k i r (Over act) v = stay v v refl refl
+
+on_again_of : (f : Frame) (k i : ℕ) (r : Option Played) (v : NodeWork) → AreOnward v (asks_again_of f k i r v)
+on_again_of f k i None v = stay v v refl refl
+on_again_of f k i (Some r) v = on_again_at f k i r r.stage v
+
+on_below : (f : Frame) (k n : ℕ) (v : NodeWork) → AreOnward v (asks_below f k n v)
+on_below f k zero v = stay v v refl refl
+on_below f k (suc i) v = on_on (on_below f k i v) (on_again_of f k i ((asks_below f k i v).node.played i) (asks_below f k i v))
+
+pub on_again : (f : Frame) (k : ℕ) (v : NodeWork) → AreOnward v (asks_again f k v)
+on_again f k v = cond_both v.node.member.outside _ _ (λ u. AreOnward v u) (λ e. stay v v refl refl) (λ e. on_below f k v.node.copies.processes v)
