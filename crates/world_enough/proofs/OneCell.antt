@@ -1,5 +1,5 @@
 -- The run of one cell, step by step: each step is faultless.
-use Rattle.std.proofs.Common.{◌≡◌, refl, arith, List, [], ◌∷◌}
+use Rattle.std.proofs.Common.{refl, arith, List, [], ◌∷◌}
 use Rattle.value_core.specs.declared.action.Action.TheVariants as action
 use Rattle.value_core.specs.declared.action.Reply.TheVariants as answer
 use Rattle.world_rules.proofs.Scenes.{checks_in, checks_in_read, first}

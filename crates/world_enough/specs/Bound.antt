@@ -1,5 +1,5 @@
 -- How many events are enough (docs/EVENTS.md): the bound, and what is so of a faultless run and of one that is out of events.
-use Rattle.std.specs.Prelude.{◌≡◌, ◌≤◌, ◌<◌, ◌⊎◌, ◌+◌, ◌*◌, ◌/◌, ℕ, Bool, true, false, List, [], length, Option, None, Some}
+use Rattle.std.specs.Prelude.{◌≡◌, ◌≤◌, ◌<◌, ◌⊎◌, ◌+◌, ◌*◌, ◌/◌, ℕ, Bool, true, false, List, [], length}
 use Rattle.orca_base.specs.declared.limits.TheConstants.{BURST_TURNS}
 use Rattle.value_core.specs.Meaning.{Computes, Performs}
 use Rattle.group_rules.specs.Sets.{count}
