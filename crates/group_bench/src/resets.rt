@@ -42,7 +42,7 @@ fn answer(
     incarnation: u64,
 ) -> Result<Option<Answer>, NoMemory>
     requires { IsMember member.old }
-    ensures { IsMember member.new }
+    ensures { OnOk result (IsMember member.new) }
 {
     let mut sends = invited(member, alloc, from, incarnation)?;
     match sends.pop() {
@@ -206,7 +206,7 @@ fn install(
     heard: &[(u8, u64)],
 ) -> Result<(), NoMemory>
     requires { IsMember member.old }
-    ensures { IsMember member.new }
+    ensures { OnOk result (IsMember member.new) }
 {
     if !can_install(member, &news) {
         return Ok(());

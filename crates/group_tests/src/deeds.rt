@@ -1,6 +1,6 @@
 //! What a member does and what comes to it, as data.
 
-ghost use Rattle.std.specs.Prelude.{◌≡◌, ◌<◌, ◌*◌, ◌∷◌, [], IfOk};
+ghost use Rattle.std.specs.Prelude.{◌≡◌, ◌<◌, ◌*◌, ◌∷◌, [], IfOk, OnOk};
 ghost use Rattle.group_tests.specs.Tested.{IsTested};
 
 use crate::conditions::{can_hear, can_join};
@@ -131,7 +131,7 @@ fn submit(
     message: Plain,
 ) -> Result<Sends<Plain>, NoMemory>
     requires { IsTested member.old }
-    ensures { IsTested member.new }
+    ensures { OnOk result (IsTested member.new) }
 {
     member.submit(alloc, message)
 }
@@ -144,7 +144,7 @@ fn receive(
     packet: Packet<Plain>,
 ) -> Result<Sends<Plain>, NoMemory>
     requires { IsTested member.old }
-    ensures { IsTested member.new }
+    ensures { OnOk result (IsTested member.new) }
 {
     member.receive(alloc, from, packet)
 }
@@ -152,7 +152,7 @@ fn receive(
 // It applied its entries up to this number.
 fn note(alloc: Global, member: &mut Member<Plain>, number: u64) -> Result<Sends<Plain>, Refused>
     requires { IsTested member.old }
-    ensures { IsTested member.new }
+    ensures { OnOk result (IsTested member.new) }
 {
     if number < member.applied() || member.accepted() < number || number >= 1 << 62 {
         return Err(Refused::Condition);
@@ -163,7 +163,7 @@ fn note(alloc: Global, member: &mut Member<Plain>, number: u64) -> Result<Sends<
 // It coordinates.
 fn begin(alloc: Global, member: &mut Member<Plain>) -> Result<Sends<Plain>, Refused>
     requires { IsTested member.old }
-    ensures { IsTested member.new }
+    ensures { OnOk result (IsTested member.new) }
 {
     if member.promised() >= 1 << 62 {
         return Err(Refused::Condition);
@@ -174,7 +174,7 @@ fn begin(alloc: Global, member: &mut Member<Plain>) -> Result<Sends<Plain>, Refu
 // A tick alone: what is sent, where it isn't due.
 fn tick_alone(alloc: Global, member: &mut Member<Plain>) -> Result<Option<Sends<Plain>>, NoMemory>
     requires { IsTested member.old }
-    ensures { IsTested member.new }
+    ensures { OnOk result (IsTested member.new) }
 {
     match member.timer(alloc)? {
         Timed::Due => Ok(None),
@@ -185,7 +185,7 @@ fn tick_alone(alloc: Global, member: &mut Member<Plain>) -> Result<Option<Sends<
 // A tick.
 fn tick(alloc: Global, member: &mut Member<Plain>) -> Result<Sends<Plain>, Refused>
     requires { IsTested member.old }
-    ensures { IsTested member.new }
+    ensures { OnOk result (IsTested member.new) }
 {
     match tick_alone(alloc, member)? {
         None => begin(alloc, member),
@@ -201,7 +201,7 @@ fn invite(
     incarnation: u64,
 ) -> Result<Sends<Plain>, NoMemory>
     requires { IsTested member.old }
-    ensures { IsTested member.new }
+    ensures { OnOk result (IsTested member.new) }
 {
     invited(member, alloc, from, incarnation)
 }
@@ -214,7 +214,7 @@ fn answer(
     join: Join<Plain>,
 ) -> Result<(Joined, Sends<Plain>), Refused>
     requires { IsTested member.old }
-    ensures { IsTested member.new }
+    ensures { OnOk result (IsTested member.new) }
 {
     if from >= member.config().nodes {
         return Err(Refused::Condition);
@@ -234,7 +234,7 @@ fn hear(
 ) -> Result<Sends<Plain>, Refused>
     requires member { IsTested member.old }
     requires members { news.members ≡ 1 ∷ 2 ∷ [] }
-    ensures { IsTested member.new }
+    ensures { OnOk result (IsTested member.new) }
 {
     if !can_hear(member, &news) {
         return Err(Refused::Condition);
@@ -258,7 +258,7 @@ fn submit_all(
     last: u64,
 ) -> Result<(), NoMemory>
     requires { IsTested member.old }
-    ensures { IsTested member.new }
+    ensures { OnOk result (IsTested member.new) }
 {
     'calls: for call in first..last.saturating_add(1) {
         let _sent = submit(alloc, member, message(call))?;
@@ -269,7 +269,7 @@ fn submit_all(
 // Many entries come.
 fn entries(alloc: Global, member: &mut Member<Plain>, first: u64, last: u64) -> Result<(), NoMemory>
     requires { IsTested member.old }
-    ensures { IsTested member.new }
+    ensures { OnOk result (IsTested member.new) }
 {
     'entries: for number in first..last.saturating_add(1) {
         let _sent = receive(alloc, member, 0, entry(number, number.saturating_sub(1), 0))?;
@@ -291,7 +291,7 @@ pub fn entry(number: u64, accepted: u64, stable: u64) -> Packet<Plain> {
 // A deed that sends.
 fn sent_by(alloc: Global, member: &mut Member<Plain>, deed: &Deed) -> Result<Sends<Plain>, Refused>
     requires { IsTested member.old }
-    ensures { IsTested member.new }
+    ensures { OnOk result (IsTested member.new) }
 {
     match deed {
         Deed::Submit { call, bytes } => Ok(submit(
@@ -317,7 +317,7 @@ fn sent_by(alloc: Global, member: &mut Member<Plain>, deed: &Deed) -> Result<Sen
 // Deeds of which it isn't told what they send.
 fn silent_deed(alloc: Global, member: &mut Member<Plain>, deed: &Deed) -> Result<(), NoMemory>
     requires { IsTested member.old }
-    ensures { IsTested member.new }
+    ensures { OnOk result (IsTested member.new) }
 {
     match deed {
         Deed::SubmitAll { first, last } => submit_all(alloc, member, *first, *last),
@@ -333,7 +333,7 @@ fn silent_deed(alloc: Global, member: &mut Member<Plain>, deed: &Deed) -> Result
 // A Result of members 1 and 2 comes, with these messages.
 fn announce(alloc: Global, member: &mut Member<Plain>, deed: &Deed) -> Result<Sends<Plain>, Refused>
     requires { IsTested member.old }
-    ensures { IsTested member.new }
+    ensures { OnOk result (IsTested member.new) }
 {
     let Deed::Announced {
         from,
@@ -361,7 +361,7 @@ fn announce(alloc: Global, member: &mut Member<Plain>, deed: &Deed) -> Result<Se
 // What a deed sends, and what comes of an answer.
 fn done_by(alloc: Global, member: &mut Member<Plain>, deed: &Deed) -> Result<Done, Refused>
     requires { IsTested member.old }
-    ensures { IsTested member.new }
+    ensures { OnOk result (IsTested member.new) }
 {
     match deed {
         Deed::Joined { from, join } => {
@@ -448,7 +448,7 @@ fn all_done(
     deeds: &[Deed],
 ) -> Result<(Vec<Told>, Option<Joined>), Refused>
     requires { IsTested member.old }
-    ensures { IsTested member.new }
+    ensures { OnOk result (IsTested member.new) }
 {
     let mut told = Vec::new(alloc);
     let mut outcome = None;
