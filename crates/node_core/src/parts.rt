@@ -33,7 +33,12 @@ impl<P: OneRun> Node<P> {
     /// it goes as an Ask. Then the member applies what is accepted, and takes the Asks and Answers whose place it has reached.
     ///
     /// Where memory runs out the node is let go: whoever wants it as it was keeps a copy.
-    pub fn act(self, alloc: Global, machine: &P, process: ProcessNo) -> Result<(Node<P>, Moved), NoMemory>
+    pub fn act(
+        self,
+        alloc: Global,
+        machine: &P,
+        process: ProcessNo,
+    ) -> Result<(Node<P>, Moved), NoMemory>
         requires { MayDo P.stood P.left P.run.frame (fitness_of (P.fits_state machine.now) (P.fits_args machine.now) (P.fits_text machine.now) (P.fits_reply machine.now)) self (Acts process.0) }
         ensures does { IfOk result (λ r. Does P.stood P.left P.run.frame (fitness_of (P.fits_state machine.now) (P.fits_args machine.now) (P.fits_text machine.now) (P.fits_reply machine.now)) self r.0 r.1 (Acts process.0)) }
         ensures tasks { IfOk result (λ r. KeepsTasks self r.0) }
