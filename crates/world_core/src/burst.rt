@@ -40,16 +40,16 @@ pub(crate) fn run_on<P: OneRun>(
     machine: &P,
     before: &Node<P>,
     process: ProcessNo,
-    view: &View,
+    view: View,
     budget: u32,
 ) -> Result<Ran<P>, NoMemory>
     requires { MayHandOut P.stood P.left P.run.frame
         (fitness_of (P.fits_state machine.now) (P.fits_args machine.now) (P.fits_text machine.now) (P.fits_reply machine.now))
-        process view.now budget before.now }
-    ensures { IfOk result (HasRunOn P.stood P.left P.run.frame process view.now before.now) }
+        process view budget before.now }
+    ensures { IfOk result (HasRunOn P.stood P.left P.run.frame process view before.now) }
 {
     let mut node = before.copy(alloc)?;
-    let (burst, turns) = node.burst_on(alloc, machine, process, view, budget)?;
+    let (burst, turns) = node.burst_on(alloc, machine, process, &view, budget)?;
     Ok(Ran { node, burst, turns })
 }
 

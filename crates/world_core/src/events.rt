@@ -179,7 +179,7 @@ fn computes<P: OneRun>(
     let view = view_at(parts, alloc, machine, home, place)?;
     let start = parts.turns_of(process);
     let budget = budget(parts, start);
-    let ran = run_on(alloc, machine, before, process, &view, budget)?;
+    let ran = run_on(alloc, machine, before, process, view, budget)?;
     if ran.turns - start == u64::from(turns) {
         Ok(with_burst(alloc, home, ran)?)
     } else {
