@@ -28,7 +28,7 @@ use Rattle.node_rules.specs.Conditions.{Fitness}
 use Rattle.node_rules.specs.Moments.{Moment, Walks, at_work, works}
 use Rattle.node_rules.specs.Moments.Goes.{Asks_again}
 use Rattle.node_rules.specs.Moments.Walks.{Stays}
-use Rattle.node_rules.specs.Starts.{EventFits, Start, begun, part}
+use Rattle.node_rules.specs.Starts.{EventFits, Start, begun}
 use Rattle.node_rules.specs.Starts.Start.{Acts, Comes, Suspects, Ticks}
 use Rattle.node_rules.proofs.Walking.{walk_on, walk_one}
 use Rattle.node_core.specs.Calls.{GoesFree, HasGathered, HasMoved, IsFree}
@@ -37,7 +37,6 @@ use Rattle.node_core.specs.Events.{HasCome, HasDelivered, HasDone, HasStarted, H
 use Rattle.node_core.specs.Pieces.{Becomes, GoesOn, IsSomewhere, resident_at}
 use Rattle.node_parts.specs.Shown.{Left, Stood}
 use Rattle.node_core.specs.Stands.{Does as DoesEvent, IsAt, IsDone, IsWork, MayDo, MayTakePacket, TakesPacket}
-use Rattle.node_parts.specs.declared.moved.Moved.{Moved}
 use Rattle.node_core.specs.declared.node.Node.{Node}
 use Rattle.node_parts.specs.declared.resident.Resident.{Resident}
 use Rattle.node_parts.specs.declared.resident.Stage.{Stage}
