@@ -16,6 +16,5 @@ pub mod Arriving
 pub mod OfMembers
 pub mod Installing
 pub mod Coordinating
-pub mod Settling
 pub mod Telling
 pub mod Staying

@@ -2,8 +2,9 @@
 //!
 //! The floor above uses `Member`, whose clauses say of each call: for each member of the rules that the state stood for, it
 //! then stands for that of the row, and what is sent is what the row posts, in order. It stands on `group_rules`, whose rows
-//! it cites, and on `history_buffer`, whose window keeps the log's entries behind the purged ones. After want of memory a
-//! member is as it was. Which incarnation is coordinated or joined isn't judged here.
+//! it cites, and on `history_buffer`, whose window keeps the log's entries behind the purged ones. Its calls change the member
+//! where it stands. Where memory runs out nothing is said of the member: whoever wants it as it was keeps a copy. Which
+//! incarnation is coordinated or joined isn't judged here.
 #![tactic(auto)]
 
 mod acks;

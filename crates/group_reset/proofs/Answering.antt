@@ -120,14 +120,14 @@ pub own_invitation : {B R : Type 0} (name : B → MessageId) (bytes : B → ℕ)
 own_invitation {B} {R} name bytes from k s sends none own = λ N r which m h.
     held_else (AtWork (group_of name bytes N r) which s sends) (heeds m k && not (k % N == which)) _ _ (and_not (heeds m k) (k % N == which) (rw (← h.nodes, ← h.me) own)) (begins none h)
 
-pub invited_row : {B R : Type 0} (name : B → MessageId) (bytes : B → ℕ) (from k : ℕ) (s n l t : Member B R) (sends : List (Letter B R)) → heeds_by s k ≡ true → (k % s.config.nodes == s.me) ≡ false → Follows name bytes s n (λ g which m. m) → Follows name bytes n l (λ g which. listens g from k)
+pub invited_row : {B R : Type 0} (name : B → MessageId) (bytes : B → ℕ) (from k : ℕ) (s l t : Member B R) (sends : List (Letter B R)) → heeds_by s k ≡ true → (k % s.config.nodes == s.me) ≡ false → Follows name bytes s l (λ g which. listens g from k)
     → Follows name bytes l t (λ g which. promises_above k) → Answers name bytes k t sends → InvitedAs name bytes from k s t sends
-invited_row {B} {R} name bytes from k s n l t sends holds other copied heard promised d = λ N r which m h.
+invited_row {B} {R} name bytes from k s l t sends holds other heard promised d = λ N r which m h.
     let p = h.promised in
     let low = promised_within s k holds in
     let q = listens_promised (group_of name bytes N r) from k m in
     held_then (AtWork (group_of name bytes N r) which t sends) (heeds m k && not (k % N == which)) _ _ (and_but (heeds m k) (k % N == which) (heeds_same k h ∙ holds) (rw (← h.nodes, ← h.me) other))
-    (d N r which (promises_above k (listens (group_of name bytes N r) from k m)) (promised N r which (listens (group_of name bytes N r) from k m) (heard N r which m (copied N r which m h))) (promised_now k (listens (group_of name bytes N r) from k m) (omega arith)))
+    (d N r which (promises_above k (listens (group_of name bytes N r) from k m)) (promised N r which (listens (group_of name bytes N r) from k m) (heard N r which m h)) (promised_now k (listens (group_of name bytes N r) from k m) (omega arith)))
 
 -- ---- Result
 

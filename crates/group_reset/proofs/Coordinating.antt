@@ -218,91 +218,81 @@ gathers_here s e =
     eqb-true (s.promised % s.config.nodes) s.me d.1
 
 -- a member that keeps the answer
-pub keeps_stands : {B R : Type 0} (name : B → MessageId) (bytes : B → ℕ) (N r which from : ℕ) (s n t : Member B R) (join : Join B R) (m : RulesMember B) (report : Report B) → join.incarnation ≡ s.promised → Follows name bytes s n (λ g which m. m) → HasNumbersOf s n → KeepsAnswer name bytes from join n t
+pub keeps_stands : {B R : Type 0} (name : B → MessageId) (bytes : B → ℕ) (N r which from : ℕ) (s t : Member B R) (join : Join B R) (m : RulesMember B) (report : Report B) → join.incarnation ≡ s.promised → KeepsAnswer name bytes from join s t
     → Joins (group_of name bytes N r) which from join s m report → StandsFor (group_of name bytes N r) which t (keeps from report m)
-keeps_stands {B} {R} name bytes N r which from s n t join m report now f same keep j =
-    keep report (ap (λ (k : ℕ). on_join {M = B} {R = R} k report) (same.promised ∙ sym now) ∙ j.carries) j.based N r which m (f N r which m j.stands)
+keeps_stands {B} {R} name bytes N r which from s t join m report now keep j =
+    keep report (ap (λ (k : ℕ). on_join {M = B} {R = R} k report) (sym now) ∙ j.carries) j.based N r which m j.stands
 
-pub keeps_can : {B R : Type 0} (name : B → MessageId) (bytes : B → ℕ) (from : ℕ) (s n t : Member B R) (join : Join B R) → join.incarnation ≡ s.promised → gathering_by s ≡ true → Follows name bytes s n (λ g which m. m) → HasNumbersOf s n → KeepsAnswer name bytes from join n t → HasNumbersOf n t
+pub keeps_can : {B R : Type 0} (name : B → MessageId) (bytes : B → ℕ) (from : ℕ) (s t : Member B R) (join : Join B R) → join.incarnation ≡ s.promised → gathering_by s ≡ true → KeepsAnswer name bytes from join s t → HasNumbersOf s t
     → MayJoin name bytes from join s → CanConclude t
-keeps_can {B} {R} name bytes from s n t join now gathering f same keep more may =
+keeps_can {B} {R} name bytes from s t join now gathering keep more may =
     let N = may.0 in
     let j = may.5 in
-    can_conclude t (keeps from may.4 may.3) here (keeps_stands name bytes may.0 may.1 may.2 from s n t join may.3 may.4 now f same keep j) (j.can (gathering_same j.stands ∙ gathering) (now ∙ sym j.stands.promised))
+    can_conclude t (keeps from may.4 may.3) here (keeps_stands name bytes may.0 may.1 may.2 from s t join may.3 may.4 now keep j) (j.can (gathering_same j.stands ∙ gathering) (now ∙ sym j.stands.promised))
   where
     here : t.promised % t.config.nodes ≡ t.me
-    here = rw (more.promised, more.config, more.me, same.promised, same.config, same.me) (gathers_here s gathering)
+    here = rw (more.promised, more.config, more.me) (gathers_here s gathering)
 
-pub joins_row : {B R : Type 0} (name : B → MessageId) (bytes : B → ℕ) (from : ℕ) (s n t u : Member B R) (join : Join B R) (sends : List (Letter B R)) → join.incarnation ≡ s.promised → gathering_by s ≡ true → Follows name bytes s n (λ g which m. m) → HasNumbersOf s n → KeepsAnswer name bytes from join n t
+pub joins_row : {B R : Type 0} (name : B → MessageId) (bytes : B → ℕ) (from : ℕ) (s t u : Member B R) (join : Join B R) (sends : List (Letter B R)) → join.incarnation ≡ s.promised → gathering_by s ≡ true → KeepsAnswer name bytes from join s t
     → Concludes name bytes t u sends → JoinsAs name bytes from join s u sends
-joins_row {B} {R} name bytes from s n t u join sends now gathering f same keep d = λ N r which m report j.
+joins_row {B} {R} name bytes from s t u join sends now gathering keep d = λ N r which m report j.
     held_then (AtWork (group_of name bytes N r) which u sends) (is_gathering (group_of name bytes N r) which m && (join.incarnation == m.promised)) _ _ (and_both (is_gathering (group_of name bytes N r) which m) (join.incarnation == m.promised) (gathering_same j.stands ∙ gathering) (same_test join.incarnation m.promised (now ∙ sym j.stands.promised)))
-    (d N r which (idle (keeps from report m)) (record { state = keeps_stands name bytes N r which from s n t join m report now f same keep j; sends = refl }) (j.can (gathering_same j.stands ∙ gathering) (now ∙ sym j.stands.promised)))
+    (d N r which (idle (keeps from report m)) (record { state = keeps_stands name bytes N r which from s t join m report now keep j; sends = refl }) (j.can (gathering_same j.stands ∙ gathering) (now ∙ sym j.stands.promised)))
 
-pub joins_outcome : {B R : Type 0} (name : B → MessageId) (bytes : B → ℕ) (from : ℕ) (s n t : Member B R) (join : Join B R) (done : Joined) → join.incarnation ≡ s.promised → gathering_by s ≡ true → Follows name bytes s n (λ g which m. m) → HasNumbersOf s n → KeepsAnswer name bytes from join n t
+pub joins_outcome : {B R : Type 0} (name : B → MessageId) (bytes : B → ℕ) (from : ℕ) (s t : Member B R) (join : Join B R) (done : Joined) → join.incarnation ≡ s.promised → gathering_by s ≡ true → KeepsAnswer name bytes from join s t
     → Tells name bytes t (λ g which m. done ≡ gathered g m) → ComesOf name bytes from join s done
-joins_outcome {B} {R} name bytes from s n t join done now gathering f same keep d = λ N r which m report j.
+joins_outcome {B} {R} name bytes from s t join done now gathering keep d = λ N r which m report j.
     held_then (λ (o : Joined). done ≡ o) (is_gathering (group_of name bytes N r) which m && (join.incarnation == m.promised)) _ _ (and_both (is_gathering (group_of name bytes N r) which m) (join.incarnation == m.promised) (gathering_same j.stands ∙ gathering) (same_test join.incarnation m.promised (now ∙ sym j.stands.promised)))
-    (d N r which (keeps from report m) (keeps_stands name bytes N r which from s n t join m report now f same keep j))
+    (d N r which (keeps from report m) (keeps_stands name bytes N r which from s t join m report now keep j))
 
 -- ---- the whole call
 
 pub outside_row : {B R : Type 0} (name : B → MessageId) (bytes : B → ℕ) (s : Member B R) (sends : List (Letter B R)) → sends ≡ [] → s.outside ≡ true → CoordinatesAs name bytes s s sends
 outside_row name bytes s sends none out = λ N r which m h. held_then (AtWork (group_of name bytes N r) which s sends) m.outside _ _ (h.outside ∙ out) (record { state = h; sends = none })
 
--- what is known before it tells the others: a copy that gathers for the next incarnation, and the invitations
-pub record Invites {B R : Type 0} (name : B → MessageId) (bytes : B → ℕ) (s n t : Member B R) (k nodes me : ℕ) (new : List (Letter B R)) : Type 0 where
+-- what is known once it told the others: it gathers for the next incarnation, and these are the invitations
+pub record Invites {B R : Type 0} (name : B → MessageId) (bytes : B → ℕ) (s t : Member B R) (k nodes me : ℕ) (new : List (Letter B R)) : Type 0 where
   pub alive : s.outside ≡ false
-  pub copied : Follows name bytes s n (λ g which m. m)
-  pub numbers : HasNumbersOf s n
-  pub next : k ≡ (n.promised / nodes + 1) * nodes + me
-  pub begins : Follows name bytes n t (λ g which. gathers which k)
-  pub promised : HasNumbersOf (record n { promised = k }) t
-  pub nodes_are : nodes ≡ n.config.nodes
-  pub me_is : me ≡ n.me
+  pub next : k ≡ (s.promised / nodes + 1) * nodes + me
+  pub begins : Follows name bytes s t (λ g which. gathers which k)
+  pub promised : HasNumbersOf (record s { promised = k }) t
+  pub nodes_are : nodes ≡ s.config.nodes
+  pub me_is : me ≡ s.me
   pub sends : new ≡ others_below nodes me (V.Invite k)
 
-next_by : {B R : Type 0} (name : B → MessageId) (bytes : B → ℕ) {N r which : ℕ} {s n t : Member B R} {k nodes me : ℕ} {new : List (Letter B R)} (m : RulesMember B) → Invites name bytes s n t k nodes me new → StandsFor (group_of name bytes N r) which s m → k ≡ next_incarnation (group_of name bytes N r) which m.promised
-next_by name bytes {N} {r} {which} {s} {n} {k = k} m i h = next_same k (i.next ∙ rw (i.nodes_are, i.me_is) refl) (i.copied N r which m h)
+next_by : {B R : Type 0} (name : B → MessageId) (bytes : B → ℕ) {N r which : ℕ} {s t : Member B R} {k nodes me : ℕ} {new : List (Letter B R)} (m : RulesMember B) → Invites name bytes s t k nodes me new → StandsFor (group_of name bytes N r) which s m → k ≡ next_incarnation (group_of name bytes N r) which m.promised
+next_by name bytes {N} {r} {which} {s} {k = k} m i h = next_same k (i.next ∙ rw (i.nodes_are, i.me_is) refl) h
 
-invited_at : {B R : Type 0} (name : B → MessageId) (bytes : B → ℕ) {N r which : ℕ} {s n t : Member B R} {k nodes me : ℕ} {new : List (Letter B R)} (m : RulesMember B) → Invites name bytes s n t k nodes me new → StandsFor (group_of name bytes N r) which s m
+invited_at : {B R : Type 0} (name : B → MessageId) (bytes : B → ℕ) {N r which : ℕ} {s t : Member B R} {k nodes me : ℕ} {new : List (Letter B R)} (m : RulesMember B) → Invites name bytes s t k nodes me new → StandsFor (group_of name bytes N r) which s m
     → AtWork (group_of name bytes N r) which t new (invite (group_of name bytes N r) which k m)
-invited_at {B} {R} name bytes {N} {r} {which} {s} {n} {t} {k} {nodes} {me} {new} m i h =
+invited_at {B} {R} name bytes {N} {r} {which} {s} {t} {k} {nodes} {me} {new} m i h =
     invites_all k m [] new refl (i.sends ∙ (ap (λ (x : ℕ). others_below x me (V.Invite k)) (i.nodes_are ∙ sym (ap (λ (c : Config). c.nodes) i.promised.config)) ∙ ap (λ (x : ℕ). others_below t.config.nodes x (V.Invite k)) (i.me_is ∙ sym i.promised.me)))
-    (i.begins N r which m (i.copied N r which m h))
+    (i.begins N r which m h)
 
-pub coordinates_many : {B R : Type 0} (name : B → MessageId) (bytes : B → ℕ) (s n t : Member B R) (k nodes me : ℕ) (new : List (Letter B R)) → Invites name bytes s n t k nodes me new → 1 < nodes → CoordinatesAs name bytes s t new
-coordinates_many name bytes s n t k nodes me new i many = λ N r which m h.
+pub coordinates_many : {B R : Type 0} (name : B → MessageId) (bytes : B → ℕ) (s t : Member B R) (k nodes me : ℕ) (new : List (Letter B R)) → Invites name bytes s t k nodes me new → 1 < nodes → CoordinatesAs name bytes s t new
+coordinates_many name bytes s t k nodes me new i many = λ N r which m h.
     let f = h.member.few in
     let a = h.nodes in
     let b = h.resilience in
     let c = i.nodes_are in
-    let d = (i.copied N r which m h).nodes in
     invites_row k m new (h.outside ∙ i.alive) (next_by name bytes m i h) (omega arith) (omega arith) (invited_at name bytes m i h)
 
-pub coordinates_alone : {B R : Type 0} (name : B → MessageId) (bytes : B → ℕ) (s n t u : Member B R) (k nodes me : ℕ) (new sent : List (Letter B R)) → Invites name bytes s n t k nodes me new → nodes ≤ 1 → Concludes name bytes t u sent → CoordinatesAs name bytes s u sent
-coordinates_alone {B} {R} name bytes s n t u k nodes me new sent i one d = λ N r which m h.
-    let c = i.copied N r which m h in
-    let low = c.member.me in
+pub coordinates_alone : {B R : Type 0} (name : B → MessageId) (bytes : B → ℕ) (s t u : Member B R) (k nodes me : ℕ) (new sent : List (Letter B R)) → Invites name bytes s t k nodes me new → nodes ≤ 1 → Concludes name bytes t u sent → CoordinatesAs name bytes s u sent
+coordinates_alone {B} {R} name bytes s t u k nodes me new sent i one d = λ N r which m h.
+    let low = h.member.me in
     let a = i.nodes_are in
     let b = i.me_is in
     let none : new ≡ [] = i.sends ∙ none_others nodes me (V.Invite k) (omega arith) (omega arith) in
-    alone_row name bytes N r which k t u m sent (h.outside ∙ i.alive) (next_by name bytes m i h) (gathers_can k c) d
+    alone_row name bytes N r which k t u m sent (h.outside ∙ i.alive) (next_by name bytes m i h) (gathers_can k h) d
     (subst (λ (l : List (Letter B R)). AtWork (group_of name bytes N r) which t l (invite (group_of name bytes N r) which k m)) none (invited_at name bytes m i h))
 
-pub gathered_can : {B R : Type 0} (name : B → MessageId) (bytes : B → ℕ) (s n t : Member B R) (k nodes me : ℕ) (new : List (Letter B R)) → Invites name bytes s n t k nodes me new → IsSome name bytes s → CanConclude t
-gathered_can {B} {R} name bytes s n t k nodes me new i some =
-    let h = i.copied some.0 some.1 some.2 some.3 some.4 in
+pub gathered_can : {B R : Type 0} (name : B → MessageId) (bytes : B → ℕ) (s t : Member B R) (k nodes me : ℕ) (new : List (Letter B R)) → Invites name bytes s t k nodes me new → IsSome name bytes s → CanConclude t
+gathered_can {B} {R} name bytes s t k nodes me new i some =
+    let h = some.4 in
     can_conclude t (gathers some.2 k some.3) here (i.begins some.0 some.1 some.2 some.3 h) (gathers_can k h)
   where
     here : t.promised % t.config.nodes ≡ t.me
     here =
-        let h = i.copied some.0 some.1 some.2 some.3 some.4 in
+        let h = some.4 in
         let l = h.member.me in
-        rw (i.promised.promised, i.promised.config, i.promised.me) (ap (λ (x : ℕ). x % n.config.nodes) (i.next ∙ rw (i.nodes_are, i.me_is) refl) ∙ next_mine n.promised n.config.nodes n.me l)
-
-pub some_me : {B R : Type 0} (name : B → MessageId) (bytes : B → ℕ) (s n : Member B R) (nodes me : ℕ) → nodes ≡ n.config.nodes → me ≡ n.me → Follows name bytes s n (λ g which m. m) → IsSome name bytes s → me < nodes
-some_me name bytes s n nodes me a b f some =
-    let h = f some.0 some.1 some.2 some.3 some.4 in
-    let l = h.member.me in
-    omega arith
+        rw (i.promised.promised, i.promised.config, i.promised.me) (ap (λ (x : ℕ). x % s.config.nodes) (i.next ∙ rw (i.nodes_are, i.me_is) refl) ∙ next_mine s.promised s.config.nodes s.me l)

@@ -1,6 +1,6 @@
 //! What a coordinator does: it invites, takes answers, and installs.
 
-ghost use Rattle.std.specs.Prelude.{◌≡◌, ◌<◌, ◌≤◌, ◌+◌, ◌-◌, ◌*◌, ◌/◌, ◌%◌, ◌^◌, IfOk, OnErr, OnOk, Some};
+ghost use Rattle.std.specs.Prelude.{◌≡◌, ◌<◌, ◌≤◌, ◌+◌, ◌-◌, ◌*◌, ◌/◌, ◌%◌, ◌^◌, IfOk, OnOk, Some};
 ghost use Rattle.group_member.specs.StandsFor.{IsMember, Tells};
 ghost use Rattle.group_member.specs.Ticks.{gathering_by};
 ghost use Rattle.group_rules.specs.Sets.{count};
@@ -18,37 +18,37 @@ use std::alloc::Global;
 /// The member coordinates a new incarnation: it promises its own of the next round, (promised / N + 1) N + m, keeps its own
 /// answer and invites the others. So a new member 1 of three promises 4. Where it is alone it installs at once. A member that
 /// is outside does nothing.
+///
+/// Where memory runs out nothing is said of the member: whoever wants it as it was keeps a copy.
 pub fn coordinate<B: Body>(member: &mut Member<B>, alloc: Global) -> Result<Sends<B>, NoMemory>
     requires stands { IsSome B.id_of B.length_of member.old }
     requires small { member.old.promised < 2 ^ 62 }
     ensures row { IfOk result (λ sends. CoordinatesAs B.id_of B.length_of member.old member.new sends.items) }
-    ensures member { IsMember member.new }
-    ensures applied { member.new.applied ≡ member.old.applied }
-    ensures err { OnErr result (member.new ≡ member.old) }
+    ensures member { OnOk result (IsMember member.new) }
+    ensures applied { OnOk result (member.new.applied ≡ member.old.applied) }
 {
     let mut sends = Vec::new(alloc);
     if member.is_outside() {
         return Ok(sends);
     }
-    let mut next = member.copy(alloc)?;
-    let config = next.config();
-    let me = next.me();
-    let incarnation = next_incarnation(next.promised(), config.nodes, me);
-    next.gather(alloc, incarnation)?;
+    let config = member.config();
+    let me = member.me();
+    let incarnation = next_incarnation(member.promised(), config.nodes, me);
+    member.gather(alloc, incarnation)?;
     let packet = Packet::Invite { incarnation };
     tell_others(alloc, &mut sends, config.nodes, me, &packet)?;
     if config.nodes > 1 {
-        *member = next;
         return Ok(sends);
     }
-    let done = conclude(&mut next, alloc)?;
-    *member = next;
+    let done = conclude(member, alloc)?;
     Ok(done.1)
 }
 
 /// An answer to an invitation came from this member. Where the receiver gathers for that incarnation, the answer is kept in the
 /// place of an earlier one of that member; else it is stale, and nothing changes. Once enough answered, itself included, the
 /// coordinator installs; or it gives up, and is outside then, where the log that it would install begins beyond what it applied.
+///
+/// Where memory runs out nothing is said of the member: whoever wants it as it was keeps a copy.
 pub fn joined<B: Body>(
     member: &mut Member<B>,
     alloc: Global,
@@ -59,9 +59,8 @@ pub fn joined<B: Body>(
     requires can { MayJoin B.id_of B.length_of from join member.old }
     ensures row { IfOk result (λ done. JoinsAs B.id_of B.length_of from join member.old member.new done.1.items) }
     ensures outcome { IfOk result (λ done. ComesOf B.id_of B.length_of from join member.old done.0) }
-    ensures member { IsMember member.new }
-    ensures applied { member.new.applied ≡ member.old.applied }
-    ensures err { OnErr result (member.new ≡ member.old) }
+    ensures member { OnOk result (IsMember member.new) }
+    ensures applied { OnOk result (member.new.applied ≡ member.old.applied) }
 {
     if !is_gathering(member) {
         return Ok((Joined::Stale, Vec::new(alloc)));
@@ -69,10 +68,8 @@ pub fn joined<B: Body>(
     if join.incarnation != member.promised() {
         return Ok((Joined::Stale, Vec::new(alloc)));
     }
-    let mut next = member.copy(alloc)?;
-    next.keep_answer(alloc, from, join)?;
-    let done = conclude(&mut next, alloc)?;
-    *member = next;
+    member.keep_answer(alloc, from, join)?;
+    let done = conclude(member, alloc)?;
     Ok(done)
 }
 
@@ -101,7 +98,7 @@ fn conclude<B: Body>(member: &mut Member<B>, alloc: Global) -> Result<(Joined, S
     ensures row { IfOk result (λ done. Concludes B.id_of B.length_of member.old member.new done.1.items) }
     ensures outcome { IfOk result (λ done. Tells B.id_of B.length_of member.old (λ g which m. done.0 ≡ gathered g m)) }
     ensures member { OnOk result (IsMember member.new) }
-    ensures applied { member.new.applied ≡ member.old.applied }
+    ensures applied { OnOk result (member.new.applied ≡ member.old.applied) }
 {
     let have = answered(member);
     let need = needed(member);
@@ -181,7 +178,7 @@ fn take<B: Body>(
     ensures row { IfOk result (λ done. Concludes B.id_of B.length_of member.old member.new done.1.items) }
     ensures outcome { IfOk result (λ done. Tells B.id_of B.length_of member.old (λ g which m. done.0 ≡ gathered g m)) }
     ensures member { OnOk result (IsMember member.new) }
-    ensures applied { member.new.applied ≡ member.old.applied }
+    ensures applied { OnOk result (member.new.applied ≡ member.old.applied) }
 {
     let applied = member.applied();
     let base = kept.base;

@@ -1,6 +1,6 @@
 //! What another member than the coordinator does: it is invited, and takes a Result.
 
-ghost use Rattle.std.specs.Prelude.{◌≡◌, ◌%◌, ◌==◌, IfOk, OnErr};
+ghost use Rattle.std.specs.Prelude.{◌≡◌, ◌%◌, ◌==◌, IfOk, OnOk};
 ghost use Rattle.group_member.specs.Packets.{heeds_by};
 ghost use Rattle.group_member.specs.StandsFor.{Follows, IsMember};
 ghost use Rattle.group_rules.specs.Reset.{promises_above};
@@ -13,6 +13,8 @@ use std::alloc::Global;
 
 /// An invitation to an incarnation came from this member. One below the promised incarnation is dropped, and so is one that the
 /// member coordinates itself. It is promised, where it is above the promised one, and answered where it isn't installed yet.
+///
+/// Where memory runs out nothing is said of the member: whoever wants it as it was keeps a copy.
 pub fn invited<B: Body>(
     member: &mut Member<B>,
     alloc: Global,
@@ -21,9 +23,8 @@ pub fn invited<B: Body>(
 ) -> Result<Sends<B>, NoMemory>
     requires { IsMember member.old }
     ensures row { IfOk result (λ sends. InvitedAs B.id_of B.length_of from incarnation member.old member.new sends.items) }
-    ensures member { IsMember member.new }
-    ensures applied { member.new.applied ≡ member.old.applied }
-    ensures err { OnErr result (member.new ≡ member.old) }
+    ensures member { OnOk result (IsMember member.new) }
+    ensures applied { OnOk result (member.new.applied ≡ member.old.applied) }
 {
     if !heeds(member, incarnation) {
         return Ok(Vec::new(alloc));
@@ -31,17 +32,17 @@ pub fn invited<B: Body>(
     if coordinates(member, incarnation) {
         return Ok(Vec::new(alloc));
     }
-    let mut next = member.copy(alloc)?;
-    next.listen(from, incarnation);
-    promise_above(&mut next, incarnation);
-    let sends = answer(&next, alloc, incarnation)?;
-    *member = next;
+    member.listen(from, incarnation);
+    promise_above(member, incarnation);
+    let sends = answer(member, alloc, incarnation)?;
     Ok(sends)
 }
 
 /// A Result came from this member. One of an incarnation below the promised one is dropped. The log of a later incarnation than
 /// the installed one is installed; where it begins beyond what the member applied, or one of the installed incarnation beyond
 /// what it has, it takes no part any more.
+///
+/// Where memory runs out nothing is said of the member: whoever wants it as it was keeps a copy.
 pub fn announced<B: Body>(
     member: &mut Member<B>,
     alloc: Global,
@@ -50,9 +51,8 @@ pub fn announced<B: Body>(
 ) -> Result<Sends<B>, NoMemory>
     requires { MayHear B.id_of B.length_of news member.old }
     ensures row { IfOk result (λ sends. HearsAs B.id_of B.length_of from news member.old member.new sends.items) }
-    ensures member { IsMember member.new }
-    ensures applied { member.new.applied ≡ member.old.applied }
-    ensures err { OnErr result (member.new ≡ member.old) }
+    ensures member { OnOk result (IsMember member.new) }
+    ensures applied { OnOk result (member.new.applied ≡ member.old.applied) }
 {
     let incarnation = news.incarnation;
     let base = news.base;

@@ -80,9 +80,6 @@ keeps_still number old new residents counted = keeps_parts number old new reside
 pub keeps_copy : {P S : Type 0} (old new : Node P S) → IsCopy old new → KeepsTasks old new
 keeps_copy old new is = keeps_still old.copies.processes old new is.residents (ap (λ (c : Copied). c.processes) is.copies)
 
-pub keeps_placed : {P S : Type 0} (old new end : Node P S) → new ≡ end → KeepsTasks old end → KeepsTasks old new
-keeps_placed {P} {S} old new end is keeps = subst (λ (n : Node P S). KeepsTasks old n) (sym is) keeps
-
 pub keeps_member : {P S : Type 0} (old new : Node P S) (member : Member Message Reply) → new ≡ record old { member = member } → KeepsTasks old new
 keeps_member {P} {S} old new member is =
     keeps_still old.copies.processes old new (ap (λ (n : Node P S). n.residents.items) is) (ap (λ (n : Node P S). n.copies.processes) is)

@@ -28,7 +28,7 @@ use Rattle.node_rules.specs.Conditions.{Fitness}
 use Rattle.node_rules.specs.Moments.{Moment, Walks, at_work, works}
 use Rattle.node_rules.specs.Moments.Goes.{Asks_again}
 use Rattle.node_rules.specs.Moments.Walks.{Stays}
-use Rattle.node_rules.specs.Starts.{EventFits, Start, begun, part}
+use Rattle.node_rules.specs.Starts.{EventFits, Start, begun}
 use Rattle.node_rules.specs.Starts.Start.{Acts, Comes, Suspects, Ticks}
 use Rattle.node_rules.proofs.Walking.{walk_on, walk_one}
 use Rattle.node_core.specs.Calls.{GoesFree, HasGathered, HasMoved, IsFree}
@@ -36,8 +36,7 @@ use Rattle.node_core.specs.Entries.{Gathers}
 use Rattle.node_core.specs.Events.{HasCome, HasDelivered, HasDone, HasStarted, HasSubmitted, IsIdle, MayComeFrom, MayStart}
 use Rattle.node_core.specs.Pieces.{Becomes, GoesOn, IsSomewhere, resident_at}
 use Rattle.node_parts.specs.Shown.{Left, Stood}
-use Rattle.node_core.specs.Stands.{Does as DoesEvent, IsAt, IsDone, IsWork, MayDo, MayTakePacket, StandsAlike, TakesPacket}
-use Rattle.node_parts.specs.declared.moved.Moved.{Moved}
+use Rattle.node_core.specs.Stands.{Does as DoesEvent, IsAt, IsDone, IsWork, MayDo, MayTakePacket, TakesPacket}
 use Rattle.node_core.specs.declared.node.Node.{Node}
 use Rattle.node_parts.specs.declared.resident.Resident.{Resident}
 use Rattle.node_parts.specs.declared.resident.Stage.{Stage}
@@ -53,12 +52,6 @@ none_else None apart = refl
 none_else (Some x) apart = absurd (apart x refl)
 
 -- ---- the work begins, and catches up
-
--- a copy that did nothing
-pub idle_work : {P S : Type 0} (stood : Stood S) (left : Left S) (s : Node P S) (work : Work P S) → StandsAlike stood left s work.node
-    → work.moved.sends.items ≡ [] → work.moved.entries.items ≡ [] → work.moved.aside.items ≡ [] → IsIdle stood left s work
-idle_work stood left s work alike sends entries aside f m v stands =
-    record { node = alike f m v stands; moved = record { sends = sends; entries = entries; aside = aside } }
 
 -- with nothing at hand it is at a moment
 pub free_somewhere : {P S : Type 0} (stood : Stood S) (left : Left S) (f : Frame) (fitness : Fitness) (s : Work P S) → IsFree stood left f fitness s → IsSomewhere stood left f fitness s
@@ -169,21 +162,14 @@ pub comes_done : {P S : Type 0} (stood : Stood S) (left : Left S) (f : Frame) (f
 comes_done stood left f fitness from packet old mid end has goes gathered mail m v post work fits =
     done stood left f fitness m mid end (at_work (begun f m (Comes mail) v)) v fits.kept (started_at stood left f fitness m (Comes mail) v mid (has mail m v post work fits) fits) goes gathered
 
--- and the work takes the node's place
-placed : {P S : Type 0} (stood : Stood S) (left : Left S) (f : Frame) (m : ℕ) (new : Node P S) (moved : Moved) (end : Work P S) (before : nodes.Node) (v : NodeWork)
-    → new ≡ end.node → moved ≡ end.moved → IsDone stood left f m end.node end.moved before v → IsDone stood left f m new moved before v
-placed {P} {S} stood left f m new moved end before v node did is =
-    subst (λ (n : Node P S). IsDone stood left f m n moved before v) (sym node) (subst (λ (d : Moved). IsDone stood left f m end.node d before v) (sym did) is)
+-- and the work began at this node
+pub event_done : {P S : Type 0} (stood : Stood S) (left : Left S) (f : Frame) (fitness : Fitness) (start : Start) (s : Node P S) (work end : Work P S) → IsIdle stood left s work
+    → HasDone stood left f fitness start work end → DoesEvent stood left f fitness s end.node end.moved start
+event_done stood left f fitness start s work end idles has v stands fits = let m : ℕ = s.member.me in has m v (idles f m v stands) fits
 
-pub event_done : {P S : Type 0} (stood : Stood S) (left : Left S) (f : Frame) (fitness : Fitness) (start : Start) (s new : Node P S) (work end : Work P S) (moved : Moved) → IsIdle stood left s work
-    → HasDone stood left f fitness start work end → new ≡ end.node → moved ≡ end.moved → DoesEvent stood left f fitness s new moved start
-event_done stood left f fitness start s new work end moved idles has node did v stands fits =
-    let m : ℕ = s.member.me in placed stood left f m new moved end v (part f m start v) node did (has m v (idles f m v stands) fits)
-
-pub packet_done : {P S : Type 0} (stood : Stood S) (left : Left S) (f : Frame) (fitness : Fitness) (from : ℕ) (packet : Packet Message Reply) (s new : Node P S) (work end : Work P S) (moved : Moved)
-    → IsIdle stood left s work → HasDelivered stood left f fitness from packet work end → new ≡ end.node → moved ≡ end.moved → TakesPacket stood left f fitness from packet s new moved
-packet_done stood left f fitness from packet s new work end moved idles has node did mail post v stands fits =
-    let m : ℕ = s.member.me in placed stood left f m new moved end v (part f m (Comes mail) v) node did (has mail m v post (idles f m v stands) fits)
+pub packet_done : {P S : Type 0} (stood : Stood S) (left : Left S) (f : Frame) (fitness : Fitness) (from : ℕ) (packet : Packet Message Reply) (s : Node P S) (work end : Work P S)
+    → IsIdle stood left s work → HasDelivered stood left f fitness from packet work end → TakesPacket stood left f fitness from packet s end.node end.moved
+packet_done stood left f fitness from packet s work end idles has mail post v stands fits = let m : ℕ = s.member.me in has mail m v post (idles f m v stands) fits
 
 -- ---- its member in the group takes a step
 

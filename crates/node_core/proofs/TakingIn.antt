@@ -24,6 +24,7 @@ use Rattle.world_rules.specs.Parts.{computes, performs_all}
 use Rattle.world_rules.specs.Played.{Played, Stage as played, newborn}
 use Rattle.world_rules.specs.Processes.{first_process}
 use Rattle.node_rules.specs.Conditions.{Fitness}
+use Rattle.node_core.specs.AtOnce.{HasBurst}
 use Rattle.node_core.specs.CheckingIn.{BecomesComputed, HasChanged, HasCheckedIn, HasRecalled, IsOutFor, MayHandOut, after_burst, recalled}
 use Rattle.node_core.specs.Pieces.{resident_at}
 use Rattle.node_parts.specs.Shown.{IsPlayed, IsPlayedIf, Left, Stood, on_errand, on_given, on_stage}
@@ -255,6 +256,30 @@ taken_in {P} {S} stood left f done old new s after checked reads run out here is
       out = out_is;
       changed = now;
       becomes = becomes_computed stood left f done old new s run here out_is.1 out_is.2 now;
+    }
+
+-- ---- at once
+
+pub at_once : {P S : Type 0} (stood : Stood S) (left : Left S) (f : Frame) (done : Computed S) (old new : Node P S) (s after : Resident S) (checked : CheckedIn) (reads : ℕ)
+    → HasRun stood left f done → resident_at old done.process.0 ≡ Some s → s.state ≡ done.start → s.calls ≡ done.calls
+    → after ≡ record { state = done.end; turns = done.turns; place = (if reads == 0 then s.place else checked.place); calls = s.calls + reads; stage = done.stage; out = None }
+    → checked.place ≡ done.view.place → reads ≡ length done.reads → checked.reads.items ≡ done.reads → HasChanged done.process.0 after old new
+    → HasBurst stood left f done.process done.view checked done.turns old new
+at_once {P} {S} stood left f done old new s after checked reads run here start calls is at many same changed =
+    let now = subst (λ (a : Resident S). HasChanged done.process.0 a old new) (after_is done s after checked.place reads is at many) changed in
+    record {
+      resident = s;
+      here = here;
+      done = done;
+      process = refl;
+      start = sym start;
+      calls = sym calls;
+      seen = refl;
+      took = refl;
+      place = at;
+      reads = same;
+      changed = now;
+      becomes = becomes_computed stood left f done old new s run here start calls now;
     }
 
 -- ---- recalled

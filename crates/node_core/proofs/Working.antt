@@ -1,5 +1,5 @@
 -- A member at work: one of its processes changes.
-use Rattle.std.proofs.Common.{◌≡◌, ◌==◌, ℕ, Bool, true, false, List, map, Option, Some, None, refl, sym, ap, ◌∙◌, subst, slice_index_or, if◌then◌else◌, Result, Ok, Err, IfOk, OnOk}
+use Rattle.std.proofs.Common.{◌≡◌, ◌==◌, ℕ, Bool, true, false, map, Option, Some, None, refl, sym, ap, ◌∙◌, subst, slice_index_or, if◌then◌else◌, Result, Ok, Err, OnOk}
 use Rattle.std.proofs.lemmas.Bool.{eqb-true}
 use Rattle.group_rules.specs.Sets.{with_at}
 use Rattle.group_member.specs.StandsFor.{StandsFor}
@@ -91,17 +91,3 @@ ok_so (Err e) P h = tt
 pub ok_two : {T E : Type 0} (r : Result T E) (P Q R : Type 0) → (P → Q → R) → OnOk r P → OnOk r Q → OnOk r R
 ok_two (Ok x) P Q R f h k = f h k
 ok_two (Err e) P Q R f h k = tt
-
--- and what is so of what came of it
-pub ok_each : {T E : Type 0} (r : Result T E) (P Q : T → Type 0) → ((x : T) → P x → Q x) → IfOk r P → IfOk r Q
-ok_each (Ok x) P Q f h = f x h
-ok_each (Err e) P Q f h = h
-
-pub ok_from : {T E : Type 0} (r : Result T E) (P : T → Type 0) (Q : Type 0) → ((x : T) → P x → Q) → IfOk r P → OnOk r Q
-ok_from (Ok x) P Q f h = f x h
-ok_from (Err e) P Q f h = tt
-
--- what is so of success is so where it succeeded
-pub ok_done : {E : Type 0} (r : Result (Unit {0}) E) (P : Type 0) → r ≡ Ok tt → OnOk r P → P
-ok_done (Ok x) P is h = h
-ok_done (Err e) P is h = absurd (cc is)

@@ -6,4 +6,5 @@ pub mod Events
 pub mod Calls
 pub mod Tasks
 pub mod CheckingIn
+pub mod AtOnce
 pub mod Keeping

@@ -1,6 +1,6 @@
 //! One member's part of each event.
 
-ghost use Rattle.std.specs.Prelude.{◌≡◌, ◌<◌, ◌^◌, IfOk, IsErr, List, Ok, OnErr, OnOk, Some};
+ghost use Rattle.std.specs.Prelude.{◌≡◌, ◌<◌, ◌^◌, IfOk, List, OnOk, Some};
 ghost use Rattle.group_rules.specs.Steps.{timer};
 ghost use Rattle.group_member.specs.AtWork.{Does as MemberDoes};
 ghost use Rattle.group_member.specs.StandsFor.{IsMember};
@@ -17,7 +17,6 @@ ghost use Rattle.node_core.specs.Pieces.{resident_at};
 ghost use Rattle.node_core.specs.Stands.{Does, MayDo, MayTakePacket, TakesPacket, fitness_of};
 
 use crate::node::Node;
-use crate::places::take_place;
 use crate::work::{Work, message_for};
 use group_member::{Member, Sends, Timed};
 use group_packets::Packet;
@@ -33,75 +32,67 @@ impl<P: OneRun> Node<P> {
     /// to the group, a read of one is performed or waits, and a call on a single object is performed or waits at its owner, to which
     /// it goes as an Ask. Then the member applies what is accepted, and takes the Asks and Answers whose place it has reached.
     ///
-    /// Where there is no memory, the node is as it was.
-    pub fn act(&mut self, alloc: Global, machine: &P, process: ProcessNo) -> Result<Moved, NoMemory>
-        requires { MayDo P.stood P.left P.run.frame (fitness_of (P.fits_state machine.now) (P.fits_args machine.now) (P.fits_text machine.now) (P.fits_reply machine.now)) self.old (Acts process.0) }
-        ensures does { IfOk result (λ moved. Does P.stood P.left P.run.frame (fitness_of (P.fits_state machine.now) (P.fits_args machine.now) (P.fits_text machine.now) (P.fits_reply machine.now)) self.old self.new moved (Acts process.0)) }
-        ensures tasks { OnOk result (KeepsTasks self.old self.new) }
-        ensures err { OnErr result (self.new ≡ self.old) }
+    /// Where memory runs out the node is let go: whoever wants it as it was keeps a copy.
+    pub fn act(
+        self,
+        alloc: Global,
+        machine: &P,
+        process: ProcessNo,
+    ) -> Result<(Node<P>, Moved), NoMemory>
+        requires { MayDo P.stood P.left P.run.frame (fitness_of (P.fits_state machine.now) (P.fits_args machine.now) (P.fits_text machine.now) (P.fits_reply machine.now)) self (Acts process.0) }
+        ensures does { IfOk result (λ r. Does P.stood P.left P.run.frame (fitness_of (P.fits_state machine.now) (P.fits_args machine.now) (P.fits_text machine.now) (P.fits_reply machine.now)) self r.0 r.1 (Acts process.0)) }
+        ensures tasks { IfOk result (λ r. KeepsTasks self r.0) }
     {
-        let mut work = Work::on(alloc, self)?;
-        let done = work.act(alloc, machine, process);
-        self.take_over(work, done)
+        let mut work = Work::of(alloc, self);
+        work.act(alloc, machine, process)?;
+        Ok((work.node, work.moved))
     }
 
     /// A packet came from this member. Then the member applies what is accepted, and takes the Asks and Answers whose place it has reached.
     ///
-    /// Where there is no memory, the node is as it was.
+    /// Where memory runs out the node is let go: whoever wants it as it was keeps a copy.
     pub fn deliver(
-        &mut self,
+        self,
         alloc: Global,
         machine: &P,
         from: u8,
         packet: Packet<Shared<Message>>,
-    ) -> Result<Moved, NoMemory>
-        requires { MayTakePacket P.stood P.left P.run.frame (fitness_of (P.fits_state machine.now) (P.fits_args machine.now) (P.fits_text machine.now) (P.fits_reply machine.now)) from packet self.old }
-        ensures does { IfOk result (λ moved. TakesPacket P.stood P.left P.run.frame (fitness_of (P.fits_state machine.now) (P.fits_args machine.now) (P.fits_text machine.now) (P.fits_reply machine.now)) from packet self.old self.new moved) }
-        ensures tasks { OnOk result (KeepsTasks self.old self.new) }
-        ensures err { OnErr result (self.new ≡ self.old) }
+    ) -> Result<(Node<P>, Moved), NoMemory>
+        requires { MayTakePacket P.stood P.left P.run.frame (fitness_of (P.fits_state machine.now) (P.fits_args machine.now) (P.fits_text machine.now) (P.fits_reply machine.now)) from packet self }
+        ensures does { IfOk result (λ r. TakesPacket P.stood P.left P.run.frame (fitness_of (P.fits_state machine.now) (P.fits_args machine.now) (P.fits_text machine.now) (P.fits_reply machine.now)) from packet self r.0 r.1) }
+        ensures tasks { IfOk result (λ r. KeepsTasks self r.0) }
     {
-        let mut work = Work::on(alloc, self)?;
-        let done = work.deliver(alloc, machine, from, packet);
-        self.take_over(work, done)
+        let mut work = Work::of(alloc, self);
+        work.deliver(alloc, machine, from, packet)?;
+        Ok((work.node, work.moved))
     }
 
     /// Time passes: its timer runs, and it asks again for the Answers that it lacks. Then the member applies what is accepted, and takes
     /// the Asks and Answers whose place it has reached.
     ///
-    /// Where there is no memory, the node is as it was.
-    pub fn tick(&mut self, alloc: Global, machine: &P) -> Result<Moved, NoMemory>
-        requires { MayDo P.stood P.left P.run.frame (fitness_of (P.fits_state machine.now) (P.fits_args machine.now) (P.fits_text machine.now) (P.fits_reply machine.now)) self.old Ticks }
-        ensures does { IfOk result (λ moved. Does P.stood P.left P.run.frame (fitness_of (P.fits_state machine.now) (P.fits_args machine.now) (P.fits_text machine.now) (P.fits_reply machine.now)) self.old self.new moved Ticks) }
-        ensures tasks { OnOk result (KeepsTasks self.old self.new) }
-        ensures err { OnErr result (self.new ≡ self.old) }
+    /// Where memory runs out the node is let go: whoever wants it as it was keeps a copy.
+    pub fn tick(self, alloc: Global, machine: &P) -> Result<(Node<P>, Moved), NoMemory>
+        requires { MayDo P.stood P.left P.run.frame (fitness_of (P.fits_state machine.now) (P.fits_args machine.now) (P.fits_text machine.now) (P.fits_reply machine.now)) self Ticks }
+        ensures does { IfOk result (λ r. Does P.stood P.left P.run.frame (fitness_of (P.fits_state machine.now) (P.fits_args machine.now) (P.fits_text machine.now) (P.fits_reply machine.now)) self r.0 r.1 Ticks) }
+        ensures tasks { IfOk result (λ r. KeepsTasks self r.0) }
     {
-        let mut work = Work::on(alloc, self)?;
-        let done = work.tick(alloc, machine);
-        self.take_over(work, done)
+        let mut work = Work::of(alloc, self);
+        work.tick(alloc, machine)?;
+        Ok((work.node, work.moved))
     }
 
     /// It suspects its sequencer, and coordinates a reset. Then the member applies what is accepted, and takes the Asks and Answers whose
     /// place it has reached.
     ///
-    /// Where there is no memory, the node is as it was.
-    pub fn suspect(&mut self, alloc: Global, machine: &P) -> Result<Moved, NoMemory>
-        requires { MayDo P.stood P.left P.run.frame (fitness_of (P.fits_state machine.now) (P.fits_args machine.now) (P.fits_text machine.now) (P.fits_reply machine.now)) self.old Suspects }
-        ensures does { IfOk result (λ moved. Does P.stood P.left P.run.frame (fitness_of (P.fits_state machine.now) (P.fits_args machine.now) (P.fits_text machine.now) (P.fits_reply machine.now)) self.old self.new moved Suspects) }
-        ensures tasks { OnOk result (KeepsTasks self.old self.new) }
-        ensures err { OnErr result (self.new ≡ self.old) }
+    /// Where memory runs out the node is let go: whoever wants it as it was keeps a copy.
+    pub fn suspect(self, alloc: Global, machine: &P) -> Result<(Node<P>, Moved), NoMemory>
+        requires { MayDo P.stood P.left P.run.frame (fitness_of (P.fits_state machine.now) (P.fits_args machine.now) (P.fits_text machine.now) (P.fits_reply machine.now)) self Suspects }
+        ensures does { IfOk result (λ r. Does P.stood P.left P.run.frame (fitness_of (P.fits_state machine.now) (P.fits_args machine.now) (P.fits_text machine.now) (P.fits_reply machine.now)) self r.0 r.1 Suspects) }
+        ensures tasks { IfOk result (λ r. KeepsTasks self r.0) }
     {
-        let mut work = Work::on(alloc, self)?;
-        let done = work.suspect(alloc, machine);
-        self.take_over(work, done)
-    }
-
-    // The work takes the node's place, where all of it was done.
-    fn take_over(&mut self, work: Work<P>, done: Result<(), NoMemory>) -> Result<Moved, NoMemory>
-        ensures ok { IfOk result (λ moved. (done ≡ Ok tt) × (self.new ≡ work.node) × (moved ≡ work.moved)) }
-        ensures err { OnErr result (self.new ≡ self.old) }
-        ensures failed { OnErr result (IsErr done) }
-    {
-        take_place(self, work.node, work.moved, done)
+        let mut work = Work::of(alloc, self);
+        work.suspect(alloc, machine)?;
+        Ok((work.node, work.moved))
     }
 }
 

@@ -1,6 +1,6 @@
 //! Lists with a place for each process, by its number; and what takes another's place.
 
-ghost use Rattle.std.specs.Prelude.{◌≡◌, ◌<◌, ℕ, IfOk, IsErr, None, Ok, OnErr, OnOk, Some, length, slice_index_or};
+ghost use Rattle.std.specs.Prelude.{◌≡◌, ◌<◌, ℕ, None, OnOk, Some, length, slice_index_or};
 ghost use Rattle.group_rules.specs.Sets.{with_at};
 
 use orca_base::NoMemory;
@@ -38,20 +38,4 @@ fn reach<T: Drop>(list: &mut Vec<Option<T>>, place: usize) -> Result<(), NoMemor
         list.push(None)?;
     }
     Ok(())
-}
-
-/// The value takes this place, where all was done, and what goes beside it comes back.
-pub(crate) fn take_place<T: Drop, R: Drop>(
-    place: &mut T,
-    value: T,
-    beside: R,
-    done: Result<(), NoMemory>,
-) -> Result<R, NoMemory>
-    ensures ok { IfOk result (λ back. (done ≡ Ok tt) × (place.new ≡ value) × (back ≡ beside)) }
-    ensures err { OnErr result (place.new ≡ place.old) }
-    ensures failed { OnErr result (IsErr done) }
-{
-    done?;
-    *place = value;
-    Ok(beside)
 }

@@ -70,11 +70,11 @@ enum Came {
 
 // What a burst comes to: the state and the stage at its end, the turns that its process took in all, and the reads.
 #[derive(Drop)]
-struct Burst<S: Drop> {
-    end: S,
-    turns: u64,
-    stage: Stage,
-    reads: Vec<Line>,
+pub(crate) struct Burst<S: Drop> {
+    pub(crate) end: S,
+    pub(crate) turns: u64,
+    pub(crate) stage: Stage,
+    pub(crate) reads: Vec<Line>,
 }
 
 impl<P: OneRun> Model for Task<P> {
@@ -193,7 +193,7 @@ impl<P: OneRun> Done<P> {
 }
 
 // Computes a burst of the process from this state, in which it received so many replies.
-fn compute<P: OneRun>(
+pub(crate) fn compute<P: OneRun>(
     alloc: Global,
     machine: &P,
     process: ProcessNo,
@@ -335,8 +335,8 @@ impl<P: OneRun> Node<P> {
         self.task_on(alloc, machine, process, view, budget)
     }
 
-    /// The same with another view, over which such a burst fits; whoever calls knows what it shows.
-    pub fn task_on(
+    // The same with another view, over which such a burst fits; whoever calls knows what it shows.
+    fn task_on(
         &mut self,
         alloc: Global,
         _machine: &P,
@@ -367,7 +367,7 @@ impl<P: OneRun> Node<P> {
     }
 
     // The process, which is here.
-    fn here(&self, process: ProcessNo) -> &Resident<P::State>
+    pub(crate) fn here(&self, process: ProcessNo) -> &Resident<P::State>
         requires { IsTrue (is_some (resident_at self.now process.0)) }
         ensures { resident_at self.now process.0 ≡ Some result.now }
     {
@@ -378,7 +378,7 @@ impl<P: OneRun> Node<P> {
     }
 
     // The process, which is here, stands so from now on.
-    fn change(&mut self, process: ProcessNo, resident: Resident<P::State>)
+    pub(crate) fn change(&mut self, process: ProcessNo, resident: Resident<P::State>)
         requires { process.0 < length self.old.residents.items }
         ensures { HasChanged process.0 resident self.old self.new }
     {

@@ -1,10 +1,10 @@
-//! A member at work in an event: a copy of the node, which takes the node's place once all is done.
+//! A member at work in an event: the node as far as the event went, and what it did so far.
 
 ghost use Rattle.std.specs.Prelude.{◌≡◌, ◌++◌, ◌∷◌, [], IfOk, None, OnOk};
 ghost use Rattle.world_rules.specs.Nodes.{changes};
 ghost use Rattle.world_rules.specs.Played.{receives};
 ghost use Rattle.node_core.specs.Events.{IsIdle, message_by};
-ghost use Rattle.node_core.specs.Keeping.{IsCopy, KeepsTasks};
+ghost use Rattle.node_core.specs.Keeping.{KeepsTasks};
 ghost use Rattle.node_core.specs.Pieces.{Becomes, CanReceive, MayBeHanded, Received, resident_at};
 
 use crate::node::Node;
@@ -26,14 +26,14 @@ pub(crate) struct Work<P: OneRun> {
 
 impl<P: OneRun> Work<P> {
     // The node, which did nothing yet.
-    pub(crate) fn on(alloc: Global, node: &Node<P>) -> Result<Work<P>, NoMemory>
-        ensures idle { IfOk result (IsIdle P.stood P.left node.now) }
-        ensures same { IfOk result (λ work. IsCopy node.now work.node) }
+    pub(crate) fn of(alloc: Global, node: Node<P>) -> Work<P>
+        ensures idle { IsIdle P.stood P.left node result }
+        ensures same { result.node ≡ node }
     {
-        Ok(Work {
-            node: node.copy(alloc)?,
+        Work {
+            node,
             moved: Moved::nothing(alloc),
-        })
+        }
     }
 
     // Packets of the group go out.

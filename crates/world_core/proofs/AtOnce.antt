@@ -3,6 +3,8 @@ use Rattle.std.proofs.Common.{◌≡◌, ◌≤◌, ◌<◌, ◌+◌, ◌-◌, �
 use Rattle.orca_base.specs.declared.ids.ProcessNo.{ProcessNo}
 use Rattle.object_manager.specs.After.{Copied}
 use Rattle.book_law.specs.Performed.{placed}
+use Rattle.book_law.specs.declared.placing.Placed.{Placed}
+use Rattle.net_rules.specs.declared.fate.Fate.{Fate}
 use Rattle.world_facts.specs.Ends.{turns_in}
 use Rattle.world_law.specs.Holds.{Holds}
 use Rattle.world_rules.specs.Bursts.{last_turn}
@@ -15,26 +17,28 @@ use Rattle.world_rules.specs.Parts.{computes}
 use Rattle.world_rules.specs.Standings.{standing}
 use Rattle.world_rules.specs.Steps.{Burst, IsBurst, Next, Replays, after_part, after_step, bursts, untouched}
 use Rattle.world_rules.specs.Worlds.{World, home_of, played_in}
+use Rattle.node_core.specs.AtOnce.{HasBurst}
 use Rattle.node_parts.specs.Shown.{Left, Stood}
 use Rattle.node_core.specs.Stands.{StandsAs}
+use Rattle.node_core.specs.declared.task.CheckedIn.{CheckedIn}
 use Rattle.node_core.specs.declared.node.Node.{Node}
 use Rattle.world_parts.proofs.Lists.{map_set}
 use Rattle.world_parts.proofs.Worlds.{home_within, is_world}
+use Rattle.world_parts.specs.Recorded.{Recorded}
 use Rattle.world_parts.specs.Seen.{Out, all_outs, out_at, tasks_out}
 use Rattle.world_parts.specs.Standing.{HasNumbers, IsWorld, Stands, out_of, outs_of, seen_of}
 use Rattle.world_parts.specs.declared.parts.Numbers.{Numbers}
 use Rattle.world_parts.specs.declared.parts.Parts.{Parts}
-use Rattle.world_core.specs.Bursting.{HasRunNow, HasRunOn, HasStored, RunsTo}
-use Rattle.world_core.specs.Closing.{HasRoomMade}
+use Rattle.world_core.specs.Bursting.{HasRunOn, RunsTo}
 use Rattle.world_core.specs.Stepping.{HasComputed}
 use Rattle.world_core.specs.declared.burst.Ran.{Ran}
 use Rattle.world_core.proofs.Adding.{nodes_added, tasks_added}
-use Rattle.world_core.proofs.CheckingIn.{none_of, told_none}
+use Rattle.world_core.proofs.CheckingIn.{checked_on, none_of, told_none}
 use Rattle.world_core.proofs.CheckingOut.{Ready, set_same}
 use Rattle.world_core.proofs.Computed.{burst_leaves}
 use Rattle.world_core.proofs.Doing.{Here}
 use Rattle.world_core.proofs.Handing.{got_map}
-use Rattle.world_core.proofs.Running.{Bursts, applied_low, ran_so, ran_there, viewed_now, viewing}
+use Rattle.world_core.proofs.Running.{Bursts, applied_low, ran_on, ran_so, ran_there, viewed_now, viewing}
 use Rattle.world_core.proofs.Stepped.{Changed, Leaves, outgoing_count, step_world}
 use Rattle.world_core.proofs.StayOut.{out_none}
 
@@ -55,21 +59,41 @@ pub record Takes {P S : Type 0} (s new : Parts P S) (home : ℕ) (event : Event)
   pub swaps : new.swaps ≡ s.swaps
   pub idle : new.idle ≡ 0
 
-pub takes_of : {P S : Type 0} (s made new : Parts P S) (home : ℕ) (event : Event) (ran : Ran P S) → HasRoomMade s made → tasks_out (seen_of s) + 1 ≤ made.ledger.step_room → tasks_out (seen_of s) + 1 ≤ made.ledger.piece_room
-    → HasStored home event ran made new → Takes s new home event ran
-takes_of {P} {S} s made new home event ran room steps pieces stored = record {
-  numbers = stored.numbers ∙ room.numbers;
-  nodes = stored.nodes ∙ ap (λ (l : List (Node P S)). slice_set l home ran.node) room.nodes;
-  lives = stored.lives ∙ room.lives;
-  flights = stored.flights ∙ room.flights;
-  steps = stored.steps ∙ ap (λ (l : List Step). l ++ record { event = event; fates = [] } ∷ []) room.steps;
-  entries = stored.entries ∙ room.entries;
-  performed = stored.performed ∙ ap (λ l. l ++ placed ran.burst.place ran.burst.reads.items) room.performed;
-  step_room = omega (arith, stored.step_room, steps);
-  piece_room = omega (arith, stored.piece_room, pieces);
-  sent = stored.sent ∙ room.sent;
-  swaps = stored.swaps ∙ room.swaps;
-  idle = stored.idle;
+pub takes_of : {P S : Type 0} (s : Parts P S) (made piece last : Recorded) (home : ℕ) (event : Event) (fates : List Fate) (did : List Placed) (ran : Ran P S)
+    → made ≡ record s.ledger { step_room = made.step_room; entry_room = made.entry_room; piece_room = made.piece_room } → tasks_out (seen_of s) + 1 ≤ made.step_room → tasks_out (seen_of s) + 1 ≤ made.piece_room
+    → piece ≡ record made { performed = made.performed ++ did; piece_room = made.piece_room - 1 } → did ≡ placed ran.burst.place ran.burst.reads.items
+    → last ≡ record piece { steps = piece.steps ++ record { event = event; fates = fates } ∷ []; step_room = piece.step_room - 1 } → fates ≡ []
+    → Takes s (checked_on s home ran.node last) home event ran
+takes_of {P} {S} s made piece last home event fates did ran same steps pieces kept did_is stepped none = record {
+  numbers = refl;
+  nodes = refl;
+  lives = refl;
+  flights = refl;
+  steps = ap (λ (l : Recorded). l.steps) stepped ∙ ap (λ (l : Recorded). l.steps ++ record { event = event; fates = fates } ∷ []) kept
+      ∙ ap (λ (l : Recorded). l.steps ++ record { event = event; fates = fates } ∷ []) same ∙ ap (λ (l : List Fate). s.ledger.steps ++ record { event = event; fates = l } ∷ []) none;
+  entries = ap (λ (l : Recorded). l.entries) stepped ∙ ap (λ (l : Recorded). l.entries) kept ∙ ap (λ (l : Recorded). l.entries) same;
+  performed = ap (λ (l : Recorded). l.performed) stepped ∙ ap (λ (l : Recorded). l.performed) kept
+      ∙ ap (λ (l : Recorded). l.performed ++ did) same ∙ ap (λ (l : List Placed). s.ledger.performed ++ l) did_is;
+  step_room = omega (arith, ap (λ (l : Recorded). l.step_room) stepped, ap (λ (l : Recorded). l.step_room) kept, steps);
+  piece_room = omega (arith, ap (λ (l : Recorded). l.piece_room) stepped, ap (λ (l : Recorded). l.piece_room) kept, pieces);
+  sent = refl;
+  swaps = refl;
+  idle = refl;
+}
+
+-- on its member's copies as they are
+pub record HasRunNow {P S : Type 0} (stood : Stood S) (left : Left S) (f : Frame) (i : ProcessNo) (home : ℕ) (s : Parts P S) (ran : Ran P S) : Type 0 where
+  pub before : Node P S
+  pub here : Some before ≡ slice_get s.nodes.items home
+  pub computed : HasRunOn stood left f i (record { objects = before.copies.objects; place = before.copies.applied }) before ran
+
+pub ran_now : {P S : Type 0} (stood : Stood S) (left : Left S) (f : Frame) (s : Parts P S) (i : ProcessNo) (home : ℕ) (before node : Node P S) (checked : CheckedIn) (turns : ℕ) → slice_get s.nodes.items home ≡ Some before
+    → HasBurst stood left f i (record { objects = before.copies.objects; place = before.copies.applied }) checked turns before node → HasRunNow stood left f i home s (record { node = node; burst = checked; turns = turns })
+ran_now stood left f s i home before node checked turns at has = record {
+  before = before;
+  here = sym at;
+  computed = ran_on stood left f i (viewing before.copies.objects before.copies.applied) before before node checked turns (λ f m v stands. stands)
+      (record { copies = refl; known = refl; residents = refl; held = refl; given = refl; choices = refl }) has;
 }
 
 -- ---- the process, in a world for which the parts stand

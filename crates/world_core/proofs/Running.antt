@@ -1,5 +1,5 @@
--- A burst that is done as an event: it is computed on a copy of its member.
-use Rattle.std.proofs.Common.{◌≡◌, ◌≤◌, ◌<◌, ◌+◌, ◌-◌, ◌∙◌, ⊎_elim, ◌&&◌, ◌==◌, not, leb, min, ℕ, zero, suc, Bool, true, false, cond, List, [], ◌∷◌, ◌++◌, Option, None, Some, Result, Ok, Err, IfOk, slice_get, slice_set, slice_index_or, take, ap, sym, subst, refl, arith, length}
+-- A burst that is done as an event: at once, on its member or a copy of that.
+use Rattle.std.proofs.Common.{◌≡◌, ◌≤◌, ◌<◌, ◌+◌, ◌-◌, ◌∙◌, ⊎_elim, ◌&&◌, ◌==◌, not, leb, min, ℕ, Bool, true, false, cond, List, [], ◌∷◌, ◌++◌, Option, None, Some, Result, Ok, Err, IfOk, slice_get, slice_set, slice_index_or, take, ap, sym, subst, refl, arith, length}
 use Rattle.std.proofs.lemmas.Bool.{cases_eq, le-leb, leb-true}
 use Rattle.std.proofs.lemmas.List.{length-take-le, take-take, take_all}
 use Rattle.std.specs.List.{AllByRecursion as Each}
@@ -33,13 +33,13 @@ use Rattle.world_rules.specs.Played.Stage.{Computing}
 use Rattle.world_rules.specs.Standings.{lives_at_home, stands}
 use Rattle.world_rules.specs.Steps.{AtWork, Burst, IsBurst, after_part, bursts, happens, objects_after, untouched}
 use Rattle.world_rules.specs.Worlds.{World, agreed, applied_at, home_of, played_in, singles_in}
-use Rattle.node_core.specs.CheckingIn.{HandsOut, HasCheckedIn, IsOutFor, MayHandOut, after_burst}
+use Rattle.node_core.specs.AtOnce.{HasBurst}
+use Rattle.node_core.specs.CheckingIn.{MayHandOut, after_burst}
 use Rattle.node_core.specs.Earlier.{HasViewed, MayViewAfter}
 use Rattle.node_core.specs.Keeping.{IsCopy}
 use Rattle.node_core.specs.Pieces.{resident_at}
 use Rattle.node_parts.specs.Shown.{IsPlayedIf, Left, Stood}
 use Rattle.node_core.specs.Stands.{StandsAlike, StandsAs}
-use Rattle.node_core.specs.Tasks.{Computed, IsOf, Tasked}
 use Rattle.node_core.specs.declared.node.Node.{Node}
 use Rattle.node_parts.specs.declared.resident.Resident.{Resident}
 use Rattle.node_core.specs.declared.task.CheckedIn.{CheckedIn}
@@ -84,85 +84,55 @@ hand_copy stood left f fitness i view budget before copy h alike = record {
   turns = h.turns;
 }
 
--- what was computed is of the task that is out of the copy
-pub out_for : {P S : Type 0} (i : ProcessNo) (view : Viewed) (budget : ℕ) (task : Tasked S) (copy out : Node P S) (done : Computed S) → HandsOut i view budget task copy out → IsOf task done
-    → IsOutFor done (resident_at out done.process.0)
-out_for {P} {S} i view budget task copy out done h of =
-    subst (IsOutFor done) (sym there) (ap Some (sym (of.view ∙ ap (λ (t : Tasked S). t.view) h.is)), sym (of.start ∙ ap (λ (t : Tasked S). t.start) h.is), sym (of.calls ∙ ap (λ (t : Tasked S). t.calls) h.is))
-  where
-    same : done.process ≡ i
-    same = of.process ∙ ap (λ (t : Tasked S). t.process) h.is
-
-    there : resident_at out done.process.0 ≡ Some (record h.resident { out = Some view })
-    there = ap (λ (j : ProcessNo). resident_at out j.0) same ∙ h.out.put.put i.0 ∙ with_own (resident_at copy) i.0 (Some (record h.resident { out = Some view }))
-
-set_again : {A : Type 0} (xs : List A) (k : ℕ) (x y : A) → slice_set (slice_set xs k x) k y ≡ slice_set xs k y
-set_again [] k x y = refl
-set_again (z ∷ xs) zero x y = refl
-set_again {A} (z ∷ xs) (suc k) x y = ap (λ (l : List A). z ∷ l) (set_again xs k x y)
-
-pub ran_on : {P S : Type 0} (stood : Stood S) (left : Left S) (f : Frame) (i : ProcessNo) (view : Viewed) (budget : ℕ) (task : Tasked S) (before copy out node : Node P S) (done : Computed S) (checked : CheckedIn) (turns : ℕ)
-    → StandsAlike stood left before copy → IsCopy before copy → HandsOut i view budget task copy out → StandsAlike stood left copy out → IsOf task done → turns ≡ done.turns → HasCheckedIn stood left f done checked out node
-    → HasRunOn stood left f i view before (record { node = node; burst = checked; turns = turns })
-ran_on {P} {S} stood left f i view budget task before copy out node done checked turns alike same h alike_out of took has = record {
-  place = has.place ∙ ap (λ (v : Viewed). v.place) seen;
+-- and the burst that is done there is one of the member
+pub ran_on : {P S : Type 0} (stood : Stood S) (left : Left S) (f : Frame) (i : ProcessNo) (view : Viewed) (before copy node : Node P S) (checked : CheckedIn) (turns : ℕ) → StandsAlike stood left before copy → IsCopy before copy
+    → HasBurst stood left f i view checked turns copy node → HasRunOn stood left f i view before (record { node = node; burst = checked; turns = turns })
+ran_on {P} {S} stood left f i view before copy node checked turns alike same has = record {
+  place = has.place;
   there = omega (arith, within, ap length same.residents);
-  after = after_burst done has.resident;
+  after = after_burst has.done has.resident;
   back = refl;
-  residents = residents;
+  residents =
+      residents_set i.0 (after_burst has.done has.resident) copy node has.changed within
+      ∙ ap (λ (l : List (Option (Resident S))). slice_set l i.0 (Some (after_burst has.done has.resident))) same.residents;
   only = only;
   runs = runs;
 }
   where
-    seen : done.view ≡ view
-    seen = of.view ∙ ap (λ (t : Tasked S). t.view) h.is
-
-    is : done.process ≡ i
-    is = of.process ∙ ap (λ (t : Tasked S). t.process) h.is
-
     within : i.0 < length copy.residents.items
-    within = within_of copy.residents.items i.0 h.resident h.here
-
-    residents : node.residents.items ≡ slice_set before.residents.items i.0 (Some (after_burst done has.resident))
-    residents =
-        residents_set done.process.0 (after_burst done has.resident) out node has.changed (within_of out.residents.items done.process.0 has.resident has.here)
-        ∙ ap (λ (n : ProcessNo). slice_set out.residents.items n.0 (Some (after_burst done has.resident))) is
-        ∙ ap (λ (l : List (Option (Resident S))). slice_set l i.0 (Some (after_burst done has.resident))) (residents_set i.0 (record h.resident { out = Some view }) copy out h.out within)
-        ∙ set_again copy.residents.items i.0 (Some (record h.resident { out = Some view })) (Some (after_burst done has.resident))
-        ∙ ap (λ (l : List (Option (Resident S))). slice_set l i.0 (Some (after_burst done has.resident))) same.residents
+    within = within_of copy.residents.items i.0 has.resident has.here
 
     only : (j : ℕ) (r : Resident S) (o : Viewed) → resident_at node j ≡ Some r → r.out ≡ Some o → resident_at before j ≡ Some r
-    only j r o there out_is = ⊎_elim own other (cases_eq j done.process.0)
+    only j r o there out_is = ⊎_elim own other (cases_eq j i.0)
       where
-        own : j ≡ done.process.0 → resident_at before j ≡ Some r
+        own : j ≡ i.0 → resident_at before j ≡ Some r
         own e =
-            let put = sym there ∙ has.changed.put.put j ∙ ap (with_at (resident_at out) done.process.0 (Some (after_burst done has.resident))) e ∙ with_own (resident_at out) done.process.0 (Some (after_burst done has.resident)) in
-            let s : r ≡ after_burst done has.resident = cc put in
+            let put = sym there ∙ has.changed.put.put j ∙ ap (with_at (resident_at copy) i.0 (Some (after_burst has.done has.resident))) e ∙ with_own (resident_at copy) i.0 (Some (after_burst has.done has.resident)) in
+            let s : r ≡ after_burst has.done has.resident = cc put in
             let n : ◌≡◌ {A = Option Viewed} (Some o) None = sym out_is ∙ ap (λ (t : Resident S). t.out) s in
             absurd (cc n)
 
-        other : (j ≡ done.process.0 → ⊥) → resident_at before j ≡ Some r
+        other : (j ≡ i.0 → ⊥) → resident_at before j ≡ Some r
         other apart =
             sym (ap (λ (l : List (Option (Resident S))). slice_index_or l j None) same.residents)
-            ∙ sym (h.out.put.put j ∙ with_other (resident_at copy) i.0 _ j (λ e. apart (e ∙ sym (ap (λ (n : ProcessNo). n.0) is))))
-            ∙ sym (has.changed.put.put j ∙ with_other (resident_at out) done.process.0 _ j apart) ∙ there
+            ∙ sym (has.changed.put.put j ∙ with_other (resident_at copy) i.0 _ j apart) ∙ there
 
     runs : (m : ℕ) (v : nodes.Node) (r : Played) → StandsAs stood left f m before v → v.played i.0 ≡ Some r → RunsTo stood left f i view m v r (record { node = node; burst = checked; turns = turns })
     runs m v r stands known =
-        let becomes = has.becomes m v r (alike_out f m v (alike f m v stands)) (ap (λ (n : ProcessNo). v.played n.0) is ∙ known) in
+        let becomes = has.becomes m v r (alike f m v stands) (ap (λ (n : ProcessNo). v.played n.0) has.process ∙ known) in
         let ended = becomes.0 in
         let ran = becomes.1 in
         record {
           ended = ended;
           ran_so = subst (λ (reads : List Line). RanSo f view.objects view.place i (last_turn f r) r reads ended) (sym has.reads)
-              (subst (λ (o : Viewed). RanSo f o.objects o.place i (last_turn f r) r done.reads ended) seen
-              (subst (λ (n : ProcessNo). RanSo f done.view.objects done.view.place n (last_turn f r) r done.reads ended) is ran.ran));
-          turns = took ∙ ran.turns;
+              (subst (λ (o : Viewed). RanSo f o.objects o.place i (last_turn f r) r has.done.reads ended) has.seen
+              (subst (λ (n : ProcessNo). RanSo f has.done.view.objects has.done.view.place n (last_turn f r) r has.done.reads ended) has.process ran.ran));
+          turns = has.took ∙ ran.turns;
           least = ran.least;
           most = ran.most;
           node = subst (λ (reads : List Line). StandsAs stood left f m node (computes i.0 view.place reads ended v).node) (sym has.reads)
-              (subst (λ (o : Viewed). StandsAs stood left f m node (computes i.0 o.place done.reads ended v).node) seen
-              (subst (λ (n : ProcessNo). StandsAs stood left f m node (computes n.0 done.view.place done.reads ended v).node) is becomes.2));
+              (subst (λ (o : Viewed). StandsAs stood left f m node (computes i.0 o.place has.done.reads ended v).node) has.seen
+              (subst (λ (n : ProcessNo). StandsAs stood left f m node (computes n.0 has.done.view.place has.done.reads ended v).node) has.process becomes.2));
         }
 
 -- ---- the process

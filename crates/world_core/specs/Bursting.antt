@@ -1,9 +1,7 @@
 -- A burst that is done as an event: where it may be, and what a member leaves of it.
-use Rattle.std.specs.Prelude.{◌≡◌, ◌≤◌, ◌<◌, ◌-◌, ◌++◌, ◌∷◌, [], ◌&&◌, nat_le, ℕ, Bool, false, length, Option, None, Some, slice_get, slice_set}
+use Rattle.std.specs.Prelude.{◌≡◌, ◌≤◌, ◌<◌, ◌&&◌, nat_le, ℕ, Bool, false, length, Option, None, Some, slice_set}
 use Rattle.orca_base.specs.declared.ids.ProcessNo.{ProcessNo}
 use Rattle.object_manager.specs.Viewed.{Viewed}
-use Rattle.book_law.specs.Performed.{placed}
-use Rattle.world_rules.specs.declared.event.Event.{Event}
 use Rattle.world_rules.specs.Bursts.{Ran as RanSo, last_turn}
 use Rattle.world_rules.specs.Frame.{Frame}
 use Rattle.world_rules.specs.Nodes as nodes
@@ -16,7 +14,6 @@ use Rattle.node_core.specs.Stands.{StandsAs}
 use Rattle.node_core.specs.declared.node.Node.{Node}
 use Rattle.node_parts.specs.declared.resident.Resident.{Resident}
 use Rattle.world_parts.specs.Choosing.{may_compute}
-use Rattle.world_parts.specs.declared.parts.Parts.{Parts}
 use Rattle.world_core.specs.declared.burst.Ran.{Ran}
 
 -- the place lies between the process's and what its member applied
@@ -47,26 +44,3 @@ pub record HasRunOn {P S : Type 0} (stood : Stood S) (left : Left S) (f : Frame)
   pub residents : ran.node.residents.items ≡ slice_set before.residents.items i.0 (Some after)
   pub only : (j : ℕ) (r : Resident S) (out : Viewed) → resident_at ran.node j ≡ Some r → r.out ≡ Some out → resident_at before j ≡ Some r
   pub runs : (m : ℕ) (v : nodes.Node) (r : Played) → StandsAs stood left f m before v → v.played i.0 ≡ Some r → RunsTo stood left f i view m v r ran
-
--- ---- computed in one go
-
--- on its member's copies as they are, on a copy of that member
-pub record HasRunNow {P S : Type 0} (stood : Stood S) (left : Left S) (f : Frame) (i : ProcessNo) (home : ℕ) (s : Parts P S) (ran : Ran P S) : Type 0 where
-  pub before : Node P S
-  pub here : Some before ≡ slice_get s.nodes.items home
-  pub computed : HasRunOn stood left f i (record { objects = before.copies.objects; place = before.copies.applied }) before ran
-
--- that member takes its place, its reads are kept, and the event is the last step
-pub record HasStored {P S : Type 0} (home : ℕ) (event : Event) (ran : Ran P S) (old new : Parts P S) : Type 0 where
-  pub numbers : new.numbers ≡ old.numbers
-  pub nodes : new.nodes.items ≡ slice_set old.nodes.items home ran.node
-  pub lives : new.lives.items ≡ old.lives.items
-  pub flights : new.net.flights ≡ old.net.flights
-  pub steps : new.ledger.steps ≡ old.ledger.steps ++ record { event = event; fates = [] } ∷ []
-  pub entries : new.ledger.entries ≡ old.ledger.entries
-  pub performed : new.ledger.performed ≡ old.ledger.performed ++ placed ran.burst.place ran.burst.reads.items
-  pub step_room : new.ledger.step_room ≡ old.ledger.step_room - 1
-  pub piece_room : new.ledger.piece_room ≡ old.ledger.piece_room - 1
-  pub sent : new.sent ≡ old.sent
-  pub swaps : new.swaps ≡ old.swaps
-  pub idle : new.idle ≡ 0

@@ -1,14 +1,12 @@
 //! Processes that compute outside.
 
-ghost use Rattle.std.specs.Prelude.{◌≡◌, ◌+◌, ◌<◌, ◌≤◌, ◌==◌, ◌∷◌, [], true, not, length, IfErr, IfOk, OnErr, OnOk};
+ghost use Rattle.std.specs.Prelude.{◌≡◌, ◌+◌, ◌==◌, ◌∷◌, [], true, not, length, IfErr, IfOk, OnErr, OnOk};
 ghost use Rattle.book_law.specs.Performed.{placed};
 ghost use Rattle.node_core.specs.CheckingIn.{MayHandOut};
 ghost use Rattle.node_core.specs.Stands.{fitness_of};
-ghost use Rattle.world_core.specs.Bursting.{HasRunNow, HasRunOn, HasStored};
-ghost use Rattle.world_facts.specs.Ends.{turns_in};
+ghost use Rattle.world_core.specs.Bursting.{HasRunOn};
 ghost use Rattle.world_parts.specs.Recorded.{of_pieces};
 ghost use Rattle.world_rules.specs.Standings.{standing};
-ghost use Rattle.world_rules.specs.Worlds.{home_of, played_in};
 ghost use Rattle.world_rules.specs.declared.standing.Standing.TheVariants.{Going};
 ghost use Rattle.world_core.specs.Recalling.{AreRecalled};
 ghost use Rattle.world_core.specs.Stepping.{ChecksIn, HandsOutOf, HasComputed, IsAstray};
@@ -28,7 +26,7 @@ use world_calls::calls_fit;
 use world_parts::Parts;
 use world_rules::{Event, Step};
 
-/// A burst that was computed on a copy of its member: that member after it, the burst, and the turns that its process took in all.
+/// A burst that was done on a copy of its member: that member after it, the burst, and the turns that its process took in all.
 #[derive(Drop)]
 pub(crate) struct Ran<P: OneRun> {
     pub(crate) node: Node<P>,
@@ -36,7 +34,7 @@ pub(crate) struct Ran<P: OneRun> {
     pub(crate) turns: u64,
 }
 
-/// Computes a burst of the process on this view, with this budget, and checks it in at a copy of its member.
+/// Does a burst of the process on this view, with this budget, on a copy of its member.
 pub(crate) fn run_on<P: OneRun>(
     alloc: Global,
     machine: &P,
@@ -51,13 +49,8 @@ pub(crate) fn run_on<P: OneRun>(
     ensures { IfOk result (HasRunOn P.stood P.left P.run.frame process view before.now) }
 {
     let mut node = before.copy(alloc)?;
-    let task = node.task_on(alloc, machine, process, view, budget)?;
-    let done = task.run(alloc, machine)?;
-    let turns = done.turns();
-    match node.check_in(done) {
-        Ok(burst) => Ok(Ran { node, burst, turns }),
-        Err(_) => unreachable!(),
-    }
+    let (burst, turns) = node.burst_on(alloc, machine, process, &view, budget)?;
+    Ok(Ran { node, burst, turns })
 }
 
 /// What such a burst leaves.
@@ -141,7 +134,7 @@ pub(crate) fn check_in<P: OneRun>(parts: &mut Parts<P>, done: Done<P>) -> Result
 /// Lets a process that is ready, in a run that is going, compute on its member's copies as they are, and does the Burst event of that, which
 /// becomes the last step. Tasks that are out stay so.
 ///
-/// It is computed on a copy of the member: where there is no memory, the world is as it was.
+/// All room is made first, and the member changes once the burst is computed: where there is no memory, the world is as it was.
 pub(crate) fn compute<P: OneRun>(
     parts: &mut Parts<P>,
     alloc: Global,
@@ -157,61 +150,23 @@ pub(crate) fn compute<P: OneRun>(
     ensures tasks { tasks_out (seen_of parts.new) ≡ tasks_out (seen_of parts.old) }
     ensures err { OnErr result (seen_of parts.new ≡ seen_of parts.old) }
 {
-    let home = parts.home_of(process);
+    calls_fit(machine);
+    let home = parts.home_of(process) as usize;
     let start = parts.turns_of(process);
-    let ran = run_now(parts, alloc, machine, process, home, start)?;
     let tasks = parts.tasks_out() as usize + 1;
     parts.ledger.make_room(tasks, 0, tasks)?;
+    let budget = budget(parts, start);
+    let (burst, turns) = parts.nodes[home].burst(alloc, machine, process, budget)?;
     let event = Event::Burst {
         process,
-        place: ran.burst.place,
-        turns: (ran.turns - start) as u32,
+        place: burst.place,
+        turns: (turns - start) as u32,
     };
-    store_burst(parts, home, event, ran);
-    Ok(())
-}
-
-// Computes a burst of the process, which is ready and took so many turns, on its member's copies as they are.
-fn run_now<P: OneRun>(
-    parts: &Parts<P>,
-    alloc: Global,
-    machine: &P,
-    process: ProcessNo,
-    home: u8,
-    start: u64,
-) -> Result<Ran<P>, NoMemory>
-    requires stands { Stands P.stood P.left P.run.frame parts.now }
-    requires going { Is P.stood P.left P.run.frame parts.now (λ w. standing P.run.frame w ≡ Going) }
-    requires ready { Is P.stood P.left P.run.frame parts.now (λ w. is_ready P.run.frame (seen_of parts.now) w process.0 ≡ true) }
-    requires home { Is P.stood P.left P.run.frame parts.now (λ w. home ≡ home_of P.run.frame w process.0) }
-    requires start { Is P.stood P.left P.run.frame parts.now (λ w. start ≡ turns_in (played_in P.run.frame w process.0)) }
-    ensures { IfOk result (HasRunNow P.stood P.left P.run.frame process home parts.now) }
-{
-    calls_fit(machine);
-    let before = parts.member_of(home);
-    let view = before.copies().view(alloc)?;
-    let budget = budget(parts, start);
-    let ran = run_on(alloc, machine, before, process, view, budget)?;
-    Ok(ran)
-}
-
-// The member after a burst takes its place, the burst's reads are kept, and the event is the last step. There is room for both.
-fn store_burst<P: OneRun>(parts: &mut Parts<P>, home: u8, event: Event, ran: Ran<P>)
-    requires home { home < length parts.old.nodes.items }
-    requires step { 1 ≤ parts.old.ledger.step_room }
-    requires piece { 1 ≤ parts.old.ledger.piece_room }
-    ensures { HasStored home event ran parts.old parts.new }
-{
-    let Ran {
-        node,
-        burst,
-        turns: _,
-    } = ran;
-    parts.nodes[home as usize] = node;
     parts.ledger.push_piece(reads_of(burst));
     parts.idle = 0;
     let fates = Items::new(parts.ledger.no_fates());
     parts.ledger.push_step(Step { event, fates });
+    Ok(())
 }
 
 /// Ends every task that is out. Those processes are ready again, and nothing else changes. It takes no memory.

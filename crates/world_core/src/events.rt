@@ -386,8 +386,8 @@ fn acts_at<P: OneRun>(
     requires { MayAdd P.stood P.left P.run.frame (fitness_of (P.fits_state machine.now) (P.fits_args machine.now) (P.fits_text machine.now) (P.fits_reply machine.now)) parts.now before.now (Acts process.0) draft.old }
     ensures { OnOk result (AddsPart P.stood P.left P.run.frame (fitness_of (P.fits_state machine.now) (P.fits_args machine.now) (P.fits_text machine.now) (P.fits_reply machine.now)) parts.now before.now (Acts process.0) draft.old draft.new) }
 {
-    let mut after = before.copy(alloc)?;
-    let moved = after.act(alloc, machine, process)?;
+    let copy = before.copy(alloc)?;
+    let (after, moved) = copy.act(alloc, machine, process)?;
     let listed = listed(parts);
     draft.add_part(alloc, listed, before, after, moved)?;
     Ok(())
@@ -406,8 +406,8 @@ fn comes_to<P: OneRun>(
     requires { MayAddLetter P.stood P.left P.run.frame (fitness_of (P.fits_state machine.now) (P.fits_args machine.now) (P.fits_text machine.now) (P.fits_reply machine.now)) parts.now before.now from packet draft.old }
     ensures { OnOk result (AddsLetter P.stood P.left P.run.frame (fitness_of (P.fits_state machine.now) (P.fits_args machine.now) (P.fits_text machine.now) (P.fits_reply machine.now)) parts.now before.now from packet draft.old draft.new) }
 {
-    let mut after = before.copy(alloc)?;
-    let moved = after.deliver(alloc, machine, from, packet)?;
+    let copy = before.copy(alloc)?;
+    let (after, moved) = copy.deliver(alloc, machine, from, packet)?;
     let listed = listed(parts);
     draft.add_part(alloc, listed, before, after, moved)?;
     Ok(())
@@ -424,8 +424,8 @@ fn ticks_at<P: OneRun>(
     requires { MayAdd P.stood P.left P.run.frame (fitness_of (P.fits_state machine.now) (P.fits_args machine.now) (P.fits_text machine.now) (P.fits_reply machine.now)) parts.now before.now Ticks draft.old }
     ensures { OnOk result (AddsPart P.stood P.left P.run.frame (fitness_of (P.fits_state machine.now) (P.fits_args machine.now) (P.fits_text machine.now) (P.fits_reply machine.now)) parts.now before.now Ticks draft.old draft.new) }
 {
-    let mut after = before.copy(alloc)?;
-    let moved = after.tick(alloc, machine)?;
+    let copy = before.copy(alloc)?;
+    let (after, moved) = copy.tick(alloc, machine)?;
     let listed = listed(parts);
     draft.add_part(alloc, listed, before, after, moved)?;
     Ok(())
@@ -442,8 +442,8 @@ fn suspects_at<P: OneRun>(
     requires { MayAdd P.stood P.left P.run.frame (fitness_of (P.fits_state machine.now) (P.fits_args machine.now) (P.fits_text machine.now) (P.fits_reply machine.now)) parts.now before.now Suspects draft.old }
     ensures { OnOk result (AddsPart P.stood P.left P.run.frame (fitness_of (P.fits_state machine.now) (P.fits_args machine.now) (P.fits_text machine.now) (P.fits_reply machine.now)) parts.now before.now Suspects draft.old draft.new) }
 {
-    let mut after = before.copy(alloc)?;
-    let moved = after.suspect(alloc, machine)?;
+    let copy = before.copy(alloc)?;
+    let (after, moved) = copy.suspect(alloc, machine)?;
     let listed = listed(parts);
     draft.add_part(alloc, listed, before, after, moved)?;
     Ok(())

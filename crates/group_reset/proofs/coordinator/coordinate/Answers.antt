@@ -8,11 +8,9 @@ returns-then-is_outside-clause-row g c = outside_row g.B.Body.id_of g.B.Body.len
 
 pub returns-then-config-gt1-clause-row : goal.returns-then-config-gt1-clause-row
 returns-then-config-gt1-clause-row g c =
-    coordinates_many g.B.Body.id_of g.B.Body.length_of c.args.member.now c.in_ok-next.next c.gather.new.self c.next_incarnation-incarnation.result c.config-config.result.nodes c.me-me.result c.tell_others.new.sends.items
+    coordinates_many g.B.Body.id_of g.B.Body.length_of c.args.member.now c.gather.new.self c.next_incarnation-incarnation.result c.config-config.result.nodes c.me-me.result c.tell_others.new.sends.items
     (record {
       alive = sym c.is_outside.ensures ∙ c.if-is_outside.false;
-      copied = c.in_ok-next.ensures.row;
-      numbers = c.in_ok-next.ensures.numbers;
       next = c.next_incarnation-incarnation.ensures ∙ ap (λ (p : ℕ). (p / c.config-config.result.nodes + 1) * c.config-config.result.nodes + c.me-me.result) c.promised.ensures;
       begins = c.in_ok-gather.ensures.row;
       promised = c.in_ok-gather.ensures.numbers;
@@ -24,11 +22,9 @@ returns-then-config-gt1-clause-row g c =
 
 pub conclude-requires-clause-can : goal.conclude-requires-clause-can
 conclude-requires-clause-can g c =
-    gathered_can g.B.Body.id_of g.B.Body.length_of c.args.member.now c.in_ok-next.next c.gather.new.self c.next_incarnation-incarnation.result c.config-config.result.nodes c.me-me.result c.tell_others.new.sends.items
+    gathered_can g.B.Body.id_of g.B.Body.length_of c.args.member.now c.gather.new.self c.next_incarnation-incarnation.result c.config-config.result.nodes c.me-me.result c.tell_others.new.sends.items
     (record {
       alive = sym c.is_outside.ensures ∙ c.if-is_outside.false;
-      copied = c.in_ok-next.ensures.row;
-      numbers = c.in_ok-next.ensures.numbers;
       next = c.next_incarnation-incarnation.ensures ∙ ap (λ (p : ℕ). (p / c.config-config.result.nodes + 1) * c.config-config.result.nodes + c.me-me.result) c.promised.ensures;
       begins = c.in_ok-gather.ensures.row;
       promised = c.in_ok-gather.ensures.numbers;
@@ -40,11 +36,9 @@ conclude-requires-clause-can g c =
 
 pub returns-clause-row : goal.returns-clause-row
 returns-clause-row g c =
-    coordinates_alone g.B.Body.id_of g.B.Body.length_of c.args.member.now c.in_ok-next.next c.gather.new.self c.conclude.new.member c.next_incarnation-incarnation.result c.config-config.result.nodes c.me-me.result c.tell_others.new.sends.items c.in_ok-done.done.1.items
+    coordinates_alone g.B.Body.id_of g.B.Body.length_of c.args.member.now c.gather.new.self c.conclude.new.member c.next_incarnation-incarnation.result c.config-config.result.nodes c.me-me.result c.tell_others.new.sends.items c.in_ok-done.done.1.items
     (record {
       alive = sym c.is_outside.ensures ∙ c.if-is_outside.false;
-      copied = c.in_ok-next.ensures.row;
-      numbers = c.in_ok-next.ensures.numbers;
       next = c.next_incarnation-incarnation.ensures ∙ ap (λ (p : ℕ). (p / c.config-config.result.nodes + 1) * c.config-config.result.nodes + c.me-me.result) c.promised.ensures;
       begins = c.in_ok-gather.ensures.row;
       promised = c.in_ok-gather.ensures.numbers;

@@ -15,10 +15,10 @@ pub returns-then-join-promised-clause-outcome : goal.returns-then-join-promised-
 returns-then-join-promised-clause-outcome g c = late_outcome g.B.Body.id_of g.B.Body.length_of c.args.from c.args.join c.args.member.now (λ e. c.if-join-promised.true (e ∙ sym c.promised.ensures))
 
 pub conclude-requires-clause-can : goal.conclude-requires-clause-can
-conclude-requires-clause-can g c = keeps_can g.B.Body.id_of g.B.Body.length_of c.args.from c.args.member.now c.in_ok-next.next c.keep_answer.new.self c.args.join (c.if-join-promised.false ∙ c.promised.ensures) (sym c.is_gathering.ensures ∙ c.if-not-is_gathering.false) c.in_ok-next.ensures.row c.in_ok-next.ensures.numbers c.in_ok-keep_answer.ensures.row c.keep_answer.ensures.numbers c.requires.can
+conclude-requires-clause-can g c = keeps_can g.B.Body.id_of g.B.Body.length_of c.args.from c.args.member.now c.keep_answer.new.self c.args.join (c.if-join-promised.false ∙ c.promised.ensures) (sym c.is_gathering.ensures ∙ c.if-not-is_gathering.false) c.in_ok-keep_answer.ensures.row c.keep_answer.ensures.numbers c.requires.can
 
 pub returns-clause-row : goal.returns-clause-row
-returns-clause-row g c = joins_row g.B.Body.id_of g.B.Body.length_of c.args.from c.args.member.now c.in_ok-next.next c.keep_answer.new.self c.conclude.new.member c.args.join c.in_ok-done.done.1.items (c.if-join-promised.false ∙ c.promised.ensures) (sym c.is_gathering.ensures ∙ c.if-not-is_gathering.false) c.in_ok-next.ensures.row c.in_ok-next.ensures.numbers c.in_ok-keep_answer.ensures.row c.in_ok-done.ensures.row
+returns-clause-row g c = joins_row g.B.Body.id_of g.B.Body.length_of c.args.from c.args.member.now c.keep_answer.new.self c.conclude.new.member c.args.join c.in_ok-done.done.1.items (c.if-join-promised.false ∙ c.promised.ensures) (sym c.is_gathering.ensures ∙ c.if-not-is_gathering.false) c.in_ok-keep_answer.ensures.row c.in_ok-done.ensures.row
 
 pub returns-clause-outcome : goal.returns-clause-outcome
-returns-clause-outcome g c = joins_outcome g.B.Body.id_of g.B.Body.length_of c.args.from c.args.member.now c.in_ok-next.next c.keep_answer.new.self c.args.join c.in_ok-done.done.0 (c.if-join-promised.false ∙ c.promised.ensures) (sym c.is_gathering.ensures ∙ c.if-not-is_gathering.false) c.in_ok-next.ensures.row c.in_ok-next.ensures.numbers c.in_ok-keep_answer.ensures.row c.in_ok-done.ensures.outcome
+returns-clause-outcome g c = joins_outcome g.B.Body.id_of g.B.Body.length_of c.args.from c.args.member.now c.keep_answer.new.self c.args.join c.in_ok-done.done.0 (c.if-join-promised.false ∙ c.promised.ensures) (sym c.is_gathering.ensures ∙ c.if-not-is_gathering.false) c.in_ok-keep_answer.ensures.row c.in_ok-done.ensures.outcome

@@ -10,5 +10,5 @@ returns-then-coordinates-clause-row g c = own_invitation g.B.Body.id_of g.B.Body
 
 pub returns-clause-row : goal.returns-clause-row
 returns-clause-row g c =
-    invited_row g.B.Body.id_of g.B.Body.length_of c.args.from c.args.incarnation c.args.member.now c.in_ok-next.next c.listen.new.self c.promise_above.new.member c.in_ok-sends.sends.items (sym c.heeds.ensures ∙ c.if-not-heeds.false) (sym c.coordinates.ensures ∙ c.if-coordinates.false) c.in_ok-next.ensures.row c.listen.ensures.row
+    invited_row g.B.Body.id_of g.B.Body.length_of c.args.from c.args.incarnation c.args.member.now c.listen.new.self c.promise_above.new.member c.in_ok-sends.sends.items (sym c.heeds.ensures ∙ c.if-not-heeds.false) (sym c.coordinates.ensures ∙ c.if-coordinates.false) c.listen.ensures.row
     c.promise_above.ensures.row c.in_ok-sends.ensures

@@ -2,12 +2,12 @@ use Rattle.node_core.specs.Stands.{fitness_of}
 use Rattle.world_core.proofs.Running.{hand_copy, ran_on}
 use Rattle.world_core.proofs.burst.run_on.Goals as goal
 
-pub task_on-requires : goal.task_on-requires
-task_on-requires g c =
+pub burst_on-requires : goal.burst_on-requires
+burst_on-requires g c =
     let m = c.args.machine.now in
     hand_copy g.P.OneRun.stood g.P.OneRun.left g.P.OneRun.run.frame (fitness_of (g.P.Performer.fits_state m) (g.P.Performer.fits_args m) (g.P.Performer.fits_text m) (g.P.Performer.fits_reply m)) c.args.process c.args.view c.args.budget c.args.before.now c.in_ok-node.node c.requires (c.in_ok-node.ensures {u = tt}).alike
 
 pub returns : goal.returns
 returns g c =
-    ran_on g.P.OneRun.stood g.P.OneRun.left g.P.OneRun.run.frame c.args.process c.args.view c.args.budget c.in_ok-task.task c.args.before.now c.in_ok-node.node c.task_on.new.self c.check_in.new.self c.in_ok-done.done c.in-Ok.burst c.turns-turns.result
-    (c.in_ok-node.ensures {u = tt}).alike (c.in_ok-node.ensures {u = tt}).same (c.in_ok-task.ensures {u = tt}).out c.task_on.ensures.alike (c.in_ok-done.ensures {u = tt}) c.turns-turns.ensures (c.in-Ok.ensures {u = tt}).ok
+    ran_on g.P.OneRun.stood g.P.OneRun.left g.P.OneRun.run.frame c.args.process c.args.view c.args.before.now c.in_ok-node.node c.burst_on.new.self c.in_ok-burst.burst c.in_ok-burst.turns
+    (c.in_ok-node.ensures {u = tt}).alike (c.in_ok-node.ensures {u = tt}).same (c.in_ok-burst.ensures {u = tt}).does

@@ -6,38 +6,38 @@ use Rattle.world_core.proofs.events.comes_to.Goals as goal
 pub deliver-requires : goal.deliver-requires
 deliver-requires g c =
     let m = c.args.machine.now in
-    letter_may g.P.OneRun.stood g.P.OneRun.left g.P.OneRun.run.frame (fitness_of (g.P.Performer.fits_state m) (g.P.Performer.fits_args m) (g.P.Performer.fits_text m) (g.P.Performer.fits_reply m)) c.args.parts.now c.args.before.now c.in_ok-after.after c.args.from c.args.packet c.args.draft.now c.requires (c.in_ok-after.ensures {u = tt}).alike
+    letter_may g.P.OneRun.stood g.P.OneRun.left g.P.OneRun.run.frame (fitness_of (g.P.Performer.fits_state m) (g.P.Performer.fits_args m) (g.P.Performer.fits_text m) (g.P.Performer.fits_reply m)) c.args.parts.now c.args.before.now c.in_ok-copy.copy c.args.from c.args.packet c.args.draft.now c.requires (c.in_ok-copy.ensures {u = tt}).alike
 
 pub add_part-requires-clause-sound : goal.add_part-requires-clause-sound
 add_part-requires-clause-sound g c =
     let m = c.args.machine.now in
-    let joins : MayJoin c.args.parts.now c.args.before.now c.in_ok-moved.moved c.args.draft.now =
-    letter_join g.P.OneRun.stood g.P.OneRun.left g.P.OneRun.run.frame (fitness_of (g.P.Performer.fits_state m) (g.P.Performer.fits_args m) (g.P.Performer.fits_text m) (g.P.Performer.fits_reply m)) c.args.parts.now c.args.before.now c.in_ok-after.after c.deliver.new.self c.in_ok-moved.moved c.args.from c.args.packet c.args.draft.now c.requires (c.in_ok-after.ensures {u = tt}).alike (c.in_ok-moved.ensures {u = tt}).does in
+    let joins : MayJoin c.args.parts.now c.args.before.now c.in_ok-after.moved c.args.draft.now =
+    letter_join g.P.OneRun.stood g.P.OneRun.left g.P.OneRun.run.frame (fitness_of (g.P.Performer.fits_state m) (g.P.Performer.fits_args m) (g.P.Performer.fits_text m) (g.P.Performer.fits_reply m)) c.args.parts.now c.args.before.now c.in_ok-copy.copy c.in_ok-after.after c.in_ok-after.moved c.args.from c.args.packet c.args.draft.now c.requires (c.in_ok-copy.ensures {u = tt}).alike (c.in_ok-after.ensures {u = tt}).does in
     joins.sound
 
 pub add_part-requires-clause-told : goal.add_part-requires-clause-told
 add_part-requires-clause-told g c =
     let m = c.args.machine.now in
-    let joins : MayJoin c.args.parts.now c.args.before.now c.in_ok-moved.moved c.args.draft.now =
-    letter_join g.P.OneRun.stood g.P.OneRun.left g.P.OneRun.run.frame (fitness_of (g.P.Performer.fits_state m) (g.P.Performer.fits_args m) (g.P.Performer.fits_text m) (g.P.Performer.fits_reply m)) c.args.parts.now c.args.before.now c.in_ok-after.after c.deliver.new.self c.in_ok-moved.moved c.args.from c.args.packet c.args.draft.now c.requires (c.in_ok-after.ensures {u = tt}).alike (c.in_ok-moved.ensures {u = tt}).does in
+    let joins : MayJoin c.args.parts.now c.args.before.now c.in_ok-after.moved c.args.draft.now =
+    letter_join g.P.OneRun.stood g.P.OneRun.left g.P.OneRun.run.frame (fitness_of (g.P.Performer.fits_state m) (g.P.Performer.fits_args m) (g.P.Performer.fits_text m) (g.P.Performer.fits_reply m)) c.args.parts.now c.args.before.now c.in_ok-copy.copy c.in_ok-after.after c.in_ok-after.moved c.args.from c.args.packet c.args.draft.now c.requires (c.in_ok-copy.ensures {u = tt}).alike (c.in_ok-after.ensures {u = tt}).does in
     joins.told
 
 pub add_part-requires-clause-small : goal.add_part-requires-clause-small
 add_part-requires-clause-small g c =
     let m = c.args.machine.now in
-    let joins : MayJoin c.args.parts.now c.args.before.now c.in_ok-moved.moved c.args.draft.now =
-    letter_join g.P.OneRun.stood g.P.OneRun.left g.P.OneRun.run.frame (fitness_of (g.P.Performer.fits_state m) (g.P.Performer.fits_args m) (g.P.Performer.fits_text m) (g.P.Performer.fits_reply m)) c.args.parts.now c.args.before.now c.in_ok-after.after c.deliver.new.self c.in_ok-moved.moved c.args.from c.args.packet c.args.draft.now c.requires (c.in_ok-after.ensures {u = tt}).alike (c.in_ok-moved.ensures {u = tt}).does in
+    let joins : MayJoin c.args.parts.now c.args.before.now c.in_ok-after.moved c.args.draft.now =
+    letter_join g.P.OneRun.stood g.P.OneRun.left g.P.OneRun.run.frame (fitness_of (g.P.Performer.fits_state m) (g.P.Performer.fits_args m) (g.P.Performer.fits_text m) (g.P.Performer.fits_reply m)) c.args.parts.now c.args.before.now c.in_ok-copy.copy c.in_ok-after.after c.in_ok-after.moved c.args.from c.args.packet c.args.draft.now c.requires (c.in_ok-copy.ensures {u = tt}).alike (c.in_ok-after.ensures {u = tt}).does in
     joins.small
 
 pub add_part-requires-clause-few : goal.add_part-requires-clause-few
 add_part-requires-clause-few g c =
     let m = c.args.machine.now in
-    let joins : MayJoin c.args.parts.now c.args.before.now c.in_ok-moved.moved c.args.draft.now =
-    letter_join g.P.OneRun.stood g.P.OneRun.left g.P.OneRun.run.frame (fitness_of (g.P.Performer.fits_state m) (g.P.Performer.fits_args m) (g.P.Performer.fits_text m) (g.P.Performer.fits_reply m)) c.args.parts.now c.args.before.now c.in_ok-after.after c.deliver.new.self c.in_ok-moved.moved c.args.from c.args.packet c.args.draft.now c.requires (c.in_ok-after.ensures {u = tt}).alike (c.in_ok-moved.ensures {u = tt}).does in
+    let joins : MayJoin c.args.parts.now c.args.before.now c.in_ok-after.moved c.args.draft.now =
+    letter_join g.P.OneRun.stood g.P.OneRun.left g.P.OneRun.run.frame (fitness_of (g.P.Performer.fits_state m) (g.P.Performer.fits_args m) (g.P.Performer.fits_text m) (g.P.Performer.fits_reply m)) c.args.parts.now c.args.before.now c.in_ok-copy.copy c.in_ok-after.after c.in_ok-after.moved c.args.from c.args.packet c.args.draft.now c.requires (c.in_ok-copy.ensures {u = tt}).alike (c.in_ok-after.ensures {u = tt}).does in
     subst (λ (n : ℕ). n + length c.args.draft.now.entries.items < 2 ^ 63) (sym c.listed-listed.ensures) joins.few
 
 pub returns : goal.returns
 returns g c =
     let m = c.args.machine.now in
-    letter_adds g.P.OneRun.stood g.P.OneRun.left g.P.OneRun.run.frame (fitness_of (g.P.Performer.fits_state m) (g.P.Performer.fits_args m) (g.P.Performer.fits_text m) (g.P.Performer.fits_reply m)) c.args.parts.now c.args.before.now c.in_ok-after.after c.deliver.new.self c.in_ok-moved.moved c.args.from c.args.packet c.args.draft.now c.add_part.new.self c.listed-listed.result
-    c.requires (c.in_ok-after.ensures {u = tt}).alike (c.in_ok-after.ensures {u = tt}).same (c.in_ok-moved.ensures {u = tt}).does (c.in_ok-moved.ensures {u = tt}).tasks c.listed-listed.ensures (c.in_ok-add_part.ensures {u = tt})
+    letter_adds g.P.OneRun.stood g.P.OneRun.left g.P.OneRun.run.frame (fitness_of (g.P.Performer.fits_state m) (g.P.Performer.fits_args m) (g.P.Performer.fits_text m) (g.P.Performer.fits_reply m)) c.args.parts.now c.args.before.now c.in_ok-copy.copy c.in_ok-after.after c.in_ok-after.moved c.args.from c.args.packet c.args.draft.now c.add_part.new.self c.listed-listed.result
+    c.requires (c.in_ok-copy.ensures {u = tt}).alike (c.in_ok-copy.ensures {u = tt}).same (c.in_ok-after.ensures {u = tt}).does (c.in_ok-after.ensures {u = tt}).tasks c.listed-listed.ensures (c.in_ok-add_part.ensures {u = tt})

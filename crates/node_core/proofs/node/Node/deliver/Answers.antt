@@ -1,27 +1,20 @@
+use Rattle.std.proofs.Common.{subst}
 use Rattle.node_core.specs.Stands.{fitness_of}
+use Rattle.node_core.specs.Keeping.{KeepsTasks}
 use Rattle.node_core.proofs.Starting.{may_come, packet_done}
-use Rattle.node_core.proofs.Keeping.{keeps_copy, keeps_on, keeps_placed}
-use Rattle.node_core.proofs.Working.{ok_done, ok_each, ok_from}
 use Rattle.node_core.proofs.node.Node.deliver.Goals as goal
 
-pub deliver-done-requires : goal.deliver-done-requires
-deliver-done-requires g c =
+pub deliver-requires : goal.deliver-requires
+deliver-requires g c =
     let m = c.args.machine.now in
     may_come g.P.OneRun.stood g.P.OneRun.left g.P.OneRun.run.frame (fitness_of (g.P.Performer.fits_state m) (g.P.Performer.fits_args m) (g.P.Performer.fits_text m) (g.P.Performer.fits_reply m))
-    c.args.from c.args.packet c.args.self.now c.in_ok-work.work (c.in_ok-work.ensures {u = tt}).idle c.requires
+    c.args.from c.args.packet c.args.self c.of-work.result c.of-work.ensures.idle c.requires
 
 pub returns-clause-does : goal.returns-clause-does
 returns-clause-does g c =
     let m = c.args.machine.now in
-    ok_each c.take_over.result _ _
-    (λ moved took.
     packet_done g.P.OneRun.stood g.P.OneRun.left g.P.OneRun.run.frame (fitness_of (g.P.Performer.fits_state m) (g.P.Performer.fits_args m) (g.P.Performer.fits_text m) (g.P.Performer.fits_reply m))
-    c.args.from c.args.packet c.args.self.now _ c.in_ok-work.work c.deliver-done.new.self moved (c.in_ok-work.ensures {u = tt}).idle (ok_done _ _ took.0 c.deliver-done.ensures.does) took.1 took.2)
-    c.take_over.ensures.ok
+    c.args.from c.args.packet c.args.self c.of-work.result c.deliver.new.self c.of-work.ensures.idle c.in_ok-deliver.ensures.does
 
 pub returns-clause-tasks : goal.returns-clause-tasks
-returns-clause-tasks g c =
-    ok_from c.take_over.result _ _
-    (λ moved took.
-    keeps_placed _ _ _ took.1 (keeps_on _ _ _ (keeps_copy _ _ (c.in_ok-work.ensures {u = tt}).same) (ok_done _ _ took.0 c.deliver-done.ensures.tasks)))
-    c.take_over.ensures.ok
+returns-clause-tasks g c = subst (λ n. KeepsTasks n c.deliver.new.self.node) c.of-work.ensures.same c.in_ok-deliver.ensures.tasks
