@@ -1,0 +1,10 @@
+pub mod Flow
+pub mod Sound
+pub mod WellFormed
+pub mod Views
+pub mod Packed
+pub mod Bodies
+pub mod Shown
+pub mod Text
+pub mod ListingExamples
+pub mod Printed
