@@ -1,0 +1,11 @@
+pub mod Keeping
+pub mod Flying
+pub mod Rounding
+pub mod Reaching
+pub mod Growing
+pub mod Behind
+pub mod Catching
+pub mod Plain
+pub mod Runs
+pub mod Receiving
+pub mod OneCell
