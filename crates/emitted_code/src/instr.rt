@@ -31,8 +31,8 @@ pub enum Shape {
     Lends { slot: usize, path: Vec<Mark> },
 }
 
-/// An instruction (docs/LANGUAGE.md, Code), with its path and its values. Names of enumerations are lent from the program's text. A jump has
-/// the address that it goes to: how many instructions of its body stand in front.
+/// An instruction (docs/LANGUAGE.md, Code), with its path and its values. Names of enumerations are lent from the program's text. A jump
+/// has the address that it goes to: how many instructions of its body stand in front.
 #[derive(Drop)]
 pub enum Instr<'p> {
     /// A constant.

@@ -77,7 +77,8 @@ impl<'p> Listing<'p> {
     /// Want of memory.
     pub fn comes_from(&mut self, at: Place) -> Result<(), NoMemory>
         ensures code { code_of self.new ≡ code_of self.old }
-        ensures spot { OnOk result (self.new.spots.items ≡ self.old.spots.items ++ record { address = length (code_of self.old); at = at } ∷ []) }
+        ensures spot { OnOk result (self.new.spots.items ≡
+            self.old.spots.items ++ record { address = length (code_of self.old); at = at } ∷ []) }
     {
         let address = self.len();
         self.spots.push(Spot { address, at })?;

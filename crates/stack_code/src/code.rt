@@ -7,9 +7,9 @@ ghost use Rattle.stack_code.specs.Sound.{IsWholeCode};
 use crate::bodies::{PackedBody, PackedType};
 use orca_base::TextNo;
 
-/// The code of a program: of its functions, each at its number among the names of the top level; of the texts of its processes, and which of
-/// them begins; and of its object types, from number 1 on. It can't get stuck: jumps stay inside, heights of the stack agree, each way back
-/// passes a turn, guards stand in operations alone, and the text that begins is there.
+/// The code of a program: of its functions, each at its number among the names of the top level; of the texts of its processes, and which
+/// of them begins; and of its object types, from number 1 on. It can't get stuck: jumps stay inside, heights of the stack agree, each way
+/// back passes a turn, guards stand in operations alone, and the text that begins is there.
 #[derive(Drop)]
 pub struct Code<'p> {
     pub functions: Vec<Option<PackedBody<'p>>>,

@@ -16,8 +16,8 @@ ghost use Rattle.stack_code.specs.Sound.{AllHave, HasHeights, IsSoundCode, IsWay
 ghost use Rattle.stack_code.specs.Text.{code_text};
 ghost use Rattle.stack_code.specs.WellFormed.{CannotGetStuck, StepsWell};
 
-/// A run of sound code is never stuck, and comes to an outcome; and what a machine's loop goes by: one instruction of a run that stands well
-/// leads to one that stands well, nearer to the next turn unless it was one.
+/// A run of sound code is never stuck, and comes to an outcome; and what a machine's loop goes by: one instruction of a run that stands
+/// well leads to one that stands well, nearer to the next turn unless it was one.
 pub fn sound_code_cannot_get_stuck()
     ensures never { (code : Code) → IsSoundCode code → CannotGetStuck code }
     ensures steps { (code : Code) (height : BodyNo → ℕ → ℕ) → AllHave code height → StepsWell code height }
@@ -25,14 +25,16 @@ pub fn sound_code_cannot_get_stuck()
 
 /// In sound code each way from an instruction back to itself passes a turn.
 pub fn each_round_passes_a_turn()
-    ensures { (is : List Instr) (height : ℕ → ℕ) → HasHeights is height → (pc to : ℕ) (rest : List ℕ) → IsWay is pc (to ∷ rest) → end_of to rest ≡ pc → PassesTurn is (to ∷ rest) }
+    ensures { (is : List Instr) (height : ℕ → ℕ) → HasHeights is height → (pc to : ℕ) (rest : List ℕ) →
+        IsWay is pc (to ∷ rest) → end_of to rest ≡ pc → PassesTurn is (to ∷ rest) }
 {}
 
-/// The code of a program is sound, for every list of sources: its functions, the texts of its processes, makings and operations. A text that
-/// a process begins with has code; so has that of OrcaMain, where it is a process without parameters.
+/// The code of a program is sound, for every list of sources: its functions, the texts of its processes, makings and operations. A text
+/// that a process begins with has code; so has that of OrcaMain, where it is a process without parameters.
 pub fn compiled_code_is_sound()
     ensures sound { (us : List Source) → IsSoundCode (program_code us) }
-    ensures starts { (us : List Source) (text : TextNo) (args : Data) → IsStart us text args → 0 < length (body_at (program_code us) (OfProcess text.0)) }
+    ensures starts { (us : List Source) (text : TextNo) (args : Data) → IsStart us text args →
+        0 < length (body_at (program_code us) (OfProcess text.0)) }
     ensures main { (us : List Source) → IsStart us (main_text us) none → IsWholeCode (program_code us) }
 {}
 

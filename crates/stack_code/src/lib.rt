@@ -1,8 +1,9 @@
 //! Compiled code that can't get stuck: a program's code in instruction words of 8 bytes, with the long instructions beside them; what makes
 //! code sound; and its listing.
 //!
-//! The main clause is `never` of `sound_code_cannot_get_stuck`, and that `Code` is sound (`code_cannot_get_stuck`); `steps` is what a machine's
-//! loop cites. The code of every program is sound (`compiled_code_is_sound`), so `pack` makes `Code` of what a compiler emitted (emitted_code).
+//! The main clause is `never` of `sound_code_cannot_get_stuck`, and that `Code` is sound (`code_cannot_get_stuck`); `steps` is what a
+//! machine's loop cites. The code of every program is sound (`compiled_code_is_sound`), so `pack` makes `Code` of what a compiler emitted
+//! (emitted_code).
 //!
 //! Not in it: which code a phrase gets (code_rules), a compiler, and a machine. Whose program a `Code` is its machine keeps.
 #![tactic(auto)]

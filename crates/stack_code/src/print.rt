@@ -215,7 +215,8 @@ fn put_at(out: &mut String, word: &str, slot: usize, path: &[Mark]) -> Result<()
 
 // A part of a constant.
 fn put_part(out: &mut String, value: &Value, path: &[Mark]) -> Result<(), NoMemory>
-    ensures { OnOk result (string_bytes out.new ≡ string_bytes out.old ++ (codes "part " ++ (constant_text (datum_of value.now) ++ path_text (marks_of path.now)))) }
+    ensures { OnOk result (string_bytes out.new ≡
+        string_bytes out.old ++ (codes "part " ++ (constant_text (datum_of value.now) ++ path_text (marks_of path.now)))) }
 {
     put_word(out, "part ")?;
     put_constant(out, value)?;
@@ -251,7 +252,8 @@ fn put_make(out: &mut String, kind: KindNo, slot: usize) -> Result<(), NoMemory>
 }
 
 fn put_invoke(out: &mut String, kind: KindNo, op: OpNo, slot: usize) -> Result<(), NoMemory>
-    ensures { OnOk result (string_bytes out.new ≡ string_bytes out.old ++ (codes "invoke" ++ (number kind.0 ++ (number op.0 ++ number slot)))) }
+    ensures { OnOk result (string_bytes out.new ≡
+        string_bytes out.old ++ (codes "invoke" ++ (number kind.0 ++ (number op.0 ++ number slot)))) }
 {
     put_one(out, "invoke", kind.0 as u128)?;
     put_number(out, op.0 as u128)?;
@@ -260,7 +262,8 @@ fn put_invoke(out: &mut String, kind: KindNo, op: OpNo, slot: usize) -> Result<(
 
 // The call of a function, and a change of a graph.
 fn put_call(out: &mut String, function: usize, shapes: &[Shape]) -> Result<(), NoMemory>
-    ensures { OnOk result (string_bytes out.new ≡ string_bytes out.old ++ (codes "call" ++ (number function ++ shapes_text (map shape_of shapes.now)))) }
+    ensures { OnOk result (string_bytes out.new ≡
+        string_bytes out.old ++ (codes "call" ++ (number function ++ shapes_text (map shape_of shapes.now)))) }
 {
     put_one(out, "call", function as u128)?;
     put_shapes(out, shapes)
@@ -484,7 +487,8 @@ fn put_lines(
 ) -> Result<u128, NoMemory>
     requires first_fits { first < 2 ^ 64 }
     requires texts_fit { before < 2 ^ 64 }
-    ensures lines { OnOk result (string_bytes out.new ≡ string_bytes out.old ++ lines_from (notes_of notes.now) first 0 before (code_in body.now)) }
+    ensures lines { OnOk result (string_bytes out.new ≡
+        string_bytes out.old ++ lines_from (notes_of notes.now) first 0 before (code_in body.now)) }
     ensures texts { IfOk result (λ texts. texts ≡ texts_in before (code_in body.now)) }
     ensures few { IfOk result (λ texts. texts ≤ before + length body.now.words.items) }
 {
@@ -520,7 +524,8 @@ fn put_function(
 ) -> Result<(), NoMemory>
     requires { IsCounted p.old }
     ensures text { (rest : List (List rules.Instr)) →
-        OnOk result (written (notes_of notes.now) p.new rest ≡ written (notes_of notes.now) p.old (function_bodies (option_map body_shown function.now) ++ rest)) }
+        OnOk result (written (notes_of notes.now) p.new rest ≡
+        written (notes_of notes.now) p.old (function_bodies (option_map body_shown function.now) ++ rest)) }
     ensures counted { OnOk result (IsCounted p.new) }
 {
     match function {
@@ -537,7 +542,8 @@ fn put_functions(
 ) -> Result<(), NoMemory>
     requires { IsCounted p.old }
     ensures text { (rest : List (List rules.Instr)) →
-        OnOk result (written (notes_of notes.now) p.new rest ≡ written (notes_of notes.now) p.old (flat_map (λ x. function_bodies (option_map body_shown x)) functions.now ++ rest)) }
+        OnOk result (written (notes_of notes.now) p.new rest ≡
+        written (notes_of notes.now) p.old (flat_map (λ x. function_bodies (option_map body_shown x)) functions.now ++ rest)) }
     ensures counted { OnOk result (IsCounted p.new) }
 {
     'functions: for function in functions {
@@ -550,7 +556,8 @@ fn put_functions(
 fn put_texts(p: &mut Printer, notes: &[Vec<Text>], texts: &[PackedBody<'_>]) -> Result<(), NoMemory>
     requires { IsCounted p.old }
     ensures text { (rest : List (List rules.Instr)) →
-        OnOk result (written (notes_of notes.now) p.new rest ≡ written (notes_of notes.now) p.old (flat_map (λ x. body_bodies (body_shown x)) texts.now ++ rest)) }
+        OnOk result (written (notes_of notes.now) p.new rest ≡
+        written (notes_of notes.now) p.old (flat_map (λ x. body_bodies (body_shown x)) texts.now ++ rest)) }
     ensures counted { OnOk result (IsCounted p.new) }
 {
     'texts: for text in texts {
@@ -567,7 +574,8 @@ fn put_operations(
 ) -> Result<(), NoMemory>
     requires { IsCounted p.old }
     ensures text { (rest : List (List rules.Instr)) →
-        OnOk result (written (notes_of notes.now) p.new rest ≡ written (notes_of notes.now) p.old (flat_map (λ x. operation_bodies (operation_shown x)) operations.now ++ rest)) }
+        OnOk result (written (notes_of notes.now) p.new rest ≡
+        written (notes_of notes.now) p.old (flat_map (λ x. operation_bodies (operation_shown x)) operations.now ++ rest)) }
     ensures counted { OnOk result (IsCounted p.new) }
 {
     'operations: for operation in operations {
@@ -584,7 +592,8 @@ fn put_type(
 ) -> Result<(), NoMemory>
     requires { IsCounted p.old }
     ensures text { (rest : List (List rules.Instr)) →
-        OnOk result (written (notes_of notes.now) p.new rest ≡ written (notes_of notes.now) p.old (type_bodies (option_map type_shown part.now) ++ rest)) }
+        OnOk result (written (notes_of notes.now) p.new rest ≡
+        written (notes_of notes.now) p.old (type_bodies (option_map type_shown part.now) ++ rest)) }
     ensures counted { OnOk result (IsCounted p.new) }
 {
     match part {
@@ -604,7 +613,8 @@ fn put_types(
 ) -> Result<(), NoMemory>
     requires { IsCounted p.old }
     ensures text { (rest : List (List rules.Instr)) →
-        OnOk result (written (notes_of notes.now) p.new rest ≡ written (notes_of notes.now) p.old (flat_map (λ x. type_bodies (option_map type_shown x)) parts.now ++ rest)) }
+        OnOk result (written (notes_of notes.now) p.new rest ≡
+        written (notes_of notes.now) p.old (flat_map (λ x. type_bodies (option_map type_shown x)) parts.now ++ rest)) }
     ensures counted { OnOk result (IsCounted p.new) }
 {
     'parts: for part in parts {

@@ -1,4 +1,4 @@
-use Rattle.std.proofs.Common.{◌≡◌, ◌∙◌, ◌++◌, [], List, ℕ, Option, ap, map, sym, append-nil}
+use Rattle.std.proofs.Common.{◌∙◌, ◌++◌, [], List, ℕ, Option, ap, map, sym, append-nil}
 use Rattle.std.specs.Prelude.{string_bytes, option_map}
 use Rattle.std.specs.List.{flat_map}
 use Rattle.code_rules.specs.Instructions.{Instr}

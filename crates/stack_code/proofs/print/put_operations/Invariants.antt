@@ -1,5 +1,4 @@
 use Rattle.std.proofs.Common.{◌≡◌, ◌++◌, List, drop}
-use Rattle.std.specs.Prelude.{option_map}
 use Rattle.std.specs.List.{flat_map}
 use Rattle.code_rules.specs.Instructions.{Instr}
 use Rattle.stack_code.specs.Bodies.{operation_shown}
