@@ -1,0 +1,3 @@
+pub mod CodeSites
+pub mod Jumps
+pub mod Lending
