@@ -1,0 +1,7 @@
+use Rattle.std.proofs.Common.{subst, sym}
+use Rattle.eval_tables.specs.declared.tables.CodeTables.{CodeTables}
+use Rattle.eval_tables.specs.Tables.{IsTables}
+use Rattle.code_units.proofs.program.main_of.Goals as goal
+
+pub returns : goal.returns
+returns c = λ us code. c.main_text.ensures us (subst (λ (t : CodeTables). IsTables us t) (sym c.tables.ensures) code.tables)

@@ -1,0 +1,4 @@
+pub mod Endings
+pub mod Plain
+pub mod Guarded
+pub mod Makes
