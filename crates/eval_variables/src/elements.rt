@@ -9,6 +9,7 @@ ghost use Rattle.value_ops.specs.Elements as rules;
 ghost use Rattle.value_ops.specs.Elements.{elements, put_in, with_once, without};
 
 use orca_base::NoMemory;
+use std::alloc::Global;
 use value_core::{Parts, Value};
 
 // The elements of a set or bag; other values have none.
@@ -96,12 +97,12 @@ fn insert_once(all: &mut Parts, element: Value) -> Result<(), NoMemory>
 ///
 /// # Errors
 /// Want of memory.
-pub fn insert(all: &mut Value, element: Value) -> Result<(), NoMemory>
+pub fn insert(alloc: Global, all: &mut Value, element: Value) -> Result<(), NoMemory>
     ensures { OnOk result (datum_of all.new ≡ rules.inserted (datum_of element) (datum_of all.old)) }
 {
     match all {
-        Value::Set(parts) => insert_once(parts.as_parts_mut(), element),
-        Value::Bag(parts) => insert_again(parts.as_parts_mut(), element),
+        Value::Set(parts) => insert_once(parts.as_parts_mut(alloc)?, element),
+        Value::Bag(parts) => insert_again(parts.as_parts_mut(alloc)?, element),
         _ => Ok(()),
     }
 }
@@ -119,12 +120,16 @@ fn delete_once(all: &mut Parts, element: &Value)
 }
 
 /// Takes one equal element out of a set or bag, where there is one.
-pub fn delete(all: &mut Value, element: &Value)
-    ensures { datum_of all.new ≡ rules.deleted (datum_of element.now) (datum_of all.old) }
+///
+/// # Errors
+/// Want of memory.
+pub fn delete(alloc: Global, all: &mut Value, element: &Value) -> Result<(), NoMemory>
+    ensures { OnOk result (datum_of all.new ≡ rules.deleted (datum_of element.now) (datum_of all.old)) }
 {
     match all {
-        Value::Set(parts) => delete_once(parts.as_parts_mut(), element),
-        Value::Bag(parts) => delete_once(parts.as_parts_mut(), element),
+        Value::Set(parts) => delete_once(parts.as_parts_mut(alloc)?, element),
+        Value::Bag(parts) => delete_once(parts.as_parts_mut(alloc)?, element),
         _ => {}
     }
+    Ok(())
 }

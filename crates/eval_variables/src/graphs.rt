@@ -43,11 +43,11 @@ pub fn nodes_of(value: &Value) -> &[Value]
 }
 
 // The fields of a record; of any other value none.
-fn fields_in(alloc: Global, value: Value) -> Parts
-    ensures { list_of result ≡ rules.fields_in (datum_of value) }
+fn fields_in(alloc: Global, value: Value) -> Result<Parts, NoMemory>
+    ensures { IfOk result (λ fields. list_of fields ≡ rules.fields_in (datum_of value)) }
 {
     if !matches!(&value, Value::Fields(_)) {
-        return Parts::new(alloc);
+        return Ok(Parts::new(alloc));
     }
     value.into_parts(alloc)
 }
@@ -65,27 +65,28 @@ fn taken(parts: Parts, place: usize) -> Value
 }
 
 // The elements of a set; of any other value none.
-fn set_in(alloc: Global, value: Value) -> Parts
-    ensures { list_of result ≡ rules.nodes_of (Some (datum_of value)) }
+fn set_in(alloc: Global, value: Value) -> Result<Parts, NoMemory>
+    ensures { IfOk result (λ nodes. list_of nodes ≡ rules.nodes_of (Some (datum_of value))) }
 {
     if !matches!(&value, Value::Set(_)) {
-        return Parts::new(alloc);
+        return Ok(Parts::new(alloc));
     }
     value.into_parts(alloc)
 }
 
 impl Graph {
-    /// A graph, taken apart. It takes no memory.
-    pub fn of(alloc: Global, value: Value) -> Graph
-        ensures next { result.next ≡ name_in (datum_of value) }
-        ensures nodes { list_of result.nodes ≡ nodes_in (datum_of value) }
+    /// A graph, taken apart.
+    ///
+    /// # Errors
+    /// Want of memory.
+    pub fn of(alloc: Global, value: Value) -> Result<Graph, NoMemory>
+        ensures next { IfOk result (λ graph. graph.next ≡ name_in (datum_of value)) }
+        ensures nodes { IfOk result (λ graph. list_of graph.nodes ≡ nodes_in (datum_of value)) }
     {
         let next = name_of(&value);
-        let second = taken(fields_in(alloc, value), 1);
-        Graph {
-            next,
-            nodes: set_in(alloc, second),
-        }
+        let second = taken(fields_in(alloc, value)?, 1);
+        let nodes = set_in(alloc, second)?;
+        Ok(Graph { next, nodes })
     }
 
     /// The graph, put together.
@@ -122,10 +123,13 @@ pub fn node(alloc: Global, name: i64, value: Value) -> Result<Value, NoMemory>
 }
 
 /// The value of a node, taken out of it, and 0 of what has none.
-pub fn value_of(alloc: Global, node: Value) -> Value
-    ensures { datum_of result ≡ value_in (datum_of node) }
+///
+/// # Errors
+/// Want of memory.
+pub fn value_of(alloc: Global, node: Value) -> Result<Value, NoMemory>
+    ensures { IfOk result (λ v. datum_of v ≡ value_in (datum_of node)) }
 {
-    taken(fields_in(alloc, node), 1)
+    Ok(taken(fields_in(alloc, node)?, 1))
 }
 
 /// What a node adds to the size of a graph beside its value: 2, and at most 4 where there was none, since what isn't a graph is taken
@@ -169,7 +173,7 @@ pub fn added(
     ensures range { IfOk result (λ p. FitsSigned w64 p.0) }
     ensures ordered { IfOk result (λ p. IsTrue p.2 → IsOrdered (datum_of p.1)) }
 {
-    let mut graph = Graph::of(alloc, value);
+    let mut graph = Graph::of(alloc, value)?;
     let name = graph.next;
     if name == i64::MAX {
         return Err(Stop::Faults {
@@ -191,7 +195,7 @@ pub fn deleted(alloc: Global, name: i64, value: Value, in_order: bool) -> Result
     ensures ordered { IfOk result (λ v. IsTrue in_order → IsOrdered (datum_of v)) }
     ensures given { (s : State) → Gives datum_of result s (gives (rules.deleted name (datum_of value)) s) }
 {
-    let mut graph = Graph::of(alloc, value);
+    let mut graph = Graph::of(alloc, value)?;
     match place_of(graph.nodes.as_slice(), name, in_order) {
         None => Err(Stop::Faults {
             fault: FaultKind::IndexOutside,

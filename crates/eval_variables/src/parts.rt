@@ -168,7 +168,7 @@ fn put_in_array(
 {
     match value {
         Value::Array(parts) => {
-            let parts = parts.as_parts_mut();
+            let parts = parts.as_parts_mut(alloc)?;
             let place = place_of(parts.len(), low, index)?;
             put_from(alloc, parts.part_mut(place), path, from, part, in_order)
         }
@@ -194,7 +194,7 @@ fn put_in_record(
 {
     match value {
         Value::Fields(fields) => {
-            let fields = fields.as_parts_mut();
+            let fields = fields.as_parts_mut(alloc)?;
             if place >= fields.len() {
                 return Err(Stop::Faults {
                     fault: FaultKind::IndexOutside,
@@ -222,13 +222,13 @@ fn put_in_graph(
     requires { IsTrue in_order → IsOrdered (datum_of value.old) }
     ensures { PutsPart (value_step.Node name ∷ path_of (drop from path.now)) (datum_of part) (datum_of value.old) result (datum_of value.new) }
 {
-    let mut graph = Graph::of(alloc, mem::replace(value, Value::Int(0)));
+    let mut graph = Graph::of(alloc, mem::replace(value, Value::Int(0)))?;
     let Some(place) = node_place(graph.nodes.as_slice(), name, in_order) else {
         return Err(Stop::Faults {
             fault: FaultKind::IndexOutside,
         });
     };
-    let mut inside = value_of(alloc, graph.nodes.replace(place, Value::Int(0)));
+    let mut inside = value_of(alloc, graph.nodes.replace(place, Value::Int(0)))?;
     let old = put_from(alloc, &mut inside, path, from, part, in_order)?;
     graph.nodes.set(place, node(alloc, name, inside)?);
     *value = graph.value(alloc)?;

@@ -192,7 +192,7 @@ pub fn put(alloc: Global, to: &Target, element: Value, run: &mut Run<'_>) -> Res
     let size = size_beside(bound, &element);
     let mut all = lift(alloc, to, run)?;
     let before = count(&all);
-    let in_order = insert(&mut all, element, in_order)?;
+    let in_order = insert(alloc, &mut all, element, in_order)?;
     let more = moved(size, before, &all);
     lower(alloc, to, all, in_order, run)?;
     check(to, grown(bound, more, 0), run)
@@ -215,7 +215,7 @@ pub fn drop_element(
     let bound = bound_at(to, run);
     let mut all = lift(alloc, to, run)?;
     let before = count(&all);
-    delete(&mut all, element, in_order);
+    delete(alloc, &mut all, element, in_order)?;
     let less = moved(size_beside(bound, element), before, &all);
     lower(alloc, to, all, in_order, run)?;
     keep(to, grown(bound, 0, less), run);
@@ -233,7 +233,7 @@ pub fn take(alloc: Global, to: &Target, run: &mut Run<'_>) -> Result<Value, Stop
     let in_order = run.frame.is_in_order();
     let bound = bound_at(to, run);
     let mut all = lift(alloc, to, run)?;
-    let least = take_least(&mut all)?;
+    let least = take_least(alloc, &mut all)?;
     lower(alloc, to, all, in_order, run)?;
     keep(to, grown(bound, 0, size_beside(bound, &least)), run);
     Ok(least)

@@ -1,6 +1,6 @@
 mod Forms
 mod Names
-mod Changes
+mod Making
 mod Kept
 mod Told
 mod Sound

@@ -26,10 +26,6 @@ abbrev pub fields_in : Datum → List Datum
 fields_in (datum.fields w) = list_of w
 fields_in v = []
 
--- a record
-abbrev pub IsRecord : Datum → Type 0
-IsRecord v = v ≡ datum.fields (data_of (fields_in v))
-
 abbrev pub integer_of : Option Datum → ℤ
 integer_of (Some (datum.int z)) = z
 integer_of v = pos 0

@@ -16,3 +16,4 @@ pub mod Fits
 pub mod Goes
 pub mod Lawful
 pub mod Lending
+pub mod Seen

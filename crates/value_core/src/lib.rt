@@ -16,7 +16,7 @@ mod text;
 mod value;
 
 pub use action::{Action, Class, Instance, Line, Reply};
-pub use meaning::{Doing, Making, Tried};
+pub use meaning::{Doing, Making, Seen, Tried};
 pub use message::Message;
 pub use performer::Performer;
 pub use processor::{Halt, Processor};

@@ -1,5 +1,8 @@
 //! What operations and processes give: the results of the meanings in specs/Meaning.antt.
 
+ghost use Rattle.std.specs.Prelude.{◌≡◌};
+ghost use Rattle.value_core.specs.Seen.{seen_of};
+
 use crate::action::{Action, Reply};
 use crate::value::ObjectState;
 use orca_base::FaultKind;
@@ -27,6 +30,30 @@ pub enum Tried {
         guard: u16,
         fault: FaultKind,
     },
+}
+
+/// What a try of an operation answers: what it gives, without the state that it leaves.
+#[derive(Debug, Drop, PartialEq, Eq)]
+pub enum Seen {
+    /// Each of its guards is false.
+    Blocked,
+    /// It ran whole: by this guard, with this reply.
+    Did { guard: u16, reply: Reply },
+    /// This guard, or the body behind it, faulted.
+    Broke { guard: u16, fault: FaultKind },
+}
+
+impl Seen {
+    /// What a try answers that gave this.
+    pub fn of(tried: Tried) -> Seen
+        ensures { result ≡ seen_of tried }
+    {
+        match tried {
+            Tried::Blocked => Seen::Blocked,
+            Tried::Did { guard, reply, .. } => Seen::Did { guard, reply },
+            Tried::Broke { guard, fault } => Seen::Broke { guard, fault },
+        }
+    }
 }
 
 /// Where a process stands after so many turns: at its next action, or still computing.

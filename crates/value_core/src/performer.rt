@@ -1,7 +1,7 @@
 //! What performs a program's operations.
 
 use crate::action::Class;
-use crate::meaning::{Making, Tried};
+use crate::meaning::{Making, Seen, Tried};
 use crate::value::{ObjectState, Parts};
 use orca_base::{KindNo, NoMemory, OpNo};
 use std::alloc::Global;
@@ -20,6 +20,7 @@ pub trait Performer {
     ghost use Rattle.value_core.specs.declared.action.Class.TheVariants.{Reads};
     ghost use Rattle.value_core.specs.declared.action.Reply.{Reply};
     ghost use Rattle.value_core.specs.Meaning.{Performs};
+    ghost use Rattle.value_core.specs.Seen.{seen_of};
     ghost use Rattle.value_core.specs.Fits.{AreNumbered, Kinds, ExtendsKinds, IfMade, KeepsState, RepliesWell};
     ghost use Rattle.value_core.specs.History.{output_kind};
     ghost use Rattle.value_core.specs.Sound.{AreSound, AreSoundArguments, IsSoundReply};
@@ -58,6 +59,21 @@ pub trait Performer {
     ) -> Result<Tried, NoMemory>
         requires { (kinds : Kinds) × fits_state self.now kinds kind state.now × fits_args self.now kinds kind op args.now }
         ensures { IfOk result (λ tried. tried ≡ (performs self.now).tries kind op state.now args.now) };
+
+    /// What a try of an operation answers, for those whom the state that it leaves doesn't concern.
+    fn try_read(
+        &self,
+        alloc: Global,
+        kind: KindNo,
+        op: OpNo,
+        state: &ObjectState,
+        args: &Parts,
+    ) -> Result<Seen, NoMemory>
+        requires { (kinds : Kinds) × fits_state self.now kinds kind state.now × fits_args self.now kinds kind op args.now }
+        ensures { IfOk result (λ seen. seen ≡ seen_of ((performs self.now).tries kind op state.now args.now)) }
+    {
+        Ok(Seen::of(self.try_op(alloc, kind, op, state, args)?))
+    }
 
     /// The output object has no fields, and so its state fits.
     ghost output_fits: { (m : Self) (kinds : Kinds) → fits_state m kinds output_kind datum.none };

@@ -1,21 +1,26 @@
 //! The texts that values hold.
 
-ghost use Rattle.std.specs.Prelude.{◌≡◌, ◌<◌, ◌^◌, IfOk, List, length, ℕ};
+ghost use Rattle.std.specs.Prelude.{◌≡◌, ◌<◌, ◌^◌, IfOk, length};
 
 use orca_base::{NoMemory, Text};
 use std::alloc::Global;
 use std::marker::Model;
+use std::sync::Arc;
 
-/// A text behind one pointer, as values hold it. Clauses see it as the list of its bytes, as the text itself.
+/// A text behind one pointer, as values hold it, which equal values share. Clauses see it as the list of its bytes, as the text
+/// itself.
 #[derive(Debug, Drop)]
 pub struct TextValue {
-    text: Box<Text>,
+    text: Arc<Text>,
 }
 
 impl Model for TextValue {
+    ghost use Rattle.std.specs.Prelude.{List, ℕ};
+    ghost use Rattle.std.specs.Arc.{arc_value};
+
     ghost Value = { List ℕ };
 
-    ghost view = { λ t. t.text.value };
+    ghost view = { λ t. arc_value t.text };
 }
 
 impl TextValue {
@@ -24,7 +29,7 @@ impl TextValue {
         ensures { IfOk result (λ t. t ≡ text) }
     {
         Ok(TextValue {
-            text: Box::new(alloc, text)?,
+            text: Arc::new(alloc, text)?,
         })
     }
 
@@ -35,18 +40,13 @@ impl TextValue {
         TextValue::new(alloc, Text::from_str(alloc, string)?)
     }
 
-    /// The text itself. It takes no memory.
-    pub fn into_text(self) -> Text
-        ensures { result ≡ self }
-    {
-        Box::into_inner(self.text)
-    }
-
-    /// An equal text.
-    pub fn copy(&self, alloc: Global) -> Result<TextValue, NoMemory>
+    /// The same text, which is shared: it costs a count. Want of memory is answered where no more may share it.
+    pub fn copy(&self) -> Result<TextValue, NoMemory>
         ensures { IfOk result (λ t. t ≡ self.now) }
     {
-        TextValue::new(alloc, self.text.copy(alloc)?)
+        Ok(TextValue {
+            text: Arc::try_clone(&self.text)?,
+        })
     }
 
     /// The text's characters.

@@ -3,6 +3,7 @@
 ghost use Rattle.std.specs.Prelude.{◌≡◌, ◌↔◌, ◌<◌, ◌≤◌, ◌^◌, ◌++◌, ◌∷◌, [], Some, length, map, slice_get, slice_set, insert, remove, option_map, IsTrue, IfOk, OnOk, OnErr};
 ghost use Rattle.std.specs.Option.{option_copied};
 ghost use Rattle.std.specs.Borrow.{sem};
+ghost use Rattle.std.specs.Arc.{arc_value};
 ghost use Rattle.value_core.specs.Datum.{list_of};
 ghost use Rattle.value_core.specs.Lending.{LendsPart, LendsParts};
 ghost use Rattle.value_core.specs.View.{datum_of};
@@ -16,6 +17,7 @@ use std::alloc::Global;
 use std::cmp::Ordering;
 use std::marker::Model;
 use std::mem;
+use std::sync::Arc;
 
 /// A value of the language, in 16 bytes: a string and a list stand behind one pointer.
 #[cycle(value)]
@@ -55,11 +57,11 @@ pub struct Parts {
 /// The values of an object's fields, in order of declaration.
 pub type ObjectState = Parts;
 
-/// A list of values behind one pointer, as values hold it. Clauses see it as `Data` of specs/, as the list itself.
+/// A list of values behind one pointer, as values hold it, which equal values share. Clauses see it as `Data` of specs/, as the list itself.
 #[cycle(value)]
 #[derive(Debug, Drop)]
 pub struct BoxedParts {
-    parts: Box<Parts>,
+    parts: Arc<Parts>,
 }
 
 impl Model for Parts {
@@ -89,12 +91,14 @@ impl Model for BoxedParts {
 
     ghost Value = { Data };
 
+    ghost use Rattle.std.specs.Arc.{arc_value};
+
     ghost coded = { data_code };
 
     ghost use Rattle.std.specs.Prelude.{◌+◌};
     ghost use Rattle.value_core.specs.Sizes.{count_of_all};
 
-    ghost view = { λ b. b.parts.value };
+    ghost view = { λ b. arc_value b.parts };
 
     ghost size = { λ w. count_of_all w + 1 };
 
@@ -211,7 +215,6 @@ impl Parts {
     }
 
     /// Equal values.
-    #[cycle(copies)]
     pub fn copy(&self, alloc: Global) -> Result<Parts, NoMemory>
         ensures { IfOk result (λ p. p ≡ self.now) }
     {
@@ -265,15 +268,18 @@ impl BoxedParts {
         ensures { IfOk result (λ b. b ≡ parts) }
     {
         Ok(BoxedParts {
-            parts: Box::new(alloc, parts)?,
+            parts: Arc::new(alloc, parts)?,
         })
     }
 
-    /// The list itself. It takes no memory.
-    pub fn into_parts(self) -> Parts
-        ensures { result ≡ self }
+    /// The list itself, moved out where nobody else has it, else an equal one, whose lists are shared.
+    pub fn into_parts(self, alloc: Global) -> Result<Parts, NoMemory>
+        ensures { IfOk result (λ p. p ≡ self) }
     {
-        Box::into_inner(self.parts)
+        match Arc::try_unwrap(self.parts) {
+            Ok(parts) => Ok(parts),
+            Err(shared) => shared.copy(alloc),
+        }
     }
 
     /// The list itself.
@@ -283,20 +289,35 @@ impl BoxedParts {
         &self.parts
     }
 
-    /// The list itself, to be changed where it stands.
-    pub fn as_parts_mut(&mut self) -> &mut Parts
+    /// The list itself, to be changed where it stands. Where others share it, it becomes one of its own first, whose lists are shared.
+    pub fn as_parts_mut(&mut self, alloc: Global) -> Result<&mut Parts, NoMemory>
         ensures* writes_back { sem 𝓛 (LendsParts self.entry result) }
-        ensures value { result.now ≡ self.old }
+        ensures value { IfOk result (λ r. r.now ≡ self.old) }
     {
-        &mut self.parts
+        self.unshare(alloc)?;
+        match Arc::get_mut(&mut self.parts) {
+            Some(parts) => Ok(parts),
+            None => Err(NoMemory),
+        }
     }
 
-    /// An equal list.
-    #[cycle(copies)]
-    pub fn copy(&self, alloc: Global) -> Result<BoxedParts, NoMemory>
+    // It shares the list with nobody, or memory lacks.
+    fn unshare(&mut self, alloc: Global) -> Result<(), NoMemory>
+        ensures { self.new ≡ self.old }
+    {
+        if Arc::strong_count(&self.parts) > 1 {
+            self.parts = Arc::new(alloc, self.parts.copy(alloc)?)?;
+        }
+        Ok(())
+    }
+
+    /// The same list, which is shared: it costs a count. Want of memory is answered where no more may share it.
+    pub fn copy(&self) -> Result<BoxedParts, NoMemory>
         ensures { IfOk result (λ b. b ≡ self.now) }
     {
-        BoxedParts::new(alloc, self.parts.copy(alloc)?)
+        Ok(BoxedParts {
+            parts: Arc::try_clone(&self.parts)?,
+        })
     }
 }
 
@@ -317,22 +338,21 @@ impl Drop for Value {
 }
 
 impl Value {
-    /// Its parts, which are the elements of a set or bag, moved out; of a value that has none no parts. It takes no memory.
-    pub fn into_parts(self, alloc: Global) -> Parts
-        ensures { list_of result ≡ list_of (parts_in (datum_of self)) }
+    /// Its parts, which are the elements of a set or bag, moved out where nobody shares them; of a value that has none no parts.
+    pub fn into_parts(self, alloc: Global) -> Result<Parts, NoMemory>
+        ensures { IfOk result (λ p. list_of p ≡ list_of (parts_in (datum_of self))) }
     {
         match self {
             Value::Array(parts) | Value::Fields(parts) | Value::Set(parts) | Value::Bag(parts) => {
-                parts.into_parts()
+                parts.into_parts(alloc)
             }
             Value::Int(_) | Value::Truth(_) | Value::Char(_) | Value::Enum(_) | Value::Object(_) =>
-                Parts::new(alloc),
-            Value::Text(_text) => Parts::new(alloc),
+                Ok(Parts::new(alloc)),
+            Value::Text(_text) => Ok(Parts::new(alloc)),
         }
     }
 
     /// An equal value.
-    #[cycle(copies)]
     pub fn copy(&self, alloc: Global) -> Result<Value, NoMemory>
         ensures { IfOk result (λ v. v ≡ self.now) }
     {
@@ -341,11 +361,11 @@ impl Value {
             Value::Truth(truth) => Ok(Value::Truth(*truth)),
             Value::Char(code) => Ok(Value::Char(*code)),
             Value::Enum(number) => Ok(Value::Enum(*number)),
-            Value::Text(text) => Ok(Value::Text(text.copy(alloc)?)),
-            Value::Array(parts) => Ok(Value::Array(parts.copy(alloc)?)),
-            Value::Fields(parts) => Ok(Value::Fields(parts.copy(alloc)?)),
-            Value::Set(parts) => Ok(Value::Set(parts.copy(alloc)?)),
-            Value::Bag(parts) => Ok(Value::Bag(parts.copy(alloc)?)),
+            Value::Text(text) => Ok(Value::Text(text.copy()?)),
+            Value::Array(parts) => Ok(Value::Array(parts.copy()?)),
+            Value::Fields(parts) => Ok(Value::Fields(parts.copy()?)),
+            Value::Set(parts) => Ok(Value::Set(parts.copy()?)),
+            Value::Bag(parts) => Ok(Value::Bag(parts.copy()?)),
             Value::Object(object) => Ok(Value::Object(*object)),
         }
     }

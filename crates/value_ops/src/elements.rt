@@ -1,6 +1,7 @@
 //! The elements of sets and bags.
 
-ghost use Rattle.std.specs.Prelude.{◌≡◌, ◌↔◌, ◌≤◌, length, map, IsTrue, MatchResult, OnErr, OnOk, Ok, Err};
+ghost use Rattle.std.specs.Prelude.{◌≡◌, ◌↔◌, ◌≤◌, length, map, IsTrue, OnErr, OnOk, Ok, Err};
+ghost use Rattle.orca_base.specs.Refusal.{MatchRefusal};
 ghost use Rattle.std.specs.List.{Contains};
 ghost use Rattle.std.specs.List.Sorted.{IsSorted, IsStrictlySortedBy};
 ghost use Rattle.value_core.specs.Datum.{data_of, list_of};
@@ -9,7 +10,8 @@ ghost use Rattle.value_core.specs.View.{datum_of};
 ghost use Rattle.value_ops.specs.Elements.{IsInOrder, deleted, elements, first_of, has, inserted, least_of, put_in, rest_of, with_once, without, without_least};
 ghost use Rattle.value_ops.specs.Spots.{IsSpot, Parted};
 
-use orca_base::{FaultKind, NoMemory};
+use orca_base::{FaultKind, NoMemory, Refusal};
+use std::alloc::Global;
 use value_core::{Parts, Value};
 
 // Where an element stands among others in order or would stand, and whether it stands there.
@@ -102,14 +104,17 @@ fn delete_once(all: &mut Parts, element: &Value)
 }
 
 // Takes out the first value.
-fn take_first(all: &mut Parts) -> Result<Value, FaultKind>
-    ensures taken { MatchResult result (λ v. first_of (list_of all.old) ≡ Ok (datum_of v)) (λ f. first_of (list_of all.old) ≡ Err f) }
-    ensures rest { all.new ≡ rest_of all.old }
+fn take_first(all: &mut Parts) -> Result<Value, Refusal<FaultKind>>
+    ensures taken { MatchRefusal result (λ v. first_of (list_of all.old) ≡ Ok (datum_of v)) (λ f. first_of (list_of all.old) ≡ Err f) }
+    ensures rest { OnOk result (all.new ≡ rest_of all.old) }
+    ensures err { OnErr result (all.new ≡ all.old) }
     ensures sorted { IsSorted datum_cmp (list_of all.old) → IsSorted datum_cmp (list_of all.new) }
     ensures rises { IsStrictlySortedBy datum_cmp (list_of all.old) → IsStrictlySortedBy datum_cmp (list_of all.new) }
 {
     if all.is_empty() {
-        return Err(FaultKind::FromEmpty);
+        return Err(Refusal::Because {
+            cause: FaultKind::FromEmpty,
+        });
     }
     Ok(all.remove(0))
 }
@@ -119,47 +124,55 @@ fn take_first(all: &mut Parts) -> Result<Value, FaultKind>
 /// # Errors
 /// Want of memory; then nothing has changed.
 #[tactic(auto, using(crate::proofs::Orders::rising_sorted))]
-pub fn insert(all: &mut Value, element: Value) -> Result<(), NoMemory>
+pub fn insert(alloc: Global, all: &mut Value, element: Value) -> Result<(), NoMemory>
     requires { IsInOrder (datum_of all.old) }
     ensures ok { OnOk result (datum_of all.new ≡ inserted (datum_of element) (datum_of all.old)) }
     ensures err { OnErr result (all.new ≡ all.old) }
     ensures in_order { IsInOrder (datum_of all.new) }
 {
     match all {
-        Value::Set(parts) => insert_once(parts.as_parts_mut(), element),
-        Value::Bag(parts) => insert_again(parts.as_parts_mut(), element),
+        Value::Set(parts) => insert_once(parts.as_parts_mut(alloc)?, element),
+        Value::Bag(parts) => insert_again(parts.as_parts_mut(alloc)?, element),
         _ => Ok(()),
     }
 }
 
 /// Takes one equal element out of a set or bag, where there is one. It compares some log2 of the elements, and moves those
 /// behind it.
+///
+/// # Errors
+/// Want of memory; then nothing has changed.
 #[tactic(auto, using(crate::proofs::Orders::rising_sorted))]
-pub fn delete(all: &mut Value, element: &Value)
+pub fn delete(alloc: Global, all: &mut Value, element: &Value) -> Result<(), NoMemory>
     requires { IsInOrder (datum_of all.old) }
-    ensures left { datum_of all.new ≡ deleted (datum_of element.now) (datum_of all.old) }
+    ensures left { OnOk result (datum_of all.new ≡ deleted (datum_of element.now) (datum_of all.old)) }
+    ensures err { OnErr result (all.new ≡ all.old) }
     ensures in_order { IsInOrder (datum_of all.new) }
 {
     match all {
-        Value::Set(parts) => delete_once(parts.as_parts_mut(), element),
-        Value::Bag(parts) => delete_once(parts.as_parts_mut(), element),
+        Value::Set(parts) => delete_once(parts.as_parts_mut(alloc)?, element),
+        Value::Bag(parts) => delete_once(parts.as_parts_mut(alloc)?, element),
         _ => {}
     }
+    Ok(())
 }
 
 /// Takes the least element out of a set or bag: `from`. It moves the others.
 ///
 /// # Errors
-/// `FromEmpty` where there is none.
-pub fn take_least(all: &mut Value) -> Result<Value, FaultKind>
-    ensures taken { MatchResult result (λ v. least_of (datum_of all.old) ≡ Ok (datum_of v))
+/// `FromEmpty` where there is none, and want of memory; then nothing has changed.
+pub fn take_least(alloc: Global, all: &mut Value) -> Result<Value, Refusal<FaultKind>>
+    ensures taken { MatchRefusal result (λ v. least_of (datum_of all.old) ≡ Ok (datum_of v))
         (λ f. least_of (datum_of all.old) ≡ Err f) }
-    ensures rest { datum_of all.new ≡ without_least (datum_of all.old) }
+    ensures rest { OnOk result (datum_of all.new ≡ without_least (datum_of all.old)) }
+    ensures err { OnErr result (all.new ≡ all.old) }
     ensures in_order { IsInOrder (datum_of all.old) → IsInOrder (datum_of all.new) }
 {
     match all {
-        Value::Set(parts) => take_first(parts.as_parts_mut()),
-        Value::Bag(parts) => take_first(parts.as_parts_mut()),
-        _ => Err(FaultKind::FromEmpty),
+        Value::Set(parts) => take_first(parts.as_parts_mut(alloc)?),
+        Value::Bag(parts) => take_first(parts.as_parts_mut(alloc)?),
+        _ => Err(Refusal::Because {
+            cause: FaultKind::FromEmpty,
+        }),
     }
 }

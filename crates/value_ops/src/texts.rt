@@ -50,10 +50,10 @@ pub fn text_of(alloc: Global, value: &Value, names: &[TextValue]) -> Result<Text
             TextValue::new(alloc, Text::new(text))
         }
         Value::Enum(number) => match names.get(*number as usize) {
-            Some(name) => name.copy(alloc),
+            Some(name) => name.copy(),
             None => TextValue::from_str(alloc, ""),
         },
-        Value::Text(text) => text.copy(alloc),
+        Value::Text(text) => text.copy(),
         _ => TextValue::from_str(alloc, ""),
     }
 }

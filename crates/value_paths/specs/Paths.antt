@@ -1,11 +1,9 @@
 -- Parts of values at the ends of paths, and values with another part there (docs/LANGUAGE.md, Operators).
-use Rattle.std.specs.Prelude.{◌≡◌, ◌≢◌, ◌⊎◌, MatchResult, ℕ, List, [], ◌∷◌, Option, Some, None, Result, Ok, Err, IfOk, length, slice_get, slice_set}
+use Rattle.std.specs.Prelude.{◌≡◌, ◌≢◌, ◌⊎◌, ℕ, List, [], ◌∷◌, Option, Some, None, Result, Ok, Err, IfOk, length, slice_get, slice_set}
 use Rattle.orca_base.specs.declared.fault.FaultKind.{FaultKind}
 use Rattle.orca_base.specs.declared.fault.FaultKind.TheVariants.{IndexOutside}
 use Rattle.value_core.specs.Datum.{Datum, data_of, list_of}
 use Rattle.value_core.specs.Datum as datum
-use Rattle.value_core.specs.View.{datum_of}
-use Rattle.value_core.specs.declared.value.Value.{Value}
 use Rattle.value_ops.specs.Sizes.{place_of}
 use Rattle.graph_values.specs.Graphs.{IsGraph, fields_in, graph_of, name_in, node_in, node_of, nodes_in, with_node}
 use Rattle.value_paths.specs.declared.step.Step.{Step}
@@ -81,9 +79,3 @@ LeadApart s t v = ⊥
 abbrev pub GoApart : List Step → List Step → Datum → Type 0
 GoApart (s ∷ path) (t ∷ other) v = LeadApart s t v ⊎ ((s ≡ t) × IfOk (part_to s v) (GoApart path other))
 GoApart path other v = ⊥
-
--- x stands at the end of a path, and what stood there is given; or a step leads nowhere, and nothing has changed
-abbrev pub Puts : List Step → Datum → Value → Result Value FaultKind → Value → Type 0
-Puts path x old r new = MatchResult r
-    (λ part. (part_at path (datum_of old) ≡ Ok (datum_of part)) × (datum_of new ≡ with_part path (datum_of old) x))
-    (λ fault. (part_at path (datum_of old) ≡ Err fault) × (new ≡ old))

@@ -9,11 +9,11 @@ use Rattle.eval_variables.proofs.Rising.{added_ordered}
 use Rattle.eval_variables.proofs.graphs.added.Goals as goal
 
 pub may_follow-stays-requires : goal.may_follow-stays-requires
-may_follow-stays-requires c t = subst (IsStrictlySortedBy datum_cmp) (sym (c.as_slice.ensures ∙ c.of-graph.ensures.nodes)) (nodes_ordered (datum_of c.args.value) (c.requires t)).1
+may_follow-stays-requires c t = subst (IsStrictlySortedBy datum_cmp) (sym (c.as_slice.ensures ∙ (c.in_ok-graph.ensures {u = tt}).nodes)) (nodes_ordered (datum_of c.args.value) (c.requires t)).1
 
 pub returns-clause-ordered : goal.returns-clause-ordered
 returns-clause-ordered c t =
-    let xs = list_of c.of-graph.result.nodes in
+    let xs = list_of c.in_ok-graph.graph.nodes in
     let stays = c.may_follow-stays.ensures in
-    added_ordered _ _ (datum_of c.args.value) (datum_of c.args.fresh) (datum_of c.in_ok-value.field-0) xs (list_of c.push.new.self) (c.requires (stays.rising t)) (stays.value t) c.of-graph.ensures.nodes
+    added_ordered _ _ (datum_of c.args.value) (datum_of c.args.fresh) (datum_of c.in_ok-value.field-0) xs (list_of c.push.new.self) (c.requires (stays.rising t)) (stays.value t) (c.in_ok-graph.ensures {u = tt}).nodes
     (subst (AreBefore _) c.as_slice.ensures (stays.before t)) ((c.in_ok-push.ensures {u = tt}).ok ∙ ap (λ d. xs ++ d ∷ []) (c.in_ok-node.ensures {u = tt})) (c.in_ok-value.ensures {u = tt})

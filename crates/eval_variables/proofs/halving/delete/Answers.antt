@@ -7,5 +7,5 @@ use Rattle.eval_variables.proofs.halving.delete.Goals as goal
 
 pub returns-then-in_order-clause-ordered : goal.returns-then-in_order-clause-ordered
 returns-then-in_order-clause-ordered c t =
-    subst IsOrdered (sym c.delete.ensures.left)
-    (delete_keeps (datum_of c.args.element.now) (datum_of c.args.all.now) (c.requires c.if-in_order.true) (subst IsInOrder c.delete.ensures.left c.delete.ensures.in_order))
+    let is = (c.in_ok-delete.ensures {u = tt}).left in
+    subst IsOrdered (sym is) (delete_keeps (datum_of c.args.element.now) (datum_of c.args.all.now) (c.requires c.if-in_order.true) (subst IsInOrder is c.delete.ensures.in_order))

@@ -19,7 +19,7 @@ keep-requires c =
     put_within (target_of c.args.to.now) old new s (state_of c.lower.new.run) c.bound_at-bound.result 0 c.moved-less.result c.grown.result
     ((c.in_ok-lower.ensures {u = tt}).lowered s old (c.in_ok-all.ensures {u = tt}).lifted) c.bound_at-bound.ensures
     (λ known fits. drop_differs e old new c.bound_at-bound.result c.size_beside.result c.moved-less.result c.count-before.result
-    c.delete.ensures.left c.size_beside.ensures.size c.count-before.ensures c.moved-less.ensures.stayed c.moved-less.ensures.most known) c.grown.ensures
+    (c.in_ok-delete.ensures {u = tt}).left c.size_beside.ensures.size c.count-before.ensures c.moved-less.ensures.stayed c.moved-less.ensures.most known) c.grown.ensures
 
 pub returns-in_err-lower-clause-gives : goal.returns-in_err-lower-clause-gives
 returns-in_err-lower-clause-gives c =
@@ -35,4 +35,4 @@ returns-clause-gives c =
     let s = state_of c.args.run.now in
     subst (λ t. rules.drop_element to e s ≡ Goes tt t) (sym c.keep.ensures.same)
     (changes to (λ all. Ok (deleted e all)) (datum_of c.in_ok-all.all) (datum_of c.delete.new.all) s (state_of c.lower.new.run)
-    ((c.in_ok-lower.ensures {u = tt}).lowered s (datum_of c.in_ok-all.all) (c.in_ok-all.ensures {u = tt}).lifted) (ap Ok (sym c.delete.ensures.left)))
+    ((c.in_ok-lower.ensures {u = tt}).lowered s (datum_of c.in_ok-all.all) (c.in_ok-all.ensures {u = tt}).lifted) (ap Ok (sym (c.in_ok-delete.ensures {u = tt}).left)))

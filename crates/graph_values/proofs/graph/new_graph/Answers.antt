@@ -2,7 +2,7 @@ use Rattle.std.proofs.Common.{ap, ◌∙◌, pos, subst, sym}
 use Rattle.std.proofs.lemmas.Result.{IfOk-weaker}
 use Rattle.value_core.specs.Datum as datum
 use Rattle.graph_values.specs.Graphs.{IsGraph}
-use Rattle.graph_values.proofs.Changes.{empty_is}
+use Rattle.graph_values.proofs.Making.{empty_is}
 use Rattle.graph_values.proofs.Told.{empty_is_graph}
 use Rattle.graph_values.proofs.graph.new_graph.Goals as goal
 

@@ -4,7 +4,7 @@ use Rattle.std.proofs.lemmas.Int.{to_z-of_z}
 use Rattle.value_core.specs.Datum as datum
 use Rattle.value_core.specs.Datum.{list_of}
 use Rattle.value_core.specs.View.{datum_of}
-use Rattle.graph_values.proofs.Changes.{pair_is}
+use Rattle.graph_values.proofs.Making.{pair_is}
 use Rattle.graph_values.proofs.graph.pair_of.Goals as goal
 
 pub returns : goal.returns
