@@ -18,6 +18,7 @@ use Rattle.history_text.specs.Sound.{AreLines, HasNames, IsPrintable}
 use Rattle.history_text.specs.declared.names.Names.{Names}
 use Rattle.history_commands.specs.ReadBack.{ReadsBack}
 use Rattle.history_commands.proofs.Answering.{printable, reads_back}
+use Rattle.wires.specs.Wired.{HasObeyed, Rule, with_script}
 use Rattle.world_book.specs.Sounding.{RunsSound}
 use Rattle.world_rules.specs.declared.settings.Settings.{Settings}
 use Rattle.world_rules.specs.declared.standing.Standing.{Standing}
@@ -31,7 +32,7 @@ use Rattle.run_loop.proofs.Telling.{kept_at}
 use Rattle.meaning_rules.specs.Meanings.{computes_of, performs_of}
 use Rattle.orca_cli.specs.declared.kept.Kept.{Kept}
 use Rattle.command_output.specs.declared.statuses.TheConstants.{NO_MEMORY}
-use Rattle.orca_cli.specs.Headline.{AreLoaded, AreUntouched, IsNamed, IsRun, IsProgramRun, IsRunOf, KeepScripts, WasBegun, Wires, settings_of, wires_of}
+use Rattle.orca_cli.specs.Headline.{AreLoaded, AreUntouched, HaveObeyed, IsNamed, IsRun, IsProgramRun, IsRunOf, KeepRules, WasBegun, Wires, settings_of, wires_of}
 use Rattle.command_files.specs.Sources.{Word}
 use Rattle.orca_cli.specs.Kept.{IsEndOf}
 use Rattle.orca_cli.specs.Rows.{KeptRow}
@@ -158,50 +159,65 @@ err_both (Err e) so a b = so a b
 -- ---- the wires
 
 -- they are told by the three
-abbrev these_wires : List (List Asked) → List (List ScriptLine) → List ℕ → Wires
-these_wires told scripts loaded = record { told = told; scripts = scripts; loaded = loaded }
+abbrev these_wires : List (List Asked) → List Rule → List ℕ → Wires
+these_wires told rules loaded = record { told = told; rules = rules; loaded = loaded }
 
 -- where the first wire stayed all did
-pub wires_kept : {W : Type 0} (told : W → List Asked) (script : W → List ScriptLine) (loaded : W → ℕ) (wires : List W) (first wire : W) → told wire ≡ told (get_or wires 0 first) → script wire ≡ script (get_or wires 0 first)
-    → loaded wire ≡ loaded (get_or wires 0 first) → wires_of told script loaded (set wires 0 wire) ≡ wires_of told script loaded wires
-wires_kept told script loaded wires first wire one two three =
-    ap (λ (l : List (List Asked)). these_wires l (map script (set wires 0 wire)) (map loaded (set wires 0 wire))) (kept_at told wires 0 first wire one)
-    ∙ ap (λ (l : List (List ScriptLine)). these_wires (map told wires) l (map loaded (set wires 0 wire))) (kept_at script wires 0 first wire two)
-    ∙ ap (λ (l : List ℕ). these_wires (map told wires) (map script wires) l) (kept_at loaded wires 0 first wire three)
+pub wires_kept : {W : Type 0} (told : W → List Asked) (rule : W → Rule) (loaded : W → ℕ) (wires : List W) (first wire : W) → told wire ≡ told (get_or wires 0 first) → rule wire ≡ rule (get_or wires 0 first)
+    → loaded wire ≡ loaded (get_or wires 0 first) → wires_of told rule loaded (set wires 0 wire) ≡ wires_of told rule loaded wires
+wires_kept told rule loaded wires first wire one two three =
+    ap (λ (l : List (List Asked)). these_wires l (map rule (set wires 0 wire)) (map loaded (set wires 0 wire))) (kept_at told wires 0 first wire one)
+    ∙ ap (λ (l : List Rule). these_wires (map told wires) l (map loaded (set wires 0 wire))) (kept_at rule wires 0 first wire two)
+    ∙ ap (λ (l : List ℕ). these_wires (map told wires) (map rule wires) l) (kept_at loaded wires 0 first wire three)
 
--- whatever the first wire took, the others keep their scripts
-others_keep : {W : Type 0} (told : W → List Asked) (script : W → List ScriptLine) (loaded : W → ℕ) (wires : List W) (wire : W) → KeepScripts (wires_of told script loaded wires) (wires_of told script loaded (set wires 0 wire))
-others_keep told script loaded [] wire = record { scripts = λ n. refl; loaded = λ n. refl }
-others_keep told script loaded (w ∷ wires) wire = record { scripts = λ n. refl; loaded = λ n. refl }
+-- whatever the first wire took, the others stay with their scripts
+others_keep : {W : Type 0} (told : W → List Asked) (rule : W → Rule) (loaded : W → ℕ) (wires : List W) (wire : W) → KeepRules (wires_of told rule loaded wires) (wires_of told rule loaded (set wires 0 wire))
+others_keep told rule loaded [] wire = record { rules = λ n. refl; loaded = λ n. refl }
+others_keep told rule loaded (w ∷ wires) wire = record { rules = λ n. refl; loaded = λ n. refl }
 
-still_keep : {W : Type 0} (told : W → List Asked) (script : W → List ScriptLine) (loaded : W → ℕ) (old mid new : List W) → KeepScripts (wires_of told script loaded old) (wires_of told script loaded mid)
-    → map script new ≡ map script mid → map loaded new ≡ map loaded mid → KeepScripts (wires_of told script loaded old) (wires_of told script loaded new)
-still_keep told script loaded old mid new h scripts counts = record {
-  scripts = λ n. subst (λ (l : List (List ScriptLine)). slice_get l (suc n) ≡ slice_get (map script old) (suc n)) (sym scripts) (h.scripts n);
+still_keep : {W : Type 0} (told : W → List Asked) (rule : W → Rule) (loaded : W → ℕ) (old mid new : List W) → KeepRules (wires_of told rule loaded old) (wires_of told rule loaded mid)
+    → map rule new ≡ map rule mid → map loaded new ≡ map loaded mid → KeepRules (wires_of told rule loaded old) (wires_of told rule loaded new)
+still_keep told rule loaded old mid new h rules counts = record {
+  rules = λ n. subst (λ (l : List Rule). slice_get l (suc n) ≡ slice_get (map rule old) (suc n)) (sym rules) (h.rules n);
   loaded = λ n. subst (λ (l : List ℕ). slice_get l (suc n) ≡ slice_get (map loaded old) (suc n)) (sym counts) (h.loaded n);
 }
 
 -- the first wire took these lines
-pub loaded_first : {W : Type 0} (told : W → List Asked) (script : W → List ScriptLine) (loaded : W → ℕ) (wires : List W) (first wire : W) (lines : List ScriptLine) → 1 ≤ length wires → script wire ≡ lines
-    → loaded wire ≡ length (told (get_or wires 0 first)) → AreLoaded lines (wires_of told script loaded wires) (wires_of told script loaded (set wires 0 wire))
-loaded_first told script loaded [] first wire lines some is since = absurd (omega (arith, some))
-loaded_first told script loaded (w ∷ wires) first wire lines some is since = record { script = ap Some is; since = ap Some since; others = others_keep told script loaded (w ∷ wires) wire }
+pub loaded_first : {W : Type 0} (told : W → List Asked) (rule : W → Rule) (loaded : W → ℕ) (wires : List W) (first wire : W) (lines : List ScriptLine) → 1 ≤ length wires → rule wire ≡ with_script lines (rule (get_or wires 0 first))
+    → loaded wire ≡ length (told (get_or wires 0 first)) → AreLoaded lines (wires_of told rule loaded wires) (wires_of told rule loaded (set wires 0 wire))
+loaded_first told rule loaded [] first wire lines some is since = absurd (omega (arith, some))
+loaded_first told rule loaded (w ∷ wires) first wire lines some is since = record { rule = ap Some is; since = ap Some since; others = others_keep told rule loaded (w ∷ wires) wire }
 
--- and the run left all scripts
-pub still_loaded : {W : Type 0} (told : W → List Asked) (script : W → List ScriptLine) (loaded : W → ℕ) (old mid new : List W) (lines : List ScriptLine) → AreLoaded lines (wires_of told script loaded old) (wires_of told script loaded mid)
-    → map script new ≡ map script mid → map loaded new ≡ map loaded mid → AreLoaded lines (wires_of told script loaded old) (wires_of told script loaded new)
-still_loaded told script loaded old mid new lines h scripts counts = record {
-  script = subst (λ (l : List (List ScriptLine)). slice_get l 0 ≡ Some lines) (sym scripts) h.script;
+-- what every wire of these answered, its rule says
+each_obeyed : {W : Type 0} (told : W → List Asked) (rule : W → Rule) (loaded : W → ℕ) (wires : List W) → All (λ w. HasObeyed (rule w) (loaded w) (told w)) wires
+    → (wire since : ℕ) (r : Rule) (asked : List Asked) → slice_get (map rule wires) wire ≡ Some r → slice_get (map loaded wires) wire ≡ Some since → slice_get (map told wires) wire ≡ Some asked → HasObeyed r since asked
+each_obeyed told rule loaded [] all wire since r asked one two three = absurd cc
+each_obeyed told rule loaded (w ∷ wires) all zero since r asked one two three =
+    let rules : rule w ≡ r = cc in
+    let counts : loaded w ≡ since = cc in
+    let tells : told w ≡ asked = cc in
+    subst (λ (x : Rule). HasObeyed x since asked) rules (subst (λ (n : ℕ). HasObeyed (rule w) n asked) counts (subst (λ (l : List Asked). HasObeyed (rule w) (loaded w) l) tells (all 0 w (omega arith))))
+each_obeyed told rule loaded (w ∷ wires) all (suc wire) since r asked one two three =
+    each_obeyed told rule loaded wires (λ k d low. all (suc k) d (omega (arith, low))) wire since r asked one two three
+
+pub have_obeyed : {W : Type 0} (told : W → List Asked) (rule : W → Rule) (loaded : W → ℕ) (wires : List W) → All (λ w. HasObeyed (rule w) (loaded w) (told w)) wires → HaveObeyed (wires_of told rule loaded wires)
+have_obeyed told rule loaded wires all = record { each = each_obeyed told rule loaded wires all }
+
+-- and the run left all of that
+pub still_loaded : {W : Type 0} (told : W → List Asked) (rule : W → Rule) (loaded : W → ℕ) (old mid new : List W) (lines : List ScriptLine) → AreLoaded lines (wires_of told rule loaded old) (wires_of told rule loaded mid)
+    → map rule new ≡ map rule mid → map loaded new ≡ map loaded mid → AreLoaded lines (wires_of told rule loaded old) (wires_of told rule loaded new)
+still_loaded told rule loaded old mid new lines h rules counts = record {
+  rule = subst (λ (l : List Rule). slice_get l 0 ≡ option_map (with_script lines) (slice_get (map rule old) 0)) (sym rules) h.rule;
   since = subst (λ (l : List ℕ). slice_get l 0 ≡ option_map length (slice_get (map told old) 0)) (sym counts) h.since;
-  others = still_keep told script loaded old mid new h.others scripts counts;
+  others = still_keep told rule loaded old mid new h.others rules counts;
 }
 
 -- a run over these wires was begun
-pub begun_so : {W : Type 0} (told : W → List Asked) (script : W → List ScriptLine) (loaded : W → ℕ) (before after : List W) (units : List Source) (options : RunOptions) (lines : List ScriptLine)
-    → AreLoaded lines (wires_of told script loaded before) (wires_of told script loaded after) → HaveToldOn (map told before) (map told after)
+pub begun_so : {W : Type 0} (told : W → List Asked) (rule : W → Rule) (loaded : W → ℕ) (before after : List W) (units : List Source) (options : RunOptions) (lines : List ScriptLine)
+    → AreLoaded lines (wires_of told rule loaded before) (wires_of told rule loaded after) → HaveToldOn (map told before) (map told after)
     → WereAskedIn (run_of (performs_of units) (computes_of units) (settings_of options (length before))) (map told before) (map told after)
-    → WasBegun units options lines (wires_of told script loaded before) (wires_of told script loaded after)
-begun_so told script loaded before after units options lines has more asked = record {
+    → WasBegun units options lines (wires_of told rule loaded before) (wires_of told rule loaded after)
+begun_so told rule loaded before after units options lines has more asked = record {
   loaded = has;
   told = more;
   asked = subst (λ (n : ℕ). WereAskedIn (run_of (performs_of units) (computes_of units) (settings_of options n)) (map told before) (map told after)) (sym (length-map before told)) asked;
@@ -230,13 +246,13 @@ pub none_as : {T A B : Type 0} (o : Option T) → (A → B) → IfNone o A → I
 none_as None so a = so a
 none_as (Some x) so a = tt
 
-pub run_of_words : {W : Type 0} (told : W → List Asked) (script : W → List ScriptLine) (loaded : W → ℕ) (before after : List W) (words : List Word) (files : Option (List File)) (units : List Source) (options : RunOptions) (lines : List ScriptLine)
+pub run_of_words : {W : Type 0} (told : W → List Asked) (rule : W → Rule) (loaded : W → ℕ) (before after : List W) (words : List Word) (files : Option (List File)) (units : List Source) (options : RunOptions) (lines : List ScriptLine)
     (o : Option Kept) (status : ℕ) (old new : Option (List ℕ)) (named : IsNamed words files units lines) → named.options ≡ options
     → IfSome o (λ k. IsProgramRun units options (length before) k status old new (map told before) (map told after))
-    → IfSome o (λ k. AreLoaded lines (wires_of told script loaded before) (wires_of told script loaded after))
-    → IfSome o (λ k. IsRunOf words files k status old new (wires_of told script loaded before) (wires_of told script loaded after))
-run_of_words told script loaded before after words files units options lines None status old new named same run has = tt
-run_of_words told script loaded before after words files units options lines (Some k) status old new named same run has = record {
+    → IfSome o (λ k. AreLoaded lines (wires_of told rule loaded before) (wires_of told rule loaded after))
+    → IfSome o (λ k. IsRunOf words files k status old new (wires_of told rule loaded before) (wires_of told rule loaded after))
+run_of_words told rule loaded before after words files units options lines None status old new named same run has = tt
+run_of_words told rule loaded before after words files units options lines (Some k) status old new named same run has = record {
   units = units;
   lines = lines;
   named = named;

@@ -12,6 +12,7 @@ use Rattle.value_core.specs.declared.action.Action.{Action}
 use Rattle.value_core.specs.declared.action.Line.{Line}
 use Rattle.history_commands.specs.ReadBack.{ReadsBack}
 use Rattle.history_text.specs.declared.names.Names.{Names}
+use Rattle.wires.specs.Wired.{HasObeyed, Rule, with_script}
 use Rattle.world_rules.specs.declared.settings.Settings.{Settings}
 use Rattle.orca_base.specs.declared.what.What.{What}
 use Rattle.world_rules.specs.declared.standing.Standing.TheVariants.{Going, Limit}
@@ -57,25 +58,32 @@ pub record IsNamed (words : List Word) (told : Option (List File)) (units : List
 
 -- ---- its wires
 
--- what wires tell: what each was asked, with the answers; its script; and how much it was asked before that was loaded
+-- what wires tell: what each was asked, with the answers; its script, and how it answers by one; and how much it was asked before that was
+-- loaded
 pub record Wires : Type 0 where
   pub told : List (List Asked)
-  pub scripts : List (List ScriptLine)
+  pub rules : List Rule
   pub loaded : List ℕ
 
-abbrev pub wires_of : {W : Type 0} → (W → List Asked) → (W → List ScriptLine) → (W → ℕ) → List W → Wires
-wires_of told script loaded wires = record { told = map told wires; scripts = map script wires; loaded = map loaded wires }
+abbrev pub wires_of : {W : Type 0} → (W → List Asked) → (W → Rule) → (W → ℕ) → List W → Wires
+wires_of told rule loaded wires = record { told = map told wires; rules = map rule wires; loaded = map loaded wires }
 
--- the wires behind the first kept their scripts, each loaded when it was
-pub record KeepScripts (old new : Wires) : Type 0 where
-  pub scripts : (wire : ℕ) → slice_get new.scripts (suc wire) ≡ slice_get old.scripts (suc wire)
+-- the wires behind the first answer as before, and kept their scripts, each loaded when it was
+pub record KeepRules (old new : Wires) : Type 0 where
+  pub rules : (wire : ℕ) → slice_get new.rules (suc wire) ≡ slice_get old.rules (suc wire)
   pub loaded : (wire : ℕ) → slice_get new.loaded (suc wire) ≡ slice_get old.loaded (suc wire)
 
--- the first wire was loaded with these lines, before the run asked it anything; the other wires kept their scripts
+-- the first wire was loaded with these lines, before the run asked it anything, and answers by scripts as before; the others kept theirs
 pub record AreLoaded (lines : List ScriptLine) (old new : Wires) : Type 0 where
-  pub script : slice_get new.scripts 0 ≡ Some lines
+  pub rule : slice_get new.rules 0 ≡ option_map (with_script lines) (slice_get old.rules 0)
   pub since : slice_get new.loaded 0 ≡ option_map length (slice_get old.told 0)
-  pub others : KeepScripts old new
+  pub others : KeepRules old new
+
+-- each wire answered what it was asked since its script was loaded as its rule says
+pub record HaveObeyed (wires : Wires) : Type 0 where
+  pub each :
+      (wire since : ℕ) (rule : Rule) (told : List Asked) → slice_get wires.rules wire ≡ Some rule → slice_get wires.loaded wire ≡ Some since →
+      slice_get wires.told wire ≡ Some told → HasObeyed rule since told
 
 -- a run of the program with these units was begun, by these options: the first wire was loaded with these lines, and the wires were asked what
 -- some steps of that run ask
@@ -92,7 +100,7 @@ pub record HasLacked (words : List Word) (files : Option (List File)) (code : �
   pub named : IsNamed words files units lines
   pub begun : WasBegun units named.options lines old new
 
--- nothing is kept: what the wires tell, their scripts, and when these were loaded, are as before; or memory lacked
+-- nothing is kept: what the wires tell, how they answer, their scripts, and when these were loaded, are as before; or memory lacked
 abbrev pub AreUntouched : List Word → Option (List File) → ℕ → Wires → Wires → Type 0
 AreUntouched words files status old new = (new ≡ old) ⊎ HasLacked words files status old new
 

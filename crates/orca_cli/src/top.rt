@@ -15,7 +15,7 @@ ghost use Rattle.history_text.specs.Sound.{AreTables};
 ghost use Rattle.run_loop.specs.Asked.{HaveToldOn, WereAskedIn};
 ghost use Rattle.run_loop.specs.Left.{run_of};
 ghost use Rattle.orca_cli.specs.Endings.{IsAnswer};
-ghost use Rattle.orca_cli.specs.Headline.{AreLoaded, AreUntouched, IsProgramRun, IsRun, IsRunOf, WasBegun, settings_of, wires_of};
+ghost use Rattle.orca_cli.specs.Headline.{AreLoaded, AreUntouched, HaveObeyed, IsProgramRun, IsRun, IsRunOf, WasBegun, settings_of, wires_of};
 ghost use Rattle.command_files.specs.Sources.{Word};
 ghost use Rattle.orca_cli.specs.Job.{checks, deed_in, files_in, runs, script_in};
 ghost use Rattle.orca_cli.specs.Laws.{RunLaws};
@@ -47,7 +47,7 @@ use program_names::names;
 use run_law::run_law;
 use run_loop::{Ran, Settings, run};
 use std::alloc::Global;
-use wires::Wire;
+use wires::{Wire, have_obeyed};
 use world_book::legal_book;
 use world_facts::{book_by_places, ends_stand, processes_stand, standings_mean, worlds_count};
 
@@ -152,9 +152,9 @@ fn settings_of<W: Wire>(alloc: Global, options: RunOptions, wires: &[W]) -> Sett
 fn load_first<W: Wire>(alloc: Global, script: &Script, wires: &mut [W]) -> Result<(), NoMemory>
     requires { 1 ≤ length wires.old }
     ensures loaded { OnOk result (AreLoaded script.now
-        (wires_of W.told W.told_script W.loaded wires.old) (wires_of W.told W.told_script W.loaded wires.new)) }
+        (wires_of W.told W.rule W.loaded wires.old) (wires_of W.told W.rule W.loaded wires.new)) }
     ensures unchanged { OnErr result
-        (wires_of W.told W.told_script W.loaded wires.new ≡ wires_of W.told W.told_script W.loaded wires.old) }
+        (wires_of W.told W.rule W.loaded wires.new ≡ wires_of W.told W.rule W.loaded wires.old) }
     ensures told { map W.told wires.new ≡ map W.told wires.old }
     ensures count { length wires.new ≡ length wires.old }
 {
@@ -198,7 +198,7 @@ fn run_loaded<K: Sink, W: Wire>(
     ensures asked { WereAskedIn
         (run_of (performs_of (units_of machine.now)) (computes_of (units_of machine.now)) (settings_of options (length wires.old)))
         (map W.told wires.old) (map W.told wires.new) }
-    ensures scripts { map W.told_script wires.new ≡ map W.told_script wires.old }
+    ensures scripts { map W.rule wires.new ≡ map W.rule wires.old }
     ensures loaded { map W.loaded wires.new ≡ map W.loaded wires.old }
     ensures later { K.faults out.old ≤ K.faults out.new }
     ensures failed { result.status ≡ WRITE_FAULT → Rose (K.faults out.old) (K.faults out.new) }
@@ -241,7 +241,7 @@ fn run_named<K: Sink, W: Wire>(
     ensures asked { WereAskedIn
         (run_of (performs_of (units_of machine.now)) (computes_of (units_of machine.now)) (settings_of options (length wires.old)))
         (map W.told wires.old) (map W.told wires.new) }
-    ensures scripts { map W.told_script wires.new ≡ map W.told_script wires.old }
+    ensures scripts { map W.rule wires.new ≡ map W.rule wires.old }
     ensures loaded { map W.loaded wires.new ≡ map W.loaded wires.old }
     ensures later { K.faults out.old ≤ K.faults out.new }
     ensures failed { result.status ≡ WRITE_FAULT → Rose (K.faults out.old) (K.faults out.new) }
@@ -268,11 +268,11 @@ fn run_program<K: Sink, W: Wire>(
     ensures kept { IfSome result.kept (λ k. IsProgramRun (units_of machine.now) options (length wires.old) k result.status
         (K.told out.old) (K.told out.new) (map W.told wires.old) (map W.told wires.new)) }
     ensures loaded { IfSome result.kept (λ k. AreLoaded script.now
-        (wires_of W.told W.told_script W.loaded wires.old) (wires_of W.told W.told_script W.loaded wires.new)) }
+        (wires_of W.told W.rule W.loaded wires.old) (wires_of W.told W.rule W.loaded wires.new)) }
     ensures untouched { IfNone result.kept (
-        (wires_of W.told W.told_script W.loaded wires.new ≡ wires_of W.told W.told_script W.loaded wires.old) ⊎
+        (wires_of W.told W.rule W.loaded wires.new ≡ wires_of W.told W.rule W.loaded wires.old) ⊎
         WasBegun (units_of machine.now) options script.now
-        (wires_of W.told W.told_script W.loaded wires.old) (wires_of W.told W.told_script W.loaded wires.new)) }
+        (wires_of W.told W.rule W.loaded wires.old) (wires_of W.told W.rule W.loaded wires.new)) }
     ensures later { K.faults out.old ≤ K.faults out.new }
     ensures failed { result.status ≡ WRITE_FAULT → Rose (K.faults out.old) (K.faults out.new) }
     ensures stopped { K.faults out.old < K.faults out.new → HasStopped result.status }
@@ -302,11 +302,11 @@ fn run_files<F: Shelf, K: Sink, W: Wire>(
     ensures kept { (words : List Word) →
         deed_in words ≡ Some (runs options (option_map (λ f. f.now) script.entry) (map (λ f. f.now) files.now)) →
         IfSome result.kept (λ k. IsRunOf words (F.told shelf.old) k result.status (K.told out.old) (K.told out.new)
-        (wires_of W.told W.told_script W.loaded wires.old) (wires_of W.told W.told_script W.loaded wires.new)) }
+        (wires_of W.told W.rule W.loaded wires.old) (wires_of W.told W.rule W.loaded wires.new)) }
     ensures untouched { (words : List Word) →
         deed_in words ≡ Some (runs options (option_map (λ f. f.now) script.entry) (map (λ f. f.now) files.now)) →
         IfNone result.kept (AreUntouched words (F.told shelf.old) result.status
-        (wires_of W.told W.told_script W.loaded wires.old) (wires_of W.told W.told_script W.loaded wires.new)) }
+        (wires_of W.told W.rule W.loaded wires.old) (wires_of W.told W.rule W.loaded wires.new)) }
     ensures same { F.told shelf.new ≡ F.told shelf.old }
     ensures read { F.faults shelf.old ≤ F.faults shelf.new }
     ensures read_fault { F.faults shelf.old < F.faults shelf.new → (result.status ≡ READ_FAULT) ⊎ HasStopped result.status }
@@ -349,10 +349,10 @@ pub fn orca_main_over<F: Shelf, K: Sink, W: Wire>(
     ensures refused { IfNone result.kept (IsAnswer (map string_bytes words.now) (F.told shelf.old)
         (Rose (F.faults shelf.old) (F.faults shelf.new)) (K.told out.old) (K.told out.new) result.status) }
     ensures untouched { IfNone result.kept (AreUntouched (map string_bytes words.now) (F.told shelf.old) result.status
-        (wires_of W.told W.told_script W.loaded wires.old) (wires_of W.told W.told_script W.loaded wires.new)) }
+        (wires_of W.told W.rule W.loaded wires.old) (wires_of W.told W.rule W.loaded wires.new)) }
     ensures headline { IfSome result.kept (λ k. IsRunOf (map string_bytes words.now) (F.told shelf.old) k result.status
         (K.told out.old) (K.told out.new)
-        (wires_of W.told W.told_script W.loaded wires.old) (wires_of W.told W.told_script W.loaded wires.new)) }
+        (wires_of W.told W.rule W.loaded wires.old) (wires_of W.told W.rule W.loaded wires.new)) }
     ensures write_fault { result.status ≡ WRITE_FAULT → Rose (K.faults out.old) (K.faults out.new) }
     ensures stopped { K.faults out.old < K.faults out.new → HasStopped result.status }
     ensures same { F.told shelf.new ≡ F.told shelf.old }
@@ -401,9 +401,9 @@ pub fn orca_main<F: Shelf, K: Sink>(
     ensures refused { IfNone result.kept (IsAnswer (map string_bytes words.now) (F.told shelf.old)
         (Rose (F.faults shelf.old) (F.faults shelf.new)) (K.told out.old) (K.told out.new) result.status) }
     ensures untouched { IfNone result.kept (AreUntouched (map string_bytes words.now) (F.told shelf.old) result.status
-        (wires_of (λ b. (Wire-box b).told b.value) (λ b. (Wire-box b).told_script b.value) (λ b. (Wire-box b).loaded b.value)
+        (wires_of (λ b. (Wire-box b).told b.value) (λ b. (Wire-box b).rule b.value) (λ b. (Wire-box b).loaded b.value)
         wires.old.items)
-        (wires_of (λ b. (Wire-box b).told b.value) (λ b. (Wire-box b).told_script b.value) (λ b. (Wire-box b).loaded b.value)
+        (wires_of (λ b. (Wire-box b).told b.value) (λ b. (Wire-box b).rule b.value) (λ b. (Wire-box b).loaded b.value)
         wires.new.items)) }
 
     // A kept run is one of the program that the words name, by their numbers: a history of it in the source's meaning, whose replies and copies
@@ -411,9 +411,9 @@ pub fn orca_main<F: Shelf, K: Sink>(
     // really used, by the script that the words name.
     ensures headline { IfSome result.kept (λ k. IsRunOf (map string_bytes words.now) (F.told shelf.old) k result.status
         (K.told out.old) (K.told out.new)
-        (wires_of (λ b. (Wire-box b).told b.value) (λ b. (Wire-box b).told_script b.value) (λ b. (Wire-box b).loaded b.value)
+        (wires_of (λ b. (Wire-box b).told b.value) (λ b. (Wire-box b).rule b.value) (λ b. (Wire-box b).loaded b.value)
         wires.old.items)
-        (wires_of (λ b. (Wire-box b).told b.value) (λ b. (Wire-box b).told_script b.value) (λ b. (Wire-box b).loaded b.value)
+        (wires_of (λ b. (Wire-box b).told b.value) (λ b. (Wire-box b).rule b.value) (λ b. (Wire-box b).loaded b.value)
         wires.new.items)) }
 
     // A write fault is told only where the sink's count of faults rose; and where it rose, that or want of memory is told.
@@ -427,6 +427,13 @@ pub fn orca_main<F: Shelf, K: Sink>(
     // The counts of faults don't fall.
     ensures read { F.faults shelf.old ≤ F.faults shelf.new }
     ensures written { K.faults out.old ≤ K.faults out.new }
+
+    // Each wire answered what it was asked since its script was loaded as its rule says.
+    ensures obeyed { HaveObeyed
+        (wires_of (λ b. (Wire-box b).told b.value) (λ b. (Wire-box b).rule b.value) (λ b. (Wire-box b).loaded b.value)
+        wires.new.items) }
 {
-    orca_main_over(alloc, words, shelf, out, wires)
+    let ended = orca_main_over(alloc, words, shelf, out, wires);
+    have_obeyed(wires);
+    ended
 }

@@ -19,7 +19,7 @@ pub(crate) fn ask<W: Wire>(
     requires { at < length wires.old }
     ensures told { IfOk result (λ act. map W.told wires.new ≡ told_more at (Act number act ∷ []) (map W.told wires.old)) }
     ensures err { OnErr result (map W.told wires.new ≡ map W.told wires.old) }
-    ensures scripts { map W.told_script wires.new ≡ map W.told_script wires.old }
+    ensures scripts { map W.rule wires.new ≡ map W.rule wires.old }
     ensures loaded { map W.loaded wires.new ≡ map W.loaded wires.old }
 {
     let wire = &mut wires[at];

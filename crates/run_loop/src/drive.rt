@@ -51,7 +51,7 @@ impl<P: OneRun> Driver<P> {
         ensures driven { OnOk result (IsDriven P.run.frame self.new.world self.new.in_use P.run.told (map W.told wires.new)) }
         ensures over { OnOk result (Of P.run.frame self.new.world (λ w. rules.standing P.run.frame w ≢ Going)) }
         ensures stopped { OnErr result (HasStopped P.run.frame self.new.world P.run.told (map W.told wires.new)) }
-        ensures scripts { map W.told_script wires.new ≡ map W.told_script wires.old }
+        ensures scripts { map W.rule wires.new ≡ map W.rule wires.old }
         ensures loaded { map W.loaded wires.new ≡ map W.loaded wires.old }
     {
         worlds_count();
@@ -68,7 +68,7 @@ impl<P: OneRun> Driver<P> {
         requires going { IsGoing P.run.frame self.old.world }
         ensures went { OnOk result (WentOn P.run.frame self.old.world self.new.world self.new.in_use P.run.told (map W.told wires.new)) }
         ensures stopped { OnErr result (HasStopped P.run.frame self.new.world P.run.told (map W.told wires.new)) }
-        ensures scripts { map W.told_script wires.new ≡ map W.told_script wires.old }
+        ensures scripts { map W.rule wires.new ≡ map W.rule wires.old }
         ensures loaded { map W.loaded wires.new ≡ map W.loaded wires.old }
     {
         let number = self.world.steps().len() as u64 + 1;
@@ -94,7 +94,7 @@ impl<P: OneRun> Driver<P> {
         ensures passed { result ≡ Ok false → MayGoOn P.run.frame self.new.world self.new.in_use P.run.told (map W.told wires.new) }
         ensures same { result ≡ Ok false → self.new.world ≡ self.old.world }
         ensures stopped { OnErr result (HasStopped P.run.frame self.new.world P.run.told (map W.told wires.new)) }
-        ensures scripts { map W.told_script wires.new ≡ map W.told_script wires.old }
+        ensures scripts { map W.rule wires.new ≡ map W.rule wires.old }
         ensures loaded { map W.loaded wires.new ≡ map W.loaded wires.old }
     {
         worlds_count();
@@ -121,7 +121,7 @@ impl<P: OneRun> Driver<P> {
         requires going { IsGoing P.run.frame self.old.world }
         ensures went { OnOk result (WentOn P.run.frame self.old.world self.new.world self.new.in_use P.run.told (map W.told wires.new)) }
         ensures stopped { OnErr result (HasStopped P.run.frame self.new.world P.run.told (map W.told wires.new)) }
-        ensures scripts { map W.told_script wires.new ≡ map W.told_script wires.old }
+        ensures scripts { map W.rule wires.new ≡ map W.rule wires.old }
         ensures loaded { map W.loaded wires.new ≡ map W.loaded wires.old }
     {
         worlds_count();
@@ -153,7 +153,7 @@ impl<P: OneRun> Driver<P> {
         requires plain { IsDue event }
         ensures went { OnOk result (WentOn P.run.frame self.old.world self.new.world self.new.in_use P.run.told (map W.told wires.new)) }
         ensures stopped { OnErr result (HasStopped P.run.frame self.new.world P.run.told (map W.told wires.new)) }
-        ensures scripts { map W.told_script wires.new ≡ map W.told_script wires.old }
+        ensures scripts { map W.rule wires.new ≡ map W.rule wires.old }
         ensures loaded { map W.loaded wires.new ≡ map W.loaded wires.old }
     {
         worlds_count();

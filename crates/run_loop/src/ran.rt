@@ -43,7 +43,7 @@ pub fn run<M: Processor, W: Wire>(
     ensures asked { WereAskedIn (run_of (M.performs machine.now) (M.computes machine.now) settings)
         (map W.told wires.old) (map W.told wires.new) }
     ensures told { HaveToldOn (map W.told wires.old) (map W.told wires.new) }
-    ensures scripts { map W.told_script wires.new ≡ map W.told_script wires.old }
+    ensures scripts { map W.rule wires.new ≡ map W.rule wires.old }
     ensures loaded { map W.loaded wires.new ≡ map W.loaded wires.old }
 {
     run_as::<Brand, M, W>(alloc, machine, settings, wires)
@@ -66,7 +66,7 @@ fn run_as<T: RunName<M>, M: Processor, W: Wire>(
     ensures asked { WereAskedIn (run_of (M.performs machine.now) (M.computes machine.now) settings)
         (map W.told wires.old) (map W.told wires.new) }
     ensures told { HaveToldOn (map W.told wires.old) (map W.told wires.new) }
-    ensures scripts { map W.told_script wires.new ≡ map W.told_script wires.old }
+    ensures scripts { map W.rule wires.new ≡ map W.rule wires.old }
     ensures loaded { map W.loaded wires.new ≡ map W.loaded wires.old }
 {
     let machine: RunMachine<'_, M, T> = RunMachine::new(machine);
@@ -87,7 +87,7 @@ fn run_tied<P: OneRun, W: Wire>(
     ensures run { IfSome result.end (HasRun P.run.frame result.standing (map W.told wires.old) (map W.told wires.new)) }
     ensures asked { WereAskedIn P.run.frame (map W.told wires.old) (map W.told wires.new) }
     ensures told { HaveToldOn (map W.told wires.old) (map W.told wires.new) }
-    ensures scripts { map W.told_script wires.new ≡ map W.told_script wires.old }
+    ensures scripts { map W.rule wires.new ≡ map W.rule wires.old }
     ensures loaded { map W.loaded wires.new ≡ map W.loaded wires.old }
 {
     let Ok(mut driver) = Driver::new(alloc, machine, settings) else {

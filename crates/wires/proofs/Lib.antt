@@ -7,3 +7,4 @@ pub mod Places
 pub mod Asking
 pub mod Scripted
 pub mod Distances
+pub mod Behind

@@ -10,7 +10,7 @@ use std::alloc::Global;
 impl Wire for Box<dyn Wire + Send> {
     ghost told = { λ b. (Wire-box b).told b.value };
 
-    ghost told_script = { λ b. (Wire-box b).told_script b.value };
+    ghost rule = { λ b. (Wire-box b).rule b.value };
 
     ghost loaded = { λ b. (Wire-box b).loaded b.value };
 
@@ -30,5 +30,9 @@ impl Wire for Box<dyn Wire + Send> {
 
     fn next_act(&mut self, event_number: u64) -> Option<WireAct> {
         (**self).next_act(event_number)
+    }
+
+    fn has_obeyed(&self) {
+        (**self).has_obeyed()
     }
 }

@@ -13,12 +13,14 @@ mod counts;
 mod index;
 mod kept;
 mod lines;
+mod obeying;
 mod plain;
 mod progress;
 mod script;
 mod seeded;
 mod wire;
 
+pub use obeying::have_obeyed;
 pub use plain::PlainWire;
 pub use script::ScriptWire;
 pub use seeded::SeededWire;

@@ -56,7 +56,7 @@ impl PlainWire {
 impl Wire for PlainWire {
     ghost told = { λ w. w.told };
 
-    ghost told_script = { λ w. w.script };
+    ghost rule = { λ w. record { by = λ script. plain; script = w.script } };
 
     ghost loaded = { λ w. w.loaded };
 
@@ -101,5 +101,10 @@ impl Wire for PlainWire {
         let act = None;
         self.kept.note(Asked::Act { event_number, act });
         act
+    }
+
+    #[tactic(auto, using(crate::proofs::Behind::always_behind))]
+    fn has_obeyed(&self) {
+        let _told = self.told();
     }
 }

@@ -88,7 +88,7 @@ impl ScriptWire {
 impl Wire for ScriptWire {
     ghost told = { λ w. w.told };
 
-    ghost told_script = { λ w. w.script };
+    ghost rule = { λ w. record { by = by_script; script = w.script } };
 
     ghost loaded = { λ w. w.loaded };
 
@@ -152,5 +152,9 @@ impl Wire for ScriptWire {
         let act = self.progress.act();
         self.kept.note(Asked::Act { event_number, act });
         act
+    }
+
+    fn has_obeyed(&self) {
+        let _told = self.told();
     }
 }

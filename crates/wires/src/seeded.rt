@@ -64,7 +64,7 @@ impl SeededWire {
 impl Wire for SeededWire {
     ghost told = { λ w. w.kept.told };
 
-    ghost told_script = { λ w. w.kept.script };
+    ghost rule = { λ w. record { by = λ script. by_seed w.seed w.percent; script = w.kept.script } };
 
     ghost loaded = { λ w. w.kept.loaded };
 
@@ -127,5 +127,10 @@ impl Wire for SeededWire {
         let act = None;
         self.kept.note(Asked::Act { event_number, act });
         act
+    }
+
+    #[tactic(auto, using(crate::proofs::Behind::always_behind))]
+    fn has_obeyed(&self) {
+        let _told = self.told();
     }
 }

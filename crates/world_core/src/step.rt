@@ -81,7 +81,7 @@ pub(crate) fn step<P: OneRun, W: Wire>(
     ensures tasks { OutBefore (seen_of parts.old) (seen_of parts.new) }
     ensures out { OnOk result (KeepsOut P.run.frame event (seen_of parts.old) (seen_of parts.new)) }
     ensures fewer { tasks_out (seen_of parts.new) ≤ tasks_out (seen_of parts.old) }
-    ensures script { W.told_script wire.new ≡ W.told_script wire.old }
+    ensures script { W.rule wire.new ≡ W.rule wire.old }
     ensures since { W.loaded wire.new ≡ W.loaded wire.old }
 {
     if is_going(parts.standing()) {
@@ -117,7 +117,7 @@ fn does<P: OneRun, W: Wire>(
     ensures tasks { OutBefore (seen_of parts.old) (seen_of parts.new) }
     ensures out { OnOk result (KeepsOut P.run.frame event (seen_of parts.old) (seen_of parts.new)) }
     ensures fewer { tasks_out (seen_of parts.new) ≤ tasks_out (seen_of parts.old) }
-    ensures script { W.told_script wire.new ≡ W.told_script wire.old }
+    ensures script { W.rule wire.new ≡ W.rule wire.old }
     ensures since { W.loaded wire.new ≡ W.loaded wire.old }
 {
     let draft = happens(parts, alloc, machine, event)?;
@@ -152,7 +152,7 @@ fn make_room<P: OneRun, W: Wire>(
     ensures entries { OnOk result (length draft.now.entries.items ≤ parts.new.ledger.entry_room) }
     ensures pieces { OnOk result (tasks_out (seen_of parts.old) + length draft.now.pieces.items ≤ parts.new.ledger.piece_room) }
     ensures told { W.told wire.new ≡ W.told wire.old }
-    ensures script { W.told_script wire.new ≡ W.told_script wire.old }
+    ensures script { W.rule wire.new ≡ W.rule wire.old }
     ensures since { W.loaded wire.new ≡ W.loaded wire.old }
 {
     let Ok(packets) = u32::try_from(draft.outgoing.len()) else {
@@ -226,7 +226,7 @@ fn close<P: OneRun, W: Wire>(
     requires small { parts.old.sent + length draft.outgoing.items < 2 ^ 63 }
     ensures closed { HasClosed draft parts.old result.items parts.new }
     ensures told { W.told wire.new ≡ W.told wire.old ++ asked_all parts.old.sent draft.outgoing.items result.items }
-    ensures script { W.told_script wire.new ≡ W.told_script wire.old }
+    ensures script { W.rule wire.new ≡ W.rule wire.old }
     ensures since { W.loaded wire.new ≡ W.loaded wire.old }
 {
     let Draft {
@@ -298,7 +298,7 @@ fn send_all<W: Wire>(
     ensures flights { net.new.flights ≡ sent_all sent outgoing.items result.items net.old.flights }
     ensures count { length result.items ≡ length outgoing.items }
     ensures told { W.told wire.new ≡ W.told wire.old ++ asked_all sent outgoing.items result.items }
-    ensures script { W.told_script wire.new ≡ W.told_script wire.old }
+    ensures script { W.rule wire.new ≡ W.rule wire.old }
     ensures since { W.loaded wire.new ≡ W.loaded wire.old }
 {
     let mut fates = fates;

@@ -106,7 +106,7 @@ impl<P: OneRun> World<P> {
         ensures tasks { OutBefore self.old self.new }
         ensures out { OnOk result (KeepsOut P.run.frame event self.old self.new) }
         ensures fewer { tasks_out self.new ≤ tasks_out self.old }
-        ensures script { W.told_script wire.new ≡ W.told_script wire.old }
+        ensures script { W.rule wire.new ≡ W.rule wire.old }
         ensures since { W.loaded wire.new ≡ W.loaded wire.old }
     {
         step::step(&mut self.parts, alloc, machine, event, wire)

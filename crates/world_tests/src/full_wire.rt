@@ -27,7 +27,7 @@ impl FullWire {
 impl Wire for FullWire {
     ghost told = { λ w. w.plain.told };
 
-    ghost told_script = { λ w. w.plain.script };
+    ghost rule = { λ w. record { by = λ script. plain; script = w.plain.script } };
 
     ghost loaded = { λ w. w.plain.loaded };
 

@@ -5,13 +5,13 @@ use Rattle.orca_cli.proofs.top.load_first.Goals as goal
 pub returns-clause-loaded : goal.returns-clause-loaded
 returns-clause-loaded g c =
     ok_both c.load.result
-    (λ script since. loaded_first g.W.Wire.told g.W.Wire.told_script g.W.Wire.loaded c.args.wires.now c.index-wires-0.result c.load.new.self c.args.script.now c.requires script since)
+    (λ script since. loaded_first g.W.Wire.told g.W.Wire.rule g.W.Wire.loaded c.args.wires.now c.index-wires-0.result c.load.new.self c.args.script.now c.requires script since)
     c.load.ensures.loaded c.load.ensures.since
 
 pub returns-clause-unchanged : goal.returns-clause-unchanged
 returns-clause-unchanged g c =
     err_both c.load.result
-    (λ script since. wires_kept g.W.Wire.told g.W.Wire.told_script g.W.Wire.loaded c.args.wires.now c.index-wires-0.result c.load.new.self c.load.ensures.told script since)
+    (λ script since. wires_kept g.W.Wire.told g.W.Wire.rule g.W.Wire.loaded c.args.wires.now c.index-wires-0.result c.load.new.self c.load.ensures.told script since)
     c.load.ensures.unchanged c.load.ensures.as_before
 
 pub returns-clause-told : goal.returns-clause-told

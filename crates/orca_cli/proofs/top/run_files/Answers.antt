@@ -60,7 +60,7 @@ returns-clause-kept g c = λ words asked.
     let of = c.in-Ok-machine_of.ensures.of in
     let are = rw c.deref.ensures.value at c.in-Ok-linked_program.ensures.program in
     let accepted = subst (IsAccepted sources) (sym of) (c.in-Ok-machine_of.ensures.accepted sources are) in
-    run_of_words g.W.Wire.told g.W.Wire.told_script g.W.Wire.loaded c.args.wires.now c.run_program.new.wires words _ (units_of machine) c.args.options c.in-Ok-script_of.script c.run_program.result.kept c.run_program.result.status _ _
+    run_of_words g.W.Wire.told g.W.Wire.rule g.W.Wire.loaded c.args.wires.now c.run_program.new.wires words _ (units_of machine) c.args.options c.in-Ok-script_of.script c.run_program.result.kept c.run_program.result.status _ _
     (record {
       options = c.args.options;
       script = _;

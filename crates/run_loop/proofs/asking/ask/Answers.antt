@@ -12,7 +12,7 @@ returns-in_err-make_room-clause-err g c =
 
 pub returns-in_err-make_room-clause-scripts : goal.returns-in_err-make_room-clause-scripts
 returns-in_err-make_room-clause-scripts g c =
-    kept_at g.W.Wire.told_script c.args.wires.now c.args.at c.index-wires-at.result c.make_room.new.self c.make_room.ensures.script
+    kept_at g.W.Wire.rule c.args.wires.now c.args.at c.index-wires-at.result c.make_room.new.self c.make_room.ensures.script
 
 pub returns-in_err-make_room-clause-loaded : goal.returns-in_err-make_room-clause-loaded
 returns-in_err-make_room-clause-loaded g c =
@@ -25,7 +25,7 @@ returns-clause-told g c =
 
 pub returns-clause-scripts : goal.returns-clause-scripts
 returns-clause-scripts g c =
-    kept_at g.W.Wire.told_script c.args.wires.now c.args.at c.index-wires-at.result c.next_act.new.self (c.next_act.ensures.script ∙ c.make_room.ensures.script)
+    kept_at g.W.Wire.rule c.args.wires.now c.args.at c.index-wires-at.result c.next_act.new.self (c.next_act.ensures.script ∙ c.make_room.ensures.script)
 
 pub returns-clause-loaded : goal.returns-clause-loaded
 returns-clause-loaded g c =

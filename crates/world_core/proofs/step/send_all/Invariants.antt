@@ -14,5 +14,5 @@ invariant-packets g l =
     × (length l.fates.items + length (into_iter_items l.one-iterator) ≤ vec_capacity l.fates)
     × Each (λ (one : Outgoing). one.twin ≡ one.bytes) (into_iter_items l.one-iterator)
     × (l.number + length (into_iter_items l.one-iterator) < 2 ^ 63)
-    × (g.W.Wire.told_script l.wire ≡ g.W.Wire.told_script l.fn.wire)
+    × (g.W.Wire.rule l.wire ≡ g.W.Wire.rule l.fn.wire)
     × (g.W.Wire.loaded l.wire ≡ g.W.Wire.loaded l.fn.wire)

@@ -6,7 +6,7 @@ use Rattle.run_loop.proofs.drive.Driver.drive.Given as goal
 abbrev pub invariant-events : goal.invariant-events
 invariant-events g l =
     IsDriven g.P.OneRun.run.frame l.self.world l.self.in_use g.P.OneRun.run.told (map g.W.Wire.told l.wires)
-    × (map g.W.Wire.told_script l.wires ≡ map g.W.Wire.told_script l.fn.wires)
+    × (map g.W.Wire.rule l.wires ≡ map g.W.Wire.rule l.fn.wires)
     × (map g.W.Wire.loaded l.wires ≡ map g.W.Wire.loaded l.fn.wires)
 
 -- events that it may still do

@@ -9,7 +9,7 @@ returns-in-Ok-clause-went g c =
 
 pub returns-in-Ok-clause-scripts : goal.returns-in-Ok-clause-scripts
 returns-in-Ok-clause-scripts g c =
-    kept_at g.W.Wire.told_script c.args.wires.now c.args.self.now.in_use c.index-wires-self.result c.step.new.wire c.step.ensures.script
+    kept_at g.W.Wire.rule c.args.wires.now c.args.self.now.in_use c.index-wires-self.result c.step.new.wire c.step.ensures.script
 
 pub returns-in-Ok-clause-loaded : goal.returns-in-Ok-clause-loaded
 returns-in-Ok-clause-loaded g c =
@@ -22,7 +22,7 @@ returns-in-Err-NoMemory-clause-stopped g c =
 
 pub returns-in-Err-NoMemory-clause-scripts : goal.returns-in-Err-NoMemory-clause-scripts
 returns-in-Err-NoMemory-clause-scripts g c =
-    kept_at g.W.Wire.told_script c.args.wires.now c.args.self.now.in_use c.index-wires-self.result c.step.new.wire c.step.ensures.script
+    kept_at g.W.Wire.rule c.args.wires.now c.args.self.now.in_use c.index-wires-self.result c.step.new.wire c.step.ensures.script
 
 pub returns-in-Err-NoMemory-clause-loaded : goal.returns-in-Err-NoMemory-clause-loaded
 returns-in-Err-NoMemory-clause-loaded g c =
