@@ -1,6 +1,7 @@
 //! A wire with no memory.
 
 ghost use Rattle.std.specs.Prelude.{◌≡◌, ◌+◌, ◌<◌, ◌≤◌};
+ghost use Rattle.wires.specs.Wired.{plain};
 
 use fault_scripts::Script;
 use group_packets::PacketKind;
@@ -51,5 +52,9 @@ impl Wire for FullWire {
 
     fn next_act(&mut self, event_number: u64) -> Option<WireAct> {
         self.plain.next_act(event_number)
+    }
+
+    fn has_obeyed(&self) {
+        self.plain.has_obeyed()
     }
 }
