@@ -13,9 +13,9 @@ use Rattle.command_files.specs.Sources.{Word}
 use Rattle.orca_cli.specs.declared.kept.Kept.{Kept}
 use Rattle.orca_cli.specs.Endings.{IsAnswer}
 use Rattle.orca_cli.specs.Headline.{AreLoaded, AreUntouched, IsRunOf, Wires}
-use Rattle.wires.specs.Wired.{Wired, by_script, plain}
+use Rattle.wires.specs.Wired.{Rule, Wired, by_script, plain}
 use Rattle.orca_door.specs.Obeying.{AreTwo}
-use Rattle.orca_door.specs.Served.{HaveAnswered, IsServed, fresh, wired}
+use Rattle.orca_door.specs.Served.{HaveAnswered, IsServed, fresh, scripted, wired}
 use Rattle.orca_door.specs.Served as serves
 
 -- ---- answers
@@ -46,10 +46,10 @@ same_some x y e = cc
 record AreStill (after : Wires) : Type 0 where
   first : slice_get after.loaded 0 ≡ Some 0
   second : slice_get after.loaded 1 ≡ Some 0
-  script : slice_get after.scripts 1 ≡ Some []
+  script : slice_get after.rules 1 ≡ Some (scripted [])
 
 still_loaded : (lines : List ScriptLine) (after : Wires) → AreLoaded lines fresh after → AreStill after
-still_loaded lines after h = record { first = h.since; second = h.others.loaded 0; script = h.others.scripts 0 }
+still_loaded lines after h = record { first = h.since; second = h.others.loaded 0; script = h.others.rules 0 }
 
 still_untouched : (words : List Word) (files : Option (List File)) (status : ℕ) (after : Wires) → AreUntouched words files status fresh after → AreStill after
 still_untouched words files status after (inl same) = subst AreStill (sym same) (record { first = refl; second = refl; script = refl })
@@ -60,7 +60,7 @@ have_answered wires both = subst (λ (l : List Wired). AreStill (wired l) → Ha
   where
     of_two : AreStill (wired (both.one ∷ both.two ∷ [])) → HaveAnswered (wired (both.one ∷ both.two ∷ []))
     of_two still =
-        let none : both.two.script ≡ [] = same_some both.two.script [] still.script in
+        let none : both.two.script ≡ [] = ap (λ (r : Rule). r.script) (same_some (scripted both.two.script) (scripted []) still.script) in
         let first : both.one.loaded ≡ 0 = same_some both.one.loaded 0 still.first in
         let second : both.two.loaded ≡ 0 = same_some both.two.loaded 0 still.second in
         record {
@@ -68,8 +68,8 @@ have_answered wires both = subst (λ (l : List Wired). AreStill (wired l) → Ha
           second = both.two.told;
           lines = both.one.script;
           told = refl;
-          scripts = ap (λ (s : List ScriptLine). both.one.script ∷ s ∷ []) none;
-          scripted = answered_all (by_script both.one.script) (reverse both.one.told)
+          rules = ap (λ (s : List ScriptLine). scripted both.one.script ∷ scripted s ∷ []) none;
+          answered = answered_all (by_script both.one.script) (reverse both.one.told)
               (subst (λ (n : ℕ). AnsweredBehind n (by_script both.one.script) (reverse both.one.told)) first both.first);
           passed = passes (reverse both.two.told) (subst (λ (s : List ScriptLine). Answered (by_script s) (reverse both.two.told)) none
               (answered_all (by_script both.two.script) (reverse both.two.told)
@@ -111,4 +111,4 @@ is_served words files rose old new status kept before wires is both answer untou
 
 -- where there was no memory for the wires
 pub none_made : (words : List Word) (files : Option (List File)) (rose : Type 0) (old : Option (List ℕ)) (status : ℕ) → IsAnswer words files rose old old status → IsServed words files rose old old status
-none_made words files rose old status answer = serves.ended fresh (record { first = []; second = []; lines = []; told = refl; scripts = refl; scripted = tt; passed = tt }) answer (inl refl)
+none_made words files rose old status answer = serves.ended fresh (record { first = []; second = []; lines = []; told = refl; rules = refl; answered = tt; passed = tt }) answer (inl refl)

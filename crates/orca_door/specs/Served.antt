@@ -9,17 +9,21 @@ use Rattle.command_files.specs.Sources.{Word}
 use Rattle.orca_cli.specs.declared.kept.Kept.{Kept}
 use Rattle.orca_cli.specs.Endings.{IsAnswer}
 use Rattle.orca_cli.specs.Headline.{AreUntouched, IsRunOf, Wires, wires_of}
-use Rattle.wires.specs.Wired.{Wired, by_script, plain}
+use Rattle.wires.specs.Wired.{Rule, Wired, by_script, plain}
 
 -- ---- the wires
 
+-- by its script, which is this one
+abbrev pub scripted : List ScriptLine → Rule
+scripted lines = record { by = by_script; script = lines }
+
 -- two wires that weren't asked anything, with the empty script
 abbrev pub fresh : Wires
-fresh = record { told = [] ∷ [] ∷ []; scripts = [] ∷ [] ∷ []; loaded = 0 ∷ 0 ∷ [] }
+fresh = record { told = [] ∷ [] ∷ []; rules = scripted [] ∷ scripted [] ∷ []; loaded = 0 ∷ 0 ∷ [] }
 
 -- what wires tell that answer by scripts
 abbrev pub wired : List Wired → Wires
-wired wires = wires_of (λ w. w.told) (λ w. w.script) (λ w. w.loaded) wires
+wired wires = wires_of (λ w. w.told) (λ w. scripted w.script) (λ w. w.loaded) wires
 
 -- there are two. All that the first answered is what its script says; the second has no script, let every packet pass, and gave no act
 pub record HaveAnswered (wires : Wires) : Type 0 where
@@ -27,8 +31,8 @@ pub record HaveAnswered (wires : Wires) : Type 0 where
   pub second : List Asked
   pub lines : List ScriptLine
   pub told : wires.told ≡ first ∷ second ∷ []
-  pub scripts : wires.scripts ≡ lines ∷ [] ∷ []
-  pub scripted : Answered (by_script lines) (reverse first)
+  pub rules : wires.rules ≡ scripted lines ∷ scripted [] ∷ []
+  pub answered : Answered (by_script lines) (reverse first)
   pub passed : Answered plain (reverse second)
 
 -- ---- what is done
