@@ -21,12 +21,13 @@ use Rattle.world_rules.specs.Frame.{AreSettings, Frame}
 use Rattle.world_rules.specs.Standings.{standing}
 use Rattle.world_rules.specs.Steps.{Leads, Next, Replays}
 use Rattle.world_rules.specs.Worlds.{Told, World, opening_world}
+use Rattle.world_enough.specs.Faultless.{IsFirst, LeadsFirst}
 use Rattle.world_facts.specs.Counted.{AllCounted, count_swaps, is_swap}
 use Rattle.world_facts.specs.Rows.{AllRead}
 use Rattle.world_parts.specs.Seen.{Seen, tasks_out}
 use Rattle.world_core.specs.Stepping.{HasComputed, IsRefused, Stepped, told_so}
 use Rattle.run_loop.specs.Asked.{AreBelow, AreInTime, HaveToldOn, NoneAskedBehind, WereUsedSo, WereUsedUpTo, asked_since}
-use Rattle.run_loop.specs.Driven.{HasAnswered, HasStopped, IsDriven, IsDrivenTo, IsDue, IsGoing, MayGoOn, WentOn, told_more}
+use Rattle.run_loop.specs.Driven.{ComesFirst, HasAnswered, HasStopped, IsDriven, IsDrivenTo, IsDue, IsGoing, MayGoOn, WentOn, told_more}
 use Rattle.run_loop.proofs.Due.{refused_passes}
 use Rattle.run_loop.proofs.Telling.{none_since, since_here, since_other, tells_itself, tells_on}
 use Rattle.run_loop.proofs.Using.{AskedAct, AskedPackets, IsUsed, acts_same, all_accounted, answer_is, asked_is, before_next, before_stays, given_asked, in_time_asked, in_time_none, in_time_stepped, is_used, numbers_asked, step_last, still_used, below_more, used_asked, used_stepped}
@@ -37,6 +38,10 @@ use Rattle.run_loop.proofs.Using.{AskedAct, AskedPackets, IsUsed, acts_same, all
 pub leads_on : (f : Frame) (u w v : World) (steps : List Step) (step : Step) → Leads f u steps w → Next f w step v → Leads f u (steps ++ step ∷ []) v
 leads_on f u w v [] step h next = (v, subst (λ (x : World). Next f x step v) h next, refl)
 leads_on f u w v (s ∷ steps) step h next = (h.0, h.1, leads_on f h.0 w v steps step h.2 next)
+
+pub first_on : (f : Frame) (u w v : World) (steps : List Step) (step : Step) → LeadsFirst f u steps w → Next f w step v → IsFirst w step.event → LeadsFirst f u (steps ++ step ∷ []) v
+first_on f u w v [] step h next first = (v, subst (λ (x : World). Next f x step v) h next, subst (λ (x : World). IsFirst x step.event) h first, refl)
+first_on f u w v (s ∷ steps) step h next first = (h.0, h.1, h.2, first_on f h.0 w v steps step h.3 next first)
 
 one_longer : (steps : List Step) (step : Step) → length (steps ++ step ∷ []) ≡ suc (length steps)
 one_longer steps step = length-append steps (step ∷ []) ∙ omega arith
@@ -86,6 +91,7 @@ pub opens : {S : Type 0} (f : Frame) (s : Seen S) (told : List (List Asked)) →
 opens f s told none idle wires settings = record {
   world = opening_world f;
   replays = subst (λ (steps : List Step). Replays f steps (opening_world f)) (sym none) refl;
+  first = subst (λ (steps : List Step). LeadsFirst f (opening_world f) steps (opening_world f)) (sym none) refl;
   swaps = refl;
   within = let some = settings.a_wire in omega (arith, wires, some);
   wires = wires;
@@ -134,6 +140,7 @@ module _ {S : Type 0} (f : Frame) (s : Seen S) (in_use : ℕ) (old new : List (L
     driven = record {
       world = h.driven.world;
       replays = h.driven.replays;
+      first = h.driven.first;
       swaps = h.driven.swaps;
       within = let within = h.driven.within in omega (arith, within, same_length);
       wires = same_length ∙ h.driven.wires;
@@ -154,6 +161,7 @@ module _ {S : Type 0} (f : Frame) (s : Seen S) (in_use : ℕ) (old new : List (L
   stops_asked count going = record {
     world = h.driven.world;
     replays = h.driven.replays;
+    first = h.driven.first;
     going = going h.driven.world h.driven.replays;
     told = tells_asked;
     used = record {
@@ -197,6 +205,7 @@ pub stops : {S : Type 0} (f : Frame) (s : Seen S) (next in_use : ℕ) (old new :
 stops f s next in_use old new d going = record {
   world = d.world;
   replays = d.replays;
+  first = d.first;
   going = going d.world d.replays;
   told = d.told;
   used = all_used f s.steps d.world (asked_since old new) d.used;
@@ -210,6 +219,7 @@ stops f s next in_use old new d going = record {
 pub record Does {S : Type 0} (f : Frame) (s after : Seen S) (in_use : ℕ) (new told : List (List Asked)) (w : World) (step : Step) : Type 0 where
   pub world : World
   pub next : Next f w step world
+  pub first : IsFirst w step.event
   pub steps : after.steps ≡ s.steps ++ step ∷ []
   pub more : List Told
   pub told_is : world.told ≡ w.told ++ more
@@ -244,13 +254,16 @@ module _ {S : Type 0} (f : Frame) (s after : Seen S) (in_use next_use : ℕ) (ol
   pub swaps_after : does_it.world.swaps ≡ in_use + swaps_by step.event
   swaps_after = swaps_step f s.steps w does_it.world step count replays does_it.next ∙ ap (λ n. n + swaps_by step.event) (sym swaps)
 
-  pub driven_on : (is_burst step.event ≡ false → (answer : Option WireAct) × In (suc (length s.steps), answer) (acts_in (asked_since old new in_use)))
+  pub driven_on : LeadsFirst f (opening_world f) s.steps w
+      → (is_burst step.event ≡ false → (answer : Option WireAct) × In (suc (length s.steps), answer) (acts_in (asked_since old new in_use)))
       → ((act : WireAct) → step.event ≡ event_of act → last_answer (suc (length s.steps)) (acts_in (asked_since old new in_use)) ≡ Some (Some act))
       → NoneAskedBehind in_use (asked_since old new) → AreInTime f s.steps (asked_since old new) → next_use ≡ in_use + swaps_by step.event → next_use < length told → WentOn f s after next_use old told
-  driven_on asked caused unused in_time moves low = record {
+  driven_on firsts asked caused unused in_time moves low = record {
     driven = record {
       world = does_it.world;
       replays = subst (λ (l : List Step). Replays f l does_it.world) (sym does_it.steps) led;
+      first = subst (λ (l : List Step). LeadsFirst f (opening_world f) l does_it.world) (sym does_it.steps)
+          (first_on f (opening_world f) w does_it.world s.steps step firsts does_it.next does_it.first);
       swaps = moves ∙ sym swaps_after;
       within = low;
       wires = same_count ∙ wires;
@@ -329,17 +342,24 @@ same_act does.Swap (does.Crash other) e = absurd (cc e)
 same_act does.Swap (does.Suspect other) e = absurd (cc e)
 same_act does.Swap does.Swap e = refl
 
+-- and delivers nothing
+act_first : (w : World) (act : WireAct) → IsFirst w (event_of act)
+act_first w (does.Crash node) = tt
+act_first w (does.Suspect node) = tt
+act_first w does.Swap = tt
+
 -- what a step of a wire's own told is more of that wire's
 told_so_more : (in_use : ℕ) (new told : List (List Asked)) (prior after more : List Asked) → prior ≡ slice_index_or new in_use [] → after ≡ prior ++ more → told ≡ slice_set new in_use after → told ≡ told_more in_use more new
 told_so_more in_use new told prior after more same grown put = put ∙ ap (slice_set new in_use) (grown ∙ ap (λ (l : List Asked). l ++ more) same)
 
 stepped_is : {S : Type 0} (f : Frame) (s after : Seen S) (in_use : ℕ) (new told : List (List Asked)) (what : Event) (prior now : List Asked) (w : World) → AllCounted → Replays f s.steps w → in_use ≡ w.swaps
-    → (st : Stepped f what s after prior now) → (swaps_by what ≡ 0) ⊎ (what ≡ event.Swap) → prior ≡ slice_index_or new in_use [] → told ≡ slice_set new in_use now → tasks_out after ≡ 0 → Does f s after in_use new told w st.step
-stepped_is f s after in_use new told what prior now w count replays use_is st kind same put idle =
+    → IsFirst w what → (st : Stepped f what s after prior now) → (swaps_by what ≡ 0) ⊎ (what ≡ event.Swap) → prior ≡ slice_index_or new in_use [] → told ≡ slice_set new in_use now → tasks_out after ≡ 0 → Does f s after in_use new told w st.step
+stepped_is f s after in_use new told what prior now w count replays use_is first st kind same put idle =
     let led = st.leads w replays in
     record {
       world = led.world;
       next = led.next;
+      first = subst (λ (e : Event). IsFirst w e) (sym st.event_is) first;
       steps = st.steps;
       more = led.more;
       told_is = led.told;
@@ -350,15 +370,16 @@ stepped_is f s after in_use new told what prior now w count replays use_is st ki
 
 -- what was due was done
 pub due_done : {S : Type 0} (f : Frame) (s after : Seen S) (in_use : ℕ) (old new told : List (List Asked)) (what : Event) (prior now : List Asked) → AllCounted → MayGoOn f s in_use old new → IsDue what
-    → Stepped f what s after prior now → prior ≡ slice_index_or new in_use [] → told ≡ slice_set new in_use now → tasks_out after ≤ tasks_out s → WentOn f s after in_use old told
-due_done f s after in_use old new told what prior now count on due st same put tasks =
+    → ComesFirst f s what → Stepped f what s after prior now → prior ≡ slice_index_or new in_use [] → told ≡ slice_set new in_use now → tasks_out after ≤ tasks_out s → WentOn f s after in_use old told
+due_done f s after in_use old new told what prior now count on due first st same put tasks =
     let d = on.driven in
     let idle = d.idle in
     let within = d.within in
     let length_is = ap length put ∙ length-set new in_use now in
     driven_on f s after in_use in_use old new told st.step count d.world d.replays d.swaps d.within d.wires d.told (is_used f s.steps d.world (asked_since old new) d.used)
     (λ wire. all_accounted f s.steps st.step (acts_in (asked_since old new wire)) (d.numbers wire) (d.used.given wire)) d.numbers d.settings
-    (stepped_is f s after in_use new told what prior now d.world count d.replays d.swaps st (inl (due_swaps what due)) same put (omega (arith, tasks, idle)))
+    (stepped_is f s after in_use new told what prior now d.world count d.replays d.swaps (first d.world d.replays) st (inl (due_swaps what due)) same put (omega (arith, tasks, idle)))
+    d.first
     (λ plain. (on.answer, on.asked))
     (λ act is. absurd (due_not_given act (subst IsDue (sym st.event_is ∙ is) due)))
     d.unused
@@ -385,7 +406,8 @@ act_done f s after in_use next_use old new told act prior now count h going st s
     (inl (st.step, step_last s.steps st.step, st.event_is)))
     (numbers_asked in_use n (Some act) before_it since asked d.numbers)
     d.settings
-    (stepped_is f s after in_use new told (event_of act) prior now d.world count d.replays d.swaps st (act_swaps act) same put (omega (arith, tasks, idle)))
+    (stepped_is f s after in_use new told (event_of act) prior now d.world count d.replays d.swaps (act_first d.world act) st (act_swaps act) same put (omega (arith, tasks, idle)))
+    d.first
     (λ plain. (Some act, asked_is in_use n (Some act) before_it since asked))
     (λ other is. answer_is in_use n (Some act) before_it since asked ∙ ap (λ (a : WireAct). Some (Some a)) (same_act act other (sym st.event_is ∙ is)))
     (unused_asked f s in_use old new (Some act) h)
@@ -412,6 +434,7 @@ burst_done f s after in_use old new process count on in_it tasks =
     (record {
       world = led.0;
       next = led.1;
+      first = tt;
       steps = in_it.steps;
       more = [];
       told_is = led.2 ∙ sym (append-nil d.world.told);
@@ -419,6 +442,7 @@ burst_done f s after in_use old new process count on in_it tasks =
       tells = no_more_told in_use new;
       idle = tasks ∙ d.idle;
     })
+    d.first
     (λ plain. (on.answer, on.asked))
     (λ act is. absurd (burst_not_given act process in_it.place in_it.turns is))
     d.unused

@@ -12,6 +12,7 @@ use Rattle.world_rules.specs.Standings as rules
 use Rattle.world_rules.specs.Steps.{Replays}
 use Rattle.world_rules.specs.Worlds.{Book, World, opening_world}
 use Rattle.world_book.specs.Promise.{AllStuck, IsKept}
+use Rattle.world_enough.specs.Faultless.{LeadsFirst}
 use Rattle.world_parts.specs.Choosing.{longest_log}
 use Rattle.world_parts.specs.Seen.{Of, Seen, tasks_out}
 use Rattle.run_ends.specs.Telling.{AreNodeEnds, AreProcessEnds, EndsMean}
@@ -38,6 +39,7 @@ opens_as f s in_use old new settings same none idle first told wires ranges =
 pub record HasGone {S : Type 0} (f : Frame) (s : Seen S) (st : Standing) (old new : List (List Asked)) : Type 0 where
   pub world : World
   pub replays : Replays f s.steps world
+  pub first : LeadsFirst f (opening_world f) s.steps world
   pub used : WereUsedSo st f s.steps world (asked_since old new)
   pub unused : NoneAskedBehind world.swaps (asked_since old new)
   pub in_time : AreInTime f s.steps (asked_since old new)
@@ -48,6 +50,7 @@ pub gone : {S T E : Type 0} (f : Frame) (s : Seen S) (in_use : ℕ) (st : Standi
 gone f s in_use st old new (Ok x) d over stopped stands = record {
   world = d.world;
   replays = d.replays;
+  first = d.first;
   used = used_over f s in_use old new st d (stands d.world d.replays) (λ going. over d.world d.replays (sym (stands d.world d.replays) ∙ going));
   unused = subst (λ (k : ℕ). NoneAskedBehind k (asked_since old new)) d.swaps d.unused;
   in_time = d.in_time;
@@ -56,6 +59,7 @@ gone f s in_use st old new (Ok x) d over stopped stands = record {
 gone f s in_use st old new (Err e) driven over h stands = record {
   world = h.world;
   replays = h.replays;
+  first = h.first;
   used = used_stopped f s old new st h (stands h.world h.replays);
   unused = h.unused;
   in_time = h.in_time;
@@ -100,6 +104,7 @@ ran f s st old new (Ok end) h stands stuck steps book longest nodes processes me
     stuck = stuck h.world h.replays;
     mean = mean h.world h.replays;
   };
+  first = subst (λ (l : List Step). LeadsFirst f (opening_world f) l h.world) (sym steps) h.first;
   used = subst (λ (l : List Step). WereUsedSo st f l h.world (asked_since old new)) (sym steps) h.used;
   unused = h.unused;
   in_time = subst (λ (l : List Step). AreInTime f l (asked_since old new)) (sym steps) h.in_time;

@@ -21,7 +21,7 @@ use Rattle.world_facts.specs.Counted.{AllCounted}
 use Rattle.world_parts.specs.Choosing.{due_act, is_ready}
 use Rattle.world_parts.specs.Seen.{Of, Seen, tasks_out}
 use Rattle.world_core.specs.Stepping.{IsRefused, Stepped}
-use Rattle.run_loop.specs.Driven.{HasAnswered, HasStopped, IsDriven, IsDrivenTo, IsDue, IsGoing, MayBe, MayGoOn, WentOn, told_more}
+use Rattle.run_loop.specs.Driven.{ComesFirst, HasAnswered, HasStopped, IsDriven, IsDrivenTo, IsDue, IsGoing, MayBe, MayGoOn, WentOn, told_more}
 use Rattle.run_loop.proofs.Due.{act_may, deliver_may, tick_may}
 use Rattle.run_loop.proofs.Driving.{act_done, due_done, gives_nothing, passes_over, same_length, stops, stops_asked}
 use Rattle.run_loop.proofs.Telling.{kept_at, put_at, told_at}
@@ -61,10 +61,10 @@ module _ {W S : Type 0} (told : W → List Asked) (wires : List W) (first wire :
   there : in_use < length (map told wires) → (told (get_or wires in_use first)) ≡ slice_index_or (map told wires) in_use []
   there lt = let many = length-map wires told in told_at told wires in_use first (omega (arith, lt, many))
 
-  pub due_by : (what : Event) → AllCounted → MayGoOn f s in_use old (map told wires) → IsDue what → Stepped f what s after (told (get_or wires in_use first)) (told wire) → tasks_out after ≤ tasks_out s
+  pub due_by : (what : Event) → AllCounted → MayGoOn f s in_use old (map told wires) → IsDue what → ComesFirst f s what → Stepped f what s after (told (get_or wires in_use first)) (told wire) → tasks_out after ≤ tasks_out s
       → WentOn f s after in_use old (map told (set wires in_use wire))
-  due_by what count on due st tasks =
-      due_done f s after in_use old (map told wires) (map told (set wires in_use wire)) what (told (get_or wires in_use first)) (told wire) count on due st
+  due_by what count on due in_turn st tasks =
+      due_done f s after in_use old (map told wires) (map told (set wires in_use wire)) what (told (get_or wires in_use first)) (told wire) count on due in_turn st
       (there on.driven.within) (put_at told wires in_use wire) tasks
 
   pub act_by : (act : WireAct) (what : Event) (swaps : ℕ) → AllCounted → HasAnswered f s in_use old (map told wires) (Some act) → IsGoing f s → what ≡ event_of act → swaps ≡ swaps_by (event_of act)
@@ -116,6 +116,10 @@ act_due f s found i is going due = λ w led. act_may f w i (going w led) (sym (d
 pub packet_due : {S : Type 0} (f : Frame) (s : Seen S) (found : Option (ℕ × ℕ)) (packet copy : ℕ) → found ≡ Some (packet, copy) → IsGoing f s
     → Of f s (λ w. option_map (λ (p : ℕ × ℕ). (p.0, p.1)) found ≡ first_ready w.flights) → MayBe f s (event.Deliver packet copy)
 packet_due f s found packet copy is going due = λ w led. deliver_may f w packet copy (going w led) (sym (due w led) ∙ ap (option_map (λ (p : ℕ × ℕ). (p.0, p.1))) is)
+
+pub packet_first : {S : Type 0} (f : Frame) (s : Seen S) (found : Option (ℕ × ℕ)) (packet copy : ℕ) → found ≡ Some (packet, copy)
+    → Of f s (λ w. option_map (λ (p : ℕ × ℕ). (p.0, p.1)) found ≡ first_ready w.flights) → ComesFirst f s (event.Deliver packet copy)
+packet_first f s found packet copy is due = λ w led. sym (due w led) ∙ ap (option_map (λ (p : ℕ × ℕ). (p.0, p.1))) is
 
 pub tick_due : {S : Type 0} (f : Frame) (s : Seen S) (act : Option ProcessNo) (packet : Option (ℕ × ℕ)) (ready : Option ProcessNo) → act ≡ None → packet ≡ None → ready ≡ None → IsGoing f s → tasks_out s ≡ 0
     → Of f s (λ w. option_map (λ (k : ProcessNo). k.0) act ≡ due_act f w) → Of f s (λ w. option_map (λ (p : ℕ × ℕ). (p.0, p.1)) packet ≡ first_ready w.flights)

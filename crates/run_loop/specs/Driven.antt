@@ -11,7 +11,8 @@ use Rattle.world_rules.specs.Acts.{WereUsed, acts_in}
 use Rattle.world_rules.specs.Frame.{AreSettings, Frame}
 use Rattle.world_rules.specs.Standings.{standing}
 use Rattle.world_rules.specs.Steps.{Replays}
-use Rattle.world_rules.specs.Worlds.{World}
+use Rattle.world_rules.specs.Worlds.{World, opening_world}
+use Rattle.world_enough.specs.Faultless.{IsFirst, LeadsFirst}
 use Rattle.world_facts.specs.Possible.{MayStep}
 use Rattle.world_parts.specs.Seen.{Of, Seen, tasks_out}
 use Rattle.run_loop.specs.Asked.{AreBelow, AreInTime, HaveToldOn, NoneAskedBehind, WereUsedUpTo, asked_since}
@@ -24,12 +25,13 @@ told_more wire more told = slice_set told wire (slice_index_or told wire [] ++ m
 
 -- ---- between events
 
--- the run goes on by these steps, with no task out; the wire in use is behind as many as there were swaps; and the wires, which told `old`
--- before the run, were used in it, those behind the one in use asked nothing; each question about an act was in time, and came before an event
--- with a number below `next`
+-- the run goes on by these steps, with no task out, and each packet that came was the first of those that were ready; the wire in use is behind
+-- as many as there were swaps; and the wires, which told `old` before the run, were used in it, those behind the one in use asked nothing; each
+-- question about an act was in time, and came before an event with a number below `next`
 pub record IsDrivenTo {S : Type 0} (f : Frame) (s : Seen S) (next in_use : ℕ) (old new : List (List Asked)) : Type 0 where
   pub world : World
   pub replays : Replays f s.steps world
+  pub first : LeadsFirst f (opening_world f) s.steps world
   pub swaps : in_use ≡ world.swaps
   pub within : in_use < length new
   pub wires : length new ≡ f.settings.wires
@@ -52,6 +54,10 @@ IsGoing f s = Of f s (λ w. standing f w ≡ Going)
 -- the event may be
 abbrev pub MayBe : {S : Type 0} → Frame → Seen S → Event → Type 0
 MayBe f s event = Of f s (λ w. MayStep f w event)
+
+-- where it delivers a packet, that is the first of those that are ready
+abbrev pub ComesFirst : {S : Type 0} → Frame → Seen S → Event → Type 0
+ComesFirst f s event = Of f s (λ w. IsFirst w event)
 
 -- it is none that a wire gives
 abbrev pub IsDue : Event → Type 0
@@ -84,11 +90,12 @@ pub record WentOn {S : Type 0} (f : Frame) (before after : Seen S) (in_use : ℕ
   pub driven : IsDriven f after in_use old new
   pub one : length after.steps ≡ suc (length before.steps)
 
--- memory lacked: the steps lead to a world that is going, and the wires were used but for a last question; those behind the one in use were
--- asked nothing; each question about an act was in time
+-- memory lacked: the steps lead to a world that is going, each packet that came was the first of those that were ready, and the wires were used
+-- but for a last question; those behind the one in use were asked nothing; each question about an act was in time
 pub record HasStopped {S : Type 0} (f : Frame) (s : Seen S) (old new : List (List Asked)) : Type 0 where
   pub world : World
   pub replays : Replays f s.steps world
+  pub first : LeadsFirst f (opening_world f) s.steps world
   pub going : standing f world ≡ Going
   pub told : HaveToldOn old new
   pub used : WereUsedUpTo f s.steps world (asked_since old new)

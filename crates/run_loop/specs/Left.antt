@@ -7,7 +7,8 @@ use Rattle.world_rules.specs.declared.standing.Standing.{Standing}
 use Rattle.world_rules.specs.Frame.{Frame}
 use Rattle.world_rules.specs.Standings as rules
 use Rattle.world_rules.specs.Steps.{Replays}
-use Rattle.world_rules.specs.Worlds.{Book, World}
+use Rattle.world_rules.specs.Worlds.{Book, World, opening_world}
+use Rattle.world_enough.specs.Faultless.{LeadsFirst}
 use Rattle.world_book.specs.Promise.{AllStuck, IsKept}
 use Rattle.run_ends.specs.Telling.{AreNodeEnds, AreProcessEnds, EndsMean}
 use Rattle.run_ends.specs.declared.ends.RunEnd.{RunEnd}
@@ -31,11 +32,12 @@ pub record IsLeft (f : Frame) (w : World) (standing : Standing) (end : RunEnd) :
   pub stuck : AllStuck f w
   pub mean : EndsMean f w
 
--- and the wires, which told `old` before it and tell `new` behind it, were used in it; a wire that was never in use was asked nothing; and
--- each question about an act was in time
+-- and each packet that came was the first of those that were ready; the wires, which told `old` before it and tell `new` behind it, were used
+-- in it; a wire that was never in use was asked nothing; and each question about an act was in time
 pub record HasRun (f : Frame) (standing : Standing) (old new : List (List Asked)) (end : RunEnd) : Type 0 where
   pub world : World
   pub left : IsLeft f world standing end
+  pub first : LeadsFirst f (opening_world f) end.steps.items world
   pub used : WereUsedSo standing f end.steps.items world (asked_since old new)
   pub unused : NoneAskedBehind world.swaps (asked_since old new)
   pub in_time : AreInTime f end.steps.items (asked_since old new)

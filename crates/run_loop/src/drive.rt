@@ -5,7 +5,7 @@ ghost use Rattle.world_rules.specs.Frame.{AreSettings};
 ghost use Rattle.world_rules.specs.Standings as rules;
 ghost use Rattle.world_rules.specs.declared.standing.Standing.TheVariants.{Going};
 ghost use Rattle.world_parts.specs.Seen.{Of, tasks_out};
-ghost use Rattle.run_loop.specs.Driven.{HasAnswered, HasStopped, IsDriven, IsDue, IsGoing, MayBe, MayGoOn, WentOn};
+ghost use Rattle.run_loop.specs.Driven.{ComesFirst, HasAnswered, HasStopped, IsDriven, IsDue, IsGoing, MayBe, MayGoOn, WentOn};
 
 use crate::asking::{ask, event_of, swaps_of};
 use crate::order::{Bursts, chosen};
@@ -140,7 +140,7 @@ impl<P: OneRun> Driver<P> {
         }
     }
 
-    // Does an event that is possible, and is no exchange of the wire.
+    // Does an event that is possible, and is no exchange of the wire; of the packets that are ready it delivers the first.
     fn step<W: Wire>(
         &mut self,
         alloc: Global,
@@ -150,6 +150,7 @@ impl<P: OneRun> Driver<P> {
     ) -> Result<(), NoMemory>
         requires on { MayGoOn P.run.frame self.old.world self.old.in_use P.run.told (map W.told wires.old) }
         requires possible { MayBe P.run.frame self.old.world event }
+        requires first { ComesFirst P.run.frame self.old.world event }
         requires plain { IsDue event }
         ensures went { OnOk result (WentOn P.run.frame self.old.world self.new.world self.new.in_use P.run.told (map W.told wires.new)) }
         ensures stopped { OnErr result (HasStopped P.run.frame self.new.world P.run.told (map W.told wires.new)) }

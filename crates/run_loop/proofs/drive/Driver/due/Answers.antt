@@ -1,10 +1,20 @@
 use Rattle.std.proofs.Common.{length, map, refl, suc}
 use Rattle.run_loop.proofs.Driving.{burst_done}
-use Rattle.run_loop.proofs.Stepping.{act_due, err_as, ok_as, packet_due, stopped_as, tick_due}
+use Rattle.run_loop.proofs.Stepping.{act_due, err_as, ok_as, packet_due, packet_first, stopped_as, tick_due}
 use Rattle.run_loop.proofs.drive.Driver.due.Goals as goal
 
 pub step-requires-clause-possible : goal.step-requires-clause-possible
 step-requires-clause-possible g c = act_due g.P.OneRun.run.frame c.args.self.now.world c.due_act.result c.in-Some.process c.in-Some.is c.requires.going c.due_act.ensures
+
+pub step-requires-clause-first : goal.step-requires-clause-first
+step-requires-clause-first g c = λ w led. tt
+
+pub step-requires-in-Some-due_packet-clause-first : goal.step-requires-in-Some-due_packet-clause-first
+step-requires-in-Some-due_packet-clause-first g c =
+    packet_first g.P.OneRun.run.frame c.args.self.now.world c.due_packet.result c.in-Some-due_packet.packet c.in-Some-due_packet.copy c.in-Some-due_packet.is c.due_packet.ensures
+
+pub step-requires-in-None-clause-first : goal.step-requires-in-None-clause-first
+step-requires-in-None-clause-first g c = λ w led. tt
 
 pub step-requires-in-Some-due_packet-clause-possible : goal.step-requires-in-Some-due_packet-clause-possible
 step-requires-in-Some-due_packet-clause-possible g c =

@@ -5,7 +5,7 @@ use Rattle.run_loop.proofs.drive.Driver.step.Goals as goal
 pub returns-in-Ok-clause-went : goal.returns-in-Ok-clause-went
 returns-in-Ok-clause-went g c =
     due_by g.W.Wire.told c.args.wires.now c.index-wires-self.result c.step.new.wire g.P.OneRun.run.frame c.args.self.now.world c.step.new.self c.args.self.now.in_use g.P.OneRun.run.told
-    c.args.event c.worlds_count.ensures.counted c.requires.on c.requires.plain c.in-Ok.ensures.done c.step.ensures.fewer
+    c.args.event c.worlds_count.ensures.counted c.requires.on c.requires.plain c.requires.first c.in-Ok.ensures.done c.step.ensures.fewer
 
 pub returns-in-Ok-clause-scripts : goal.returns-in-Ok-clause-scripts
 returns-in-Ok-clause-scripts g c =
