@@ -43,7 +43,7 @@ use Rattle.orca_cli.specs.Standings.{awaited_name, history_said, standing_status
 use Rattle.program_names.specs.Naming.{AreNamesOf, CallsNamed}
 use Rattle.orca_cli.proofs.KeptLemmas.{history_kept}
 use Rattle.orca_cli.proofs.LowestLemmas.{ending_is}
-use Rattle.orca_cli.proofs.RowLemmas.{row_kept, rows_shown}
+use Rattle.orca_cli.proofs.RowLemmas.{gone_well, row_kept, rows_shown}
 
 -- ---- the settings
 
@@ -89,9 +89,10 @@ is_run f name says end standing status old new before after laws settings none h
     let stand = laws.ends f w in
     let processes = laws.stand f end.steps.items w left.replays in
     let some = settings.some in
+    let enough = laws.enough f refl refl settings none end.steps.items w h.first in
     let row : KeptRow f w k (rules.standing f w) =
-    row_kept f w k laws.count laws.read is stand (laws.finished f end.steps.items w left.replays) processes left.kept left.stuck
-    (laws.spent f refl refl settings end.steps.items w left.replays) (rules.standing f w) refl in
+    row_kept f w k laws.read is stand (laws.finished f end.steps.items w left.replays) processes left.kept left.stuck
+    (laws.spent f refl refl settings end.steps.items w left.replays) enough (rules.standing f w) refl in
     record {
       world = w;
       end = is;
@@ -100,6 +101,7 @@ is_run f name says end standing status old new before after laws settings none h
       row = row;
       only = rows_shown f w k laws.count laws.read is stand processes settings.a_turn;
       limited = λ what number passed. ap (rules.after_limit f w) passed;
+      bounded = gone_well f w k laws.read is stand processes left.stuck enough;
       ends = said.ends;
       lacked = said.lacked;
       line = ending_line name f.settings.turns (rules.standing f w) k.processes.items;

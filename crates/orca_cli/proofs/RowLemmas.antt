@@ -24,11 +24,11 @@ use Rattle.world_rules.specs.Played.{Played, Stage, has_faulted, is_fault, is_ov
 use Rattle.world_rules.specs.Played.Stage.{Computing, Acting, Submitted, Reading, Asking, Over}
 use Rattle.world_rules.specs.Standings as rules
 use Rattle.world_rules.specs.Standings.{is_over_run, process_count}
-use Rattle.world_rules.specs.declared.event.Step.{Step}
-use Rattle.world_rules.specs.Steps.{Leads}
-use Rattle.world_rules.specs.Worlds.{World, opening_world, home_of, played_in, processes_of}
+use Rattle.world_rules.specs.Worlds.{World, home_of, played_in, processes_of}
 use Rattle.world_book.specs.Processes.{IsKnownAs, IsPlayedAs}
 use Rattle.world_book.specs.Promise.{AllStuck, IsKept}
+use Rattle.world_enough.specs.Bound.{IsEnough}
+use Rattle.world_enough.specs.Faultless.{IsFaulty}
 use Rattle.world_facts.specs.Counted.{AllCounted}
 use Rattle.world_facts.specs.Ends as facts
 use Rattle.world_facts.specs.Ends.{EndsStand, FinishedEnds, Stand, end_at, end_crashed, end_living, end_of, end_over, process_end, turns_in}
@@ -43,7 +43,7 @@ use Rattle.run_ends.specs.declared.ends.ProcessStanding.{ProcessStanding}
 use Rattle.run_ends.specs.declared.ends.ProcessStanding.TheVariants as standing
 use Rattle.orca_cli.specs.declared.kept.Kept.{Kept}
 use Rattle.orca_cli.specs.Kept.{IsEndOf}
-use Rattle.orca_cli.specs.Rows.{AllEnded, HaveTurns, KeptRow, LostTooMany, NoneFaulted, ShownRows, SomeBusy, SomeStuck, StandsAt}
+use Rattle.orca_cli.specs.Rows.{AllEnded, HasGoneWell, HaveTurns, IsEndedOrStuck, KeptRow, LostTooMany, NoneFaulted, ShownRows, SomeBusy, SomeStuck, StandsAt}
 use Rattle.orca_cli.proofs.KeptLemmas.{end_is, get_below}
 
 -- ---- standings there and back
@@ -254,6 +254,18 @@ module _ (f : Frame) (w : World) (k : Kept) (end : IsEndOf f w k) (stand : EndsS
         (λ (all : rows.AllEnded f w). let h = all i s.0 is.0 in ended_computes h.0.stage h.2 (is.1 h.0 h.1.here))
         (λ (rest : rows.AllRest f w). let h = rest.processes i s.0 is.0 in rests_computes i h.0.stage h.2 (is.1 h.0 h.1.here))
         over
+
+    -- where the run is over and every member lives each process ended or is stuck
+    pub ended_or_stuck : rows.IsOver f w → is_over_run f w ≡ true → AllStuck f w → ((m : ℕ) → w.lives m ≡ true) → (i : ProcessNo) (e : ProcessEnd) → slice_get k.processes.items i.0 ≡ Some e
+        → (s : ProcessStanding) → e.standing ≡ s → IsEndedOrStuck f k i s
+    ended_or_stuck ends over stuck lives i e at standing.Ended is = tt
+    ended_or_stuck ends over stuck lives i e at (standing.Faulted fault) is = tt
+    ended_or_stuck ends over stuck lives i e at (standing.Waits act) is = stuck_kept over stuck i act (e, at, is)
+    ended_or_stuck ends over stuck lives i e at standing.Busy is = none_busy ends i.0 (e, at, is)
+    ended_or_stuck ends over stuck lives i e at standing.Crashed is =
+        let gone = stand_of i.0 standing.Crashed (e, at, is) in
+        let no : true ≡ false = sym (lives (home_of f w i.0)) ∙ stand.crashed i.0 gone.1 in
+        absurd (cc no)
 
     pub blocked_kept : rules.standing f w ≡ Blocked → rows.IsOver f w → is_over_run f w ≡ true → AllStuck f w → rows.NoneFaulted f w → NoneFaulted k × SomeStuck f k
     blocked_kept is ends over stuck none =
@@ -512,32 +524,27 @@ lost_kept f w k end lacks =
     let same = ap (λ n. count n (λ m. not (w.lives m) || (w.nodes m).member.outside)) end.nodes.count in
     omega (arith, lost, is, same)
 
--- ---- 6
-
-within : (f : Frame) → AllRead → (u w : World) (steps : List Step) → u.steps ≤ f.settings.events → Leads f u steps w → w.steps ≤ f.settings.events
-within f read u w [] low h = subst (λ (x : World). x.steps ≤ f.settings.events) (sym h) low
-within f read u w (step ∷ steps) low h =
-    let next = h.1 in
-    let going = ((read f u).says Going next.going).0.events in
-    let after : h.0.steps ≡ suc u.steps = ap (λ (x : World). x.steps) next.after in
-    within f read h.0 w steps (omega (arith, going, after)) h.2
-
-pub events_kept : (f : Frame) (w : World) (k : Kept) → AllCounted → AllRead → IsEndOf f w k → f.settings.events ≤ w.steps → length k.events.items ≡ f.settings.events
-events_kept f w k count read end high =
-    let low = within f read (opening_world f) w k.events.items (omega arith) end.replays in
-    let steps = (count f k.events.items w end.replays).steps in
-    omega (arith, low, high, steps)
-
 -- ---- each row
 
-pub row_kept : (f : Frame) (w : World) (k : Kept) → AllCounted → AllRead → IsEndOf f w k → EndsStand f w → FinishedEnds f w → ProcessesStand f w → IsKept f w → AllStuck f w → SpentBusy f w → (s : Standing) → rules.standing f w ≡ s → KeptRow f w k s
-row_kept f w k count read end stand finished processes kept stuck busy (Limit what number) is = (read f w).says (Limit what number) is
-row_kept f w k count read end stand finished processes kept stuck busy OutOfTurns is = busy_kept f w k end stand processes kept busy ((read f w).says OutOfTurns is).1
-row_kept f w k count read end stand finished processes kept stuck busy OutOfEvents is = events_kept f w k count read end ((read f w).says OutOfEvents is).2
-row_kept f w k count read end stand finished processes kept stuck busy NoGroup is = let row = (read f w).says NoGroup is in (lost_kept f w k end row.3, row.3)
-row_kept f w k count read end stand finished processes kept stuck busy Faulted is = faulted_kept f w k end stand is
-row_kept f w k count read end stand finished processes kept stuck busy Blocked is =
+pub row_kept : (f : Frame) (w : World) (k : Kept) → AllRead → IsEndOf f w k → EndsStand f w → FinishedEnds f w → ProcessesStand f w → IsKept f w → AllStuck f w → SpentBusy f w → IsEnough f w k.events.items → (s : Standing) → rules.standing f w ≡ s → KeptRow f w k s
+row_kept f w k read end stand finished processes kept stuck busy enough (Limit what number) is = (read f w).says (Limit what number) is
+row_kept f w k read end stand finished processes kept stuck busy enough OutOfTurns is = busy_kept f w k end stand processes kept busy ((read f w).says OutOfTurns is).1
+row_kept f w k read end stand finished processes kept stuck busy enough OutOfEvents is = enough.row is
+row_kept f w k read end stand finished processes kept stuck busy enough NoGroup is = let row = (read f w).says NoGroup is in (lost_kept f w k end row.3, row.3)
+row_kept f w k read end stand finished processes kept stuck busy enough Faulted is = faulted_kept f w k end stand is
+row_kept f w k read end stand finished processes kept stuck busy enough Blocked is =
     let row = (read f w).says Blocked is in
     blocked_kept f w k end stand processes is row.1 (((read f w).over).1 row.1) stuck row.2
-row_kept f w k count read end stand finished processes kept stuck busy Finished is = let row = (read f w).says Finished is in ended_kept f w k end stand processes is finished row.1
-row_kept f w k count read end stand finished processes kept stuck busy Going is = tt
+row_kept f w k read end stand finished processes kept stuck busy enough Finished is = let row = (read f w).says Finished is in ended_kept f w k end stand processes is finished row.1
+row_kept f w k read end stand finished processes kept stuck busy enough Going is = tt
+
+-- ---- a faultless run
+
+pub gone_well : (f : Frame) (w : World) (k : Kept) → AllRead → IsEndOf f w k → EndsStand f w → ProcessesStand f w → AllStuck f w
+    → IsEnough f w k.events.items → (IsFaulty k.events.items → ⊥) → HasGoneWell f w k
+gone_well f w k read end stand processes stuck enough fine =
+    let well = enough.well fine in
+    record {
+      well = well;
+      stuck = λ over i e at. ended_or_stuck f w k end stand processes over (((read f w).over).1 over) stuck well.lives i e at e.standing refl;
+    }

@@ -19,6 +19,7 @@ use Rattle.world_rules.specs.declared.standing.Standing.TheVariants.{Going, Limi
 use Rattle.world_rules.specs.Frame.{Frame}
 use Rattle.world_rules.specs.Standings.{limit, standing}
 use Rattle.world_rules.specs.Worlds.{World}
+use Rattle.world_enough.specs.Faultless.{IsFaulty}
 use Rattle.world_facts.specs.Rows.{ReadsStanding}
 use Rattle.run_loop.specs.Asked.{AreInTime, HaveToldOn, NoneAskedBehind, WereAskedIn, WereUsedSo, asked_since}
 use Rattle.run_loop.specs.Left.{run_of}
@@ -29,7 +30,7 @@ use Rattle.orca_cli.specs.Job.{deed_in, runs}
 use Rattle.orca_cli.specs.Kept.{IsEndOf, IsHistory}
 use Rattle.command_output.specs.Printed.{Ends, EndsAs, Grew}
 use Rattle.orca_cli.specs.Programs.{IsProgram}
-use Rattle.orca_cli.specs.Rows.{KeptRow, ShownRows}
+use Rattle.orca_cli.specs.Rows.{HasGoneWell, KeptRow, ShownRows}
 use Rattle.orca_cli.specs.Scripts.{IsScriptOf}
 use Rattle.orca_cli.specs.Standings.{IsEndingLine, awaited_name, history_said, standing_status}
 
@@ -121,6 +122,8 @@ pub record IsRun (f : Frame) (name : Action → List ℕ) (says : List Line → 
   pub only : ShownRows f world k
   -- of several limits that are passed it is the first: that before which the lowest member stops, and that of lines behind it
   pub limited : (what : What) (number : ℕ) → limit f world ≡ Some (what, number) → standing f world ≡ Limit what number
+  -- where each fate was Pass and no crash, suspicion or exchange came, a number of events is enough
+  pub bounded : (IsFaulty k.events.items → ⊥) → HasGoneWell f world k
   pub ends : EndsAs (standing_status (standing f world)) status
   pub lacked : standing f world ≡ Going → status ≡ NO_MEMORY
   pub line : List ℕ

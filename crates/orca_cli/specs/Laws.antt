@@ -2,6 +2,7 @@
 use Rattle.value_core.specs.Meaning.{Computes, Performs}
 use Rattle.run_law.specs.Spent.{AllSpentBusy}
 use Rattle.world_book.specs.Sounding.{RunsSound}
+use Rattle.world_enough.specs.Bound.{EventsAreEnough}
 use Rattle.world_facts.specs.Counted.{AllCounted}
 use Rattle.world_facts.specs.Ends.{AllEndsStand, FinishedRunsEnd}
 use Rattle.world_facts.specs.Places.{AllPlaced}
@@ -10,7 +11,7 @@ use Rattle.world_facts.specs.Rows.{AllRead}
 
 -- a book stands by places; ends of members and processes stand, and those of a run that has finished; processes are on members, and at what
 -- they do next; one that computes with all its turns is busy; standings are read off the table; worlds count their steps; lines of books are
--- sound
+-- sound; for a faultless run a number of events is enough
 pub record RunLaws (p : Performs) (q : Computes) : Type 0 where
   pub placed : AllPlaced
   pub ends : AllEndsStand
@@ -21,3 +22,4 @@ pub record RunLaws (p : Performs) (q : Computes) : Type 0 where
   pub read : AllRead
   pub count : AllCounted
   pub sound : RunsSound p q
+  pub enough : EventsAreEnough p q

@@ -49,6 +49,7 @@ use run_loop::{Ran, Settings, run};
 use std::alloc::Global;
 use wires::{Wire, have_obeyed};
 use world_book::legal_book;
+use world_enough::events_are_enough;
 use world_facts::{book_by_places, ends_stand, processes_stand, standings_mean, worlds_count};
 
 // Prints why files weren't read.
@@ -167,6 +168,7 @@ fn laws_of_runs(machine: &TreeMachine<'_>)
 {
     book_by_places();
     ends_stand();
+    events_are_enough(machine);
     legal_book(machine);
     processes_stand();
     run_law(machine);

@@ -11,4 +11,5 @@ returns c = record {
   read = c.standings_mean.ensures;
   count = c.worlds_count.ensures.counted;
   sound = c.legal_book.ensures.sound;
+  enough = c.events_are_enough.ensures;
 }
