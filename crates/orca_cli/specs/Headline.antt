@@ -122,7 +122,7 @@ pub record IsRun (f : Frame) (name : Action → List ℕ) (says : List Line → 
   pub only : ShownRows f world k
   -- of several limits that are passed it is the first: that before which the lowest member stops, and that of lines behind it
   pub limited : (what : What) (number : ℕ) → limit f world ≡ Some (what, number) → standing f world ≡ Limit what number
-  -- where each fate was Pass and no crash, suspicion or exchange came, a number of events is enough
+  -- where each fate passed and no crash, suspicion or exchange came, a number of events is enough
   pub bounded : (IsFaulty k.events.items → ⊥) → HasGoneWell f world k
   pub ends : EndsAs (standing_status (standing f world)) status
   pub lacked : standing f world ≡ Going → status ≡ NO_MEMORY

@@ -7,7 +7,7 @@ ghost use Rattle.node_parts.specs.Shown.{on_stage};
 ghost use Rattle.value_core.specs.declared.action.Line.{Line as LineOf};
 ghost use Rattle.world_facts.specs.Ends.{end_at, end_crashed, end_living, end_of, end_over, process_end, replies_in};
 ghost use Rattle.world_rules.specs.Worlds.{Book, played_in};
-ghost use Rattle.world_parts.specs.Choosing.{longest_log};
+ghost use Rattle.world_facts.specs.Logs.{longest_log};
 ghost use Rattle.world_parts.specs.Recorded.{of_piece, of_pieces};
 ghost use Rattle.world_parts.specs.Standing.{Is, Stands};
 ghost use Rattle.run_ends.specs.Telling.{AreNodeEnds, AreProcessEnds, HasHeard, TellsNode, on_process_end, on_standing, standing_as};

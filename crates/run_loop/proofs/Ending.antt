@@ -13,7 +13,7 @@ use Rattle.world_rules.specs.Steps.{Replays}
 use Rattle.world_rules.specs.Worlds.{Book, World, opening_world}
 use Rattle.world_book.specs.Promise.{AllStuck, IsKept}
 use Rattle.world_enough.specs.Faultless.{LeadsFirst}
-use Rattle.world_parts.specs.Choosing.{longest_log}
+use Rattle.world_facts.specs.Logs.{longest_log}
 use Rattle.world_parts.specs.Seen.{Of, Seen, tasks_out}
 use Rattle.run_ends.specs.Telling.{AreNodeEnds, AreProcessEnds, EndsMean}
 use Rattle.run_ends.specs.declared.ends.RunEnd.{RunEnd}

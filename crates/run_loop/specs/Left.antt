@@ -12,7 +12,7 @@ use Rattle.world_enough.specs.Faultless.{LeadsFirst}
 use Rattle.world_book.specs.Promise.{AllStuck, IsKept}
 use Rattle.run_ends.specs.Telling.{AreNodeEnds, AreProcessEnds, EndsMean}
 use Rattle.run_ends.specs.declared.ends.RunEnd.{RunEnd}
-use Rattle.world_parts.specs.Choosing.{longest_log}
+use Rattle.world_facts.specs.Logs.{longest_log}
 use Rattle.run_loop.specs.Asked.{AreInTime, NoneAskedBehind, WereUsedSo, asked_since}
 
 -- the run of a program with these meanings, by these settings

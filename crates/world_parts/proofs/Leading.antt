@@ -21,7 +21,7 @@ use Rattle.world_rules.specs.Worlds.{World, agreed, applied_at, longest, process
 use Rattle.node_parts.specs.Shown.{Left, Stood}
 use Rattle.node_core.specs.Stands.{on_known}
 use Rattle.node_core.specs.declared.node.Node.{Node}
-use Rattle.world_parts.specs.Choosing.{longest_below}
+use Rattle.world_facts.specs.Logs.{longest_below}
 use Rattle.world_parts.specs.Standing.{IsWorld}
 use Rattle.world_parts.specs.declared.parts.Parts.{Parts}
 

@@ -1,5 +1,5 @@
 -- What may come next in a run, and who is where.
-use Rattle.std.specs.Prelude.{ℕ, zero, suc, max, Bool, not, ◌&&◌, if◌then◌else◌, length, Option, None, Some}
+use Rattle.std.specs.Prelude.{ℕ, zero, suc, Bool, not, ◌&&◌, if◌then◌else◌, Option, None, Some}
 use Rattle.orca_base.specs.declared.ids.ProcessNo.{ProcessNo}
 use Rattle.world_rules.specs.Frame.{Frame}
 use Rattle.world_rules.specs.Played.{is_computing}
@@ -35,11 +35,3 @@ may_compute f w i = lives_at_home f w i && stands is_computing (played_in f w i)
 -- and no task of it is out
 abbrev pub is_ready : {S : Type 0} → Frame → Seen S → World → ℕ → Bool
 is_ready f s w i = may_compute f w i && not (is_out s (home_of f w i) i)
-
--- the length of the longest log of the members below n
-abbrev pub longest_below : ℕ → World → ℕ
-longest_below zero w = 0
-longest_below (suc m) w = max (longest_below m w) (length (w.nodes m).member.log)
-
-abbrev pub longest_log : Frame → World → ℕ
-longest_log f w = longest_below f.settings.nodes w

@@ -12,7 +12,8 @@ ghost use Rattle.world_rules.specs.Standings as rules;
 ghost use Rattle.world_rules.specs.Standings.{lives_at_home, process_count};
 ghost use Rattle.world_rules.specs.Steps as events;
 ghost use Rattle.world_rules.specs.Worlds.{agreed, applied_at, home_of, played_in};
-ghost use Rattle.world_parts.specs.Choosing.{due_act, is_ready, longest_log, may_compute};
+ghost use Rattle.world_facts.specs.Logs.{longest_log};
+ghost use Rattle.world_parts.specs.Choosing.{due_act, is_ready, may_compute};
 ghost use Rattle.world_parts.specs.Seen.{is_out, outs, tasks_out};
 ghost use Rattle.world_parts.specs.Standing.{Is, Stands, has_out, outs_of, seen_of};
 

@@ -6,7 +6,7 @@ use Rattle.group_member.specs.StandsFor.{IsMember}
 use Rattle.group_member.specs.declared.member.Member.{Member}
 use Rattle.history_buffer.specs.Window.{last_number}
 use Rattle.world_parts.proofs.Leading.{longer_next}
-use Rattle.world_parts.specs.Choosing.{longest_below}
+use Rattle.world_facts.specs.Logs.{longest_below}
 use Rattle.world_parts.proofs.parts.Parts.longest_log.Goals as goal
 
 pub members-init : goal.members-init

@@ -1,6 +1,6 @@
 use Rattle.std.proofs.Common.{◌≡◌}
 use Rattle.world_rules.specs.Worlds.{World}
-use Rattle.world_parts.specs.Choosing.{longest_below}
+use Rattle.world_facts.specs.Logs.{longest_below}
 use Rattle.world_parts.specs.Standing.{IsWorld}
 use Rattle.world_parts.proofs.parts.Parts.longest_log.Given as goal
 
