@@ -1,5 +1,5 @@
 -- The headline: what a run keeps and prints, and that its network was really used, in time; and what is so of the wires where nothing is kept.
-use Rattle.std.specs.Prelude.{◌≡◌, ◌⊎◌, ◌++◌, ℕ, suc, List, [], length, map, Option, Some, option_map, slice_get}
+use Rattle.std.specs.Prelude.{◌≡◌, ◌≤◌, ◌⊎◌, ◌+◌, ◌++◌, ℕ, suc, List, [], length, map, Option, Some, option_map, slice_get}
 use Rattle.command_line.specs.declared.request.RunOptions.{RunOptions}
 use Rattle.net_rules.specs.declared.asked.Asked.{Asked}
 use Rattle.net_rules.specs.declared.line.ScriptLine.{ScriptLine}
@@ -16,10 +16,13 @@ use Rattle.wires.specs.Wired.{HasObeyed, Rule, with_script}
 use Rattle.world_rules.specs.declared.settings.Settings.{Settings}
 use Rattle.orca_base.specs.declared.what.What.{What}
 use Rattle.world_rules.specs.declared.standing.Standing.TheVariants.{Going, Limit}
+use Rattle.world_rules.specs.declared.event.Step.{Step}
 use Rattle.world_rules.specs.Frame.{Frame}
 use Rattle.world_rules.specs.Standings.{limit, standing}
 use Rattle.world_rules.specs.Worlds.{World}
 use Rattle.world_enough.specs.Faultless.{IsFaulty}
+use Rattle.world_idle.specs.Faults.{crashes_in, ticks_in}
+use Rattle.world_idle.specs.Stretches.{AllInside, IsIdleStretch}
 use Rattle.world_facts.specs.Rows.{ReadsStanding}
 use Rattle.run_loop.specs.Asked.{AreInTime, HaveToldOn, NoneAskedBehind, WereAskedIn, WereUsedSo, asked_since}
 use Rattle.run_loop.specs.Left.{run_of}
@@ -124,6 +127,11 @@ pub record IsRun (f : Frame) (name : Action → List ℕ) (says : List Line → 
   pub limited : (what : What) (number : ℕ) → limit f world ≡ Some (what, number) → standing f world ≡ Limit what number
   -- where each fate passed and no crash, suspicion or exchange came, a number of events is enough
   pub bounded : (IsFaulty k.events.items → ⊥) → HasGoneWell f world k
+  -- once faults have ended, ticks don't pass for long without progress: where no member is outside and at most r crashed, each idle stretch has
+  -- at most N + 8 of them
+  pub idle :
+      (stretch : List Step) → IsIdleStretch f k.events.items stretch world → crashes_in k.events.items ≤ f.settings.resilience →
+      AllInside f world → ticks_in stretch ≤ f.settings.nodes + 8
   pub ends : EndsAs (standing_status (standing f world)) status
   pub lacked : standing f world ≡ Going → status ≡ NO_MEMORY
   pub line : List ℕ

@@ -51,6 +51,7 @@ use wires::{Wire, have_obeyed};
 use world_book::legal_book;
 use world_enough::events_are_enough;
 use world_facts::{book_by_places, ends_stand, processes_stand, standings_mean, worlds_count};
+use world_idle::stretches_are_short;
 
 // Prints why files weren't read.
 fn said_unread<K: Sink>(alloc: Global, out: &mut K, fault: LoadFault<'_>) -> Ended
@@ -173,6 +174,7 @@ fn laws_of_runs(machine: &TreeMachine<'_>)
     processes_stand();
     run_law(machine);
     standings_mean();
+    stretches_are_short(machine);
     worlds_count();
 }
 

@@ -12,4 +12,5 @@ returns c = record {
   count = c.worlds_count.ensures.counted;
   sound = c.legal_book.ensures.sound;
   enough = c.events_are_enough.ensures;
+  idle = c.stretches_are_short.ensures.short;
 }
