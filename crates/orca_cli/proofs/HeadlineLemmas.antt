@@ -92,7 +92,7 @@ is_run f name says end standing status old new before after laws settings none h
     let enough = laws.enough f refl refl settings none end.steps.items w h.first in
     let row : KeptRow f w k (rules.standing f w) =
     row_kept f w k laws.read is stand (laws.finished f end.steps.items w left.replays) processes left.kept left.stuck
-    (laws.spent f refl refl settings end.steps.items w left.replays) enough (rules.standing f w) refl in
+    (laws.spent f refl refl settings end.steps.items w left.replays) settings.a_turn enough (rules.standing f w) refl in
     record {
       world = w;
       end = is;

@@ -43,7 +43,7 @@ use Rattle.run_ends.specs.declared.ends.ProcessStanding.{ProcessStanding}
 use Rattle.run_ends.specs.declared.ends.ProcessStanding.TheVariants as standing
 use Rattle.orca_cli.specs.declared.kept.Kept.{Kept}
 use Rattle.orca_cli.specs.Kept.{IsEndOf}
-use Rattle.orca_cli.specs.Rows.{AllEnded, HasGoneWell, HaveTurns, IsEndedOrStuck, KeptRow, LostTooMany, NoneFaulted, ShownRows, SomeBusy, SomeStuck, StandsAt}
+use Rattle.orca_cli.specs.Rows.{AllEnded, HasGoneWell, HaveTurns, IsBusy, IsEndedOrStuck, KeptRow, LostTooMany, NoneFaulted, ShownRows, SomeBusy, SomeStuck, StandsAt}
 use Rattle.orca_cli.proofs.KeptLemmas.{end_is, get_below}
 
 -- ---- standings there and back
@@ -286,35 +286,29 @@ module _ (f : Frame) (w : World) (k : Kept) (end : IsEndOf f w k) (stand : EndsS
 
     -- ---- 7
 
-    pub busy_kept : IsKept f w → SpentBusy f w → rows.SomeSpent f w → SomeBusy f k
-    busy_kept kept busy spent =
-        let i : ProcessNo = record { 0 = spent.0 } in
-        let r = spent.1 in
-        let begun = spent.2 in
-        let at = kept_at spent.0 begun.exists in
-        let stands = at_home i r begun.here in
+    is_busy : IsKept f w → SpentBusy f w → (i : ℕ) (r : Played) → rows.IsBegun f w i r → f.settings.turns ≤ r.turns → r.stage ≡ Computing → IsBusy f k i
+    is_busy kept busy i r begun high computing =
+        let number : ProcessNo = record { 0 = i } in
+        let at = kept_at i begun.exists in
+        let stands = at_home number r begun.here in
         let low = stands.turns in
-        let high = spent.3 in
-        let here = get_below (processes_of f w) spent.0 begun.exists in
-        let of = kept.processes.each spent.0 here.0 here.1 in
+        let here = get_below (processes_of f w) i begun.exists in
+        let of = kept.processes.each i here.0 here.1 in
         let known : IsPlayedAs of.process r = subst (IsKnownAs of.process) begun.here of.here in
         let turns : at.0.turns ≡ r.turns = ap (λ (e : facts.ProcessEnd). e.turns) at.2 ∙ ap turns_in begun.here in
         let replies : at.0.replies ≡ r.replies = ap (λ (e : facts.ProcessEnd). e.replies) at.2 ∙ ap facts.replies_in begun.here in
         record {
-          number = i;
           end = at.0;
           kept = at.1;
           turns = omega (arith, turns, low, high);
           process = of.process;
-          exists = ap (λ (l : List Line). slice_get (history.processes_of f.performs f.computes l) spent.0) end.book ∙ of.exists;
+          exists = ap (λ (l : List Line). slice_get (history.processes_of f.performs f.computes l) i) end.book ∙ of.exists;
           busy =
-              ap (λ (t : TextNo). f.computes.doing t i of.process.args at.0.replies f.settings.turns) (sym known.text)
-              ∙ ap (λ (a : Data). f.computes.doing r.text i a at.0.replies f.settings.turns) (sym known.args)
-              ∙ ap (λ (l : List Reply). f.computes.doing r.text i r.args l f.settings.turns) replies
-              ∙ busy spent.0 r begun.here spent.4 high;
+              ap (λ (t : TextNo). f.computes.doing t number of.process.args at.0.replies f.settings.turns) (sym known.text)
+              ∙ ap (λ (a : Data). f.computes.doing r.text number a at.0.replies f.settings.turns) (sym known.args)
+              ∙ ap (λ (l : List Reply). f.computes.doing r.text number r.args l f.settings.turns) replies
+              ∙ busy i r begun.here computing high;
         }
-
-    -- ---- the other way
 
     all_turns : (i : ProcessNo) (r : Played) (stage : Stage) → played.StandsAt f i r stage → f.settings.turns ≤ r.turns → stage ≡ Computing
     all_turns i r Computing at high = refl
@@ -323,6 +317,24 @@ module _ (f : Frame) (w : World) (k : Kept) (end : IsEndOf f w k) (stand : EndsS
     all_turns i r (Reading act) at high = let low = at.0.turns in absurd (omega (arith, low, high))
     all_turns i r (Asking act) at high = let low = at.0.turns in absurd (omega (arith, low, high))
     all_turns i r (Over act) at high = let low = at.0.turns in absurd (omega (arith, low, high))
+
+    busy_at : IsKept f w → SpentBusy f w → (i : ℕ) (o : Option Played) → played_in f w i ≡ o → 1 ≤ f.settings.turns → i < process_count f w → turns_in o ≡ f.settings.turns → IsBusy f k i
+    busy_at kept busy i None here some lt is = let none : 0 ≡ f.settings.turns = is in absurd (omega (arith, some, none))
+    busy_at kept busy i (Some r) here some lt is =
+        let turns : r.turns ≡ f.settings.turns = is in
+        let high : f.settings.turns ≤ r.turns = omega (arith, turns) in
+        is_busy kept busy i r (record { exists = lt; here = here }) high (all_turns (record { 0 = i }) r r.stage (at_home (record { 0 = i }) r here).stands high)
+
+    pub busy_kept : IsKept f w → SpentBusy f w → 1 ≤ f.settings.turns → rows.SomeSpent f w → SomeBusy f k
+    busy_kept kept busy some spent = record {
+      number = spent.0;
+      some = is_busy kept busy spent.0 spent.1 spent.2 spent.3 spent.4;
+      each = λ i e at is.
+          let found = end_is f w k.processes.items i e end.processes stand at in
+          busy_at kept busy i (played_in f w i) refl some found.0 (sym (ap (λ (x : facts.ProcessEnd). x.turns) found.1) ∙ is);
+    }
+
+    -- ---- the other way
 
     spent_by : (i : ProcessNo) (o : Option Played) → played_in f w i.0 ≡ o → 1 ≤ f.settings.turns → i.0 < process_count f w → turns_in o ≡ f.settings.turns → rows.SomeSpent f w
     spent_by i None here some lt is = let none : 0 ≡ f.settings.turns = is in absurd (omega (arith, some, none))
@@ -526,17 +538,17 @@ lost_kept f w k end lacks =
 
 -- ---- each row
 
-pub row_kept : (f : Frame) (w : World) (k : Kept) → AllRead → IsEndOf f w k → EndsStand f w → FinishedEnds f w → ProcessesStand f w → IsKept f w → AllStuck f w → SpentBusy f w → IsEnough f w k.events.items → (s : Standing) → rules.standing f w ≡ s → KeptRow f w k s
-row_kept f w k read end stand finished processes kept stuck busy enough (Limit what number) is = (read f w).says (Limit what number) is
-row_kept f w k read end stand finished processes kept stuck busy enough OutOfTurns is = busy_kept f w k end stand processes kept busy ((read f w).says OutOfTurns is).1
-row_kept f w k read end stand finished processes kept stuck busy enough OutOfEvents is = enough.row is
-row_kept f w k read end stand finished processes kept stuck busy enough NoGroup is = let row = (read f w).says NoGroup is in (lost_kept f w k end row.3, row.3)
-row_kept f w k read end stand finished processes kept stuck busy enough Faulted is = faulted_kept f w k end stand is
-row_kept f w k read end stand finished processes kept stuck busy enough Blocked is =
+pub row_kept : (f : Frame) (w : World) (k : Kept) → AllRead → IsEndOf f w k → EndsStand f w → FinishedEnds f w → ProcessesStand f w → IsKept f w → AllStuck f w → SpentBusy f w → 1 ≤ f.settings.turns → IsEnough f w k.events.items → (s : Standing) → rules.standing f w ≡ s → KeptRow f w k s
+row_kept f w k read end stand finished processes kept stuck busy a_turn enough (Limit what number) is = (read f w).says (Limit what number) is
+row_kept f w k read end stand finished processes kept stuck busy a_turn enough OutOfTurns is = busy_kept f w k end stand processes kept busy a_turn ((read f w).says OutOfTurns is).1
+row_kept f w k read end stand finished processes kept stuck busy a_turn enough OutOfEvents is = enough.row is
+row_kept f w k read end stand finished processes kept stuck busy a_turn enough NoGroup is = let row = (read f w).says NoGroup is in (lost_kept f w k end row.3, row.3)
+row_kept f w k read end stand finished processes kept stuck busy a_turn enough Faulted is = faulted_kept f w k end stand is
+row_kept f w k read end stand finished processes kept stuck busy a_turn enough Blocked is =
     let row = (read f w).says Blocked is in
     blocked_kept f w k end stand processes is row.1 (((read f w).over).1 row.1) stuck row.2
-row_kept f w k read end stand finished processes kept stuck busy enough Finished is = let row = (read f w).says Finished is in ended_kept f w k end stand processes is finished row.1
-row_kept f w k read end stand finished processes kept stuck busy enough Going is = tt
+row_kept f w k read end stand finished processes kept stuck busy a_turn enough Finished is = let row = (read f w).says Finished is in ended_kept f w k end stand processes is finished row.1
+row_kept f w k read end stand finished processes kept stuck busy a_turn enough Going is = tt
 
 -- ---- a faultless run
 

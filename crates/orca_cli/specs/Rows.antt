@@ -43,15 +43,20 @@ pub record SomeStuck (f : Frame) (k : Kept) : Type 0 where
   pub stuck :
       (i : ProcessNo) (act : Action) → StandsAt k i.0 (standing.Waits act) → IsStuck f.performs f.computes k.book.items i
 
--- a process took all the turns that there are, and is busy then after its replies
-pub record SomeBusy (f : Frame) (k : Kept) : Type 0 where
-  pub number : ProcessNo
+-- process i took all the turns that there are, and is busy then after its replies
+pub record IsBusy (f : Frame) (k : Kept) (i : ℕ) : Type 0 where
   pub end : ProcessEnd
-  pub kept : slice_get k.processes.items number.0 ≡ Some end
+  pub kept : slice_get k.processes.items i ≡ Some end
   pub turns : end.turns ≡ f.settings.turns
   pub process : Process
-  pub exists : slice_get (processes_of f.performs f.computes k.book.items) number.0 ≡ Some process
-  pub busy : f.computes.doing process.text number process.args end.replies f.settings.turns ≡ Busy
+  pub exists : slice_get (processes_of f.performs f.computes k.book.items) i ≡ Some process
+  pub busy : f.computes.doing process.text (record { 0 = i }) process.args end.replies f.settings.turns ≡ Busy
+
+-- some process is so, and each that took all its turns, of which the line tells the lowest
+pub record SomeBusy (f : Frame) (k : Kept) : Type 0 where
+  pub number : ℕ
+  pub some : IsBusy f k number
+  pub each : (i : ℕ) (end : ProcessEnd) → slice_get k.processes.items i ≡ Some end → end.turns ≡ f.settings.turns → IsBusy f k i
 
 -- more than r members are crashed or outside
 abbrev pub LostTooMany : Frame → Kept → Type 0
