@@ -102,6 +102,7 @@ is_run f name says end standing status old new before after laws settings none h
       only = rows_shown f w k laws.count laws.read is stand processes settings.a_turn;
       limited = λ what number passed. ap (rules.after_limit f w) passed;
       bounded = gone_well f w k laws.read is stand processes left.stuck enough;
+      counted = laws.ticks f end.steps.items w left.replays;
       idle = λ stretch idle few inside. laws.idle f refl refl settings end.steps.items stretch w idle few inside;
       ends = said.ends;
       lacked = said.lacked;

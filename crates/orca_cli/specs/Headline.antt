@@ -21,6 +21,7 @@ use Rattle.world_rules.specs.Frame.{Frame}
 use Rattle.world_rules.specs.Standings.{limit, standing}
 use Rattle.world_rules.specs.Worlds.{World}
 use Rattle.world_enough.specs.Faultless.{IsFaulty}
+use Rattle.world_idle.specs.Counting.{HaveCounted}
 use Rattle.world_idle.specs.Faults.{crashes_in, ticks_in}
 use Rattle.world_idle.specs.Stretches.{AllInside, IsIdleStretch}
 use Rattle.world_facts.specs.Rows.{ReadsStanding}
@@ -132,6 +133,8 @@ pub record IsRun (f : Frame) (name : Action → List ℕ) (says : List Line → 
   pub idle :
       (stretch : List Step) → IsIdleStretch f k.events.items stretch world → crashes_in k.events.items ≤ f.settings.resilience →
       AllInside f world → ticks_in stretch ≤ f.settings.nodes + 8
+  -- the ticks that count for a run without a group are those at the end of the kept events, since a step in which something was done
+  pub counted : HaveCounted f k.events.items world
   pub ends : EndsAs (standing_status (standing f world)) status
   pub lacked : standing f world ≡ Going → status ≡ NO_MEMORY
   pub line : List ℕ

@@ -51,7 +51,7 @@ use wires::{Wire, have_obeyed};
 use world_book::legal_book;
 use world_enough::events_are_enough;
 use world_facts::{book_by_places, ends_stand, processes_stand, standings_mean, worlds_count};
-use world_idle::stretches_are_short;
+use world_idle::{idle_ticks_are_counted, stretches_are_short};
 
 // Prints why files weren't read.
 fn said_unread<K: Sink>(alloc: Global, out: &mut K, fault: LoadFault<'_>) -> Ended
@@ -170,6 +170,7 @@ fn laws_of_runs(machine: &TreeMachine<'_>)
     book_by_places();
     ends_stand();
     events_are_enough(machine);
+    idle_ticks_are_counted();
     legal_book(machine);
     processes_stand();
     run_law(machine);

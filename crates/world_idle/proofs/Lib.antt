@@ -27,3 +27,4 @@ mod SingleSteps
 mod SingleDone
 mod SingleOwing
 mod Every
+mod Counted

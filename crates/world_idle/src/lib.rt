@@ -6,6 +6,7 @@
 //! programs, with single objects and without. It has no code: its functions are laws, whose bodies are empty or call the laws below.
 #![tactic(auto)]
 
+ghost use Rattle.world_idle.specs.Counting.{IdleTicksAreCounted};
 ghost use Rattle.world_idle.specs.Stretches.{IdleStretchesAreShort, IdleStretchesAreShorter};
 ghost use Rattle.world_idle.specs.Worked.{HeldTicks, SixTicks};
 
@@ -36,6 +37,13 @@ pub fn stretches_are_short<P: Processor>(machine: &P)
     legal_book(machine);
     idle_stretches_are_short::<Message>();
 }
+
+/// The ticks that a world counts as idle are those at the end of the run that leads to it, since the last step in which a process computed, a
+/// member applied an entry or installed an incarnation, or an operation was performed beside the list of entries. A call of this function does
+/// nothing.
+pub fn idle_ticks_are_counted()
+    ensures { IdleTicksAreCounted }
+{}
 
 /// A run on three members, of which one may be lost, whose sequencer crashes while it alone knows that an entry is accepted.
 ///

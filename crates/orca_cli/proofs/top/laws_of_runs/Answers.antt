@@ -13,4 +13,5 @@ returns c = record {
   sound = c.legal_book.ensures.sound;
   enough = c.events_are_enough.ensures;
   idle = c.stretches_are_short.ensures.short;
+  ticks = c.idle_ticks_are_counted.ensures;
 }
