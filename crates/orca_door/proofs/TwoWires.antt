@@ -13,9 +13,9 @@ use Rattle.command_files.specs.Sources.{Word}
 use Rattle.orca_cli.specs.declared.kept.Kept.{Kept}
 use Rattle.orca_cli.specs.Endings.{IsAnswer}
 use Rattle.orca_cli.specs.Headline.{AreLoaded, AreUntouched, IsRunOf, Wires}
-use Rattle.wires.specs.Wired.{Rule, Wired, by_script, plain}
+use Rattle.wires.specs.Wired.{Rule, Wired, by_script, plain, scripted}
 use Rattle.orca_door.specs.Obeying.{AreTwo}
-use Rattle.orca_door.specs.Served.{HaveAnswered, IsServed, fresh, scripted, wired}
+use Rattle.orca_door.specs.Served.{HaveAnswered, IsServed, fresh, wired}
 use Rattle.orca_door.specs.Served as serves
 
 -- ---- answers

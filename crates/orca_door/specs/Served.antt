@@ -9,13 +9,9 @@ use Rattle.command_files.specs.Sources.{Word}
 use Rattle.orca_cli.specs.declared.kept.Kept.{Kept}
 use Rattle.orca_cli.specs.Endings.{IsAnswer}
 use Rattle.orca_cli.specs.Headline.{AreUntouched, IsRunOf, Wires, wires_of}
-use Rattle.wires.specs.Wired.{Rule, Wired, by_script, plain}
+use Rattle.wires.specs.Wired.{Wired, by_script, plain, scripted}
 
 -- ---- the wires
-
--- by its script, which is this one
-abbrev pub scripted : List ScriptLine → Rule
-scripted lines = record { by = by_script; script = lines }
 
 -- two wires that weren't asked anything, with the empty script
 abbrev pub fresh : Wires

@@ -5,7 +5,7 @@ ghost use Rattle.net_rules.specs.Answered.{Answered};
 ghost use Rattle.net_rules.specs.Asked.{packet_asked};
 ghost use Rattle.net_rules.specs.declared.asked.Asked.TheVariants.{Act};
 ghost use Rattle.net_rules.specs.declared.fate.Fate.TheVariants.{Pass};
-ghost use Rattle.wires.specs.Wired.{plain};
+ghost use Rattle.wires.specs.Wired.{passing, plain};
 
 use crate::kept::Kept;
 use crate::wire::Wire;
@@ -56,7 +56,7 @@ impl PlainWire {
 impl Wire for PlainWire {
     ghost told = { λ w. w.told };
 
-    ghost rule = { λ w. record { by = λ script. plain; script = w.script } };
+    ghost rule = { λ w. passing w.script };
 
     ghost loaded = { λ w. w.loaded };
 
@@ -103,7 +103,7 @@ impl Wire for PlainWire {
         act
     }
 
-    #[tactic(auto, using(crate::proofs::Behind::always_behind))]
+    #[tactic(auto, using(crate::proofs::Behind::so_always))]
     fn has_obeyed(&self) {
         let _told = self.told();
     }

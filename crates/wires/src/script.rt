@@ -7,7 +7,7 @@ ghost use Rattle.net_rules.specs.Script.{script_act, script_fate};
 ghost use Rattle.net_rules.specs.declared.asked.Asked.TheVariants.{Act};
 ghost use Rattle.wires.specs.Index.{IsIndex};
 ghost use Rattle.wires.specs.Progress.{IsProgress};
-ghost use Rattle.wires.specs.Wired.{by_script};
+ghost use Rattle.wires.specs.Wired.{by_script, scripted};
 
 use crate::kept::Kept;
 use crate::lines::Index;
@@ -88,7 +88,7 @@ impl ScriptWire {
 impl Wire for ScriptWire {
     ghost told = { λ w. w.told };
 
-    ghost rule = { λ w. record { by = by_script; script = w.script } };
+    ghost rule = { λ w. scripted w.script };
 
     ghost loaded = { λ w. w.loaded };
 
@@ -154,6 +154,7 @@ impl Wire for ScriptWire {
         act
     }
 
+    #[tactic(auto, using(crate::proofs::Behind::so_behind))]
     fn has_obeyed(&self) {
         let _told = self.told();
     }

@@ -5,7 +5,7 @@ ghost use Rattle.net_rules.specs.Answered.{Answered};
 ghost use Rattle.net_rules.specs.Asked.{packet_asked};
 ghost use Rattle.net_rules.specs.Script.{seeded_fate};
 ghost use Rattle.net_rules.specs.declared.asked.Asked.TheVariants.{Act};
-ghost use Rattle.wires.specs.Wired.{by_seed};
+ghost use Rattle.wires.specs.Wired.{by_seed, drawing};
 
 use crate::chance::Chance;
 use crate::kept::Kept;
@@ -64,7 +64,7 @@ impl SeededWire {
 impl Wire for SeededWire {
     ghost told = { λ w. w.kept.told };
 
-    ghost rule = { λ w. record { by = λ script. by_seed w.seed w.percent; script = w.kept.script } };
+    ghost rule = { λ w. drawing w.seed w.percent w.kept.script };
 
     ghost loaded = { λ w. w.kept.loaded };
 
@@ -129,7 +129,7 @@ impl Wire for SeededWire {
         act
     }
 
-    #[tactic(auto, using(crate::proofs::Behind::always_behind))]
+    #[tactic(auto, using(crate::proofs::Behind::so_always))]
     fn has_obeyed(&self) {
         let _told = self.told();
     }

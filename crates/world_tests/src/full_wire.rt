@@ -1,7 +1,7 @@
 //! A wire with no memory.
 
 ghost use Rattle.std.specs.Prelude.{◌≡◌, ◌+◌, ◌<◌, ◌≤◌};
-ghost use Rattle.wires.specs.Wired.{plain};
+ghost use Rattle.wires.specs.Wired.{passing};
 
 use fault_scripts::Script;
 use group_packets::PacketKind;
@@ -28,7 +28,7 @@ impl FullWire {
 impl Wire for FullWire {
     ghost told = { λ w. w.plain.told };
 
-    ghost rule = { λ w. record { by = λ script. plain; script = w.plain.script } };
+    ghost rule = { λ w. passing w.plain.script };
 
     ghost loaded = { λ w. w.plain.loaded };
 
