@@ -21,10 +21,10 @@ pub trait Wire: Drop {
     /// What it was asked so far, with its answers.
     ghost told: { Self → List Asked };
 
-    /// How it answers by a script, and the script that it was loaded with last, the empty one before. A call changes the script at most.
+    /// How it answers by a script, and the script that it was loaded with last. A call changes the script at most.
     ghost rule: { Self → Rule };
 
-    /// How much it was asked before that was loaded; 0 where none was.
+    /// How much it was asked before that was loaded.
     ghost loaded: { Self → ℕ };
 
     /// How many questions it can take without memory.
