@@ -2,6 +2,7 @@
 use Rattle.std.proofs.Common.{◌≡◌, ◌∙◌, ◌<◌, ◌⊎◌, inl, inr, ℕ, zero, suc, ◌+◌, Bool, true, false, ◌||◌, List, [], ◌∷◌, ◌++◌, length, append-nil, append_assoc, ap, sym, subst, refl, arith}
 use Rattle.std.specs.Prelude.{not, ◌&&◌, ◌==◌, if◌then◌else◌}
 use Rattle.std.proofs.Math.Nat.{eq-or-lt_of_le}
+use Rattle.std.proofs.lemmas.Bool.{eq-eqb, eqb-true}
 use Rattle.world_rules.specs.declared.event.Event.{Event}
 use Rattle.world_rules.specs.declared.event.Event.TheVariants as event
 use Rattle.world_rules.specs.declared.event.Step.{Step}
@@ -57,11 +58,13 @@ and_right false b h = absurd cc
 -- no member below n stirred
 below_still : (n : ℕ) (w v : World) → has_stirred_below n w v ≡ false → (m : ℕ) → m < n → has_stirred_at (w.nodes m) (v.nodes m) ≡ false
 below_still zero w v none m low = absurd (omega (arith, low))
-below_still (suc n) w v none m low = by (eq-or-lt_of_le (omega (arith, low)))
+below_still (suc n) w v none m low =
+    by (below_still n w v (or_left (has_stirred_below n w v) (has_stirred_at (w.nodes n) (v.nodes n)) none) m) (eq-or-lt_of_le (omega (arith, low)))
   where
-    by : (m ≡ n) ⊎ (m < n) → has_stirred_at (w.nodes m) (v.nodes m) ≡ false
-    by (inl here) = subst (λ (k : ℕ). has_stirred_at (w.nodes k) (v.nodes k) ≡ false) (sym here) (or_right (has_stirred_below n w v) (has_stirred_at (w.nodes n) (v.nodes n)) none)
-    by (inr lower) = below_still n w v (or_left (has_stirred_below n w v) (has_stirred_at (w.nodes n) (v.nodes n)) none) m lower
+    by : (m < n → has_stirred_at (w.nodes m) (v.nodes m) ≡ false) → (m ≡ n) ⊎ (m < n) → has_stirred_at (w.nodes m) (v.nodes m) ≡ false
+    by lower (inl here) =
+        subst (λ (k : ℕ). has_stirred_at (w.nodes k) (v.nodes k) ≡ false) (sym here) (or_right (has_stirred_below n w v) (has_stirred_at (w.nodes n) (v.nodes n)) none)
+    by lower (inr less) = lower less
 
 still_below : (n : ℕ) (w v : World) → ((m : ℕ) → m < n → has_stirred_at (w.nodes m) (v.nodes m) ≡ false) → has_stirred_below n w v ≡ false
 still_below zero w v each = refl
@@ -70,10 +73,10 @@ still_below (suc n) w v each =
     ∙ each n (omega arith)
 
 same_number : (a b : ℕ) → a == b ≡ true → b ≡ a
-same_number a b h = omega (arith, h)
+same_number a b h = sym (eqb-true a b h)
 
 number_same : (a b : ℕ) → b ≡ a → a == b ≡ true
-number_same a b h = omega (arith, h)
+number_same a b h = eq-eqb a b (sym h)
 
 still_of : (f : Frame) (w v : World) (step : Step) → is_burst step.event ≡ false → has_stirred f w v ≡ false → IsStill f w step v
 still_of f w v step burst none =
