@@ -1,6 +1,7 @@
 -- The shelf and the sink in memory, whose calls with given numbers fail.
-use Rattle.std.specs.Prelude.{ℕ, List, IsSome, Option, Some}
+use Rattle.std.specs.Prelude.{ℕ, Bool, List, IsSome, Option, Some}
 use Rattle.orca_io.specs.Files.{File, content_of, files_of}
+use Rattle.orca_io.specs.Reading.{FileRead, has_some}
 use Rattle.orca_io.specs.declared.shelf.MemoryShelf.{MemoryShelf}
 use Rattle.orca_io.specs.declared.sink.MemorySink.{MemorySink}
 
@@ -16,9 +17,17 @@ HasFile shelf name = IsSome (content_of (files_of shelf.files.items) name)
 abbrev pub failed_reads : MemoryShelf → ℕ
 failed_reads shelf = shelf.faults
 
+-- what it was asked to read so far
+abbrev pub told_reads : MemoryShelf → List FileRead
+told_reads shelf = shelf.log.reads
+
 -- the numbers of the calls that fail, counted from 1
 abbrev pub failing_reads : MemoryShelf → List ℕ
 failing_reads shelf = shelf.failing.items
+
+-- whether any fails
+abbrev pub may_fail_reads : MemoryShelf → Bool
+may_fail_reads shelf = has_some shelf.failing.items
 
 -- how many calls there were
 abbrev pub reads_so_far : MemoryShelf → ℕ
