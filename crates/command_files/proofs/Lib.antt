@@ -1,1 +1,2 @@
+pub mod AskedFiles
 pub mod ReadFiles

@@ -1,9 +1,9 @@
 -- Files, one read after another, and why one wasn't.
-use Rattle.std.proofs.Common.{◌≡◌, ◌≢◌, ◌⊎◌, ℕ, suc, ◌+◌, ◌<◌, ◌≤◌, List, [], ◌∷◌, ◌++◌, length, get_or, take, drop, drop-cons, Option, Some, None, refl, sym, ap, ◌∙◌, subst, inl, inr, arith, take-append-drop}
+use Rattle.std.proofs.Common.{◌≡◌, ◌≢◌, ◌⊎◌, ℕ, suc, ◌+◌, ◌<◌, ◌≤◌, List, [], ◌∷◌, ◌++◌, length, get_or, take, drop, drop-cons, append-nil, append_assoc, Option, Some, None, refl, sym, ap, ◌∙◌, subst, inl, inr, arith, take-append-drop}
 use Rattle.std.specs.List.{All}
 use Rattle.std.proofs.Math.Seq.{take-suc}
 use Rattle.std.specs.Borrow.{Bor}
-use Rattle.std.specs.Prelude.{Result, Err, IfSome, map}
+use Rattle.std.specs.Prelude.{Result, Ok, Err, IfSome, map}
 use Rattle.std.proofs.lemmas.List.{length-map, map-append, take_all}
 use Rattle.std.proofs.lemmas.List.Elements.{All-nil, All-push}
 use Rattle.orca_base.specs.declared.limits.TheConstants.{HISTORY_BYTES, MODULES, SOURCE_BYTES}
@@ -16,6 +16,8 @@ use Rattle.orca_front.specs.declared.source.SourceFile.{SourceFile}
 use Rattle.orca_front.specs.Sources.{file_of}
 use Rattle.orca_io.specs.Causes.{Rose}
 use Rattle.orca_io.specs.Files.{File, content_of}
+use Rattle.orca_io.specs.Reading.{FailedAt, FileRead, ReadSince}
+use Rattle.orca_io.specs.declared.shelf.ShelfFault.TheVariants as shelf
 use Rattle.command_output.specs.declared.statuses.TheConstants.{READ_FAULT, WRITE_FAULT}
 use Rattle.command_files.specs.declared.load_fault.LoadFault.{LoadFault}
 use Rattle.command_files.specs.declared.load_fault.LoadFault.TheVariants as loads
@@ -56,6 +58,14 @@ reads_more told files i file d sources new s lt is pushed so_far named read =
       read = subst (All (IsRead told SOURCE_BYTES)) (sym news) (All-push (IsRead told SOURCE_BYTES) (map file_of sources) (file_of s) so_far.read read);
     }
 
+-- the names before the next file are those of what was read
+pub names_next : (told : Option (List File)) (files : List (Bor Word)) (i : ℕ) (file d : Bor Word) (sources : List SourceFile) → i < length files → file ≡ get_or files i d → ReadSoFar told files i sources →
+    map (λ (f : Bor Word). f.now) files ≡ map (λ (s : File). s.0) (map file_of sources) ++ file.now ∷ map (λ (f : Bor Word). f.now) (drop (suc i) files)
+names_next told files i file d sources lt is so_far =
+    ap (map (λ (f : Bor Word). f.now)) (sym (take-append-drop i files) ∙ ap (λ (r : List (Bor Word)). take i files ++ r) (drop-cons files i d lt ∙ ap (λ (y : Bor Word). y ∷ drop (suc i) files) (sym is)))
+    ∙ map-append (λ (f : Bor Word). f.now) (take i files) (file ∷ drop (suc i) files)
+    ∙ ap (λ (l : List Word). l ++ file.now ∷ map (λ (f : Bor Word). f.now) (drop (suc i) files)) so_far.names
+
 -- where reading stops at the next file
 pub stops_next : (told : Option (List File)) (files : List (Bor Word)) (i : ℕ) (file d : Bor Word) (sources : List SourceFile) → length files ≤ MODULES → i < length files → file ≡ get_or files i d → ReadSoFar told files i sources →
     StopsAt told (map (λ (f : Bor Word). f.now) files) file.now
@@ -63,10 +73,7 @@ stops_next told files i file d sources few lt is so_far = record {
   few = subst (λ (n : ℕ). n ≤ MODULES) (sym (length-map files (λ (f : Bor Word). f.now))) few;
   before = map file_of sources;
   after = map (λ (f : Bor Word). f.now) (drop (suc i) files);
-  splits =
-      ap (map (λ (f : Bor Word). f.now)) (sym (take-append-drop i files) ∙ ap (λ (r : List (Bor Word)). take i files ++ r) (drop-cons files i d lt ∙ ap (λ (y : Bor Word). y ∷ drop (suc i) files) (sym is)))
-      ∙ map-append (λ (f : Bor Word). f.now) (take i files) (file ∷ drop (suc i) files)
-      ∙ ap (λ (l : List Word). l ++ file.now ∷ map (λ (f : Bor Word). f.now) (drop (suc i) files)) so_far.names;
+  splits = names_next told files i file d sources lt is so_far;
   read = so_far.read;
 }
 
@@ -74,19 +81,43 @@ pub only_left : {A : Type 0} → A ⊎ ⊥ → A
 only_left (inl a) = a
 only_left (inr h) = absurd h
 
+-- ---- reads, one behind another
+
+pub since_none : (old : List FileRead) → ReadSince old old []
+since_none old = sym (append-nil old)
+
+pub since_then : (old mid new first more : List FileRead) → ReadSince old mid first → ReadSince mid new more → ReadSince old new (first ++ more)
+since_then old mid new first more one two = two ∙ ap (λ (l : List FileRead). l ++ more) one ∙ append_assoc old first more
+
+-- a read failed behind others that didn't
+pub failed_since : (before mid now : ℕ) (old between new first : List FileRead) (file : Word) → mid ≡ before → ReadSince old between first → FailedAt mid now between new file → FailedAt before now old new file
+failed_since before mid now old between new first file same read h = record {
+  rose = subst (λ (n : ℕ). Rose n now) same h.rose;
+  first = first ++ h.first;
+  ends = since_then old between new first (h.first ++ (file, Err shelf.Failed) ∷ []) read h.ends ∙ ap (λ (l : List FileRead). old ++ l) (sym (append_assoc first h.first ((file, Err shelf.Failed) ∷ [])));
+}
+
 -- what was read of a file, over what was so before any was read
-pub reads_since : (told old : Option (List File)) (faults before new : ℕ) (name : Word) (x y : Result SourceFile (Refusal LoadFault)) → told ≡ old → faults ≡ before → x ≡ y → Reads told (Rose faults new) name x → Reads old (Rose before new) name y
-reads_since told old faults before new name x y same quiet is h =
-    subst (λ (r : Result SourceFile (Refusal LoadFault)). Reads old (Rose before new) name r) is
-    (subst (λ (t : Option (List File)). Reads t (Rose before new) name x) same (subst (λ (f : ℕ). Reads told (Rose f new) name x) quiet h))
+reads_map : (told : Option (List File)) (failed other : Word → Type 0) (name : Word) (x : Result SourceFile (Refusal LoadFault)) → (failed name → other name) → Reads told failed name x → Reads told other name x
+reads_map told failed other name (Ok s) so h = h
+reads_map told failed other name (Err (Because loads.TooMany)) so h = h
+reads_map told failed other name (Err (Because (loads.Absent file))) so h = h
+reads_map told failed other name (Err (Because (loads.TooLong file))) so h = h
+reads_map told failed other name (Err (Because (loads.Failed file))) so h = (h.0, h.1, so h.2)
+reads_map told failed other name (Err NoMemory) so h = h
+
+pub reads_since : (told old : Option (List File)) (failed other : Word → Type 0) (name : Word) (x y : Result SourceFile (Refusal LoadFault)) → told ≡ old → (failed name → other name) → x ≡ y → Reads told failed name x → Reads old other name y
+reads_since told old failed other name x y same so is h =
+    subst (λ (r : Result SourceFile (Refusal LoadFault)). Reads old other name r) is
+    (subst (λ (t : Option (List File)). Reads t other name x) same (reads_map told failed other name x so h))
 
 -- why reading stopped there
-pub fault_next : (T : Type 0) (told : Option (List File)) (rose : Type 0) (files : List Word) (name : Word) (r : Refusal LoadFault) → StopsAt told files name → Reads told rose name (Err r) → IfBecause {T = T} (Err r) (IsLoadFault told rose files)
-fault_next T told rose files name (Because (loads.Absent file)) stops h = (subst (StopsAt told files) (sym h.0) stops, subst (IsAbsent told) (sym h.0) h.1)
-fault_next T told rose files name (Because (loads.TooLong file)) stops h = (subst (StopsAt told files) (sym h.0) stops, subst (IsTooLong told SOURCE_BYTES) (sym h.0) h.1)
-fault_next T told rose files name (Because (loads.Failed file)) stops h = (subst (StopsAt told files) (sym h.0) stops, subst (IsThere told) (sym h.0) h.1, h.2)
-fault_next T told rose files name (Because loads.TooMany) stops h = absurd h
-fault_next T told rose files name NoMemory stops h = tt
+pub fault_next : (T : Type 0) (told : Option (List File)) (failed : Word → Type 0) (files : List Word) (name : Word) (r : Refusal LoadFault) → StopsAt told files name → Reads told failed name (Err r) → IfBecause {T = T} (Err r) (IsLoadFault told failed files)
+fault_next T told failed files name (Because (loads.Absent file)) stops h = (subst (StopsAt told files) (sym h.0) stops, subst (IsAbsent told) (sym h.0) h.1)
+fault_next T told failed files name (Because (loads.TooLong file)) stops h = (subst (StopsAt told files) (sym h.0) stops, subst (IsTooLong told SOURCE_BYTES) (sym h.0) h.1)
+fault_next T told failed files name (Because (loads.Failed file)) stops h = (subst (StopsAt told files) (sym h.0) stops, subst (IsThere told) (sym h.0) h.1, subst failed (sym h.0) h.2)
+fault_next T told failed files name (Because loads.TooMany) stops h = absurd h
+fault_next T told failed files name NoMemory stops h = tt
 
 -- all files were read
 pub all_read : (told : Option (List File)) (files : List (Bor Word)) (i : ℕ) (sources : List SourceFile) → length files ≤ MODULES → length files ≤ i → ReadSoFar told files i sources → AreRead told (map (λ (f : Bor Word). f.now) files) (map file_of sources)
@@ -99,18 +130,18 @@ all_read told files i sources few end so_far = record {
 -- ---- the history behind them
 
 -- why a history wasn't read, over what was so before any file was read
-replay_since : (told old : Option (List File)) (faults before new : ℕ) (history : Word) (files : List Word) (fault : ReplayFault) → told ≡ old → faults ≡ before → IsProgramRead old files →
-    IsHistoryFault told (Rose faults new) history fault → IsReplayFault old (Rose before new) history files fault
-replay_since told old faults before new history files (replays.Program fault) same quiet all h = absurd h
-replay_since told old faults before new history files (replays.Absent file) same quiet all h = (all, (h.0, subst (λ (t : Option (List File)). IsAbsent t history) same h.1))
-replay_since told old faults before new history files replays.TooLong same quiet all h = (all, subst (λ (t : Option (List File)). IsTooLong t HISTORY_BYTES history) same h)
-replay_since told old faults before new history files (replays.Failed file) same quiet all h =
-    (all, (h.0, subst (λ (t : Option (List File)). IsThere t history) same h.1, subst (λ (f : ℕ). Rose f new) quiet h.2))
+replay_since : (told old : Option (List File)) (failed other : Word → Type 0) (history : Word) (files : List Word) (fault : ReplayFault) → told ≡ old → (failed history → other history) → IsProgramRead old files →
+    IsHistoryFault told failed history fault → IsReplayFault old other history files fault
+replay_since told old failed other history files (replays.Program fault) same so all h = absurd h
+replay_since told old failed other history files (replays.Absent file) same so all h = (all, (h.0, subst (λ (t : Option (List File)). IsAbsent t history) same h.1))
+replay_since told old failed other history files replays.TooLong same so all h = (all, subst (λ (t : Option (List File)). IsTooLong t HISTORY_BYTES history) same h)
+replay_since told old failed other history files (replays.Failed file) same so all h =
+    (all, (h.0, subst (λ (t : Option (List File)). IsThere t history) same h.1, so h.2))
 
-pub history_since : (T U : Type 0) (told old : Option (List File)) (faults before new : ℕ) (history : Word) (files : List Word) (r : Refusal ReplayFault) → told ≡ old → faults ≡ before → IsProgramRead old files →
-    IfBecause {T = T} (Err r) (IsHistoryFault told (Rose faults new) history) → IfBecause {T = U} (Err r) (IsReplayFault old (Rose before new) history files)
-history_since T U told old faults before new history files (Because fault) same quiet all h = replay_since told old faults before new history files fault same quiet all h
-history_since T U told old faults before new history files NoMemory same quiet all h = tt
+pub history_since : (T U : Type 0) (told old : Option (List File)) (failed other : Word → Type 0) (history : Word) (files : List Word) (r : Refusal ReplayFault) → told ≡ old → (failed history → other history) → IsProgramRead old files →
+    IfBecause {T = T} (Err r) (IsHistoryFault told failed history) → IfBecause {T = U} (Err r) (IsReplayFault old other history files)
+history_since T U told old failed other history files (Because fault) same so all h = replay_since told old failed other history files fault same so all h
+history_since T U told old failed other history files NoMemory same so all h = tt
 
 -- the count of faults stood still in what came first
 pub quiet_since : (old between new : ℕ) (Q : Type 0) → between ≡ old → (new ≡ between) ⊎ Q → (new ≡ old) ⊎ Q

@@ -18,17 +18,17 @@ HasRead told history files sources text = AreRead told files sources × IsRead t
 abbrev pub IsProgramRead : Option (List File) → List Word → Type 0
 IsProgramRead told files = (sources : List File) × AreRead told files sources
 
--- the history isn't there, or is longer than one may be, or is there and can't be read, which comes only where the shelf's count of faults rose
-abbrev pub IsHistoryFault : Option (List File) → Type 0 → Word → ReplayFault → Type 0
-IsHistoryFault told rose history (Absent file) = (file.now ≡ history) × IsAbsent told history
-IsHistoryFault told rose history TooLong = IsTooLong told HISTORY_BYTES history
-IsHistoryFault told rose history (Failed file) = (file.now ≡ history) × IsThere told history × rose
-IsHistoryFault told rose history (Program fault) = ⊥
+-- the history isn't there, or is longer than one may be, or is there and can't be read, where its read failed
+abbrev pub IsHistoryFault : Option (List File) → (Word → Type 0) → Word → ReplayFault → Type 0
+IsHistoryFault told failed history (Absent file) = (file.now ≡ history) × IsAbsent told history
+IsHistoryFault told failed history TooLong = IsTooLong told HISTORY_BYTES history
+IsHistoryFault told failed history (Failed file) = (file.now ≡ history) × IsThere told history × failed history
+IsHistoryFault told failed history (Program fault) = ⊥
 
 -- a file of the program wasn't read; or all were, and the history wasn't
-abbrev pub IsReplayFault : Option (List File) → Type 0 → Word → List Word → ReplayFault → Type 0
-IsReplayFault told rose history files (Program fault) = IsLoadFault told rose files fault
-IsReplayFault told rose history files fault = IsProgramRead told files × IsHistoryFault told rose history fault
+abbrev pub IsReplayFault : Option (List File) → (Word → Type 0) → Word → List Word → ReplayFault → Type 0
+IsReplayFault told failed history files (Program fault) = IsLoadFault told failed files fault
+IsReplayFault told failed history files fault = IsProgramRead told files × IsHistoryFault told failed history fault
 
 abbrev pub replay_status : ReplayFault → ℕ
 replay_status (Program fault) = load_status fault

@@ -20,8 +20,7 @@ pub record AreRead (told : Option (List File)) (files : List Word) (sources : Li
   pub names : files ≡ map (λ s. s.0) sources
   pub read : All (IsRead told SOURCE_BYTES) sources
 
--- Reading the files stopped at this one of them. Those in front of it are told, none of them too long; which read failed, where one did,
--- no clause says
+-- Reading the files stopped at this one of them. Those in front of it are told, none of them too long
 pub record StopsAt (told : Option (List File)) (files : List Word) (file : Word) : Type 0 where
   pub few : length files ≤ MODULES
   pub before : List File

@@ -1,13 +1,14 @@
 //! The files of `replay`, with their texts.
 
-ghost use Rattle.std.specs.Prelude.{◌≡◌, ◌⊎◌, ◌≤◌, map, IfOk};
+ghost use Rattle.std.specs.Prelude.{◌≡◌, ◌⊎◌, ◌≤◌, ◌∷◌, ◌++◌, [], Ok, map, IfOk};
 ghost use Rattle.orca_base.specs.Refusal.{IfBecause, MatchRefusal};
 ghost use Rattle.orca_base.specs.declared.limits.TheConstants.{HISTORY_BYTES};
-ghost use Rattle.orca_io.specs.Causes.{Rose};
+ghost use Rattle.orca_io.specs.Reading.{FailedAt, HasAsked, ReadSince, had};
 ghost use Rattle.orca_front.specs.Sources.{file_of};
 ghost use Rattle.command_files.specs.Replays.{HasRead, IsHistoryFault, IsReplayFault, IsUnreadable};
 ghost use Rattle.command_files.specs.Sources.{IsRead};
 
+use crate::reading::read_file;
 use crate::replay_fault::ReplayFault;
 use crate::source_files::sources;
 use orca_base::{HISTORY_BYTES, Refusal, refuse};
@@ -29,13 +30,16 @@ fn history_in<'a, F: Shelf>(
     file: &'a str,
 ) -> Result<Vec<u8>, Refusal<ReplayFault<'a>>>
     ensures read { IfOk result (λ text. IsRead (F.told shelf.old) HISTORY_BYTES (file.now, text.items)) }
-    ensures refused { IfBecause result
-        (IsHistoryFault (F.told shelf.old) (Rose (F.faults shelf.old) (F.faults shelf.new)) file.now) }
+    ensures refused { IfBecause result (IsHistoryFault (F.told shelf.old)
+        (FailedAt (F.faults shelf.old) (F.faults shelf.new) (F.reads shelf.old) (F.reads shelf.new)) file.now) }
     ensures quiet { (F.faults shelf.new ≡ F.faults shelf.old) ⊎ MatchRefusal result (λ _. ⊥) IsUnreadable }
     ensures same { F.told shelf.new ≡ F.told shelf.old }
     ensures later { F.faults shelf.old ≤ F.faults shelf.new }
+    ensures had { IfOk result (λ text. ReadSince (F.reads shelf.old) (F.reads shelf.new) ((file.now, Ok text.items) ∷ [])) }
+    ensures asked { HasAsked (F.may_fail shelf.old) (file.now ∷ []) (F.reads shelf.old) (F.reads shelf.new) }
+    ensures may { F.may_fail shelf.new ≡ F.may_fail shelf.old }
 {
-    match shelf.read_all(alloc, file, HISTORY_BYTES) {
+    match read_file(alloc, shelf, file, HISTORY_BYTES) {
         Ok(text) => Ok(text),
         Err(ShelfFault::Absent) => refuse(ReplayFault::Absent { file }),
         Err(ShelfFault::TooLong) => refuse(ReplayFault::TooLong),
@@ -44,8 +48,8 @@ fn history_in<'a, F: Shelf>(
     }
 }
 
-/// The files of the program, in order, and behind them the history; or why the first that can't be read isn't. The shelf's count of faults rises
-/// only where that is one that is there.
+/// The files of the program, in order, and behind them the history; or why the first that can't be read isn't. The shelf's count of faults
+/// rises only where that is one that is there. It is asked for these files alone, in this order, up to that one.
 pub fn replay_files<'a, F: Shelf>(
     alloc: Global,
     shelf: &mut F,
@@ -54,11 +58,15 @@ pub fn replay_files<'a, F: Shelf>(
 ) -> Result<ReplayFiles<'a>, Refusal<ReplayFault<'a>>>
     ensures read { IfOk result (λ r.
         HasRead (F.told shelf.old) history.now (map (λ f. f.now) files.now) (map file_of r.sources.items) r.history.items) }
-    ensures refused { IfBecause result (IsReplayFault (F.told shelf.old) (Rose (F.faults shelf.old) (F.faults shelf.new))
+    ensures refused { IfBecause result (IsReplayFault (F.told shelf.old)
+        (FailedAt (F.faults shelf.old) (F.faults shelf.new) (F.reads shelf.old) (F.reads shelf.new))
         history.now (map (λ f. f.now) files.now)) }
     ensures quiet { (F.faults shelf.new ≡ F.faults shelf.old) ⊎ MatchRefusal result (λ _. ⊥) IsUnreadable }
     ensures same { F.told shelf.new ≡ F.told shelf.old }
     ensures later { F.faults shelf.old ≤ F.faults shelf.new }
+    ensures asked { HasAsked (F.may_fail shelf.old) (map (λ f. f.now) files.now ++ history.now ∷ [])
+        (F.reads shelf.old) (F.reads shelf.new) }
+    ensures may { F.may_fail shelf.new ≡ F.may_fail shelf.old }
 {
     let sources = match sources(alloc, shelf, files) {
         Ok(sources) => sources,

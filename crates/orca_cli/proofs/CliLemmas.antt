@@ -1,6 +1,6 @@
 -- What was printed, one put on; and how the program ends where it runs nothing.
 use Rattle.std.proofs.Common.{◌≡◌, ◌≢◌, ℕ, suc, ◌+◌, ◌<◌, List, [], ◌++◌, length, get_or, drop, add-one, drop-cons, Option, Some, None, refl, sym, ap, ◌∙◌, subst, inl, inr}
-use Rattle.std.specs.Prelude.{Result, Ok, Err, IfNone, IfOk, IfSome, MatchOption, OnErr, OnOk, option_and_then, option_map}
+use Rattle.std.specs.Prelude.{Bool, Result, Ok, Err, IfNone, IfOk, IfSome, MatchOption, OnErr, OnOk, option_and_then, option_map}
 use Rattle.command_line.specs.declared.request.RunOptions.{RunOptions}
 use Rattle.net_rules.specs.declared.line.ScriptLine.{ScriptLine}
 use Rattle.link_rules.specs.Units.{Source}
@@ -13,6 +13,7 @@ use Rattle.orca_front.specs.declared.fault.FrontFault.TheVariants as fronts
 use Rattle.orca_front.specs.Sources.{IsAccepted, IsFault, IsLinkFault}
 use Rattle.orca_io.specs.declared.sink.SinkFault.{SinkFault}
 use Rattle.orca_io.specs.Files.{File}
+use Rattle.orca_io.specs.Reading.{FileRead, HasAsked}
 use Rattle.orca_io.specs.Sinks.{Puts}
 use Rattle.value_core.specs.History.{output_by, output_of}
 use Rattle.value_core.specs.declared.action.Line.{Line}
@@ -25,7 +26,7 @@ use Rattle.command_output.specs.declared.statuses.TheConstants.{NO_MEMORY, READ_
 use Rattle.orca_cli.specs.Endings as because
 use Rattle.orca_cli.specs.Endings.{IsAnswer, IsEnding}
 use Rattle.command_files.specs.Sources.{Word}
-use Rattle.orca_cli.specs.Job.{IsDeedWithin, checks, deed_in, deed_of, files_in, files_of, replays, runs, script_in, script_of}
+use Rattle.orca_cli.specs.Job.{Deed, IsDeedWithin, checks, deed_in, deed_of, files_in, files_of, named_in, names_by, names_of, replays, runs, script_in, script_of}
 use Rattle.command_output.proofs.Putting.{GrewUpTo, grew_fault, grew_put}
 use Rattle.command_output.specs.Printed.{Grew, WroteOf, Ends, EndsAs}
 use Rattle.orca_cli.specs.Scripts.{HasScript, IsScriptFault, IsScriptOf, IsUnreadable, script_status}
@@ -60,10 +61,10 @@ grew_line_fault first old new book i line piece fault less is says told puts =
 -- ---- how the program ends where it runs nothing
 
 -- a refusal's line was printed, or there was no memory for it
-pub answer_of : {L E : Type 0} (bytes : L → List ℕ) (line : Result L E) (words : List Word) (told : Option (List File)) (rose : Type 0) (old new : Option (List ℕ)) (wanted status : ℕ) (text : List ℕ) →
-    IfOk line (λ l. bytes l ≡ text) → IfOk line (λ l. Grew old new (Ends wanted status (bytes l))) → OnErr line ((status ≡ NO_MEMORY) × (new ≡ old)) → EndsAs wanted status → IsEnding words told rose wanted text → IsAnswer words told rose old new status
-answer_of bytes (Ok l) words told rose old new wanted status text is grew silent ends refusal = inl (wanted, text, refusal, ends, subst (λ (t : List ℕ). Grew old new (Ends wanted status t)) is grew)
-answer_of bytes (Err e) words told rose old new wanted status text is grew silent ends refusal = inr silent
+pub answer_of : {L E : Type 0} (bytes : L → List ℕ) (line : Result L E) (words : List Word) (told : Option (List File)) (failed : Word → Type 0) (old new : Option (List ℕ)) (wanted status : ℕ) (text : List ℕ) →
+    IfOk line (λ l. bytes l ≡ text) → IfOk line (λ l. Grew old new (Ends wanted status (bytes l))) → OnErr line ((status ≡ NO_MEMORY) × (new ≡ old)) → EndsAs wanted status → IsEnding words told failed wanted text → IsAnswer words told failed old new status
+answer_of bytes (Ok l) words told failed old new wanted status text is grew silent ends refusal = inl (wanted, text, refusal, ends, subst (λ (t : List ℕ). Grew old new (Ends wanted status t)) is grew)
+answer_of bytes (Err e) words told failed old new wanted status text is grew silent ends refusal = inr silent
 
 pub if_none : {T : Type 0} (o : Option T) (P : Type 0) → P → IfNone o P
 if_none None P p = p
@@ -103,6 +104,10 @@ script_run words files options script asked = ap (option_and_then script_of) ask
 pub script_checked : (words files : List Word) → deed_in words ≡ Some (checks files) → script_in words ≡ None
 script_checked words files asked = ap (option_and_then script_of) asked
 
+-- the files that are read are those of what is done
+pub asked_words : (may_fail : Bool) (words : List Word) (deed : Deed) (old new : List FileRead) → deed_in words ≡ Some deed → HasAsked may_fail (names_of deed) old new → HasAsked may_fail (named_in words) old new
+asked_words may_fail words deed old new is asked = subst (λ (l : List Word). HasAsked may_fail l old new) (sym (ap names_by is)) asked
+
 -- a check has no script; a run has the one that was read
 pub has_none : (words : List Word) (told : Option (List File)) (files : List Word) → deed_in words ≡ Some (checks files) → HasScript told words
 has_none words told files asked = ([], subst (λ (o : Option Word). IsScriptOf told o []) (sym (script_checked words files asked)) refl)
@@ -111,10 +116,17 @@ pub has_script : (words : List Word) (told : Option (List File)) (files : List W
 has_script words told files options script lines asked is = (lines, subst (λ (o : Option Word). IsScriptOf told o lines) (sym (script_run words files options script asked)) is)
 
 -- where a run has no script though its files were read, it is that of the file that the words name
-pub unscripted_run : (words files : List Word) (options : RunOptions) (script : Option Word) (told : Option (List File)) (rose : Type 0) (fault : ScriptFault) (A : Type 0) → deed_in words ≡ Some (runs options script files)
-    → MatchOption script ⊥ (λ name. IsScriptFault told rose name fault) → ((name : Word) → script_in words ≡ Some name → IsScriptFault told rose name fault → A) → A
-unscripted_run words files options None told rose fault A asked is so = absurd is
-unscripted_run words files options (Some name) told rose fault A asked is so = so name (script_run words files options (Some name) asked) is
+pub unscripted_run : (words files : List Word) (options : RunOptions) (script : Option Word) (told : Option (List File)) (failed : Word → Type 0) (fault : ScriptFault) (A : Type 0) → deed_in words ≡ Some (runs options script files)
+    → MatchOption script ⊥ (λ name. IsScriptFault told failed name fault) → ((name : Word) → script_in words ≡ Some name → IsScriptFault told failed name fault → A) → A
+unscripted_run words files options None told failed fault A asked is so = absurd is
+unscripted_run words files options (Some name) told failed fault A asked is so = so name (script_run words files options (Some name) asked) is
+
+-- by another cause of a failed read
+pub script_map : (told : Option (List File)) (failed other : Word → Type 0) (script : Word) (fault : ScriptFault) → (failed script → other script) → IsScriptFault told failed script fault → IsScriptFault told other script fault
+script_map told failed other script (scripts.Absent file) so h = h
+script_map told failed other script (scripts.TooLong file) so h = h
+script_map told failed other script (scripts.Failed file) so h = (h.0, h.1, so h.2)
+script_map told failed other script (scripts.Bad error) so h = h
 
 -- a run whose script wasn't had ends with no status of a write fault, and with that of a read fault where its file can't be read
 pub unscripted_status : (fault : ScriptFault) → script_status fault ≢ WRITE_FAULT
@@ -154,7 +166,7 @@ machine_units (Err e) checked units are of = tt
 -- ---- what is said of a history
 
 -- an ending of `replay` is one of the program
-pub replayed_so : (words : List Word) (told : Option (List File)) (rose : Type 0) (old new : Option (List ℕ)) (status : ℕ) (history : Word) (files : List Word) → deed_in words ≡ Some (replays history files) → IsReplayAnswer told rose history files old new status
-    → IsAnswer words told rose old new status
-replayed_so words told rose old new status history files asked (inl (wanted, line, ending, ends, grew)) = inl (wanted, line, because.replayed history files wanted line asked ending, ends, grew)
-replayed_so words told rose old new status history files asked (inr silent) = inr silent
+pub replayed_so : (words : List Word) (told : Option (List File)) (failed : Word → Type 0) (old new : Option (List ℕ)) (status : ℕ) (history : Word) (files : List Word) → deed_in words ≡ Some (replays history files) → IsReplayAnswer told failed history files old new status
+    → IsAnswer words told failed old new status
+replayed_so words told failed old new status history files asked (inl (wanted, line, ending, ends, grew)) = inl (wanted, line, because.replayed history files wanted line asked ending, ends, grew)
+replayed_so words told failed old new status history files asked (inr silent) = inr silent

@@ -4,7 +4,7 @@ use Rattle.net_rules.specs.declared.line.ScriptLine.{ScriptLine}
 use Rattle.orca_io.specs.Files.{File}
 use Rattle.link_rules.specs.Units.{Source}
 use Rattle.orca_front.specs.Sources.{IsAccepted}
-use Rattle.command_files.specs.Loaded.{IsLoadFault, load_line, load_status}
+use Rattle.command_files.specs.Loaded.{Never, IsLoadFault, load_line, load_status}
 use Rattle.command_files.specs.Sources.{AreRead, Word}
 use Rattle.command_files.specs.declared.load_fault.LoadFault.{LoadFault}
 use Rattle.command_output.specs.declared.statuses.TheConstants.{FINISHED, USAGE}
@@ -28,8 +28,8 @@ use Rattle.orca_cli.proofs.ScriptsOnce.{script_had, script_of_once, script_once,
 
 -- how a check or a run of the program in files ends without a run; with `ok` where it is a check
 data ProgramEnds (shelf : List File) (files : List Word) (script : Option Word) (check : Type 0) : ℕ → List ℕ → Type 0 where
-  unread : (fault : LoadFault) → IsLoadFault (Some shelf) ⊥ files fault → ProgramEnds shelf files script check (load_status fault) (load_line fault)
-  unscripted : (sources : List File) (name : Word) (fault : ScriptFault) → AreRead (Some shelf) files sources → script ≡ Some name → IsScriptFault (Some shelf) ⊥ name fault →
+  unread : (fault : LoadFault) → IsLoadFault (Some shelf) Never files fault → ProgramEnds shelf files script check (load_status fault) (load_line fault)
+  unscripted : (sources : List File) (name : Word) (fault : ScriptFault) → AreRead (Some shelf) files sources → script ≡ Some name → IsScriptFault (Some shelf) Never name fault →
       ProgramEnds shelf files script check (script_status fault) (script_fault_line fault)
   refused : (sources : List File) (lines : List ScriptLine) (fault : ProgramFault) → AreRead (Some shelf) files sources → IsScriptOf (Some shelf) script lines → IsProgramFault sources fault →
       ProgramEnds shelf files script check (program_status fault) (program_line fault)
@@ -47,7 +47,7 @@ EndsBy shelf None one a = (one ≡ USAGE) × (a ≡ usage_line)
 EndsBy shelf (Some (says text)) one a = (one ≡ FINISHED) × (a ≡ text)
 EndsBy shelf (Some (checks files)) one a = ProgramEnds shelf files None (Unit {0}) one a
 EndsBy shelf (Some (runs options script files)) one a = ProgramEnds shelf files script ⊥ one a
-EndsBy shelf (Some (replays history files)) one a = IsReplayEnding (Some shelf) ⊥ history files one a
+EndsBy shelf (Some (replays history files)) one a = IsReplayEnding (Some shelf) Never history files one a
 
 abbrev files_by : Option Deed → Option (List Word)
 files_by deed = option_and_then files_of deed
@@ -62,7 +62,7 @@ by_files shelf (Some (checks others)) files one a has ends = subst (λ (fs : Lis
 by_files shelf (Some (runs options script others)) files one a has ends = subst (λ (fs : List Word). ProgramEnds shelf fs script ⊥ one a) (sym (some_same others files has)) ends
 by_files shelf (Some (replays history others)) files one a has ends = absurd (some_apart files (sym has))
 
-by_deed : (words : List Word) (shelf : List File) (deed : Option Deed) (one : ℕ) (a : List ℕ) → deed_in words ≡ deed → IsEnding words (Some shelf) ⊥ one a → EndsBy shelf deed one a
+by_deed : (words : List Word) (shelf : List File) (deed : Option Deed) (one : ℕ) (a : List ℕ) → deed_in words ≡ deed → IsEnding words (Some shelf) Never one a → EndsBy shelf deed one a
 by_deed words shelf deed one a is (because.said text asked) = subst (λ (d : Option Deed). EndsBy shelf d FINISHED text) (sym asked ∙ is) (refl, refl)
 by_deed words shelf deed one a is (because.usage asked) = subst (λ (d : Option Deed). EndsBy shelf d USAGE usage_line) (sym asked ∙ is) (refl, refl)
 by_deed words shelf deed one a is (because.unread files fault has h) =
@@ -91,11 +91,11 @@ module _ (shelf : List File) (files : List Word) where
       same_program one.0 us vs one.2 (subst (λ (fs : List File). IsAccepted fs vs) (same_sources shelf files two.0 one.0 two.1 one.1) two.2)
 
   -- a file of a program that wasn't read, and the program
-  unread_apart : (f : LoadFault) (us : List Source) → IsLoadFault (Some shelf) ⊥ files f → IsProgram (Some shelf) files us → ⊥
+  unread_apart : (f : LoadFault) (us : List Source) → IsLoadFault (Some shelf) Never files f → IsProgram (Some shelf) files us → ⊥
   unread_apart f us h program = let loaded = program.loaded in load_apart shelf files f loaded.0 h loaded.1
 
   -- a script that is none, and the script
-  unscripted_apart : (script : Option Word) (name : Word) (f : ScriptFault) (lines : List ScriptLine) → script ≡ Some name → IsScriptFault (Some shelf) ⊥ name f → IsScriptOf (Some shelf) script lines → ⊥
+  unscripted_apart : (script : Option Word) (name : Word) (f : ScriptFault) (lines : List ScriptLine) → script ≡ Some name → IsScriptFault (Some shelf) Never name f → IsScriptOf (Some shelf) script lines → ⊥
   unscripted_apart script name f lines is h has = script_had shelf name f lines h (subst (λ (o : Option Word). IsScriptOf (Some shelf) o lines) is has)
 
   program_ends_once : (script : Option Word) (check : Type 0) (one two : ℕ) (a b : List ℕ) → ProgramEnds shelf files script check one a → ProgramEnds shelf files script check two b → SameEnd one a two b
@@ -105,7 +105,7 @@ module _ (shelf : List File) (files : List Word) where
   program_ends_once script check one two a b (unread f h) (accepted vs so none k) = absurd (unread_apart f vs h k)
   program_ends_once script check one two a b (unscripted s name f read is h) (unread g k) = absurd (load_apart shelf files g s k read)
   program_ends_once script check one two a b (unscripted s name f read is h) (unscripted t other g was are k) =
-      script_once shelf name f g h (subst (λ (n : Word). IsScriptFault (Some shelf) ⊥ n g) (some_same other name (sym are ∙ is)) k)
+      script_once shelf name f g h (subst (λ (n : Word). IsScriptFault (Some shelf) Never n g) (some_same other name (sym are ∙ is)) k)
   program_ends_once script check one two a b (unscripted s name f read is h) (refused t more g was had k) = absurd (unscripted_apart script name f more is h had)
   program_ends_once script check one two a b (unscripted s name f read is h) (accepted vs so none k) = absurd (some_apart name (sym is ∙ none))
   program_ends_once script check one two a b (refused s lines f read has h) (unread g k) = absurd (load_apart shelf files g s k read)
@@ -134,11 +134,11 @@ ends_once tables shelf (Some (checks files)) one two a b h k = program_ends_once
 ends_once tables shelf (Some (runs options script files)) one two a b h k = program_ends_once shelf files script ⊥ one two a b h k
 ends_once tables shelf (Some (replays history files)) one two a b h k = replay_once tables shelf history files one two a b h k
 
-pub ending_once : GiveTables → (words : List Word) (shelf : List File) (one two : ℕ) (a b : List ℕ) → IsEnding words (Some shelf) ⊥ one a → IsEnding words (Some shelf) ⊥ two b → SameEnd one a two b
+pub ending_once : GiveTables → (words : List Word) (shelf : List File) (one two : ℕ) (a b : List ℕ) → IsEnding words (Some shelf) Never one a → IsEnding words (Some shelf) Never two b → SameEnd one a two b
 ending_once tables words shelf one two a b h k =
     ends_once tables shelf (deed_in words) one two a b (by_deed words shelf (deed_in words) one a refl h) (by_deed words shelf (deed_in words) two b refl k)
 
-pub ending_apart : (words : List Word) (shelf : List File) (us : List Source) (lines : List ScriptLine) (one : ℕ) (a : List ℕ) → IsEnding words (Some shelf) ⊥ one a → IsNamed words (Some shelf) us lines → ⊥
+pub ending_apart : (words : List Word) (shelf : List File) (us : List Source) (lines : List ScriptLine) (one : ℕ) (a : List ℕ) → IsEnding words (Some shelf) Never one a → IsNamed words (Some shelf) us lines → ⊥
 ending_apart words shelf us lines one a h named =
     run_apart shelf named.files named.script us lines one a named.program named.script_has (by_deed words shelf (Some (runs named.options named.script named.files)) one a named.asked h)
 
@@ -155,13 +155,13 @@ named_once words shelf us vs lines more n m =
 
 -- ---- where no read failed
 
-pub ending_quiet : (words : List Word) (told : Option (List File)) (rose : Type 0) (never : rose → ⊥) (one : ℕ) (a : List ℕ) → IsEnding words told rose one a → IsEnding words told ⊥ one a
-ending_quiet words told rose never one a (because.said text asked) = because.said text asked
-ending_quiet words told rose never one a (because.usage asked) = because.usage asked
-ending_quiet words told rose never one a (because.unread files fault has h) = because.unread files fault has (load_quiet told rose never files fault h)
-ending_quiet words told rose never one a (because.unscripted files sources script fault has read named h) =
-    because.unscripted files sources script fault has read named (script_quiet told rose never script fault h)
-ending_quiet words told rose never one a (because.refused files sources fault has read script h) = because.refused files sources fault has read script h
-ending_quiet words told rose never one a (because.accepted files units asked h) = because.accepted files units asked h
-ending_quiet words told rose never one a (because.replayed history files wanted line asked h) =
-    because.replayed history files wanted line asked (replay_quiet told rose never history files wanted line h)
+pub ending_quiet : (words : List Word) (told : Option (List File)) (failed : Word → Type 0) (never : (file : Word) → failed file → ⊥) (one : ℕ) (a : List ℕ) → IsEnding words told failed one a → IsEnding words told Never one a
+ending_quiet words told failed never one a (because.said text asked) = because.said text asked
+ending_quiet words told failed never one a (because.usage asked) = because.usage asked
+ending_quiet words told failed never one a (because.unread files fault has h) = because.unread files fault has (load_quiet told failed never files fault h)
+ending_quiet words told failed never one a (because.unscripted files sources script fault has read named h) =
+    because.unscripted files sources script fault has read named (script_quiet told failed never script fault h)
+ending_quiet words told failed never one a (because.refused files sources fault has read script h) = because.refused files sources fault has read script h
+ending_quiet words told failed never one a (because.accepted files units asked h) = because.accepted files units asked h
+ending_quiet words told failed never one a (because.replayed history files wanted line asked h) =
+    because.replayed history files wanted line asked (replay_quiet told failed never history files wanted line h)

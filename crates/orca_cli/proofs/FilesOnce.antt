@@ -9,7 +9,7 @@ use Rattle.command_files.specs.declared.load_fault.LoadFault.TheVariants as load
 use Rattle.command_files.specs.declared.replay_fault.ReplayFault.{ReplayFault}
 use Rattle.command_files.specs.declared.replay_fault.ReplayFault.TheVariants as replay
 use Rattle.command_files.specs.Lines.{absent_line}
-use Rattle.command_files.specs.Loaded.{IsLoadFault, load_line, load_status}
+use Rattle.command_files.specs.Loaded.{Never, IsLoadFault, load_line, load_status}
 use Rattle.command_files.specs.Replays.{HasRead, IsReplayFault, replay_line, replay_status}
 use Rattle.command_files.specs.Sources.{AreRead, IsRead, StopsAt, Word}
 
@@ -117,7 +117,7 @@ read_whole shelf files sources name s read none =
     stop_apart shelf SOURCE_BYTES sources (names_of s.before) s.after name (sym read.names ∙ s.splits) read.read none
 
 -- they weren't read for one reason
-pub load_once : (shelf : List File) (files : List Word) (f g : LoadFault) → IsLoadFault (Some shelf) ⊥ files f → IsLoadFault (Some shelf) ⊥ files g → SameEnd (load_status f) (load_line f) (load_status g) (load_line g)
+pub load_once : (shelf : List File) (files : List Word) (f g : LoadFault) → IsLoadFault (Some shelf) Never files f → IsLoadFault (Some shelf) Never files g → SameEnd (load_status f) (load_line f) (load_status g) (load_line g)
 load_once shelf files (load.Failed file) g h k = absurd h.2
 load_once shelf files load.TooMany (load.Failed other) h k = absurd k.2
 load_once shelf files (load.Absent file) (load.Failed other) h k = absurd k.2
@@ -138,7 +138,7 @@ load_once shelf files (load.TooLong file) (load.Absent other) h k =
 load_once shelf files (load.TooLong file) (load.TooLong other) h k = (refl, refl)
 
 -- or they were
-pub load_apart : (shelf : List File) (files : List Word) (f : LoadFault) (sources : List File) → IsLoadFault (Some shelf) ⊥ files f → AreRead (Some shelf) files sources → ⊥
+pub load_apart : (shelf : List File) (files : List Word) (f : LoadFault) (sources : List File) → IsLoadFault (Some shelf) Never files f → AreRead (Some shelf) files sources → ⊥
 load_apart shelf files load.TooMany sources h read = above MODULES (length files) h read.few
 load_apart shelf files (load.Absent file) sources h read = read_whole shelf files sources file.now h.0 read (absent_none shelf SOURCE_BYTES file.now h.1)
 load_apart shelf files (load.TooLong file) sources h read = read_whole shelf files sources file.now h.0 read (long_none shelf SOURCE_BYTES file.now h.1.0 h.1.1 h.1.2)
@@ -146,7 +146,7 @@ load_apart shelf files (load.Failed file) sources h read = absurd h.2
 
 -- ---- the files of `replay`
 
-pub history_once : (shelf : List File) (history : Word) (files : List Word) (f g : ReplayFault) → IsReplayFault (Some shelf) ⊥ history files f → IsReplayFault (Some shelf) ⊥ history files g →
+pub history_once : (shelf : List File) (history : Word) (files : List Word) (f g : ReplayFault) → IsReplayFault (Some shelf) Never history files f → IsReplayFault (Some shelf) Never history files g →
     SameEnd (replay_status f) (replay_line f) (replay_status g) (replay_line g)
 history_once shelf history files (replay.Program f) (replay.Program g) h k = load_once shelf files f g h k
 history_once shelf history files (replay.Program f) (replay.Absent other) h k = absurd (load_apart shelf files f k.0.0 h k.0.1)
@@ -162,7 +162,7 @@ history_once shelf history files replay.TooLong replay.TooLong h k = (refl, refl
 history_once shelf history files replay.TooLong (replay.Failed other) h k = absurd k.1.2
 history_once shelf history files (replay.Failed file) g h k = absurd h.1.2
 
-pub history_apart : (shelf : List File) (history : Word) (files : List Word) (f : ReplayFault) (sources : List File) (text : List ℕ) → IsReplayFault (Some shelf) ⊥ history files f → HasRead (Some shelf) history files sources text → ⊥
+pub history_apart : (shelf : List File) (history : Word) (files : List Word) (f : ReplayFault) (sources : List File) (text : List ℕ) → IsReplayFault (Some shelf) Never history files f → HasRead (Some shelf) history files sources text → ⊥
 history_apart shelf history files (replay.Program f) sources text h read = load_apart shelf files f sources h read.0
 history_apart shelf history files (replay.Absent file) sources text h read =
     read_apart shelf HISTORY_BYTES (history, text) history refl read.1 (absent_none shelf HISTORY_BYTES history h.1.1)
@@ -175,14 +175,14 @@ same_history shelf history text other read was = same_text shelf HISTORY_BYTES (
 
 -- ---- where no read failed
 
-pub load_quiet : (told : Option (List File)) (rose : Type 0) (never : rose → ⊥) (files : List Word) (f : LoadFault) → IsLoadFault told rose files f → IsLoadFault told ⊥ files f
-load_quiet told rose never files load.TooMany h = h
-load_quiet told rose never files (load.Absent file) h = h
-load_quiet told rose never files (load.TooLong file) h = h
-load_quiet told rose never files (load.Failed file) h = absurd (never h.2)
+pub load_quiet : (told : Option (List File)) (failed : Word → Type 0) (never : (file : Word) → failed file → ⊥) (files : List Word) (f : LoadFault) → IsLoadFault told failed files f → IsLoadFault told Never files f
+load_quiet told failed never files load.TooMany h = h
+load_quiet told failed never files (load.Absent file) h = h
+load_quiet told failed never files (load.TooLong file) h = h
+load_quiet told failed never files (load.Failed file) h = absurd (never file.now h.2)
 
-pub history_quiet : (told : Option (List File)) (rose : Type 0) (never : rose → ⊥) (history : Word) (files : List Word) (f : ReplayFault) → IsReplayFault told rose history files f → IsReplayFault told ⊥ history files f
-history_quiet told rose never history files (replay.Program f) h = load_quiet told rose never files f h
-history_quiet told rose never history files (replay.Absent file) h = h
-history_quiet told rose never history files replay.TooLong h = h
-history_quiet told rose never history files (replay.Failed file) h = absurd (never h.1.2)
+pub history_quiet : (told : Option (List File)) (failed : Word → Type 0) (never : (file : Word) → failed file → ⊥) (history : Word) (files : List Word) (f : ReplayFault) → IsReplayFault told failed history files f → IsReplayFault told Never history files f
+history_quiet told failed never history files (replay.Program f) h = load_quiet told failed never files f h
+history_quiet told failed never history files (replay.Absent file) h = h
+history_quiet told failed never history files replay.TooLong h = h
+history_quiet told failed never history files (replay.Failed file) h = absurd (never history h.1.2)

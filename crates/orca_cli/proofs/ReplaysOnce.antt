@@ -13,6 +13,7 @@ use Rattle.history_commands.specs.Replays.{IsToldOf, answer_line, answer_status}
 use Rattle.history_commands.specs.declared.answer.Answer.{Answer}
 use Rattle.program_names.specs.Naming.{AreNamesOf}
 use Rattle.command_files.specs.Replays.{HasRead}
+use Rattle.command_files.specs.Loaded.{Never}
 use Rattle.command_files.specs.Sources.{Word}
 use Rattle.replay_command.specs.Endings as replays
 use Rattle.replay_command.specs.Endings.{IsReplayEnding, passed_line}
@@ -67,7 +68,7 @@ module _ (tables : GiveTables) (shelf : List File) (history : Word) (files : Lis
       (subst (λ (x : List ℕ). IsJudged t x us second) (sym (text_had s t text other read was))
       (subst (λ (x : List Source). IsJudged t other x second) (sym (program_had s t text other us vs read was is.accepted are.accepted)) are)))
 
-  pub replay_once : (one two : ℕ) (a b : List ℕ) → IsReplayEnding (Some shelf) ⊥ history files one a → IsReplayEnding (Some shelf) ⊥ history files two b → SameEnd one a two b
+  pub replay_once : (one two : ℕ) (a b : List ℕ) → IsReplayEnding (Some shelf) Never history files one a → IsReplayEnding (Some shelf) Never history files two b → SameEnd one a two b
   replay_once one two a b (replays.unread f h) (replays.unread g k) = history_once shelf history files f g h k
   replay_once one two a b (replays.unread f h) (replays.refused t other g was k) = absurd (history_apart shelf history files f t other h was)
   replay_once one two a b (replays.unread f h) (replays.limited t other vs q was k passes) = absurd (history_apart shelf history files f t other h was)
@@ -93,8 +94,8 @@ module _ (tables : GiveTables) (shelf : List File) (history : Word) (files : Lis
       (ap answer_status same, ap answer_line same)
 
 -- where no read failed
-pub replay_quiet : (told : Option (List File)) (rose : Type 0) (never : rose → ⊥) (history : Word) (files : List Word) (one : ℕ) (a : List ℕ) → IsReplayEnding told rose history files one a → IsReplayEnding told ⊥ history files one a
-replay_quiet told rose never history files one a (replays.unread f h) = replays.unread f (history_quiet told rose never history files f h)
-replay_quiet told rose never history files one a (replays.refused s text f read h) = replays.refused s text f read h
-replay_quiet told rose never history files one a (replays.limited s text us p read h passes) = replays.limited s text us p read h passes
-replay_quiet told rose never history files one a (replays.judged s text us names answer read h within are told_so) = replays.judged s text us names answer read h within are told_so
+pub replay_quiet : (told : Option (List File)) (failed : Word → Type 0) (never : (file : Word) → failed file → ⊥) (history : Word) (files : List Word) (one : ℕ) (a : List ℕ) → IsReplayEnding told failed history files one a → IsReplayEnding told Never history files one a
+replay_quiet told failed never history files one a (replays.unread f h) = replays.unread f (history_quiet told failed never history files f h)
+replay_quiet told failed never history files one a (replays.refused s text f read h) = replays.refused s text f read h
+replay_quiet told failed never history files one a (replays.limited s text us p read h passes) = replays.limited s text us p read h passes
+replay_quiet told failed never history files one a (replays.judged s text us names answer read h within are told_so) = replays.judged s text us names answer read h within are told_so

@@ -10,6 +10,7 @@ use Rattle.net_rules.specs.declared.line.ScriptLine.{ScriptLine}
 use Rattle.orca_base.specs.declared.limits.TheConstants.{SCRIPT_BYTES}
 use Rattle.orca_io.specs.Files.{File}
 use Rattle.command_files.specs.Lines.{absent_line}
+use Rattle.command_files.specs.Loaded.{Never}
 use Rattle.command_files.specs.Sources.{IsRead, Word}
 use Rattle.orca_cli.specs.Scripts.{IsScriptFault, IsScriptOf, script_fault_line, script_status}
 use Rattle.orca_cli.specs.declared.script.ScriptFault.{ScriptFault}
@@ -53,7 +54,7 @@ file_with script text = (script, text)
 same_script : (shelf : List File) (script : Word) (text other : List ℕ) → IsRead (Some shelf) SCRIPT_BYTES (file_with script text) → IsRead (Some shelf) SCRIPT_BYTES (file_with script other) → text ≡ other
 same_script shelf script text other read was = same_text shelf SCRIPT_BYTES (file_with script text) (file_with script other) refl read was
 
-script_read : (shelf : List File) (script : Word) (text : List ℕ) (f : ScriptFault) → IsRead (Some shelf) SCRIPT_BYTES (file_with script text) → IsScriptFault (Some shelf) ⊥ script f → (error : ScriptError) × (f ≡ scripts.Bad error) × IsRefusal text error
+script_read : (shelf : List File) (script : Word) (text : List ℕ) (f : ScriptFault) → IsRead (Some shelf) SCRIPT_BYTES (file_with script text) → IsScriptFault (Some shelf) Never script f → (error : ScriptError) × (f ≡ scripts.Bad error) × IsRefusal text error
 script_read shelf script text (scripts.Absent file) read h =
     absurd (read_apart shelf SCRIPT_BYTES (file_with script text) script refl read (absent_none shelf SCRIPT_BYTES script h.1))
 script_read shelf script text (scripts.TooLong file) read h =
@@ -63,14 +64,14 @@ script_read shelf script text (scripts.Bad error) read h =
     (error, refl, subst (λ (t : List ℕ). IsRefusal t error) (same_script shelf script h.0 text h.1 read) h.2)
 
 -- of a file that has a wrong line it is the one
-bad_once : (shelf : List File) (script : Word) (error : ScriptError) (g : ScriptFault) → IsScriptFault (Some shelf) ⊥ script (scripts.Bad error) → IsScriptFault (Some shelf) ⊥ script g → g ≡ scripts.Bad error
+bad_once : (shelf : List File) (script : Word) (error : ScriptError) (g : ScriptFault) → IsScriptFault (Some shelf) Never script (scripts.Bad error) → IsScriptFault (Some shelf) Never script g → g ≡ scripts.Bad error
 bad_once shelf script error g h k =
     let other = script_read shelf script h.0 g h.1 k in
     let same = error_once h.0 h.0 other.0 error refl other.2 h.2 in
     other.1 ∙ ap (λ (e : ScriptError). scripts.Bad e) same
 
 -- there is one reason for which there is no script
-pub script_once : (shelf : List File) (script : Word) (f g : ScriptFault) → IsScriptFault (Some shelf) ⊥ script f → IsScriptFault (Some shelf) ⊥ script g → SameEnd (script_status f) (script_fault_line f) (script_status g) (script_fault_line g)
+pub script_once : (shelf : List File) (script : Word) (f g : ScriptFault) → IsScriptFault (Some shelf) Never script f → IsScriptFault (Some shelf) Never script g → SameEnd (script_status f) (script_fault_line f) (script_status g) (script_fault_line g)
 script_once shelf script (scripts.Failed file) g h k = absurd h.2
 script_once shelf script (scripts.Absent file) (scripts.Failed other) h k = absurd k.2
 script_once shelf script (scripts.TooLong file) (scripts.Failed other) h k = absurd k.2
@@ -89,7 +90,7 @@ script_once shelf script (scripts.TooLong file) (scripts.Absent other) h k = abs
 script_once shelf script (scripts.TooLong file) (scripts.TooLong other) h k = (refl, refl)
 
 -- or there is a script
-pub script_had : (shelf : List File) (script : Word) (f : ScriptFault) (lines : List ScriptLine) → IsScriptFault (Some shelf) ⊥ script f → IsScriptOf (Some shelf) (Some script) lines → ⊥
+pub script_had : (shelf : List File) (script : Word) (f : ScriptFault) (lines : List ScriptLine) → IsScriptFault (Some shelf) Never script f → IsScriptOf (Some shelf) (Some script) lines → ⊥
 script_had shelf script f lines h has =
     let bad = script_read shelf script has.0 f has.1 h in
     script_apart has.0 has.0 lines bad.0 refl has.2 bad.2
@@ -100,8 +101,8 @@ script_of_once shelf None lines more h k = h ∙ sym k
 script_of_once shelf (Some script) lines more h k = lines_once h.0 k.0 lines more (same_script shelf script h.0 k.0 h.1 k.1) h.2 k.2
 
 -- where no read failed
-pub script_quiet : (told : Option (List File)) (rose : Type 0) (never : rose → ⊥) (script : Word) (f : ScriptFault) → IsScriptFault told rose script f → IsScriptFault told ⊥ script f
-script_quiet told rose never script (scripts.Absent file) h = h
-script_quiet told rose never script (scripts.TooLong file) h = h
-script_quiet told rose never script (scripts.Failed file) h = absurd (never h.2)
-script_quiet told rose never script (scripts.Bad error) h = h
+pub script_quiet : (told : Option (List File)) (failed : Word → Type 0) (never : (file : Word) → failed file → ⊥) (script : Word) (f : ScriptFault) → IsScriptFault told failed script f → IsScriptFault told Never script f
+script_quiet told failed never script (scripts.Absent file) h = h
+script_quiet told failed never script (scripts.TooLong file) h = h
+script_quiet told failed never script (scripts.Failed file) h = absurd (never script h.2)
+script_quiet told failed never script (scripts.Bad error) h = h

@@ -19,24 +19,24 @@ use Rattle.command_files.specs.Sources.{AreRead}
 -- The words ask for help or for the version; they are no command, or ask for what isn't built. They ask for a check or a run of the program
 -- in files, and these weren't read; or they were, and the script of the run wasn't, or is none; or that is one, and their texts are no accepted
 -- program. They ask for a check of one that is. They ask whether a history is one of a program, and `replay` ends so
-pub data IsEnding (words : List Word) (told : Option (List File)) (rose : Type 0) : ℕ → List ℕ → Type 0 where
-  said : (text : List ℕ) → deed_in words ≡ Some (says text) → IsEnding words told rose FINISHED text
-  usage : deed_in words ≡ None → IsEnding words told rose USAGE usage_line
-  unread : (files : List Word) (fault : LoadFault) → files_in words ≡ Some files → IsLoadFault told rose files fault →
-      IsEnding words told rose (load_status fault) (load_line fault)
+pub data IsEnding (words : List Word) (told : Option (List File)) (failed : Word → Type 0) : ℕ → List ℕ → Type 0 where
+  said : (text : List ℕ) → deed_in words ≡ Some (says text) → IsEnding words told failed FINISHED text
+  usage : deed_in words ≡ None → IsEnding words told failed USAGE usage_line
+  unread : (files : List Word) (fault : LoadFault) → files_in words ≡ Some files → IsLoadFault told failed files fault →
+      IsEnding words told failed (load_status fault) (load_line fault)
   unscripted : (files : List Word) (sources : List File) (script : Word) (fault : ScriptFault) → files_in words ≡ Some files →
-      AreRead told files sources → script_in words ≡ Some script → IsScriptFault told rose script fault →
-      IsEnding words told rose (script_status fault) (script_fault_line fault)
+      AreRead told files sources → script_in words ≡ Some script → IsScriptFault told failed script fault →
+      IsEnding words told failed (script_status fault) (script_fault_line fault)
   refused : (files : List Word) (sources : List File) (fault : ProgramFault) → files_in words ≡ Some files → AreRead told files sources →
-      HasScript told words → IsProgramFault sources fault → IsEnding words told rose (program_status fault) (program_line fault)
+      HasScript told words → IsProgramFault sources fault → IsEnding words told failed (program_status fault) (program_line fault)
   accepted : (files : List Word) (units : List Source) → deed_in words ≡ Some (checks files) → IsProgram told files units →
-      IsEnding words told rose FINISHED ok_line
+      IsEnding words told failed FINISHED ok_line
   replayed : (history : Word) (files : List Word) (wanted : ℕ) (line : List ℕ) → deed_in words ≡ Some (replays history files) →
-      IsReplayEnding told rose history files wanted line → IsEnding words told rose wanted line
+      IsReplayEnding told failed history files wanted line → IsEnding words told failed wanted line
 
 -- the answer where nothing was run: an ending whose line was printed, or a front of the line where the write failed or
 -- memory lacked; or nothing at all, for want of memory
-abbrev pub IsAnswer : List Word → Option (List File) → Type 0 → Option (List ℕ) → Option (List ℕ) → ℕ → Type 0
-IsAnswer words told rose old new status =
-    ((wanted : ℕ) × (line : List ℕ) × IsEnding words told rose wanted line × EndsAs wanted status × Grew old new (Ends wanted status line))
+abbrev pub IsAnswer : List Word → Option (List File) → (Word → Type 0) → Option (List ℕ) → Option (List ℕ) → ℕ → Type 0
+IsAnswer words told failed old new status =
+    ((wanted : ℕ) × (line : List ℕ) × IsEnding words told failed wanted line × EndsAs wanted status × Grew old new (Ends wanted status line))
     ⊎ ((status ≡ NO_MEMORY) × (new ≡ old))

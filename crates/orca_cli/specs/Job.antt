@@ -1,5 +1,5 @@
 -- What the program does for its words (docs/FORMATS.md, The program).
-use Rattle.std.specs.Prelude.{ℕ, ◌==◌, ◌&&◌, not, Bool, List, map, Option, Some, None, option_and_then, option_map, if◌then◌else◌}
+use Rattle.std.specs.Prelude.{ℕ, ◌==◌, ◌&&◌, not, Bool, List, [], ◌∷◌, ◌++◌, map, Option, Some, None, option_and_then, option_map, if◌then◌else◌}
 use Rattle.command_line.specs.declared.request.RunOptions.{RunOptions}
 use Rattle.command_line.specs.Asked.{Asked, IsRunWithin}
 use Rattle.command_line.specs.Asked as ask
@@ -73,3 +73,25 @@ files_in words = option_and_then files_of (deed_in words)
 
 abbrev pub script_in : List Word → Option Word
 script_in words = option_and_then script_of (deed_in words)
+
+-- ---- the files that are read
+
+-- the name of the file of a script, where there is one
+abbrev pub script_names : Option Word → List Word
+script_names None = []
+script_names (Some file) = file ∷ []
+
+-- in their order: those of its program, and behind them that of its script, or of the history
+abbrev pub names_of : Deed → List Word
+names_of (says text) = []
+names_of (checks files) = files
+names_of (runs options script files) = files ++ script_names script
+names_of (replays history files) = files ++ history ∷ []
+
+abbrev pub names_by : Option Deed → List Word
+names_by None = []
+names_by (Some deed) = names_of deed
+
+-- all files that are read for the words, in their order, each as often as it is named
+abbrev pub named_in : List Word → List Word
+named_in words = names_by (deed_in words)

@@ -32,13 +32,12 @@ IsWrong text (Absent file) = ⊥
 IsWrong text (TooLong file) = ⊥
 IsWrong text (Failed file) = ⊥
 
--- The file isn't there, or is longer than a script may be, or is there and can't be read, which comes only where the shelf's count of faults
--- rose. Or its text is no script
-abbrev pub IsScriptFault : Option (List File) → Type 0 → Word → ScriptFault → Type 0
-IsScriptFault told rose script (Absent file) = (file.now ≡ script) × IsAbsent told script
-IsScriptFault told rose script (TooLong file) = (file.now ≡ script) × IsTooLong told SCRIPT_BYTES script
-IsScriptFault told rose script (Failed file) = (file.now ≡ script) × IsThere told script × rose
-IsScriptFault told rose script (Bad error) = (text : List ℕ) × IsRead told SCRIPT_BYTES (script, text) × IsWrong text (Bad error)
+-- The file isn't there, or is longer than a script may be, or is there and can't be read, where its read failed. Or its text is no script
+abbrev pub IsScriptFault : Option (List File) → (Word → Type 0) → Word → ScriptFault → Type 0
+IsScriptFault told failed script (Absent file) = (file.now ≡ script) × IsAbsent told script
+IsScriptFault told failed script (TooLong file) = (file.now ≡ script) × IsTooLong told SCRIPT_BYTES script
+IsScriptFault told failed script (Failed file) = (file.now ≡ script) × IsThere told script × failed script
+IsScriptFault told failed script (Bad error) = (text : List ℕ) × IsRead told SCRIPT_BYTES (script, text) × IsWrong text (Bad error)
 
 abbrev pub script_status : ScriptFault → ℕ
 script_status (Absent file) = ABSENT

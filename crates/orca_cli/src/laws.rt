@@ -2,30 +2,32 @@
 
 ghost use Rattle.std.specs.Prelude.{◌≡◌, ℕ, List, Option, Some};
 ghost use Rattle.net_rules.specs.declared.line.ScriptLine.{ScriptLine};
-ghost use Rattle.orca_io.specs.Causes.{Rose};
 ghost use Rattle.orca_io.specs.Files.{File};
+ghost use Rattle.orca_io.specs.Reading.{FailedAt, FileRead};
 ghost use Rattle.link_rules.specs.Units.{Source};
+ghost use Rattle.command_files.specs.Loaded.{Never};
 ghost use Rattle.command_files.specs.Sources.{Word};
 ghost use Rattle.orca_cli.specs.Endings.{IsEnding};
 ghost use Rattle.orca_cli.specs.Headline.{IsNamed};
 
 use program_names::names_law;
 
-/// The law of endings, where files are told and no fault of reading rose; it does nothing.
+/// The law of endings, where files are told and no read failed; it does nothing.
 ///
 /// - `once`: words have one ending without a run at most, by its status and its line (docs/FORMATS.md, Statuses).
 /// - `apart`: they have none where they name a run, of a program that is accepted and with a script.
 /// - `named`: they name one run at most, by its program and its script.
-/// - `quiet`: where the shelf's count of faults didn't rise, an ending is one without a fault.
+/// - `quiet`: where no file's read failed, an ending is one without a fault.
 pub fn endings_law()
-    ensures once { (words : List Word) (files : List File) (one two : ℕ) (a b : List ℕ) → IsEnding words (Some files) ⊥ one a →
-        IsEnding words (Some files) ⊥ two b → (one ≡ two) × (a ≡ b) }
+    ensures once { (words : List Word) (files : List File) (one two : ℕ) (a b : List ℕ) → IsEnding words (Some files) Never one a →
+        IsEnding words (Some files) Never two b → (one ≡ two) × (a ≡ b) }
     ensures apart { (words : List Word) (files : List File) (units : List Source) (lines : List ScriptLine) (one : ℕ) (a : List ℕ) →
-        IsEnding words (Some files) ⊥ one a → IsNamed words (Some files) units lines → ⊥ }
+        IsEnding words (Some files) Never one a → IsNamed words (Some files) units lines → ⊥ }
     ensures named { (words : List Word) (files : List File) (units others : List Source) (lines more : List ScriptLine) →
         IsNamed words (Some files) units lines → IsNamed words (Some files) others more → (units ≡ others) × (lines ≡ more) }
-    ensures quiet { (words : List Word) (told : Option (List File)) (before now one : ℕ) (a : List ℕ) → (Rose before now → ⊥) →
-        IsEnding words told (Rose before now) one a → IsEnding words told ⊥ one a }
+    ensures quiet { (words : List Word) (told : Option (List File)) (before now : ℕ) (old new : List FileRead) (one : ℕ) (a : List ℕ) →
+        ((file : Word) → FailedAt before now old new file → ⊥) →
+        IsEnding words told (FailedAt before now old new) one a → IsEnding words told Never one a }
 {
     names_law();
 }

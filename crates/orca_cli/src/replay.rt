@@ -1,8 +1,9 @@
 //! What is said of a history.
 
-ghost use Rattle.std.specs.Prelude.{◌≡◌, ◌⊎◌, ◌<◌, ◌≤◌, ℕ, List, None, Option, Some, map};
+ghost use Rattle.std.specs.Prelude.{◌≡◌, ◌⊎◌, ◌<◌, ◌≤◌, ◌∷◌, ◌++◌, [], ℕ, List, None, Option, Some, map};
 ghost use Rattle.orca_io.specs.Causes.{Rose};
 ghost use Rattle.orca_io.specs.Files.{File};
+ghost use Rattle.orca_io.specs.Reading.{FailedAt, FileRead, HasAsked};
 ghost use Rattle.command_files.specs.Replays.{HasRead};
 ghost use Rattle.command_files.specs.Sources.{Word};
 ghost use Rattle.command_output.specs.Printed.{HasStopped};
@@ -22,9 +23,9 @@ use std::alloc::Global;
 
 // Says why texts are no accepted program, and gives the status.
 fn say_unfit<K: Sink>(alloc: Global, out: &mut K, fault: &ProgramFault) -> u8
-    ensures said { (told : Option (List File)) (before now : ℕ) (history : Word) (files : List Word) (sources : List File) (text : List ℕ) →
-        HasRead told history files sources text → IsProgramFault sources fault.now →
-        IsReplayAnswer told (Rose before now) history files (K.told out.old) (K.told out.new) result }
+    ensures said { (told : Option (List File)) (before now : ℕ) (old new : List FileRead) (history : Word) (files : List Word)
+        (sources : List File) (text : List ℕ) → HasRead told history files sources text → IsProgramFault sources fault.now →
+        IsReplayAnswer told (FailedAt before now old new) history files (K.told out.old) (K.told out.new) result }
     ensures later { K.faults out.old ≤ K.faults out.new }
     ensures failed { result ≡ WRITE_FAULT → Rose (K.faults out.old) (K.faults out.new) }
     ensures stopped { K.faults out.old < K.faults out.new → HasStopped result }
@@ -43,10 +44,14 @@ fn replayed<F: Shelf, K: Sink>(
     shelf: &mut F,
     out: &mut K,
 ) -> u8
-    ensures said { IsReplayAnswer (F.told shelf.old) (Rose (F.faults shelf.old) (F.faults shelf.new)) history.now (map (λ f. f.now) files.now)
-        (K.told out.old) (K.told out.new) result }
+    ensures said { IsReplayAnswer (F.told shelf.old)
+        (FailedAt (F.faults shelf.old) (F.faults shelf.new) (F.reads shelf.old) (F.reads shelf.new))
+        history.now (map (λ f. f.now) files.now) (K.told out.old) (K.told out.new) result }
     ensures same { F.told shelf.new ≡ F.told shelf.old }
     ensures read { F.faults shelf.old ≤ F.faults shelf.new }
+    ensures asked { HasAsked (F.may_fail shelf.old) (map (λ f. f.now) files.now ++ history.now ∷ [])
+        (F.reads shelf.old) (F.reads shelf.new) }
+    ensures may { F.may_fail shelf.new ≡ F.may_fail shelf.old }
     ensures read_fault { F.faults shelf.old < F.faults shelf.new → (result ≡ READ_FAULT) ⊎ HasStopped result }
     ensures later { K.faults out.old ≤ K.faults out.new }
     ensures failed { result ≡ WRITE_FAULT → Rose (K.faults out.old) (K.faults out.new) }
@@ -80,9 +85,14 @@ pub fn replay<F: Shelf, K: Sink>(
 ) -> Ended
     ensures none { result.kept ≡ None }
     ensures said { (words : List Word) → deed_in words ≡ Some (replays history.now (map (λ f. f.now) files.now)) →
-        IsAnswer words (F.told shelf.old) (Rose (F.faults shelf.old) (F.faults shelf.new)) (K.told out.old) (K.told out.new) result.status }
+        IsAnswer words (F.told shelf.old)
+        (FailedAt (F.faults shelf.old) (F.faults shelf.new) (F.reads shelf.old) (F.reads shelf.new))
+        (K.told out.old) (K.told out.new) result.status }
     ensures same { F.told shelf.new ≡ F.told shelf.old }
     ensures read { F.faults shelf.old ≤ F.faults shelf.new }
+    ensures asked { HasAsked (F.may_fail shelf.old) (map (λ f. f.now) files.now ++ history.now ∷ [])
+        (F.reads shelf.old) (F.reads shelf.new) }
+    ensures may { F.may_fail shelf.new ≡ F.may_fail shelf.old }
     ensures read_fault { F.faults shelf.old < F.faults shelf.new → (result.status ≡ READ_FAULT) ⊎ HasStopped result.status }
     ensures later { K.faults out.old ≤ K.faults out.new }
     ensures failed { result.status ≡ WRITE_FAULT → Rose (K.faults out.old) (K.faults out.new) }

@@ -1,13 +1,14 @@
 //! The script of a run.
 
-ghost use Rattle.std.specs.Prelude.{◌≡◌, ◌⊎◌, ◌≤◌, ◌<◌, ◌-◌, ◌^◌, IfOk, MatchOption, Some, length, option_map};
+ghost use Rattle.std.specs.Prelude.{◌≡◌, ◌⊎◌, ◌≤◌, ◌<◌, ◌-◌, ◌^◌, ◌∷◌, [], IfOk, MatchOption, Some, length, option_map};
 ghost use Rattle.fault_scripts.specs.Says.{IsScript};
 ghost use Rattle.orca_base.specs.Refusal.{IfBecause, MatchRefusal};
-ghost use Rattle.orca_io.specs.Causes.{Rose};
+ghost use Rattle.orca_io.specs.Reading.{FailedAt, HasAsked};
+ghost use Rattle.orca_cli.specs.Job.{script_names};
 ghost use Rattle.orca_cli.specs.Scripts.{IsScriptFault, IsScriptOf, IsUnreadable, IsWrong, script_fault_line, script_status};
 
 use crate::lines::script_line;
-use command_files::{absent_line, unread_line};
+use command_files::{absent_line, read_file, unread_line};
 use command_output::{ABSENT, BAD_SCRIPT, LIMIT, READ_FAULT};
 use fault_scripts::{Script, ScriptError, read_script};
 use orca_base::{NoMemory, Refusal, SCRIPT_BYTES, refuse};
@@ -55,7 +56,7 @@ impl ScriptFault<'_> {
 }
 
 /// The script in a file, or the empty one where none is named; or why there is none. The shelf's count of faults rises only where the file
-/// is there and can't be read.
+/// is there and can't be read. It is asked for that file alone.
 pub fn script_of<'a, F: Shelf>(
     alloc: Global,
     shelf: &mut F,
@@ -63,10 +64,14 @@ pub fn script_of<'a, F: Shelf>(
 ) -> Result<Script, Refusal<ScriptFault<'a>>>
     ensures script { IfOk result (IsScriptOf (F.told shelf.old) (option_map (λ f. f.now) file.entry)) }
     ensures refused { IfBecause result (λ fault. MatchOption (option_map (λ f. f.now) file.entry) ⊥ (λ name.
-        IsScriptFault (F.told shelf.old) (Rose (F.faults shelf.old) (F.faults shelf.new)) name fault)) }
+        IsScriptFault (F.told shelf.old)
+        (FailedAt (F.faults shelf.old) (F.faults shelf.new) (F.reads shelf.old) (F.reads shelf.new)) name fault)) }
     ensures quiet { (F.faults shelf.new ≡ F.faults shelf.old) ⊎ MatchRefusal result (λ _. ⊥) IsUnreadable }
     ensures same { F.told shelf.new ≡ F.told shelf.old }
     ensures later { F.faults shelf.old ≤ F.faults shelf.new }
+    ensures asked { HasAsked (F.may_fail shelf.old) (script_names (option_map (λ f. f.now) file.entry))
+        (F.reads shelf.old) (F.reads shelf.new) }
+    ensures may { F.may_fail shelf.new ≡ F.may_fail shelf.old }
 {
     match file {
         None => Ok(Script::empty(alloc)),
@@ -81,13 +86,15 @@ fn script_in<'a, F: Shelf>(
     file: &'a str,
 ) -> Result<Script, Refusal<ScriptFault<'a>>>
     ensures script { IfOk result (IsScriptOf (F.told shelf.old) (Some file.now)) }
-    ensures refused { IfBecause result
-        (IsScriptFault (F.told shelf.old) (Rose (F.faults shelf.old) (F.faults shelf.new)) file.now) }
+    ensures refused { IfBecause result (IsScriptFault (F.told shelf.old)
+        (FailedAt (F.faults shelf.old) (F.faults shelf.new) (F.reads shelf.old) (F.reads shelf.new)) file.now) }
     ensures quiet { (F.faults shelf.new ≡ F.faults shelf.old) ⊎ MatchRefusal result (λ _. ⊥) IsUnreadable }
     ensures same { F.told shelf.new ≡ F.told shelf.old }
     ensures later { F.faults shelf.old ≤ F.faults shelf.new }
+    ensures asked { HasAsked (F.may_fail shelf.old) (file.now ∷ []) (F.reads shelf.old) (F.reads shelf.new) }
+    ensures may { F.may_fail shelf.new ≡ F.may_fail shelf.old }
 {
-    match shelf.read_all(alloc, file, SCRIPT_BYTES) {
+    match read_file(alloc, shelf, file, SCRIPT_BYTES) {
         Ok(text) => script_said(alloc, &text),
         Err(ShelfFault::Absent) => refuse(ScriptFault::Absent { file }),
         Err(ShelfFault::TooLong) => refuse(ScriptFault::TooLong { file }),

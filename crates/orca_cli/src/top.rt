@@ -1,10 +1,12 @@
 //! The top call.
 
-ghost use Rattle.std.specs.Prelude.{◌≡◌, ◌⊎◌, ◌<◌, ◌≤◌, ℕ, List, None, IfNone, IfSome, OnErr, OnOk, Option, Some, length, map, option_map, string_bytes};
+ghost use Rattle.std.specs.Prelude.{◌≡◌, ◌⊎◌, ◌<◌, ◌≤◌, ◌++◌, ℕ, List, None, IfNone, IfSome, OnErr, OnOk, Option, Some};
+ghost use Rattle.std.specs.Prelude.{length, map, option_map, string_bytes};
 ghost use Rattle.command_line.specs.Asked.{IsRunWithin};
 ghost use Rattle.orca_base.specs.Refusal.{IfBecause};
 ghost use Rattle.orca_io.specs.Causes.{Rose};
 ghost use Rattle.orca_io.specs.Files.{File};
+ghost use Rattle.orca_io.specs.Reading.{FailedAt, FileRead, HasAsked};
 ghost use Rattle.link_rules.specs.Units.{Source};
 ghost use Rattle.accepted_law.specs.Limits.{IsWithinLimits};
 ghost use Rattle.meaning_rules.specs.Meanings.{computes_of, performs_of};
@@ -17,7 +19,7 @@ ghost use Rattle.run_loop.specs.Left.{run_of};
 ghost use Rattle.orca_cli.specs.Endings.{IsAnswer};
 ghost use Rattle.orca_cli.specs.Headline.{AreLoaded, AreUntouched, HaveObeyed, IsProgramRun, IsRun, IsRunOf, WasBegun, settings_of, wires_of};
 ghost use Rattle.command_files.specs.Sources.{Word};
-ghost use Rattle.orca_cli.specs.Job.{checks, deed_in, files_in, runs, script_in};
+ghost use Rattle.orca_cli.specs.Job.{checks, deed_in, files_in, named_in, runs, script_in, script_names};
 ghost use Rattle.orca_cli.specs.Laws.{RunLaws};
 ghost use Rattle.command_files.specs.Loaded.{IsFailed, IsLoadFault};
 ghost use Rattle.command_output.specs.Printed.{HasStopped};
@@ -56,9 +58,10 @@ use world_idle::{idle_ticks_are_counted, stretches_are_short};
 // Prints why files weren't read.
 fn said_unread<K: Sink>(alloc: Global, out: &mut K, fault: LoadFault<'_>) -> Ended
     ensures none { result.kept ≡ None }
-    ensures said { (words : List Word) (told : Option (List File)) (before now : ℕ) (files : List Word) → files_in words ≡ Some files →
-        IsLoadFault told (Rose before now) files fault.entry →
-        IsAnswer words told (Rose before now) (K.told out.old) (K.told out.new) result.status }
+    ensures said { (words : List Word) (told : Option (List File)) (before now : ℕ) (old new : List FileRead)
+        (files : List Word) → files_in words ≡ Some files →
+        IsLoadFault told (FailedAt before now old new) files fault.entry →
+        IsAnswer words told (FailedAt before now old new) (K.told out.old) (K.told out.new) result.status }
     ensures status { IsFailed fault.entry → (result.status ≡ READ_FAULT) ⊎ HasStopped result.status }
     ensures later { K.faults out.old ≤ K.faults out.new }
     ensures failed { result.status ≡ WRITE_FAULT → Rose (K.faults out.old) (K.faults out.new) }
@@ -70,9 +73,10 @@ fn said_unread<K: Sink>(alloc: Global, out: &mut K, fault: LoadFault<'_>) -> End
 // Prints why texts are no accepted program.
 fn said_refused<K: Sink>(alloc: Global, out: &mut K, fault: &ProgramFault) -> Ended
     ensures none { result.kept ≡ None }
-    ensures said { (words : List Word) (told : Option (List File)) (before now : ℕ) (files : List Word) (sources : List File) →
+    ensures said { (words : List Word) (told : Option (List File)) (before now : ℕ) (old new : List FileRead)
+        (files : List Word) (sources : List File) →
         files_in words ≡ Some files → AreRead told files sources → HasScript told words → IsProgramFault sources fault.now →
-        IsAnswer words told (Rose before now) (K.told out.old) (K.told out.new) result.status }
+        IsAnswer words told (FailedAt before now old new) (K.told out.old) (K.told out.new) result.status }
     ensures later { K.faults out.old ≤ K.faults out.new }
     ensures failed { result.status ≡ WRITE_FAULT → Rose (K.faults out.old) (K.faults out.new) }
     ensures stopped { K.faults out.old < K.faults out.new → HasStopped result.status }
@@ -100,9 +104,12 @@ fn check_files<F: Shelf, K: Sink>(
 ) -> Ended
     ensures none { result.kept ≡ None }
     ensures said { (words : List Word) → deed_in words ≡ Some (checks (map (λ f. f.now) files.now)) → IsAnswer words (F.told shelf.old)
-        (Rose (F.faults shelf.old) (F.faults shelf.new)) (K.told out.old) (K.told out.new) result.status }
+        (FailedAt (F.faults shelf.old) (F.faults shelf.new) (F.reads shelf.old) (F.reads shelf.new))
+        (K.told out.old) (K.told out.new) result.status }
     ensures same { F.told shelf.new ≡ F.told shelf.old }
     ensures read { F.faults shelf.old ≤ F.faults shelf.new }
+    ensures asked { HasAsked (F.may_fail shelf.old) (map (λ f. f.now) files.now) (F.reads shelf.old) (F.reads shelf.new) }
+    ensures may { F.may_fail shelf.new ≡ F.may_fail shelf.old }
     ensures read_fault { F.faults shelf.old < F.faults shelf.new → (result.status ≡ READ_FAULT) ⊎ HasStopped result.status }
     ensures later { K.faults out.old ≤ K.faults out.new }
     ensures failed { result.status ≡ WRITE_FAULT → Rose (K.faults out.old) (K.faults out.new) }
@@ -123,10 +130,11 @@ fn check_files<F: Shelf, K: Sink>(
 // Prints why the script of a run wasn't had.
 fn said_unscripted<K: Sink>(alloc: Global, out: &mut K, fault: ScriptFault<'_>) -> Ended
     ensures none { result.kept ≡ None }
-    ensures said { (words : List Word) (told : Option (List File)) (before now : ℕ) (files : List Word) (sources : List File) (script : Word) →
+    ensures said { (words : List Word) (told : Option (List File)) (before now : ℕ) (old new : List FileRead)
+        (files : List Word) (sources : List File) (script : Word) →
         files_in words ≡ Some files → AreRead told files sources → script_in words ≡ Some script →
-        IsScriptFault told (Rose before now) script fault.entry →
-        IsAnswer words told (Rose before now) (K.told out.old) (K.told out.new) result.status }
+        IsScriptFault told (FailedAt before now old new) script fault.entry →
+        IsAnswer words told (FailedAt before now old new) (K.told out.old) (K.told out.new) result.status }
     ensures status { IsUnreadable fault.entry → (result.status ≡ READ_FAULT) ⊎ HasStopped result.status }
     ensures later { K.faults out.old ≤ K.faults out.new }
     ensures failed { result.status ≡ WRITE_FAULT → Rose (K.faults out.old) (K.faults out.new) }
@@ -302,7 +310,8 @@ fn run_files<F: Shelf, K: Sink, W: Wire>(
     requires wires { (1 ≤ length wires.old) × (length wires.old ≤ 1000) }
     ensures refused { (words : List Word) →
         deed_in words ≡ Some (runs options (option_map (λ f. f.now) script.entry) (map (λ f. f.now) files.now)) →
-        IfNone result.kept (IsAnswer words (F.told shelf.old) (Rose (F.faults shelf.old) (F.faults shelf.new))
+        IfNone result.kept (IsAnswer words (F.told shelf.old)
+        (FailedAt (F.faults shelf.old) (F.faults shelf.new) (F.reads shelf.old) (F.reads shelf.new))
         (K.told out.old) (K.told out.new) result.status) }
     ensures kept { (words : List Word) →
         deed_in words ≡ Some (runs options (option_map (λ f. f.now) script.entry) (map (λ f. f.now) files.now)) →
@@ -314,6 +323,9 @@ fn run_files<F: Shelf, K: Sink, W: Wire>(
         (wires_of W.told W.rule W.loaded wires.old) (wires_of W.told W.rule W.loaded wires.new)) }
     ensures same { F.told shelf.new ≡ F.told shelf.old }
     ensures read { F.faults shelf.old ≤ F.faults shelf.new }
+    ensures asked { HasAsked (F.may_fail shelf.old) (map (λ f. f.now) files.now ++ script_names (option_map (λ f. f.now) script.entry))
+        (F.reads shelf.old) (F.reads shelf.new) }
+    ensures may { F.may_fail shelf.new ≡ F.may_fail shelf.old }
     ensures read_fault { F.faults shelf.old < F.faults shelf.new → (result.status ≡ READ_FAULT) ⊎ HasStopped result.status }
     ensures later { K.faults out.old ≤ K.faults out.new }
     ensures failed { result.status ≡ WRITE_FAULT → Rose (K.faults out.old) (K.faults out.new) }
@@ -352,7 +364,8 @@ pub fn orca_main_over<F: Shelf, K: Sink, W: Wire>(
 ) -> Ended
     requires wires { (1 ≤ length wires.old) × (length wires.old ≤ 1000) }
     ensures refused { IfNone result.kept (IsAnswer (map string_bytes words.now) (F.told shelf.old)
-        (Rose (F.faults shelf.old) (F.faults shelf.new)) (K.told out.old) (K.told out.new) result.status) }
+        (FailedAt (F.faults shelf.old) (F.faults shelf.new) (F.reads shelf.old) (F.reads shelf.new))
+        (K.told out.old) (K.told out.new) result.status) }
     ensures untouched { IfNone result.kept (AreUntouched (map string_bytes words.now) (F.told shelf.old) result.status
         (wires_of W.told W.rule W.loaded wires.old) (wires_of W.told W.rule W.loaded wires.new)) }
     ensures headline { IfSome result.kept (λ k. IsRunOf (map string_bytes words.now) (F.told shelf.old) k result.status
@@ -363,6 +376,8 @@ pub fn orca_main_over<F: Shelf, K: Sink, W: Wire>(
     ensures same { F.told shelf.new ≡ F.told shelf.old }
     ensures read_fault { F.faults shelf.old < F.faults shelf.new → (result.status ≡ READ_FAULT) ⊎ HasStopped result.status }
     ensures read { F.faults shelf.old ≤ F.faults shelf.new }
+    ensures asked { HasAsked (F.may_fail shelf.old) (named_in (map string_bytes words.now)) (F.reads shelf.old) (F.reads shelf.new) }
+    ensures may { F.may_fail shelf.new ≡ F.may_fail shelf.old }
     ensures written { K.faults out.old ≤ K.faults out.new }
 {
     match job_of(alloc, words) {
@@ -404,7 +419,8 @@ pub fn orca_main<F: Shelf, K: Sink>(
     // Nothing is kept: an ending by its cause, with its line, or want of memory. What the wires tell, their scripts, and when these were loaded,
     // are as before, unless memory lacked for the run that the words name: then that was begun.
     ensures refused { IfNone result.kept (IsAnswer (map string_bytes words.now) (F.told shelf.old)
-        (Rose (F.faults shelf.old) (F.faults shelf.new)) (K.told out.old) (K.told out.new) result.status) }
+        (FailedAt (F.faults shelf.old) (F.faults shelf.new) (F.reads shelf.old) (F.reads shelf.new))
+        (K.told out.old) (K.told out.new) result.status) }
     ensures untouched { IfNone result.kept (AreUntouched (map string_bytes words.now) (F.told shelf.old) result.status
         (wires_of (λ b. (Wire-box b).told b.value) (λ b. (Wire-box b).rule b.value) (λ b. (Wire-box b).loaded b.value)
         wires.old.items)
@@ -428,6 +444,10 @@ pub fn orca_main<F: Shelf, K: Sink>(
 
     // A read fault is told only where the shelf's count of faults rose; and where it rose, that is told, unless its line couldn't be.
     ensures read_fault { F.faults shelf.old < F.faults shelf.new → (result.status ≡ READ_FAULT) ⊎ HasStopped result.status }
+
+    // The shelf is asked for the files that the words name and for no other, in their order, up to the first that isn't read.
+    ensures asked { HasAsked (F.may_fail shelf.old) (named_in (map string_bytes words.now)) (F.reads shelf.old) (F.reads shelf.new) }
+    ensures may { F.may_fail shelf.new ≡ F.may_fail shelf.old }
 
     // The counts of faults don't fall.
     ensures read { F.faults shelf.old ≤ F.faults shelf.new }

@@ -95,13 +95,13 @@ two_left words files status old new kept before wires is untouched ran = sym (le
     by None (inr lacked) none = lacked.begun.told.count
     by (Some k) none run = run.run.run.told.count
 
-pub is_served : (words : List Word) (files : Option (List File)) (rose : Type 0) (old new : Option (List ℕ)) (status : ℕ) (kept : Option Kept) (before : Wires) (wires : List Wired) → before ≡ fresh → AreTwo wires →
-    IfNone kept (IsAnswer words files rose old new status) → IfNone kept (AreUntouched words files status before (wired wires)) → IfSome kept (λ k. IsRunOf words files k status old new before (wired wires)) →
-    IsServed words files rose old new status
-is_served words files rose old new status kept before wires is both answer untouched ran = by kept answer untouched ran
+pub is_served : (words : List Word) (files : Option (List File)) (failed : Word → Type 0) (old new : Option (List ℕ)) (status : ℕ) (kept : Option Kept) (before : Wires) (wires : List Wired) → before ≡ fresh → AreTwo wires →
+    IfNone kept (IsAnswer words files failed old new status) → IfNone kept (AreUntouched words files status before (wired wires)) → IfSome kept (λ k. IsRunOf words files k status old new before (wired wires)) →
+    IsServed words files failed old new status
+is_served words files failed old new status kept before wires is both answer untouched ran = by kept answer untouched ran
   where
-    by : (kept : Option Kept) → IfNone kept (IsAnswer words files rose old new status) → IfNone kept (AreUntouched words files status before (wired wires)) →
-        IfSome kept (λ k. IsRunOf words files k status old new before (wired wires)) → IsServed words files rose old new status
+    by : (kept : Option Kept) → IfNone kept (IsAnswer words files failed old new status) → IfNone kept (AreUntouched words files status before (wired wires)) →
+        IfSome kept (λ k. IsRunOf words files k status old new before (wired wires)) → IsServed words files failed old new status
     by None answer untouched none =
         let same = subst (λ (b : Wires). AreUntouched words files status b (wired wires)) is untouched in
         serves.ended (wired wires) (have_answered wires both (still_untouched words files status (wired wires) same)) answer same
@@ -110,5 +110,5 @@ is_served words files rose old new status kept before wires is both answer untou
         serves.ran k (wired wires) (have_answered wires both (still_loaded same.lines (wired wires) same.loaded)) same
 
 -- where there was no memory for the wires
-pub none_made : (words : List Word) (files : Option (List File)) (rose : Type 0) (old : Option (List ℕ)) (status : ℕ) → IsAnswer words files rose old old status → IsServed words files rose old old status
-none_made words files rose old status answer = serves.ended fresh (record { first = []; second = []; lines = []; told = refl; rules = refl; answered = tt; passed = tt }) answer (inl refl)
+pub none_made : (words : List Word) (files : Option (List File)) (failed : Word → Type 0) (old : Option (List ℕ)) (status : ℕ) → IsAnswer words files failed old old status → IsServed words files failed old old status
+none_made words files failed old status answer = serves.ended fresh (record { first = []; second = []; lines = []; told = refl; rules = refl; answered = tt; passed = tt }) answer (inl refl)

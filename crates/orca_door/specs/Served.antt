@@ -36,8 +36,9 @@ pub record HaveAnswered (wires : Wires) : Type 0 where
 -- Nothing is kept: an ending by its cause with its line, or want of memory, over wires that are as they were made, unless memory lacked for
 -- the run that the words name. Or a run was kept, and is the one that the words ask for. Either way the wires answered so; where a run was
 -- begun, the lines of the first are those that the words name (`AreLoaded` of orca_cli)
-pub data IsServed (words : List Word) (files : Option (List File)) (rose : Type 0) (old new : Option (List ℕ)) (status : ℕ) : Type 0 where
-  ended : (after : Wires) → HaveAnswered after → IsAnswer words files rose old new status → AreUntouched words files status fresh after →
-      IsServed words files rose old new status
+pub data IsServed (words : List Word) (files : Option (List File)) (failed : Word → Type 0) (old new : Option (List ℕ)) (status : ℕ) :
+    Type 0 where
+  ended : (after : Wires) → HaveAnswered after → IsAnswer words files failed old new status → AreUntouched words files status fresh after →
+      IsServed words files failed old new status
   ran : (k : Kept) (after : Wires) → HaveAnswered after → IsRunOf words files k status old new fresh after →
-      IsServed words files rose old new status
+      IsServed words files failed old new status

@@ -3,6 +3,8 @@
 ghost use Rattle.std.specs.Prelude.{◌≡◌, ◌⊎◌, ◌<◌, ◌≤◌, IfOk, length, map, string_bytes};
 ghost use Rattle.command_output.specs.Printed.{HasStopped};
 ghost use Rattle.orca_io.specs.Causes.{Rose};
+ghost use Rattle.orca_io.specs.Reading.{FailedAt, HasAsked};
+ghost use Rattle.orca_cli.specs.Job.{named_in};
 ghost use Rattle.orca_door.specs.Obeying.{AreTwo};
 ghost use Rattle.orca_door.specs.Served.{IsServed, fresh, wired};
 
@@ -40,7 +42,8 @@ fn served<F: Shelf, K: Sink>(
     wires: &mut [ScriptWire],
 ) -> u8
     requires { wired wires.old ≡ fresh }
-    ensures served { IsServed (map string_bytes words.now) (F.told shelf.old) (Rose (F.faults shelf.old) (F.faults shelf.new))
+    ensures served { IsServed (map string_bytes words.now) (F.told shelf.old)
+        (FailedAt (F.faults shelf.old) (F.faults shelf.new) (F.reads shelf.old) (F.reads shelf.new))
         (K.told out.old) (K.told out.new) result }
     ensures write_fault { result ≡ WRITE_FAULT → Rose (K.faults out.old) (K.faults out.new) }
     ensures stopped { K.faults out.old < K.faults out.new → HasStopped result }
@@ -48,6 +51,8 @@ fn served<F: Shelf, K: Sink>(
     ensures read_fault { F.faults shelf.old < F.faults shelf.new → (result ≡ READ_FAULT) ⊎ HasStopped result }
     ensures read { F.faults shelf.old ≤ F.faults shelf.new }
     ensures written { K.faults out.old ≤ K.faults out.new }
+    ensures asked { HasAsked (F.may_fail shelf.old) (named_in (map string_bytes words.now)) (F.reads shelf.old) (F.reads shelf.new) }
+    ensures may { F.may_fail shelf.new ≡ F.may_fail shelf.old }
 {
     let ended = orca_main_over(alloc, words, shelf, out, wires);
     answered(wires);
@@ -60,7 +65,8 @@ fn served<F: Shelf, K: Sink>(
 /// none; the second, to which the script may swap, lets all pass. Where memory lacks for the wires, the status says so.
 pub fn serve<F: Shelf, K: Sink>(alloc: Global, words: &[String], shelf: &mut F, out: &mut K) -> u8
     // An ending by its cause, with its line, or want of memory; or the run that the words ask for, whose network answered by their script.
-    ensures served { IsServed (map string_bytes words.now) (F.told shelf.old) (Rose (F.faults shelf.old) (F.faults shelf.new))
+    ensures served { IsServed (map string_bytes words.now) (F.told shelf.old)
+        (FailedAt (F.faults shelf.old) (F.faults shelf.new) (F.reads shelf.old) (F.reads shelf.new))
         (K.told out.old) (K.told out.new) result }
 
     // A write fault is told only where the sink's count of faults rose; and where it rose, that or want of memory is told.
@@ -74,6 +80,10 @@ pub fn serve<F: Shelf, K: Sink>(alloc: Global, words: &[String], shelf: &mut F, 
     // The counts of faults don't fall.
     ensures read { F.faults shelf.old ≤ F.faults shelf.new }
     ensures written { K.faults out.old ≤ K.faults out.new }
+
+    // The shelf is asked for the files that the words name and for no other, in their order, up to the first that isn't read.
+    ensures asked { HasAsked (F.may_fail shelf.old) (named_in (map string_bytes words.now)) (F.reads shelf.old) (F.reads shelf.new) }
+    ensures may { F.may_fail shelf.new ≡ F.may_fail shelf.old }
 {
     match two_wires(alloc) {
         Ok(mut wires) => served(alloc, words, shelf, out, &mut wires),

@@ -3,6 +3,7 @@
 ghost use Rattle.std.specs.Prelude.{◌≡◌, ◌⊎◌, ◌<◌, ◌≤◌, ℕ, List, Option};
 ghost use Rattle.orca_io.specs.Causes.{Rose};
 ghost use Rattle.orca_io.specs.Files.{File};
+ghost use Rattle.orca_io.specs.Reading.{FailedAt, FileRead};
 ghost use Rattle.link_rules.specs.Units.{Source};
 ghost use Rattle.orca_front.specs.Sources.{IsAccepted, IsFault};
 ghost use Rattle.program_limits.specs.Passed.{Passes};
@@ -21,9 +22,9 @@ use std::alloc::Global;
 
 /// Says why the files weren't read, and gives the status.
 pub fn say_unread<K: Sink>(alloc: Global, out: &mut K, fault: ReplayFault<'_>) -> u8
-    ensures said { (told : Option (List File)) (before now : ℕ) (history : Word) (files : List Word) →
-        IsReplayFault told (Rose before now) history files fault.entry →
-        IsReplayAnswer told (Rose before now) history files (K.told out.old) (K.told out.new) result }
+    ensures said { (told : Option (List File)) (before now : ℕ) (old new : List FileRead) (history : Word) (files : List Word) →
+        IsReplayFault told (FailedAt before now old new) history files fault.entry →
+        IsReplayAnswer told (FailedAt before now old new) history files (K.told out.old) (K.told out.new) result }
 
     // A read fault is told, unless its line couldn't be.
     ensures status { IsUnreadable fault.entry → (result ≡ READ_FAULT) ⊎ HasStopped result }
@@ -36,9 +37,9 @@ pub fn say_unread<K: Sink>(alloc: Global, out: &mut K, fault: ReplayFault<'_>) -
 
 /// Says why the texts, all of which were read, are no program that is accepted, and gives the status.
 pub fn say_refused<K: Sink>(alloc: Global, out: &mut K, fault: &FrontFault) -> u8
-    ensures said { (told : Option (List File)) (before now : ℕ) (history : Word) (files : List Word) (sources : List File) (text : List ℕ) →
-        HasRead told history files sources text → IsFault sources fault.now →
-        IsReplayAnswer told (Rose before now) history files (K.told out.old) (K.told out.new) result }
+    ensures said { (told : Option (List File)) (before now : ℕ) (old new : List FileRead) (history : Word) (files : List Word)
+        (sources : List File) (text : List ℕ) → HasRead told history files sources text → IsFault sources fault.now →
+        IsReplayAnswer told (FailedAt before now old new) history files (K.told out.old) (K.told out.new) result }
     ensures later { K.faults out.old ≤ K.faults out.new }
     ensures failed { result ≡ WRITE_FAULT → Rose (K.faults out.old) (K.faults out.new) }
     ensures stopped { K.faults out.old < K.faults out.new → HasStopped result }
@@ -48,9 +49,9 @@ pub fn say_refused<K: Sink>(alloc: Global, out: &mut K, fault: &FrontFault) -> u
 
 /// Says which limit the program passes, which is accepted else, and gives the status.
 pub fn say_limited<K: Sink>(alloc: Global, out: &mut K, passed: PassedLimit) -> u8
-    ensures said { (told : Option (List File)) (before now : ℕ) (history : Word) (files : List Word) (sources : List File) (text : List ℕ)
-        (units : List Source) → HasRead told history files sources text → IsAccepted sources units → Passes units passed →
-        IsReplayAnswer told (Rose before now) history files (K.told out.old) (K.told out.new) result }
+    ensures said { (told : Option (List File)) (before now : ℕ) (old new : List FileRead) (history : Word) (files : List Word)
+        (sources : List File) (text : List ℕ) (units : List Source) → HasRead told history files sources text → IsAccepted sources units → Passes units passed →
+        IsReplayAnswer told (FailedAt before now old new) history files (K.told out.old) (K.told out.new) result }
     ensures later { K.faults out.old ≤ K.faults out.new }
     ensures failed { result ≡ WRITE_FAULT → Rose (K.faults out.old) (K.faults out.new) }
     ensures stopped { K.faults out.old < K.faults out.new → HasStopped result }

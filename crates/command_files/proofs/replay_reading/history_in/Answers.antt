@@ -8,7 +8,10 @@ returns-in-Ok g c =
     record {
       read = read_is (g.F.Shelf.told c.args.shelf.now) _ c.args.file.now c.in-Ok.text.items read.reads (omega (arith, read.within));
       refused = tt;
-      quiet = inl (c.read_all.ensures.quiet (λ h. absurd (cc (c.in-Ok.is, h))));
-      same = c.read_all.ensures.same;
-      later = c.read_all.ensures.later;
+      quiet = inl (c.read_file.ensures.quiet (λ h. absurd (cc (c.in-Ok.is, h))));
+      same = c.read_file.ensures.same;
+      later = c.read_file.ensures.later;
+      had = read.had;
+      asked = c.read_file.ensures.asked;
+      may = c.read_file.ensures.may;
     }

@@ -1,5 +1,5 @@
-use Rattle.orca_io.specs.Causes.{Rose}
 use Rattle.orca_cli.proofs.EndingsOnce.{ending_apart, ending_once, ending_quiet, named_once}
+use Rattle.orca_io.specs.Reading.{FailedAt}
 use Rattle.orca_cli.proofs.laws.endings_law.Goals as goal
 
 pub returns-clause-once : goal.returns-clause-once
@@ -12,4 +12,4 @@ pub returns-clause-named : goal.returns-clause-named
 returns-clause-named c = λ words files units others lines more one two. named_once words files units others lines more one two
 
 pub returns-clause-quiet : goal.returns-clause-quiet
-returns-clause-quiet c = λ words told before now one a never h. ending_quiet words told (Rose before now) never one a h
+returns-clause-quiet c = λ words told before now old new one a never h. ending_quiet words told (FailedAt before now old new) never one a h

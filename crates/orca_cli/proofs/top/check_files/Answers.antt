@@ -7,7 +7,7 @@ use Rattle.orca_cli.proofs.top.check_files.Goals as goal
 
 pub returns-in-Err-Because-clause-said : goal.returns-in-Err-Because-clause-said
 returns-in-Err-Because-clause-said g c = λ words asked.
-    c.said_unread.ensures.said words _ _ _ _ (files_checked words _ asked) (rw c.in-Err-Because.field-0-is at c.in-Err-Because.ensures.refused)
+    c.said_unread.ensures.said words _ _ _ _ _ _ (files_checked words _ asked) (rw c.in-Err-Because.field-0-is at c.in-Err-Because.ensures.refused)
 
 pub returns-in-Ok-judged_sources-clause-said : goal.returns-in-Ok-judged_sources-clause-said
 returns-in-Ok-judged_sources-clause-said g c = λ words asked.
@@ -17,4 +17,4 @@ returns-in-Ok-judged_sources-clause-said g c = λ words asked.
 
 pub returns-in-Err-Because-judged_sources-clause-said : goal.returns-in-Err-Because-judged_sources-clause-said
 returns-in-Err-Because-judged_sources-clause-said g c = λ words asked.
-    c.said_refused.ensures.said words _ _ _ _ (map file_of c.in-Ok.sources.items) (files_checked words _ asked) c.in-Ok.ensures.read (has_none words _ _ asked) (rw (c.deref.ensures.value, c.in-Err-Because-judged_sources.field-0-is) at c.in-Err-Because-judged_sources.ensures.refused)
+    c.said_refused.ensures.said words _ _ _ _ _ _ (map file_of c.in-Ok.sources.items) (files_checked words _ asked) c.in-Ok.ensures.read (has_none words _ _ asked) (rw (c.deref.ensures.value, c.in-Err-Because-judged_sources.field-0-is) at c.in-Err-Because-judged_sources.ensures.refused)

@@ -1,6 +1,7 @@
 use Rattle.orca_cli.specs.Endings as because
 use Rattle.orca_cli.specs.Lines as lines
-use Rattle.orca_cli.proofs.CliLemmas.{answer_of, deed_is, deed_none, if_none, within_is}
+use Rattle.command_files.proofs.AskedFiles.{asked_none}
+use Rattle.orca_cli.proofs.CliLemmas.{answer_of, asked_words, deed_is, deed_none, if_none, within_is}
 use Rattle.orca_cli.proofs.top.orca_main_over.Goals as goal
 
 pub returns-in-Ok-Some-Says-clause-refused : goal.returns-in-Ok-Some-Says-clause-refused
@@ -29,3 +30,24 @@ returns-in-Ok-Some-Runs-clause-untouched g c =
 pub returns-in-Ok-Some-Runs-clause-headline : goal.returns-in-Ok-Some-Runs-clause-headline
 returns-in-Ok-Some-Runs-clause-headline g c =
     (rw c.deref-in-Ok-Some-Runs.ensures.value at c.run_files.ensures.kept) _ (deed_is _ _ _ _ c.in-Ok-Some-Runs.ensures.is c.in-Ok-Some-Runs.field-0-is c.in-Ok-Some-Runs.field-0-0-is)
+
+pub returns-in-Ok-Some-Says-clause-asked : goal.returns-in-Ok-Some-Says-clause-asked
+returns-in-Ok-Some-Says-clause-asked g c = asked_none _ _ _
+
+pub returns-in-Ok-None-clause-asked : goal.returns-in-Ok-None-clause-asked
+returns-in-Ok-None-clause-asked g c = asked_none _ _ _
+
+pub returns-in-Err-clause-asked : goal.returns-in-Err-clause-asked
+returns-in-Err-clause-asked g c = asked_none _ _ _
+
+pub returns-in-Ok-Some-Checks-clause-asked : goal.returns-in-Ok-Some-Checks-clause-asked
+returns-in-Ok-Some-Checks-clause-asked g c =
+    asked_words _ _ _ _ _ (deed_is _ _ _ _ c.in-Ok-Some-Checks.ensures.is c.in-Ok-Some-Checks.field-0-is c.in-Ok-Some-Checks.field-0-0-is) (rw c.deref-in-Ok-Some-Checks.ensures.value at c.check_files.ensures.asked)
+
+pub returns-in-Ok-Some-Runs-clause-asked : goal.returns-in-Ok-Some-Runs-clause-asked
+returns-in-Ok-Some-Runs-clause-asked g c =
+    asked_words _ _ _ _ _ (deed_is _ _ _ _ c.in-Ok-Some-Runs.ensures.is c.in-Ok-Some-Runs.field-0-is c.in-Ok-Some-Runs.field-0-0-is) (rw c.deref-in-Ok-Some-Runs.ensures.value at c.run_files.ensures.asked)
+
+pub returns-in-Ok-Some-Replays-clause-asked : goal.returns-in-Ok-Some-Replays-clause-asked
+returns-in-Ok-Some-Replays-clause-asked g c =
+    asked_words _ _ _ _ _ (deed_is _ _ _ _ c.in-Ok-Some-Replays.ensures.is c.in-Ok-Some-Replays.field-0-is c.in-Ok-Some-Replays.field-0-0-is) (rw c.deref-in-Ok-Some-Replays.ensures.value at c.replay.ensures.asked)

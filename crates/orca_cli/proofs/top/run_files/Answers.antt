@@ -1,30 +1,35 @@
 use Rattle.std.proofs.Common.{◌≡◌, ⊎_elim, inr, map, arith, refl, subst, sym}
 use Rattle.orca_front.specs.Sources.{IsAccepted, file_of}
-use Rattle.orca_io.specs.Causes.{Rose}
+use Rattle.orca_io.specs.Reading.{FailedAt}
 use Rattle.orca_cli.specs.Scripts.{IsUnreadable}
-use Rattle.command_files.proofs.ReadFiles.{only_left}
+use Rattle.command_files.proofs.AskedFiles.{asked_behind, asked_more}
+use Rattle.command_files.proofs.ReadFiles.{failed_since, only_left}
 use Rattle.orca_cli.specs.Programs.{units_of}
-use Rattle.orca_cli.proofs.CliLemmas.{files_run, has_script, if_none, is_program, unscripted_run}
+use Rattle.orca_cli.proofs.CliLemmas.{files_run, has_script, if_none, is_program, script_map, unscripted_run}
 use Rattle.orca_cli.proofs.HeadlineLemmas.{none_as, run_of_words, untouched_run}
 use Rattle.orca_cli.proofs.top.run_files.Goals as goal
 
 pub returns-in-Err-Because-clause-refused : goal.returns-in-Err-Because-clause-refused
 returns-in-Err-Because-clause-refused g c = λ words asked.
     if_none _ _
-    (c.said_unread.ensures.said words (g.F.Shelf.told c.args.shelf.now) (g.F.Shelf.faults c.args.shelf.now) (g.F.Shelf.faults c.sources.new.shelf) (map (λ f. f.now) c.args.files.now)
+    (c.said_unread.ensures.said words (g.F.Shelf.told c.args.shelf.now) (g.F.Shelf.faults c.args.shelf.now) (g.F.Shelf.faults c.sources.new.shelf) (g.F.Shelf.reads c.args.shelf.now) (g.F.Shelf.reads c.sources.new.shelf) (map (λ f. f.now) c.args.files.now)
     (files_run words _ c.args.options _ asked) (rw c.in-Err-Because.field-0-is (rw c.in-Err-Because.field-0-is at c.in-Err-Because.ensures.refused)))
 
 pub returns-in-Err-Because-script_of-clause-refused : goal.returns-in-Err-Because-script_of-clause-refused
 returns-in-Err-Because-script_of-clause-refused g c = λ words asked.
     let told = g.F.Shelf.told c.args.shelf.now in
     let before = g.F.Shelf.faults c.args.shelf.now in
+    let mid = g.F.Shelf.faults c.sources.new.shelf in
     let now = g.F.Shelf.faults c.script_of.new.shelf in
+    let old = g.F.Shelf.reads c.args.shelf.now in
+    let between = g.F.Shelf.reads c.sources.new.shelf in
+    let new = g.F.Shelf.reads c.script_of.new.shelf in
     let quiet = only_left c.in-Ok.ensures.quiet in
     if_none _ _
-    (unscripted_run words _ c.args.options _ told (Rose before now) c.in-Err-Because-script_of.cause _ asked
-    (rw (c.sources.ensures.same, quiet, c.in-Err-Because-script_of.field-0-is) at c.in-Err-Because-script_of.ensures.refused)
-    (λ name named fault. c.said_unscripted.ensures.said words told before now (map (λ f. f.now) c.args.files.now) (map file_of c.in-Ok.sources.items) name (files_run words _ c.args.options _ asked) c.in-Ok.ensures.read named
-    (rw c.in-Err-Because-script_of.field-0-is fault)))
+    (unscripted_run words _ c.args.options _ told (FailedAt mid now between new) c.in-Err-Because-script_of.cause _ asked
+    (rw (c.sources.ensures.same, c.in-Err-Because-script_of.field-0-is) at c.in-Err-Because-script_of.ensures.refused)
+    (λ name named fault. c.said_unscripted.ensures.said words told before now old new (map (λ f. f.now) c.args.files.now) (map file_of c.in-Ok.sources.items) name (files_run words _ c.args.options _ asked) c.in-Ok.ensures.read named
+    (rw c.in-Err-Because-script_of.field-0-is (script_map told (FailedAt mid now between new) (FailedAt before now old new) name c.in-Err-Because-script_of.cause (failed_since before mid now old between new _ name quiet c.in-Ok.ensures.had) fault))))
 
 pub returns-in-Err-Because-script_of-clause-read_fault : goal.returns-in-Err-Because-script_of-clause-read_fault
 returns-in-Err-Because-script_of-clause-read_fault g c = λ rose.
@@ -38,7 +43,7 @@ pub returns-in-Err-Because-linked_program-clause-refused : goal.returns-in-Err-B
 returns-in-Err-Because-linked_program-clause-refused g c = λ words asked.
     let told = g.F.Shelf.told c.args.shelf.now in
     if_none _ _
-    (c.said_refused.ensures.said words told (g.F.Shelf.faults c.args.shelf.now) (g.F.Shelf.faults c.script_of.new.shelf) (map (λ f. f.now) c.args.files.now) (map file_of c.in-Ok.sources.items)
+    (c.said_refused.ensures.said words told (g.F.Shelf.faults c.args.shelf.now) (g.F.Shelf.faults c.script_of.new.shelf) (g.F.Shelf.reads c.args.shelf.now) (g.F.Shelf.reads c.script_of.new.shelf) (map (λ f. f.now) c.args.files.now) (map file_of c.in-Ok.sources.items)
     (files_run words _ c.args.options _ asked) c.in-Ok.ensures.read (has_script words _ _ c.args.options _ c.in-Ok-script_of.script asked (rw c.sources.ensures.same at c.in-Ok-script_of.ensures.script))
     (rw c.in-Err-Because-linked_program.field-0-is (rw (c.deref.ensures.value, c.in-Err-Because-linked_program.field-0-is) at c.in-Err-Because-linked_program.ensures.refused)))
 
@@ -46,7 +51,7 @@ pub returns-in-Err-Because-machine_of-clause-refused : goal.returns-in-Err-Becau
 returns-in-Err-Because-machine_of-clause-refused g c = λ words asked.
     let told = g.F.Shelf.told c.args.shelf.now in
     if_none _ _
-    (c.said_refused-in-Err-Because-machine_of.ensures.said words told (g.F.Shelf.faults c.args.shelf.now) (g.F.Shelf.faults c.script_of.new.shelf) (map (λ f. f.now) c.args.files.now) (map file_of c.in-Ok.sources.items)
+    (c.said_refused-in-Err-Because-machine_of.ensures.said words told (g.F.Shelf.faults c.args.shelf.now) (g.F.Shelf.faults c.script_of.new.shelf) (g.F.Shelf.reads c.args.shelf.now) (g.F.Shelf.reads c.script_of.new.shelf) (map (λ f. f.now) c.args.files.now) (map file_of c.in-Ok.sources.items)
     (files_run words _ c.args.options _ asked) c.in-Ok.ensures.read (has_script words _ _ c.args.options _ c.in-Ok-script_of.script asked (rw c.sources.ensures.same at c.in-Ok-script_of.ensures.script))
     (rw c.in-Err-Because-machine_of.field-0-is (rw c.in-Err-Because-machine_of.field-0-is at c.in-Err-Because-machine_of.ensures.refused (map file_of c.in-Ok.sources.items) (rw c.deref.ensures.value at c.in-Ok-linked_program.ensures.program))))
 
@@ -88,3 +93,37 @@ returns-clause-untouched g c = λ words asked.
       script_has = rw c.sources.ensures.same at c.in-Ok-script_of.ensures.script;
     })
     refl c.run_program.ensures.none c.run_program.ensures.untouched
+
+pub returns-in-Err-Because-clause-asked : goal.returns-in-Err-Because-clause-asked
+returns-in-Err-Because-clause-asked g c = asked_more _ _ _ _ _ c.sources.ensures.asked
+
+pub returns-in-Err-NoMemory-clause-asked : goal.returns-in-Err-NoMemory-clause-asked
+returns-in-Err-NoMemory-clause-asked g c = asked_more _ _ _ _ _ c.sources.ensures.asked
+
+pub returns-in-Err-Because-script_of-clause-asked : goal.returns-in-Err-Because-script_of-clause-asked
+returns-in-Err-Because-script_of-clause-asked g c =
+    asked_behind _ _ _ _ _ (map file_of c.in-Ok.sources.items) _ _ _ c.sources.ensures.may c.in-Ok.ensures.read c.in-Ok.ensures.had c.script_of.ensures.asked
+
+pub returns-in-Err-NoMemory-script_of-clause-asked : goal.returns-in-Err-NoMemory-script_of-clause-asked
+returns-in-Err-NoMemory-script_of-clause-asked g c =
+    asked_behind _ _ _ _ _ (map file_of c.in-Ok.sources.items) _ _ _ c.sources.ensures.may c.in-Ok.ensures.read c.in-Ok.ensures.had c.script_of.ensures.asked
+
+pub returns-in-Err-Because-linked_program-clause-asked : goal.returns-in-Err-Because-linked_program-clause-asked
+returns-in-Err-Because-linked_program-clause-asked g c =
+    asked_behind _ _ _ _ _ (map file_of c.in-Ok.sources.items) _ _ _ c.sources.ensures.may c.in-Ok.ensures.read c.in-Ok.ensures.had c.script_of.ensures.asked
+
+pub returns-in-Err-NoMemory-linked_program-clause-asked : goal.returns-in-Err-NoMemory-linked_program-clause-asked
+returns-in-Err-NoMemory-linked_program-clause-asked g c =
+    asked_behind _ _ _ _ _ (map file_of c.in-Ok.sources.items) _ _ _ c.sources.ensures.may c.in-Ok.ensures.read c.in-Ok.ensures.had c.script_of.ensures.asked
+
+pub returns-in-Err-Because-machine_of-clause-asked : goal.returns-in-Err-Because-machine_of-clause-asked
+returns-in-Err-Because-machine_of-clause-asked g c =
+    asked_behind _ _ _ _ _ (map file_of c.in-Ok.sources.items) _ _ _ c.sources.ensures.may c.in-Ok.ensures.read c.in-Ok.ensures.had c.script_of.ensures.asked
+
+pub returns-in-Err-NoMemory-machine_of-clause-asked : goal.returns-in-Err-NoMemory-machine_of-clause-asked
+returns-in-Err-NoMemory-machine_of-clause-asked g c =
+    asked_behind _ _ _ _ _ (map file_of c.in-Ok.sources.items) _ _ _ c.sources.ensures.may c.in-Ok.ensures.read c.in-Ok.ensures.had c.script_of.ensures.asked
+
+pub returns-clause-asked : goal.returns-clause-asked
+returns-clause-asked g c =
+    asked_behind _ _ _ _ _ (map file_of c.in-Ok.sources.items) _ _ _ c.sources.ensures.may c.in-Ok.ensures.read c.in-Ok.ensures.had c.script_of.ensures.asked

@@ -1,3 +1,4 @@
+use Rattle.orca_io.specs.Reading.{FailedAt}
 use Rattle.orca_cli.specs.Endings as because
 use Rattle.orca_cli.specs.Programs.{program_line, program_status}
 use Rattle.orca_cli.proofs.CliLemmas.{answer_of, program_apart}
@@ -7,5 +8,5 @@ pub said-requires : goal.said-requires
 said-requires g c = rw c.status.ensures (program_apart c.args.fault.now)
 
 pub returns-clause-said : goal.returns-clause-said
-returns-clause-said g c = λ words told before now files sources asked read has is.
-    answer_of (λ l. l.items) c.line.result words told _ _ _ (program_status c.args.fault.now) _ (program_line c.args.fault.now) c.line.ensures (rw c.status.ensures at c.said.ensures.printed) c.said.ensures.silent (rw c.status.ensures at c.said.ensures.status) (because.refused files sources c.args.fault.now asked read has is)
+returns-clause-said g c = λ words told before now old new files sources asked read has is.
+    answer_of (λ l. l.items) c.line.result words told (FailedAt before now old new) _ _ (program_status c.args.fault.now) _ (program_line c.args.fault.now) c.line.ensures (rw c.status.ensures at c.said.ensures.printed) c.said.ensures.silent (rw c.status.ensures at c.said.ensures.status) (because.refused files sources c.args.fault.now asked read has is)
