@@ -13,7 +13,7 @@ use Rattle.orca_front.specs.declared.fault.FrontFault.TheVariants as fronts
 use Rattle.orca_front.specs.Sources.{IsAccepted, IsFault, IsLinkFault}
 use Rattle.orca_io.specs.declared.sink.SinkFault.{SinkFault}
 use Rattle.orca_io.specs.Files.{File}
-use Rattle.orca_io.specs.Reading.{FileRead, HasAsked}
+use Rattle.orca_io.specs.Reading.{FileRead, HasAsked, ReadSince}
 use Rattle.orca_io.specs.Sinks.{Puts}
 use Rattle.value_core.specs.History.{output_by, output_of}
 use Rattle.value_core.specs.declared.action.Line.{Line}
@@ -29,10 +29,12 @@ use Rattle.command_files.specs.Sources.{Word}
 use Rattle.orca_cli.specs.Job.{Deed, IsDeedWithin, checks, deed_in, deed_of, files_in, files_of, named_in, names_by, names_of, replays, runs, script_in, script_of}
 use Rattle.command_output.proofs.Putting.{GrewUpTo, grew_fault, grew_put}
 use Rattle.command_output.specs.Printed.{Grew, WroteOf, Ends, EndsAs}
-use Rattle.orca_cli.specs.Scripts.{HasScript, IsScriptFault, IsScriptOf, IsUnreadable, script_status}
-use Rattle.command_files.specs.Sources.{AreRead}
+use Rattle.orca_cli.specs.Scripts.{HasScript, IsScriptFault, IsScriptOf, IsScriptSince, IsUnreadable, script_status}
+use Rattle.command_files.specs.Sources.{AreRead, IsRead}
 use Rattle.orca_cli.specs.Programs.{IsProgram, program_status, units_of}
-use Rattle.command_files.proofs.ReadFiles.{refused_status}
+use Rattle.command_files.proofs.ReadFiles.{refused_status, since_none}
+use Rattle.fault_scripts.specs.Says.{IsScript}
+use Rattle.orca_base.specs.declared.limits.TheConstants.{SCRIPT_BYTES}
 use Rattle.replay_command.specs.Endings.{IsReplayAnswer}
 
 -- ---- what was printed
@@ -120,6 +122,15 @@ pub unscripted_run : (words files : List Word) (options : RunOptions) (script : 
     → MatchOption script ⊥ (λ name. IsScriptFault told failed name fault) → ((name : Word) → script_in words ≡ Some name → IsScriptFault told failed name fault → A) → A
 unscripted_run words files options None told failed fault A asked is so = absurd is
 unscripted_run words files options (Some name) told failed fault A asked is so = so name (script_run words files options (Some name) asked) is
+
+-- the script that was read since: none, or that of a file's text
+pub script_none : (told : Option (List File)) (reads : List FileRead) (lines : List ScriptLine) → lines ≡ [] → IsScriptSince told None reads reads lines
+script_none told reads lines none = (none, since_none reads)
+
+pub script_since : {E : Type 0} (r : Result (List ScriptLine) E) (told : Option (List File)) (file : Word) (text : List ℕ) (old new : List FileRead) → IsRead told SCRIPT_BYTES (file, text) → ReadSince old new ((file, Ok text) ∷ [])
+    → IfOk r (IsScript text) → IfOk r (IsScriptSince told (Some file) old new)
+script_since (Ok lines) told file text old new read since is = ((text, read, is), since)
+script_since (Err e) told file text old new read since is = tt
 
 -- by another cause of a failed read
 pub script_map : (told : Option (List File)) (failed other : Word → Type 0) (script : Word) (fault : ScriptFault) → (failed script → other script) → IsScriptFault told failed script fault → IsScriptFault told other script fault

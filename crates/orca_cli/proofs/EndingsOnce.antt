@@ -1,7 +1,9 @@
 -- Where files are told and no read failed, an ending without a run excludes the others, and a run; and the run that words name is one.
-use Rattle.std.proofs.Common.{◌≡◌, ℕ, List, Option, Some, None, option_and_then, refl, sym, ap, ◌∙◌, subst}
+use Rattle.std.proofs.Common.{◌≡◌, ℕ, List, ◌++◌, map, Option, Some, None, option_and_then, refl, sym, ap, ◌∙◌, subst}
+use Rattle.std.proofs.lemmas.List.{append_cancel_left}
 use Rattle.net_rules.specs.declared.line.ScriptLine.{ScriptLine}
 use Rattle.orca_io.specs.Files.{File}
+use Rattle.orca_io.specs.Reading.{FileRead, had}
 use Rattle.link_rules.specs.Units.{Source}
 use Rattle.orca_front.specs.Sources.{IsAccepted}
 use Rattle.command_files.specs.Loaded.{Never, IsLoadFault, load_line, load_status}
@@ -15,13 +17,14 @@ use Rattle.orca_cli.specs.Headline.{IsNamed}
 use Rattle.orca_cli.specs.Job.{Deed, checks, deed_in, files_of, replays, runs, says, script_of}
 use Rattle.orca_cli.specs.Lines.{ok_line, usage_line}
 use Rattle.orca_cli.specs.Programs.{IsProgram, IsProgramFault, program_line, program_status}
-use Rattle.orca_cli.specs.Scripts.{IsScriptFault, IsScriptOf, script_fault_line, script_status}
+use Rattle.orca_cli.specs.Scripts.{IsScriptFault, IsScriptOf, script_fault_line, script_read, script_status}
 use Rattle.orca_cli.specs.declared.program.ProgramFault.{ProgramFault}
 use Rattle.orca_cli.specs.declared.script.ScriptFault.{ScriptFault}
 use Rattle.orca_cli.proofs.FilesOnce.{SameEnd, load_apart, load_once, load_quiet, same_sources, some_apart, some_same}
 use Rattle.orca_cli.proofs.NamesOnce.{GiveTables}
 use Rattle.orca_cli.proofs.ProgramsOnce.{program_apart, program_once, same_program}
 use Rattle.orca_cli.proofs.ReplaysOnce.{replay_once, replay_quiet}
+use Rattle.orca_cli.proofs.SameReads.{read_same, same_lines}
 use Rattle.orca_cli.proofs.ScriptsOnce.{script_had, script_of_once, script_once, script_quiet}
 
 -- ---- endings, by what is done for the words
@@ -138,20 +141,35 @@ pub ending_once : GiveTables → (words : List Word) (shelf : List File) (one tw
 ending_once tables words shelf one two a b h k =
     ends_once tables shelf (deed_in words) one two a b (by_deed words shelf (deed_in words) one a refl h) (by_deed words shelf (deed_in words) two b refl k)
 
-pub ending_apart : (words : List Word) (shelf : List File) (us : List Source) (lines : List ScriptLine) (one : ℕ) (a : List ℕ) → IsEnding words (Some shelf) Never one a → IsNamed words (Some shelf) us lines → ⊥
-ending_apart words shelf us lines one a h named =
+pub ending_apart : (words : List Word) (shelf : List File) (old new : List FileRead) (us : List Source) (lines : List ScriptLine) (one : ℕ) (a : List ℕ) → IsEnding words (Some shelf) Never one a → IsNamed words (Some shelf) old new us lines → ⊥
+ending_apart words shelf old new us lines one a h named =
     run_apart shelf named.files named.script us lines one a named.program named.script_has (by_deed words shelf (Some (runs named.options named.script named.files)) one a named.asked h)
 
 -- ---- one run
 
-pub named_once : (words : List Word) (shelf : List File) (us vs : List Source) (lines more : List ScriptLine) → IsNamed words (Some shelf) us lines → IsNamed words (Some shelf) vs more → (us ≡ vs) × (lines ≡ more)
-named_once words shelf us vs lines more n m =
+pub named_once : (words : List Word) (shelf : List File) (old new was now : List FileRead) (us vs : List Source) (lines more : List ScriptLine) → IsNamed words (Some shelf) old new us lines → IsNamed words (Some shelf) was now vs more
+    → (us ≡ vs) × (lines ≡ more)
+named_once words shelf old new was now us vs lines more n m =
     let same : Some (runs n.options n.script n.files) ≡ Some (runs m.options m.script m.files) = sym n.asked ∙ m.asked in
     let files : n.files ≡ m.files = some_same n.files m.files (ap files_by same) in
     let script : n.script ≡ m.script = ap script_by same in
     let one = loaded_once shelf n.files us vs n.program (subst (λ (fs : List Word). IsProgram (Some shelf) fs vs) (sym files) m.program) in
     let two = script_of_once shelf n.script lines more n.script_has (subst (λ (o : Option Word). IsScriptOf (Some shelf) o more) (sym script) m.script_has) in
     (one, two)
+
+-- by what was read it is one, whatever is told
+pub read_once : (words : List Word) (told other : Option (List File)) (old new : List FileRead) (us vs : List Source) (lines more : List ScriptLine) → IsNamed words told old new us lines → IsNamed words other old new vs more
+    → (us ≡ vs) × (lines ≡ more)
+read_once words told other old new us vs lines more n m =
+    let same : Some (runs n.options n.script n.files) ≡ Some (runs m.options m.script m.files) = sym n.asked ∙ m.asked in
+    let files : n.files ≡ m.files = some_same n.files m.files (ap files_by same) in
+    let script : n.script ≡ m.script = ap script_by same in
+    let one = n.program.loaded in
+    let two = m.program.loaded in
+    let first = script_read told n.script lines n.script_has in
+    let second = script_read other m.script more m.script_has in
+    let reads = read_same one.0 two.0 first second (sym one.1.names ∙ files ∙ two.1.names) (append_cancel_left old (map had one.0 ++ first) (map had two.0 ++ second) (sym n.read ∙ m.read)) in
+    (same_program one.0 us vs one.2 (subst (λ (fs : List File). IsAccepted fs vs) (sym reads.0) two.2), same_lines told other n.script m.script lines more n.script_has m.script_has script reads.1)
 
 -- ---- where no read failed
 

@@ -8,6 +8,7 @@ use Rattle.command_line.specs.declared.request.RunOptions.{RunOptions}
 use Rattle.net_rules.specs.declared.asked.Asked.{Asked}
 use Rattle.net_rules.specs.declared.line.ScriptLine.{ScriptLine}
 use Rattle.orca_io.specs.Files.{File}
+use Rattle.orca_io.specs.Reading.{FileRead}
 use Rattle.link_rules.specs.Units.{Source}
 use Rattle.value_core.specs.History.{Legal, output_of}
 use Rattle.value_core.specs.Meaning.{Computes, Performs}
@@ -230,11 +231,11 @@ begun_so told rule loaded before after units options lines has more asked = reco
 -- ---- the run that the words ask for
 
 -- where nothing of it is kept
-pub untouched_run : {K : Type 0} (A : Type 0) (words : List Word) (files : Option (List File)) (units : List Source) (options : RunOptions) (lines : List ScriptLine) (o : Option K) (status : ℕ) (old new : Wires) (named : IsNamed words files units lines)
-    → named.options ≡ options → IfNone o ((status ≡ NO_MEMORY) × A) → IfNone o ((new ≡ old) ⊎ WasBegun units options lines old new) → IfNone o (AreUntouched words files status old new)
-untouched_run A words files units options lines (Some k) status old new named same lacked begun = tt
-untouched_run A words files units options lines None status old new named same lacked (inl kept) = inl kept
-untouched_run A words files units options lines None status old new named same lacked (inr begun) = inr (record {
+pub untouched_run : {K : Type 0} (A : Type 0) (words : List Word) (files : Option (List File)) (earlier later : List FileRead) (units : List Source) (options : RunOptions) (lines : List ScriptLine) (o : Option K) (status : ℕ) (old new : Wires)
+    (named : IsNamed words files earlier later units lines) → named.options ≡ options → IfNone o ((status ≡ NO_MEMORY) × A) → IfNone o ((new ≡ old) ⊎ WasBegun units options lines old new) → IfNone o (AreUntouched words files earlier later status old new)
+untouched_run A words files earlier later units options lines (Some k) status old new named same lacked begun = tt
+untouched_run A words files earlier later units options lines None status old new named same lacked (inl kept) = inl kept
+untouched_run A words files earlier later units options lines None status old new named same lacked (inr begun) = inr (record {
   status = lacked.0;
   units = units;
   lines = lines;
@@ -250,13 +251,13 @@ pub none_as : {T A B : Type 0} (o : Option T) → (A → B) → IfNone o A → I
 none_as None so a = so a
 none_as (Some x) so a = tt
 
-pub run_of_words : {W : Type 0} (told : W → List Asked) (rule : W → Rule) (loaded : W → ℕ) (before after : List W) (words : List Word) (files : Option (List File)) (units : List Source) (options : RunOptions) (lines : List ScriptLine)
-    (o : Option Kept) (status : ℕ) (old new : Option (List ℕ)) (named : IsNamed words files units lines) → named.options ≡ options
+pub run_of_words : {W : Type 0} (told : W → List Asked) (rule : W → Rule) (loaded : W → ℕ) (before after : List W) (words : List Word) (files : Option (List File)) (earlier later : List FileRead) (units : List Source) (options : RunOptions) (lines : List ScriptLine)
+    (o : Option Kept) (status : ℕ) (old new : Option (List ℕ)) (named : IsNamed words files earlier later units lines) → named.options ≡ options
     → IfSome o (λ k. IsProgramRun units options (length before) k status old new (map told before) (map told after))
     → IfSome o (λ k. AreLoaded lines (wires_of told rule loaded before) (wires_of told rule loaded after))
-    → IfSome o (λ k. IsRunOf words files k status old new (wires_of told rule loaded before) (wires_of told rule loaded after))
-run_of_words told rule loaded before after words files units options lines None status old new named same run has = tt
-run_of_words told rule loaded before after words files units options lines (Some k) status old new named same run has = record {
+    → IfSome o (λ k. IsRunOf words files earlier later k status old new (wires_of told rule loaded before) (wires_of told rule loaded after))
+run_of_words told rule loaded before after words files earlier later units options lines None status old new named same run has = tt
+run_of_words told rule loaded before after words files earlier later units options lines (Some k) status old new named same run has = record {
   units = units;
   lines = lines;
   named = named;

@@ -37,7 +37,7 @@ err_same x y e = cc
 ok_err : (x : List ScriptLine) (y : ScriptError) → says x ≡ wrong y → ⊥
 ok_err x y e = absurd cc
 
-lines_once : (text other : List ℕ) (x y : List ScriptLine) → text ≡ other → IsScript text x → IsScript other y → x ≡ y
+pub lines_once : (text other : List ℕ) (x y : List ScriptLine) → text ≡ other → IsScript text x → IsScript other y → x ≡ y
 lines_once text other x y same is was = ok_same x y (sym (again text x is) ∙ ap script_at same ∙ again other y was)
 
 error_once : (text other : List ℕ) (x y : ScriptError) → text ≡ other → IsRefusal text x → IsRefusal other y → x ≡ y

@@ -4,6 +4,7 @@ use Rattle.command_line.specs.declared.request.RunOptions.{RunOptions}
 use Rattle.net_rules.specs.declared.asked.Asked.{Asked}
 use Rattle.net_rules.specs.declared.line.ScriptLine.{ScriptLine}
 use Rattle.orca_io.specs.Files.{File}
+use Rattle.orca_io.specs.Reading.{FileRead, ReadSince, had}
 use Rattle.link_rules.specs.Units.{Source}
 use Rattle.meaning_rules.specs.Meanings.{computes_of, performs_of}
 use Rattle.program_names.specs.Naming.{AreNamesOf, CallsNamed}
@@ -35,7 +36,7 @@ use Rattle.orca_cli.specs.Kept.{IsEndOf, IsHistory}
 use Rattle.command_output.specs.Printed.{Ends, EndsAs, Grew}
 use Rattle.orca_cli.specs.Programs.{IsProgram}
 use Rattle.orca_cli.specs.Rows.{HasGoneWell, KeptRow, ShownRows}
-use Rattle.orca_cli.specs.Scripts.{IsScriptOf}
+use Rattle.orca_cli.specs.Scripts.{IsScriptOf, script_read}
 use Rattle.orca_cli.specs.Standings.{IsEndingLine, awaited_name, history_said, standing_status}
 
 -- ---- which run it is
@@ -51,15 +52,18 @@ settings_of options wires = record {
   choices = [];
 }
 
--- the words ask for the run of the accepted program in files, whose units are these, by these options; and the script in the file that they name,
--- where they name one, has these lines
-pub record IsNamed (words : List Word) (told : Option (List File)) (units : List Source) (lines : List ScriptLine) : Type 0 where
+-- The words ask for the run of the accepted program in files, whose units are these, by these options; and the script in the file that they
+-- name, where they name one, has these lines. Of a shelf that told the reads `old` before and tells `new`, the texts of that program were read,
+-- and behind them that of the script, and nothing else
+pub record IsNamed (words : List Word) (told : Option (List File)) (old new : List FileRead) (units : List Source)
+    (lines : List ScriptLine) : Type 0 where
   pub options : RunOptions
   pub script : Option Word
   pub files : List Word
   pub asked : deed_in words ≡ Some (runs options script files)
   pub program : IsProgram told files units
   pub script_has : IsScriptOf told script lines
+  pub read : ReadSince old new (map had program.loaded.0 ++ script_read told script lines script_has)
 
 -- ---- its wires
 
@@ -98,16 +102,17 @@ pub record WasBegun (units : List Source) (options : RunOptions) (lines : List S
   pub asked : WereAskedIn (run_of (performs_of units) (computes_of units) (settings_of options (length old.told))) old.told new.told
 
 -- memory lacked, and the run that the words name was begun
-pub record HasLacked (words : List Word) (files : Option (List File)) (code : ℕ) (old new : Wires) : Type 0 where
+pub record HasLacked (words : List Word) (files : Option (List File)) (earlier later : List FileRead) (code : ℕ) (old new : Wires) :
+    Type 0 where
   pub status : code ≡ NO_MEMORY
   pub units : List Source
   pub lines : List ScriptLine
-  pub named : IsNamed words files units lines
+  pub named : IsNamed words files earlier later units lines
   pub begun : WasBegun units named.options lines old new
 
 -- nothing is kept: what the wires tell, how they answer, their scripts, and when these were loaded, are as before; or memory lacked
-abbrev pub AreUntouched : List Word → Option (List File) → ℕ → Wires → Wires → Type 0
-AreUntouched words files status old new = (new ≡ old) ⊎ HasLacked words files status old new
+abbrev pub AreUntouched : List Word → Option (List File) → List FileRead → List FileRead → ℕ → Wires → Wires → Type 0
+AreUntouched words files earlier later status old new = (new ≡ old) ⊎ HasLacked words files earlier later status old new
 
 -- ---- the run
 
@@ -157,11 +162,11 @@ pub record IsProgramRun (units : List Source) (options : RunOptions) (wires : �
       (history_said options.history names) k status old new before after
   pub back : ReadsBack (performs_of units) (computes_of units) names k.book.items
 
--- it is the run that the words ask for, of the accepted program in files
-pub record IsRunOf (words : List Word) (files : Option (List File)) (k : Kept) (status : ℕ) (old new : Option (List ℕ))
-    (before after : Wires) : Type 0 where
+-- it is the run that the words ask for, of the accepted program whose texts were read
+pub record IsRunOf (words : List Word) (files : Option (List File)) (earlier later : List FileRead) (k : Kept) (status : ℕ)
+    (old new : Option (List ℕ)) (before after : Wires) : Type 0 where
   pub units : List Source
   pub lines : List ScriptLine
-  pub named : IsNamed words files units lines
+  pub named : IsNamed words files earlier later units lines
   pub run : IsProgramRun units named.options (length before.told) k status old new before.told after.told
   pub loaded : AreLoaded lines before after

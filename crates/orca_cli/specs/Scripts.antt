@@ -1,10 +1,11 @@
 -- The script of a run: what the text in its file says, or nothing where there is none (docs/RUNTIME.md, Fault scripts).
-use Rattle.std.specs.Prelude.{◌≡◌, ℕ, List, [], Option, None, Some, codes}
+use Rattle.std.specs.Prelude.{◌≡◌, ℕ, List, [], ◌∷◌, Option, None, Some, codes}
 use Rattle.fault_scripts.specs.Says.{IsScript}
 use Rattle.fault_scripts.specs.Script.{IsRefusal}
 use Rattle.net_rules.specs.declared.line.ScriptLine.{ScriptLine}
 use Rattle.orca_base.specs.declared.limits.TheConstants.{SCRIPT_BYTES}
 use Rattle.orca_io.specs.Files.{File}
+use Rattle.orca_io.specs.Reading.{FileRead, ReadSince, had}
 use Rattle.orca_front.specs.Lines.{limit_line}
 use Rattle.orca_cli.specs.declared.script.ScriptFault.{ScriptFault}
 use Rattle.orca_cli.specs.declared.script.ScriptFault.TheVariants.{Absent, Bad, Failed, TooLong}
@@ -20,6 +21,16 @@ use Rattle.command_files.specs.Sources.{IsRead}
 abbrev pub IsScriptOf : Option (List File) → Option Word → List ScriptLine → Type 0
 IsScriptOf told None lines = lines ≡ []
 IsScriptOf told (Some file) lines = (text : List ℕ) × IsRead told SCRIPT_BYTES (file, text) × IsScript text lines
+
+-- what is read for it: that file, with its text
+abbrev pub script_read : (told : Option (List File)) (script : Option Word) (lines : List ScriptLine) → IsScriptOf told script lines →
+    List FileRead
+script_read told None lines has = []
+script_read told (Some file) lines has = had (file, has.0) ∷ []
+
+-- it is that of the text which was read since, and nothing else was read
+abbrev pub IsScriptSince : Option (List File) → Option Word → List FileRead → List FileRead → List ScriptLine → Type 0
+IsScriptSince told script old new lines = (has : IsScriptOf told script lines) × ReadSince old new (script_read told script lines has)
 
 -- the words name no file of a script, or one that has a script
 abbrev pub HasScript : Option (List File) → List Word → Type 0

@@ -5,7 +5,7 @@ ghost use Rattle.fault_scripts.specs.Says.{IsScript};
 ghost use Rattle.orca_base.specs.Refusal.{IfBecause, MatchRefusal};
 ghost use Rattle.orca_io.specs.Reading.{FailedAt, HasAsked};
 ghost use Rattle.orca_cli.specs.Job.{script_names};
-ghost use Rattle.orca_cli.specs.Scripts.{IsScriptFault, IsScriptOf, IsUnreadable, IsWrong, script_fault_line, script_status};
+ghost use Rattle.orca_cli.specs.Scripts.{IsScriptFault, IsScriptOf, IsScriptSince, IsUnreadable, IsWrong, script_fault_line, script_status};
 
 use crate::lines::script_line;
 use command_files::{absent_line, read_file, unread_line};
@@ -63,6 +63,8 @@ pub fn script_of<'a, F: Shelf>(
     file: Option<&'a str>,
 ) -> Result<Script, Refusal<ScriptFault<'a>>>
     ensures script { IfOk result (IsScriptOf (F.told shelf.old) (option_map (λ f. f.now) file.entry)) }
+    ensures had { IfOk result (IsScriptSince (F.told shelf.old) (option_map (λ f. f.now) file.entry)
+        (F.reads shelf.old) (F.reads shelf.new)) }
     ensures refused { IfBecause result (λ fault. MatchOption (option_map (λ f. f.now) file.entry) ⊥ (λ name.
         IsScriptFault (F.told shelf.old)
         (FailedAt (F.faults shelf.old) (F.faults shelf.new) (F.reads shelf.old) (F.reads shelf.new)) name fault)) }
@@ -86,6 +88,7 @@ fn script_in<'a, F: Shelf>(
     file: &'a str,
 ) -> Result<Script, Refusal<ScriptFault<'a>>>
     ensures script { IfOk result (IsScriptOf (F.told shelf.old) (Some file.now)) }
+    ensures had { IfOk result (IsScriptSince (F.told shelf.old) (Some file.now) (F.reads shelf.old) (F.reads shelf.new)) }
     ensures refused { IfBecause result (IsScriptFault (F.told shelf.old)
         (FailedAt (F.faults shelf.old) (F.faults shelf.new) (F.reads shelf.old) (F.reads shelf.new)) file.now) }
     ensures quiet { (F.faults shelf.new ≡ F.faults shelf.old) ⊎ MatchRefusal result (λ _. ⊥) IsUnreadable }

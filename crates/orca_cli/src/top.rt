@@ -315,11 +315,12 @@ fn run_files<F: Shelf, K: Sink, W: Wire>(
         (K.told out.old) (K.told out.new) result.status) }
     ensures kept { (words : List Word) →
         deed_in words ≡ Some (runs options (option_map (λ f. f.now) script.entry) (map (λ f. f.now) files.now)) →
-        IfSome result.kept (λ k. IsRunOf words (F.told shelf.old) k result.status (K.told out.old) (K.told out.new)
+        IfSome result.kept (λ k. IsRunOf words (F.told shelf.old) (F.reads shelf.old) (F.reads shelf.new) k result.status
+        (K.told out.old) (K.told out.new)
         (wires_of W.told W.rule W.loaded wires.old) (wires_of W.told W.rule W.loaded wires.new)) }
     ensures untouched { (words : List Word) →
         deed_in words ≡ Some (runs options (option_map (λ f. f.now) script.entry) (map (λ f. f.now) files.now)) →
-        IfNone result.kept (AreUntouched words (F.told shelf.old) result.status
+        IfNone result.kept (AreUntouched words (F.told shelf.old) (F.reads shelf.old) (F.reads shelf.new) result.status
         (wires_of W.told W.rule W.loaded wires.old) (wires_of W.told W.rule W.loaded wires.new)) }
     ensures same { F.told shelf.new ≡ F.told shelf.old }
     ensures read { F.faults shelf.old ≤ F.faults shelf.new }
@@ -366,10 +367,11 @@ pub fn orca_main_over<F: Shelf, K: Sink, W: Wire>(
     ensures refused { IfNone result.kept (IsAnswer (map string_bytes words.now) (F.told shelf.old)
         (FailedAt (F.faults shelf.old) (F.faults shelf.new) (F.reads shelf.old) (F.reads shelf.new))
         (K.told out.old) (K.told out.new) result.status) }
-    ensures untouched { IfNone result.kept (AreUntouched (map string_bytes words.now) (F.told shelf.old) result.status
+    ensures untouched { IfNone result.kept (AreUntouched (map string_bytes words.now) (F.told shelf.old)
+        (F.reads shelf.old) (F.reads shelf.new) result.status
         (wires_of W.told W.rule W.loaded wires.old) (wires_of W.told W.rule W.loaded wires.new)) }
-    ensures headline { IfSome result.kept (λ k. IsRunOf (map string_bytes words.now) (F.told shelf.old) k result.status
-        (K.told out.old) (K.told out.new)
+    ensures headline { IfSome result.kept (λ k. IsRunOf (map string_bytes words.now) (F.told shelf.old)
+        (F.reads shelf.old) (F.reads shelf.new) k result.status (K.told out.old) (K.told out.new)
         (wires_of W.told W.rule W.loaded wires.old) (wires_of W.told W.rule W.loaded wires.new)) }
     ensures write_fault { result.status ≡ WRITE_FAULT → Rose (K.faults out.old) (K.faults out.new) }
     ensures stopped { K.faults out.old < K.faults out.new → HasStopped result.status }
@@ -421,17 +423,18 @@ pub fn orca_main<F: Shelf, K: Sink>(
     ensures refused { IfNone result.kept (IsAnswer (map string_bytes words.now) (F.told shelf.old)
         (FailedAt (F.faults shelf.old) (F.faults shelf.new) (F.reads shelf.old) (F.reads shelf.new))
         (K.told out.old) (K.told out.new) result.status) }
-    ensures untouched { IfNone result.kept (AreUntouched (map string_bytes words.now) (F.told shelf.old) result.status
+    ensures untouched { IfNone result.kept (AreUntouched (map string_bytes words.now) (F.told shelf.old)
+        (F.reads shelf.old) (F.reads shelf.new) result.status
         (wires_of (λ b. (Wire-box b).told b.value) (λ b. (Wire-box b).rule b.value) (λ b. (Wire-box b).loaded b.value)
         wires.old.items)
         (wires_of (λ b. (Wire-box b).told b.value) (λ b. (Wire-box b).rule b.value) (λ b. (Wire-box b).loaded b.value)
         wires.new.items)) }
 
-    // A kept run is one of the program that the words name, by their numbers: a history of it in the source's meaning, whose replies and copies
-    // its members have; what it writes was printed, and its own text, where that is asked for, which is read back and is legal. Its network was
-    // really used, by the script that the words name.
-    ensures headline { IfSome result.kept (λ k. IsRunOf (map string_bytes words.now) (F.told shelf.old) k result.status
-        (K.told out.old) (K.told out.new)
+    // A kept run is one of the program that the words name, whose texts were read: a history of it in the source's meaning, whose replies and
+    // copies its members have; what it writes was printed, and its own text, where that is asked for, which is read back and is legal. Its
+    // network was really used, by the script that the words name.
+    ensures headline { IfSome result.kept (λ k. IsRunOf (map string_bytes words.now) (F.told shelf.old)
+        (F.reads shelf.old) (F.reads shelf.new) k result.status (K.told out.old) (K.told out.new)
         (wires_of (λ b. (Wire-box b).told b.value) (λ b. (Wire-box b).rule b.value) (λ b. (Wire-box b).loaded b.value)
         wires.old.items)
         (wires_of (λ b. (Wire-box b).told b.value) (λ b. (Wire-box b).rule b.value) (λ b. (Wire-box b).loaded b.value)

@@ -9,6 +9,7 @@ use Rattle.net_rules.specs.declared.asked.Asked.{Asked}
 use Rattle.net_rules.specs.declared.asked.Asked.TheVariants.{Act, Packet}
 use Rattle.net_rules.specs.declared.line.ScriptLine.{ScriptLine}
 use Rattle.orca_io.specs.Files.{File}
+use Rattle.orca_io.specs.Reading.{FileRead}
 use Rattle.command_files.specs.Sources.{Word}
 use Rattle.orca_cli.specs.declared.kept.Kept.{Kept}
 use Rattle.orca_cli.specs.Endings.{IsAnswer}
@@ -51,9 +52,9 @@ record AreStill (after : Wires) : Type 0 where
 still_loaded : (lines : List ScriptLine) (after : Wires) → AreLoaded lines fresh after → AreStill after
 still_loaded lines after h = record { first = h.since; second = h.others.loaded 0; script = h.others.rules 0 }
 
-still_untouched : (words : List Word) (files : Option (List File)) (status : ℕ) (after : Wires) → AreUntouched words files status fresh after → AreStill after
-still_untouched words files status after (inl same) = subst AreStill (sym same) (record { first = refl; second = refl; script = refl })
-still_untouched words files status after (inr lacked) = still_loaded lacked.lines after lacked.begun.loaded
+still_untouched : (words : List Word) (files : Option (List File)) (earlier later : List FileRead) (status : ℕ) (after : Wires) → AreUntouched words files earlier later status fresh after → AreStill after
+still_untouched words files earlier later status after (inl same) = subst AreStill (sym same) (record { first = refl; second = refl; script = refl })
+still_untouched words files earlier later status after (inr lacked) = still_loaded lacked.lines after lacked.begun.loaded
 
 have_answered : (wires : List Wired) → AreTwo wires → AreStill (wired wires) → HaveAnswered (wired wires)
 have_answered wires both = subst (λ (l : List Wired). AreStill (wired l) → HaveAnswered (wired l)) (sym both.are) of_two
@@ -85,30 +86,30 @@ two_made wires is =
     (omega (arith, two), omega (arith, two))
 
 -- there are still two wires
-pub two_left : (words : List Word) (files : Option (List File)) (status : ℕ) (old new : Option (List ℕ)) (kept : Option Kept) (before : Wires) (wires : List Wired) → before ≡ fresh →
-    IfNone kept (AreUntouched words files status before (wired wires)) → IfSome kept (λ k. IsRunOf words files k status old new before (wired wires)) → length wires ≡ 2
-two_left words files status old new kept before wires is untouched ran = sym (length-map wires (λ (w : Wired). w.told)) ∙ by kept untouched ran ∙ ap (λ (w : Wires). length w.told) is
+pub two_left : (words : List Word) (files : Option (List File)) (earlier later : List FileRead) (status : ℕ) (old new : Option (List ℕ)) (kept : Option Kept) (before : Wires) (wires : List Wired) → before ≡ fresh →
+    IfNone kept (AreUntouched words files earlier later status before (wired wires)) → IfSome kept (λ k. IsRunOf words files earlier later k status old new before (wired wires)) → length wires ≡ 2
+two_left words files earlier later status old new kept before wires is untouched ran = sym (length-map wires (λ (w : Wired). w.told)) ∙ by kept untouched ran ∙ ap (λ (w : Wires). length w.told) is
   where
-    by : (kept : Option Kept) → IfNone kept (AreUntouched words files status before (wired wires)) → IfSome kept (λ k. IsRunOf words files k status old new before (wired wires)) →
+    by : (kept : Option Kept) → IfNone kept (AreUntouched words files earlier later status before (wired wires)) → IfSome kept (λ k. IsRunOf words files earlier later k status old new before (wired wires)) →
         length (map (λ (w : Wired). w.told) wires) ≡ length before.told
     by None (inl same) none = ap (λ (w : Wires). length w.told) same
     by None (inr lacked) none = lacked.begun.told.count
     by (Some k) none run = run.run.run.told.count
 
-pub is_served : (words : List Word) (files : Option (List File)) (failed : Word → Type 0) (old new : Option (List ℕ)) (status : ℕ) (kept : Option Kept) (before : Wires) (wires : List Wired) → before ≡ fresh → AreTwo wires →
-    IfNone kept (IsAnswer words files failed old new status) → IfNone kept (AreUntouched words files status before (wired wires)) → IfSome kept (λ k. IsRunOf words files k status old new before (wired wires)) →
-    IsServed words files failed old new status
-is_served words files failed old new status kept before wires is both answer untouched ran = by kept answer untouched ran
+pub is_served : (words : List Word) (files : Option (List File)) (earlier later : List FileRead) (failed : Word → Type 0) (old new : Option (List ℕ)) (status : ℕ) (kept : Option Kept) (before : Wires) (wires : List Wired) → before ≡ fresh → AreTwo wires →
+    IfNone kept (IsAnswer words files failed old new status) → IfNone kept (AreUntouched words files earlier later status before (wired wires)) → IfSome kept (λ k. IsRunOf words files earlier later k status old new before (wired wires)) →
+    IsServed words files earlier later failed old new status
+is_served words files earlier later failed old new status kept before wires is both answer untouched ran = by kept answer untouched ran
   where
-    by : (kept : Option Kept) → IfNone kept (IsAnswer words files failed old new status) → IfNone kept (AreUntouched words files status before (wired wires)) →
-        IfSome kept (λ k. IsRunOf words files k status old new before (wired wires)) → IsServed words files failed old new status
+    by : (kept : Option Kept) → IfNone kept (IsAnswer words files failed old new status) → IfNone kept (AreUntouched words files earlier later status before (wired wires)) →
+        IfSome kept (λ k. IsRunOf words files earlier later k status old new before (wired wires)) → IsServed words files earlier later failed old new status
     by None answer untouched none =
-        let same = subst (λ (b : Wires). AreUntouched words files status b (wired wires)) is untouched in
-        serves.ended (wired wires) (have_answered wires both (still_untouched words files status (wired wires) same)) answer same
+        let same = subst (λ (b : Wires). AreUntouched words files earlier later status b (wired wires)) is untouched in
+        serves.ended (wired wires) (have_answered wires both (still_untouched words files earlier later status (wired wires) same)) answer same
     by (Some k) none nothing run =
-        let same = subst (λ (b : Wires). IsRunOf words files k status old new b (wired wires)) is run in
+        let same = subst (λ (b : Wires). IsRunOf words files earlier later k status old new b (wired wires)) is run in
         serves.ran k (wired wires) (have_answered wires both (still_loaded same.lines (wired wires) same.loaded)) same
 
 -- where there was no memory for the wires
-pub none_made : (words : List Word) (files : Option (List File)) (failed : Word → Type 0) (old : Option (List ℕ)) (status : ℕ) → IsAnswer words files failed old old status → IsServed words files failed old old status
-none_made words files failed old status answer = serves.ended fresh (record { first = []; second = []; lines = []; told = refl; rules = refl; answered = tt; passed = tt }) answer (inl refl)
+pub none_made : (words : List Word) (files : Option (List File)) (reads : List FileRead) (failed : Word → Type 0) (old : Option (List ℕ)) (status : ℕ) → IsAnswer words files failed old old status → IsServed words files reads reads failed old old status
+none_made words files reads failed old status answer = serves.ended fresh (record { first = []; second = []; lines = []; told = refl; rules = refl; answered = tt; passed = tt }) answer (inl refl)

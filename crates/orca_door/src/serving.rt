@@ -42,7 +42,7 @@ fn served<F: Shelf, K: Sink>(
     wires: &mut [ScriptWire],
 ) -> u8
     requires { wired wires.old ≡ fresh }
-    ensures served { IsServed (map string_bytes words.now) (F.told shelf.old)
+    ensures served { IsServed (map string_bytes words.now) (F.told shelf.old) (F.reads shelf.old) (F.reads shelf.new)
         (FailedAt (F.faults shelf.old) (F.faults shelf.new) (F.reads shelf.old) (F.reads shelf.new))
         (K.told out.old) (K.told out.new) result }
     ensures write_fault { result ≡ WRITE_FAULT → Rose (K.faults out.old) (K.faults out.new) }
@@ -65,7 +65,7 @@ fn served<F: Shelf, K: Sink>(
 /// none; the second, to which the script may swap, lets all pass. Where memory lacks for the wires, the status says so.
 pub fn serve<F: Shelf, K: Sink>(alloc: Global, words: &[String], shelf: &mut F, out: &mut K) -> u8
     // An ending by its cause, with its line, or want of memory; or the run that the words ask for, whose network answered by their script.
-    ensures served { IsServed (map string_bytes words.now) (F.told shelf.old)
+    ensures served { IsServed (map string_bytes words.now) (F.told shelf.old) (F.reads shelf.old) (F.reads shelf.new)
         (FailedAt (F.faults shelf.old) (F.faults shelf.new) (F.reads shelf.old) (F.reads shelf.new))
         (K.told out.old) (K.told out.new) result }
 

@@ -1,11 +1,11 @@
 use Rattle.std.proofs.Common.{◌≡◌, ⊎_elim, inr, map, arith, refl, subst, sym}
 use Rattle.orca_front.specs.Sources.{IsAccepted, file_of}
-use Rattle.orca_io.specs.Reading.{FailedAt}
+use Rattle.orca_io.specs.Reading.{FailedAt, had}
 use Rattle.orca_cli.specs.Scripts.{IsUnreadable}
 use Rattle.command_files.proofs.AskedFiles.{asked_behind, asked_more}
-use Rattle.command_files.proofs.ReadFiles.{failed_since, only_left}
+use Rattle.command_files.proofs.ReadFiles.{failed_since, only_left, since_then}
 use Rattle.orca_cli.specs.Programs.{units_of}
-use Rattle.orca_cli.proofs.CliLemmas.{files_run, has_script, if_none, is_program, script_map, unscripted_run}
+use Rattle.orca_cli.proofs.CliLemmas.{files_run, has_script, if_none, script_map, unscripted_run}
 use Rattle.orca_cli.proofs.HeadlineLemmas.{none_as, run_of_words, untouched_run}
 use Rattle.orca_cli.proofs.top.run_files.Goals as goal
 
@@ -65,14 +65,16 @@ returns-clause-kept g c = λ words asked.
     let of = c.in-Ok-machine_of.ensures.of in
     let are = rw c.deref.ensures.value at c.in-Ok-linked_program.ensures.program in
     let accepted = subst (IsAccepted sources) (sym of) (c.in-Ok-machine_of.ensures.accepted sources are) in
-    run_of_words g.W.Wire.told g.W.Wire.rule g.W.Wire.loaded c.args.wires.now c.run_program.new.wires words _ (units_of machine) c.args.options c.in-Ok-script_of.script c.run_program.result.kept c.run_program.result.status _ _
+    let script = rw c.sources.ensures.same at c.in-Ok-script_of.ensures.had in
+    run_of_words g.W.Wire.told g.W.Wire.rule g.W.Wire.loaded c.args.wires.now c.run_program.new.wires words _ (g.F.Shelf.reads c.args.shelf.now) (g.F.Shelf.reads c.script_of.new.shelf) (units_of machine) c.args.options c.in-Ok-script_of.script c.run_program.result.kept c.run_program.result.status _ _
     (record {
       options = c.args.options;
       script = _;
       files = _;
       asked = asked;
-      program = is_program _ _ sources (units_of machine) c.in-Ok.ensures.read accepted machine.within;
-      script_has = rw c.sources.ensures.same at c.in-Ok-script_of.ensures.script;
+      program = record { loaded = (sources, c.in-Ok.ensures.read, accepted); within = machine.within };
+      script_has = script.0;
+      read = since_then (g.F.Shelf.reads c.args.shelf.now) (g.F.Shelf.reads c.sources.new.shelf) (g.F.Shelf.reads c.script_of.new.shelf) (map had sources) _ c.in-Ok.ensures.had script.1;
     })
     refl c.run_program.ensures.kept c.run_program.ensures.loaded
 
@@ -83,14 +85,16 @@ returns-clause-untouched g c = λ words asked.
     let of = c.in-Ok-machine_of.ensures.of in
     let are = rw c.deref.ensures.value at c.in-Ok-linked_program.ensures.program in
     let accepted = subst (IsAccepted sources) (sym of) (c.in-Ok-machine_of.ensures.accepted sources are) in
-    untouched_run _ words _ (units_of machine) c.args.options c.in-Ok-script_of.script c.run_program.result.kept c.run_program.result.status _ _
+    let script = rw c.sources.ensures.same at c.in-Ok-script_of.ensures.had in
+    untouched_run _ words _ (g.F.Shelf.reads c.args.shelf.now) (g.F.Shelf.reads c.script_of.new.shelf) (units_of machine) c.args.options c.in-Ok-script_of.script c.run_program.result.kept c.run_program.result.status _ _
     (record {
       options = c.args.options;
       script = _;
       files = _;
       asked = asked;
-      program = is_program _ _ sources (units_of machine) c.in-Ok.ensures.read accepted machine.within;
-      script_has = rw c.sources.ensures.same at c.in-Ok-script_of.ensures.script;
+      program = record { loaded = (sources, c.in-Ok.ensures.read, accepted); within = machine.within };
+      script_has = script.0;
+      read = since_then (g.F.Shelf.reads c.args.shelf.now) (g.F.Shelf.reads c.sources.new.shelf) (g.F.Shelf.reads c.script_of.new.shelf) (map had sources) _ c.in-Ok.ensures.had script.1;
     })
     refl c.run_program.ensures.none c.run_program.ensures.untouched
 

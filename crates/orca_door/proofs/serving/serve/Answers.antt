@@ -4,7 +4,7 @@ use Rattle.orca_door.proofs.TwoWires.{none_made}
 use Rattle.orca_door.proofs.serving.serve.Goals as goal
 
 pub returns-in-Err-clause-served : goal.returns-in-Err-clause-served
-returns-in-Err-clause-served g c = none_made _ _ _ _ _ (inr (refl, refl))
+returns-in-Err-clause-served g c = none_made _ _ _ _ _ _ (inr (refl, refl))
 
 pub returns-in-Err-clause-asked : goal.returns-in-Err-clause-asked
 returns-in-Err-clause-asked g c = asked_none _ _ _
