@@ -1,0 +1,7 @@
+" Made by editors/make of editors/tokens.json: change that, and make it again.
+if exists('b:did_ftplugin')
+  finish
+endif
+let b:did_ftplugin = 1
+setlocal comments=:# commentstring=#\ %s
+let b:undo_ftplugin = 'setlocal comments< commentstring<'
