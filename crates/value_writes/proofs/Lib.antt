@@ -1,0 +1,5 @@
+mod Names
+mod Lists
+mod Changed
+mod Down
+mod Steps
