@@ -68,7 +68,8 @@ fn put_in_nodes(
 ) -> Result<Value, Refusal<FaultKind>>
     requires named { AreNamed (list_of nodes.old) }
     requires walks { IfOk (found (value_at name (list_of nodes.old))) (CanWalk (drop from path.now)) }
-    ensures { (next : ℤ) → Puts (Node name ∷ drop from path.now) (datum_of part) (graph_with next nodes.old) result (graph_with next nodes.new) }
+    ensures { (next : ℤ) →
+        Puts (Node name ∷ drop from path.now) (datum_of part) (graph_with next nodes.old) result (graph_with next nodes.new) }
 {
     match node_place(nodes.as_slice(), name) {
         Some(place) => match nodes.part_mut(place) {
