@@ -5,8 +5,11 @@ use orca_base::{NoMemory, Refusal, refuse};
 use row_files::flat::{END, LEVELS, Numbers};
 use std::alloc::Global;
 
-// Something, or the number of the line that isn't one.
-type Read<T> = Result<T, Refusal<u32>>;
+/// That bytes are no line.
+#[derive(Clone, Copy)]
+struct NoLine;
+
+type Read<T> = Result<T, Refusal<NoLine>>;
 
 // What is greatest of a process, a guard and an enumeration's number, of an object's number, and of a call's.
 const MOST_16: i128 = 65_535;
@@ -35,16 +38,20 @@ const FAULTS: [&str; 8] = [
     "NoReturn",
 ];
 
-/// A line without its line feed, its number, and how far it is read.
+/// A line without its line feed, how far it is read, and what was found in it and in the lines in front.
 #[derive(Drop)]
 struct Plain<'a> {
-    alloc: Global,
-    line: u32,
     bytes: &'a [u8],
     at: usize,
+    found: &'a mut Numbers,
 }
 
 impl Plain<'_> {
+    // Adds a number to what was found.
+    fn put(&mut self, number: i128) -> Read<()> {
+        Ok(self.found.push(number)?)
+    }
+
     // The next byte, where there is one.
     fn peek(&self) -> Option<u8> {
         self.bytes.get(self.at).copied()
@@ -53,7 +60,7 @@ impl Plain<'_> {
     // Goes behind the next byte, and gives it.
     fn byte(&mut self) -> Read<u8> {
         let Some(byte) = self.peek() else {
-            return refuse(self.line);
+            return refuse(NoLine);
         };
         self.at = self.at.saturating_add(1);
         Ok(byte)
@@ -77,8 +84,21 @@ impl Plain<'_> {
         if self.has(word) {
             Ok(())
         } else {
-            refuse(self.line)
+            refuse(NoLine)
         }
+    }
+
+    // Adds the number of at most so much that all digits here write, without leading zeros, or what is as far below 0.
+    fn signed(&mut self, most: i128, is_negative: bool) -> Read<()> {
+        let number = self.number(most)?;
+        if is_negative && number == 0 {
+            return refuse(NoLine);
+        }
+        self.put(if is_negative {
+            0i128.wrapping_sub(number)
+        } else {
+            number
+        })
     }
 
     // The number of at most so much that all digits here write, without leading zeros. None has more than 20 digits.
@@ -100,55 +120,63 @@ impl Plain<'_> {
             }
         }
         if count == 0 || is_led || number > most {
-            return refuse(self.line);
+            return refuse(NoLine);
         }
         Ok(number)
     }
 
     // An integer: a sign stands only in front of a number that isn't 0.
-    fn integer(&mut self) -> Read<i128> {
-        if !self.has("-") {
-            return self.number(MOST_INTEGER);
+    fn integer(&mut self) -> Read<()> {
+        if self.has("-") {
+            self.signed(MOST_NEGATED, true)
+        } else {
+            self.signed(MOST_INTEGER, false)
         }
-        let number = self.number(MOST_NEGATED)?;
-        if number == 0 {
-            return refuse(self.line);
-        }
-        Ok(0i128.wrapping_sub(number))
+    }
+
+    // A number from 0 to the greatest.
+    fn up_to(&mut self, most: i128) -> Read<()> {
+        self.signed(most, false)
     }
 
     // The place in the table of the longest name here.
-    fn name(&mut self, names: &[&str]) -> Read<i128> {
-        let mut name = Vec::new(self.alloc);
+    fn place_of(&mut self, names: &[&str]) -> Read<i128> {
+        let start = self.at;
         for _ in self.bytes {
             match self.peek() {
-                Some(byte) if byte.is_ascii_alphanumeric() || byte == b'_' => name.push(byte)?,
+                Some(byte) if byte.is_ascii_alphanumeric() || byte == b'_' => {
+                    self.at = self.at.saturating_add(1);
+                }
                 _ => break,
             }
-            self.at = self.at.saturating_add(1);
         }
+        let name = self.bytes.get(start..self.at);
         let mut place = 0i128;
         for other in names {
-            if other.as_bytes() == name.as_slice() {
+            if name == Some(other.as_bytes()) {
                 return Ok(place);
             }
             place = place.wrapping_add(1);
         }
-        refuse(self.line)
+        refuse(NoLine)
     }
 
-    // These numbers.
-    fn numbers(&self, numbers: &[i128]) -> Read<Numbers> {
-        Ok(Vec::from_slice(self.alloc, numbers)?)
+    // The same, added to what was found.
+    fn name(&mut self, names: &[&str]) -> Read<()> {
+        let place = self.place_of(names)?;
+        self.put(place)
     }
 
-    // A process and a number.
-    fn object(&mut self) -> Read<Numbers> {
-        self.word("o")?;
-        let process = self.number(MOST_16)?;
+    // A process and a number behind their letter.
+    fn numbers_of_object(&mut self) -> Read<()> {
+        self.up_to(MOST_16)?;
         self.word(".")?;
-        let number = self.number(MOST_32)?;
-        self.numbers(&[process, number])
+        self.up_to(MOST_32)
+    }
+
+    fn object(&mut self) -> Read<()> {
+        self.word("o")?;
+        self.numbers_of_object()
     }
 
     // What a hexadecimal digit stands for.
@@ -156,7 +184,7 @@ impl Plain<'_> {
         match self.byte()? {
             digit @ b'0'..=b'9' => Ok(digit - b'0'),
             digit @ b'a'..=b'f' => Ok(digit - b'a' + 10),
-            _ => refuse(self.line),
+            _ => refuse(NoLine),
         }
     }
 
@@ -170,172 +198,176 @@ impl Plain<'_> {
                 let high = self.hex_digit()?;
                 let code = high.wrapping_mul(16).wrapping_add(self.hex_digit()?);
                 if code == b'\n' || code == b'\t' || (code > 31 && code != 127) {
-                    return refuse(self.line);
+                    return refuse(NoLine);
                 }
                 Ok(code)
             }
-            _ => refuse(self.line),
+            _ => refuse(NoLine),
         }
     }
 
     // A string behind its opening quote.
-    fn text(&mut self) -> Read<Numbers> {
-        let mut found = self.numbers(&[5])?;
+    fn text(&mut self) -> Read<()> {
         for _ in self.bytes {
-            match self.byte()? {
-                b'"' => {
-                    found.push(END)?;
-                    return Ok(found);
-                }
-                b'\\' => found.push(i128::from(self.escape()?))?,
-                byte if byte > 31 && byte < 127 => found.push(i128::from(byte))?,
-                _ => return refuse(self.line),
+            let code = match self.byte()? {
+                b'"' => return self.put(END),
+                b'\\' => self.escape()?,
+                byte if byte > 31 && byte < 127 => byte,
+                _ => return refuse(NoLine),
+            };
+            self.put(i128::from(code))?;
+        }
+        refuse(NoLine)
+    }
+
+    // The tag of the value that comes next, behind the letter or the bracket with which it begins. A truth is read whole.
+    fn tag(&mut self) -> Read<i128> {
+        let words = [
+            ("c", 3),
+            ("e", 4),
+            ("\"", 5),
+            ("[", 6),
+            ("(", 7),
+            ("{", 8),
+            ("<", 9),
+            ("o", 10),
+        ];
+        for (word, tag) in words {
+            if self.has(word) {
+                self.put(tag)?;
+                return Ok(tag);
             }
         }
-        refuse(self.line)
+        let truths = [("false", 0), ("true", 1)];
+        for (word, truth) in truths {
+            if self.has(word) {
+                self.put(2)?;
+                self.put(truth)?;
+                return Ok(2);
+            }
+        }
+        self.put(1)?;
+        Ok(1)
     }
 
     // A value, where so many levels are left.
     #[cycle(values)]
-    fn value(&mut self, levels: u8) -> Read<Numbers> {
+    fn value(&mut self, levels: u8) -> Read<()> {
         if levels == 0 {
-            return refuse(self.line);
+            return refuse(NoLine);
         }
-        if self.has("true") {
-            return self.numbers(&[2, 1]);
+        match self.tag()? {
+            1 => self.integer(),
+            2 => Ok(()),
+            3 => self.up_to(MOST_CHAR),
+            4 => self.up_to(MOST_16),
+            5 => self.text(),
+            6 => self.list(6, "]", levels - 1),
+            7 => self.list(7, ")", levels - 1),
+            8 => self.list(8, "}", levels - 1),
+            9 => self.list(9, ">", levels - 1),
+            _ => self.numbers_of_object(),
         }
-        if self.has("false") {
-            return self.numbers(&[2, 0]);
-        }
-        if self.has("c") {
-            let code = self.number(MOST_CHAR)?;
-            return self.numbers(&[3, code]);
-        }
-        if self.has("e") {
-            let number = self.number(MOST_16)?;
-            return self.numbers(&[4, number]);
-        }
-        if self.has("\"") {
-            return self.text();
-        }
-        if self.has("[") {
-            return self.list(6, "]", levels - 1);
-        }
-        if self.has("(") {
-            return self.list(7, ")", levels - 1);
-        }
-        if self.has("{") {
-            return self.list(8, "}", levels - 1);
-        }
-        if self.has("<") {
-            return self.list(9, ">", levels - 1);
-        }
-        if self.peek() == Some(b'o') {
-            let object = self.object()?;
-            let mut found = self.numbers(&[10])?;
-            found.extend_from_slice(&object)?;
-            return Ok(found);
-        }
-        let integer = self.integer()?;
-        self.numbers(&[1, integer])
     }
 
     // The parts of a list with this tag up to its end, where so many levels are left.
     #[cycle(values)]
-    fn list(&mut self, tag: i128, end: &str, levels: u8) -> Read<Numbers> {
-        let mut found = self.numbers(&[tag])?;
-        let mut before = Vec::new(self.alloc);
-        let mut is_first = true;
+    fn list(&mut self, tag: u8, end: &str, levels: u8) -> Read<()> {
+        let mut before = None;
         for _ in self.bytes {
             if self.has(end) {
-                found.push(END)?;
-                return Ok(found);
+                return self.put(END);
             }
-            if !is_first {
+            if before.is_some() {
                 self.word(" ")?;
             }
-            let part = self.value(levels)?;
-            let is_behind = match tag {
-                8 => before < part,
-                9 => before <= part,
-                _ => true,
-            };
-            if !is_first && !is_behind {
-                return refuse(self.line);
+            let start = self.found.len();
+            self.value(levels)?;
+            if !self.is_behind(tag, before, start) {
+                return refuse(NoLine);
             }
-            found.extend_from_slice(&part)?;
-            before = part;
-            is_first = false;
+            before = Some(start);
         }
-        refuse(self.line)
+        refuse(NoLine)
+    }
+
+    // Whether the last part, which starts here in what was found, may stand behind the one in front of it: in a set it is greater, and
+    // in a bag not less.
+    fn is_behind(&self, tag: u8, before: Option<usize>, start: usize) -> bool {
+        let Some(before) = before else {
+            return true;
+        };
+        match (self.found.get(before..start), self.found.get(start..)) {
+            (Some(before), Some(last)) => match tag {
+                8 => before < last,
+                9 => before <= last,
+                _ => true,
+            },
+            _ => false,
+        }
     }
 
     // Values in round brackets, as many as a call may have.
-    fn arguments(&mut self) -> Read<Numbers> {
+    fn arguments(&mut self) -> Read<()> {
         self.word("(")?;
-        let mut found = Vec::new(self.alloc);
         let mut count = 0usize;
         for _ in self.bytes {
             if self.has(")") {
-                found.push(END)?;
-                return Ok(found);
+                return self.put(END);
             }
             if count > 0 {
                 self.word(" ")?;
             }
-            found.extend_from_slice(&self.value(LEVELS)?)?;
+            self.value(LEVELS)?;
             count = count.saturating_add(1);
             if count > MOST_ARGUMENTS {
-                return refuse(self.line);
+                return refuse(NoLine);
             }
         }
-        refuse(self.line)
+        refuse(NoLine)
     }
 
     // A make behind its word: 1, the type, the object.
-    fn make(&mut self) -> Read<Numbers> {
-        let kind = self.name(&KINDS)?;
+    fn make(&mut self) -> Read<()> {
+        self.put(1)?;
+        self.name(&KINDS)?;
         self.word(" ")?;
-        let mut found = self.numbers(&[1, kind])?;
-        found.extend_from_slice(&self.object()?)?;
-        Ok(found)
+        self.object()
     }
 
     // A call behind its word: 2, the type, the operation, the object, the arguments, the guard.
-    fn call(&mut self) -> Read<Numbers> {
-        let kind = self.name(&KINDS)?;
+    fn call(&mut self) -> Read<()> {
+        self.put(2)?;
+        let kind = self.place_of(&KINDS)?;
+        self.put(kind)?;
         self.word("$")?;
-        let op = match kind {
+        match kind {
             0 => self.name(&OPERATIONS[0])?,
             _ => self.name(&OPERATIONS[1])?,
-        };
+        }
         self.word(" ")?;
-        let mut found = self.numbers(&[2, kind, op])?;
-        found.extend_from_slice(&self.object()?)?;
+        self.object()?;
         self.word(" ")?;
-        found.extend_from_slice(&self.arguments()?)?;
+        self.arguments()?;
         self.word(" guard ")?;
-        found.push(self.number(MOST_16)?)?;
-        Ok(found)
+        self.up_to(MOST_16)
     }
 
     // A fork behind its word: 3, the text, the arguments, and 0, or 1 and the member.
-    fn fork(&mut self) -> Read<Numbers> {
-        let text = self.name(&TEXTS)?;
+    fn fork(&mut self) -> Read<()> {
+        self.put(3)?;
+        self.name(&TEXTS)?;
         self.word(" ")?;
-        let mut found = self.numbers(&[3, text])?;
-        found.extend_from_slice(&self.arguments()?)?;
+        self.arguments()?;
         self.word(" on ")?;
         if self.has("parent") {
-            found.push(0)?;
-        } else {
-            let place = self.integer()?;
-            found.extend_from_slice(&[1, place])?;
+            return self.put(0);
         }
-        Ok(found)
+        self.put(1)?;
+        self.integer()
     }
 
-    fn action(&mut self) -> Read<Numbers> {
+    fn action(&mut self) -> Read<()> {
         if self.has("make ") {
             self.make()
         } else if self.has("call ") {
@@ -347,65 +379,73 @@ impl Plain<'_> {
     }
 
     // 0, or 1 and a value, or 2 and a fault.
-    fn reply(&mut self) -> Read<Numbers> {
+    fn reply(&mut self) -> Read<()> {
         if self.has("none") {
-            return self.numbers(&[0]);
+            return self.put(0);
         }
         if self.has("fault ") {
-            let fault = self.name(&FAULTS)?;
-            return self.numbers(&[2, fault]);
+            self.put(2)?;
+            return self.name(&FAULTS);
         }
-        let mut found = self.numbers(&[1])?;
-        found.extend_from_slice(&self.value(LEVELS)?)?;
-        Ok(found)
+        self.put(1)?;
+        self.value(LEVELS)
     }
 
     // All of the line.
-    fn whole(&mut self) -> Read<Numbers> {
-        let process = self.number(MOST_16)?;
+    fn whole(&mut self) -> Read<()> {
+        self.up_to(MOST_16)?;
         self.word(" ")?;
-        let call = self.number(MOST_64)?;
+        self.up_to(MOST_64)?;
         self.word(" ")?;
-        let mut found = self.numbers(&[process, call])?;
-        found.extend_from_slice(&self.action()?)?;
+        self.action()?;
         self.word(" ")?;
-        found.extend_from_slice(&self.reply()?)?;
+        self.reply()?;
         if self.peek().is_some() {
-            return refuse(self.line);
+            return refuse(NoLine);
         }
-        Ok(found)
+        Ok(())
+    }
+}
+
+// Adds what a line is, where it is one; else what was found stays as it was.
+fn is_line(found: &mut Numbers, bytes: &[u8]) -> Result<bool, NoMemory> {
+    let before = found.len();
+    let mut plain = Plain {
+        bytes,
+        at: 0,
+        found,
+    };
+    match plain.whole() {
+        Ok(()) => Ok(true),
+        Err(Refusal::Because { .. }) => {
+            found.truncate(before);
+            Ok(false)
+        }
+        Err(Refusal::NoMemory) => Err(NoMemory),
     }
 }
 
 /// The lines in front of a text, and the number of the first that is none, where one isn't.
 pub fn first_lines(alloc: Global, text: &[u8]) -> Result<First, NoMemory> {
-    let mut found = Vec::new(alloc);
-    let mut bytes = Vec::new(alloc);
+    let mut lines = Vec::new(alloc);
+    let mut start = 0usize;
     let mut line = 1u32;
-    for byte in text {
-        if *byte != b'\n' {
-            bytes.push(*byte)?;
-            continue;
-        }
-        let mut plain = Plain {
-            alloc,
-            line,
-            bytes: &bytes,
-            at: 0,
-        };
-        match plain.whole() {
-            Ok(numbers) => found.extend_from_slice(&numbers)?,
-            Err(Refusal::Because { cause }) => {
+    for (at, byte) in text.iter().enumerate() {
+        if *byte == b'\n' {
+            let is_line = match text.get(start..at) {
+                Some(bytes) => is_line(&mut lines, bytes)?,
+                None => false,
+            };
+            if !is_line {
                 return Ok(First {
-                    lines: found,
-                    bad: Some(cause),
+                    lines,
+                    bad: Some(line),
                 });
             }
-            Err(Refusal::NoMemory) => return Err(NoMemory),
+            start = at.saturating_add(1);
+            line = line.saturating_add(1);
         }
-        bytes.clear();
-        line = line.saturating_add(1);
     }
-    let bad = if bytes.is_empty() { None } else { Some(line) };
-    Ok(First { lines: found, bad })
+    let bad = if start < text.len() { Some(line) } else { None };
+    Ok(First { lines, bad })
 }

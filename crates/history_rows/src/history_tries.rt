@@ -21,8 +21,9 @@ use value_core::Line;
 // How many texts there are.
 const TEXTS: u32 = 10_000;
 
-// Of each sort there are at least so many: texts that are read, and texts with a line which is none.
-const LEAST: u32 = 1_000;
+// Of each sort there are at least so many: texts that are read, of which the quarter that is empty are some, and texts with a line
+// which is none.
+const LEAST: u32 = 4_000;
 
 // With what the generator begins.
 const SEED: u64 = 10_000;

@@ -9,15 +9,20 @@ use value_bytes::ValueError;
 
 type Read<T> = Result<T, Refusal<ValueError>>;
 
-/// Bytes, and how far they are read.
+/// Bytes, how far they are read, and what was found.
 #[derive(Drop)]
 struct Plain<'a> {
-    alloc: Global,
     bytes: &'a [u8],
     at: u32,
+    found: Numbers,
 }
 
 impl Plain<'_> {
+    // Adds a number to what was found.
+    fn put(&mut self, number: i128) -> Read<()> {
+        Ok(self.found.push(number)?)
+    }
+
     // The next byte.
     fn byte(&mut self) -> Read<u8> {
         let Some(byte) = self.bytes.get(self.at as usize) else {
@@ -29,24 +34,33 @@ impl Plain<'_> {
         Ok(*byte)
     }
 
-    // A number of so many bytes, the greatest first.
-    fn number(&mut self, width: u8) -> Read<i128> {
+    // A number of so many bytes, the greatest first. It isn't added.
+    fn number(&mut self, width: u8) -> Read<u64> {
         let mut number = 0u64;
         for _ in 0..width {
             number = number
                 .wrapping_mul(256)
                 .wrapping_add(u64::from(self.byte()?));
         }
-        Ok(i128::from(number))
+        Ok(number)
+    }
+
+    // Numbers of these widths.
+    fn widths(&mut self, widths: &[u8]) -> Read<()> {
+        for width in widths {
+            let number = self.number(*width)?;
+            self.put(i128::from(number))?;
+        }
+        Ok(())
     }
 
     // A number of 8 bytes in two's complement.
-    fn integer(&mut self) -> Read<i128> {
-        let number = self.number(8)?;
+    fn integer(&mut self) -> Read<()> {
+        let number = i128::from(self.number(8)?);
         if number < 9_223_372_036_854_775_808 {
-            Ok(number)
+            self.put(number)
         } else {
-            Ok(number.wrapping_sub(18_446_744_073_709_551_616))
+            self.put(number.wrapping_sub(18_446_744_073_709_551_616))
         }
     }
 
@@ -57,28 +71,27 @@ impl Plain<'_> {
         if byte > most {
             return refuse(ValueError::NotCanonical { at });
         }
+        self.put(i128::from(byte))?;
         Ok(byte)
     }
 
-    // These numbers.
-    fn numbers(&self, numbers: &[i128]) -> Read<Numbers> {
-        Ok(Vec::from_slice(self.alloc, numbers)?)
+    // The same, where nothing depends on it.
+    fn small(&mut self, most: u8) -> Read<()> {
+        self.at_most(most)?;
+        Ok(())
     }
 
     // A length, and so many chars.
-    fn text(&mut self) -> Read<Numbers> {
-        let count = self.number(4)?;
-        let mut found = self.numbers(&[5])?;
-        for _ in 0..count {
-            found.push(i128::from(self.at_most(127)?))?;
+    fn text(&mut self) -> Read<()> {
+        for _ in 0..self.number(4)? {
+            self.small(127)?;
         }
-        found.push(END)?;
-        Ok(found)
+        self.put(END)
     }
 
     // A value, where so many levels are left.
     #[cycle(values)]
-    fn value(&mut self, levels: u8) -> Read<Numbers> {
+    fn value(&mut self, levels: u8) -> Read<()> {
         let at = self.at;
         let tag = self.byte()?;
         if tag == 0 || tag > 10 {
@@ -87,155 +100,123 @@ impl Plain<'_> {
         if levels == 0 {
             return refuse(ValueError::NotCanonical { at });
         }
+        self.put(i128::from(tag))?;
         match tag {
-            1 => {
-                let number = self.integer()?;
-                self.numbers(&[1, number])
-            }
-            2 => {
-                let truth = self.at_most(1)?;
-                self.numbers(&[2, i128::from(truth)])
-            }
-            3 => {
-                let code = self.at_most(127)?;
-                self.numbers(&[3, i128::from(code)])
-            }
-            4 => {
-                let number = self.number(2)?;
-                self.numbers(&[4, number])
-            }
+            1 => self.integer(),
+            2 => self.small(1),
+            3 => self.small(127),
+            4 => self.widths(&[2]),
             5 => self.text(),
-            10 => {
-                let process = self.number(2)?;
-                let number = self.number(4)?;
-                self.numbers(&[10, process, number])
-            }
+            10 => self.widths(&[2, 4]),
             _ => self.list(tag, levels - 1),
         }
     }
 
     // The parts of a list with this tag, where so many levels are left.
     #[cycle(values)]
-    fn list(&mut self, tag: u8, levels: u8) -> Read<Numbers> {
+    fn list(&mut self, tag: u8, levels: u8) -> Read<()> {
         let count = self.number(4)?;
-        let mut found = self.numbers(&[i128::from(tag)])?;
-        let mut before = Vec::new(self.alloc);
-        for nth in 0..count {
+        let mut before = None;
+        for _ in 0..count {
             let at = self.at;
-            let part = self.value(levels)?;
-            let is_behind = match tag {
-                8 => before < part,
-                9 => before <= part,
-                _ => true,
-            };
-            if nth > 0 && !is_behind {
+            let start = self.found.len();
+            self.value(levels)?;
+            if !self.is_behind(tag, before, start) {
                 return refuse(ValueError::NotCanonical { at });
             }
-            found.extend_from_slice(&part)?;
-            before = part;
+            before = Some(start);
         }
-        found.push(END)?;
-        Ok(found)
+        self.put(END)
+    }
+
+    // Whether the last part, which starts here in what was found, may stand behind the one in front of it: in a set it is greater, and
+    // in a bag not less.
+    fn is_behind(&self, tag: u8, before: Option<usize>, start: usize) -> bool {
+        let Some(before) = before else {
+            return true;
+        };
+        match (self.found.get(before..start), self.found.get(start..)) {
+            (Some(before), Some(last)) => match tag {
+                8 => before < last,
+                9 => before <= last,
+                _ => true,
+            },
+            _ => false,
+        }
     }
 
     // A byte of count, and so many values.
-    fn arguments(&mut self) -> Read<Numbers> {
-        let count = self.byte()?;
-        let mut found = Vec::new(self.alloc);
-        for _ in 0..count {
-            found.extend_from_slice(&self.value(LEVELS)?)?;
+    fn arguments(&mut self) -> Read<()> {
+        for _ in 0..self.byte()? {
+            self.value(LEVELS)?;
         }
-        found.push(END)?;
-        Ok(found)
-    }
-
-    // Numbers of these widths.
-    fn widths(&mut self, widths: &[u8]) -> Read<Numbers> {
-        let mut found = Vec::new(self.alloc);
-        for width in widths {
-            found.push(self.number(*width)?)?;
-        }
-        Ok(found)
+        self.put(END)
     }
 
     // A message: process, call, and its action.
-    fn message(&mut self) -> Read<Numbers> {
-        let mut found = self.widths(&[2, 8])?;
+    fn message(&mut self) -> Read<()> {
+        self.widths(&[2, 8])?;
         let at = self.at;
         let action = self.byte()?;
-        found.push(i128::from(action))?;
+        self.put(i128::from(action))?;
         match action {
-            1 => found.extend_from_slice(&self.widths(&[2, 2, 4])?)?,
+            1 => self.widths(&[2, 2, 4]),
             2 => {
-                found.extend_from_slice(&self.widths(&[2, 2, 2, 4])?)?;
-                found.extend_from_slice(&self.arguments()?)?;
+                self.widths(&[2, 2, 2, 4])?;
+                self.arguments()
             }
             3 => {
-                found.extend_from_slice(&self.fork()?)?;
-                found.extend_from_slice(&self.arguments()?)?;
+                self.fork()?;
+                self.arguments()
             }
-            _ => return refuse(ValueError::NotCanonical { at }),
+            _ => refuse(ValueError::NotCanonical { at }),
         }
-        Ok(found)
     }
 
     // A process text, and the member where one is named.
-    fn fork(&mut self) -> Read<Numbers> {
-        let text = self.number(2)?;
+    fn fork(&mut self) -> Read<()> {
+        self.widths(&[2])?;
         if self.at_most(1)? == 0 {
-            return self.numbers(&[text, 0]);
+            return Ok(());
         }
-        let place_on = self.integer()?;
-        self.numbers(&[text, 1, place_on])
+        self.integer()
     }
 
-    fn reply(&mut self) -> Read<Numbers> {
-        let mut found = Vec::new(self.alloc);
-        let tag = self.at_most(2)?;
-        found.push(i128::from(tag))?;
-        match tag {
-            1 => found.extend_from_slice(&self.value(LEVELS)?)?,
-            2 => found.push(i128::from(self.at_most(7)?))?,
-            _ => {}
+    fn reply(&mut self) -> Read<()> {
+        match self.at_most(2)? {
+            1 => self.value(LEVELS),
+            2 => self.small(7),
+            _ => Ok(()),
         }
-        Ok(found)
     }
 
-    // A byte of count, and so many members.
-    fn members(&mut self) -> Read<Numbers> {
-        let count = self.byte()?;
-        let mut found = Vec::new(self.alloc);
-        for _ in 0..count {
+    // A byte of count, and so many members, which rise.
+    fn members(&mut self) -> Read<()> {
+        let mut least = 0;
+        for _ in 0..self.byte()? {
             let at = self.at;
-            let member = i128::from(self.at_most(15)?);
-            if found.last().is_some_and(|last| *last >= member) {
+            let member = self.at_most(15)?;
+            if member < least {
                 return refuse(ValueError::NotCanonical { at });
             }
-            found.push(member)?;
+            least = member.saturating_add(1);
         }
-        found.push(END)?;
-        Ok(found)
+        self.put(END)
     }
 
     // A count, and so many messages.
-    fn messages(&mut self) -> Read<Numbers> {
-        let count = self.number(4)?;
-        let mut found = Vec::new(self.alloc);
-        for _ in 0..count {
-            found.extend_from_slice(&self.message()?)?;
+    fn messages(&mut self) -> Read<()> {
+        for _ in 0..self.number(4)? {
+            self.message()?;
         }
-        found.push(END)?;
-        Ok(found)
+        self.put(END)
     }
 
-    fn field(&mut self, field: Field) -> Read<Numbers> {
+    fn field(&mut self, field: Field) -> Read<()> {
         match field {
             Field::Number => self.widths(&[8]),
             Field::Process => self.widths(&[2]),
-            Field::Whole => {
-                let whole = self.at_most(1)?;
-                self.numbers(&[i128::from(whole)])
-            }
+            Field::Whole => self.small(1),
             Field::Members => self.members(),
             Field::Message => self.message(),
             Field::Messages => self.messages(),
@@ -243,13 +224,13 @@ impl Plain<'_> {
         }
     }
 
-    // The incarnation and these fields.
-    fn fields(&mut self, fields: &[Field]) -> Read<Numbers> {
-        let mut found = self.widths(&[8])?;
+    // A tag, the incarnation and these fields.
+    fn fields(&mut self, fields: &[Field]) -> Read<()> {
+        self.widths(&[1, 8])?;
         for field in fields {
-            found.extend_from_slice(&self.field(*field)?)?;
+            self.field(*field)?;
         }
-        Ok(found)
+        Ok(())
     }
 }
 
@@ -260,10 +241,14 @@ fn length(bytes: &[u8]) -> u32 {
 
 /// The value at a place, and behind it the place where it ends, or the first fault from the left.
 pub fn value(alloc: Global, bytes: &[u8], at: u32) -> Result<Numbers, Refusal<ValueError>> {
-    let mut plain = Plain { alloc, bytes, at };
-    let mut found = plain.value(LEVELS)?;
-    found.push(i128::from(plain.at))?;
-    Ok(found)
+    let mut plain = Plain {
+        bytes,
+        at,
+        found: Vec::new(alloc),
+    };
+    plain.value(LEVELS)?;
+    plain.put(i128::from(plain.at))?;
+    Ok(plain.found)
 }
 
 /// The packet that all of the bytes are, or the first fault from the left.
@@ -275,20 +260,19 @@ pub fn packet(alloc: Global, bytes: &[u8]) -> Result<Numbers, Refusal<PacketErro
         return refuse(PacketError::BadTag { at: 0 });
     };
     let mut plain = Plain {
-        alloc,
         bytes,
-        at: 1,
+        at: 0,
+        found: Vec::new(alloc),
     };
-    let mut found = vec![in alloc; i128::from(*tag)]?;
     match plain.fields(fields) {
-        Ok(fields) => found.extend_from_slice(&fields)?,
+        Ok(()) => {}
         Err(Refusal::NoMemory) => return Err(Refusal::NoMemory),
         Err(Refusal::Because { cause }) => return refuse(in_packet(cause)),
     }
     if plain.at < length(bytes) {
         return refuse(PacketError::Trailing { at: plain.at });
     }
-    Ok(found)
+    Ok(plain.found)
 }
 
 // What a packet calls a fault of a field.

@@ -8,5 +8,5 @@ decreases-list l = 2 * l.levels + 1
 abbrev pub decreases-value : goal.decreases-value
 decreases-value l = 2 * l.levels
 
-abbrev pub invariant-list-loop-nth : goal.invariant-list-loop-nth
-invariant-list-loop-nth l = Unit {0}
+abbrev pub invariant-list-loop : goal.invariant-list-loop-nth
+invariant-list-loop l = Unit {0}
