@@ -8,7 +8,7 @@ ghost use Rattle.std.specs.Prelude.{IfOk};
 ghost use Rattle.value_core.specs.View.{datum_of};
 ghost use Rattle.value_ops.specs.Elements.{IsInOrder};
 
-use orca_base::NoMemory;
+use orca_base::{NoMemory, Refusal};
 use row_files::{Row, RowError, add_part, flat, integer, integers, malformed, said};
 use std::alloc::Global;
 use value_core::{BoxedParts, Parts, Value};
@@ -52,7 +52,7 @@ fn filled(alloc: Global, is_bag: bool, numbers: &[i64]) -> Result<Value, NoMemor
 {
     let mut all = nothing(alloc, is_bag)?;
     for number in numbers {
-        insert(&mut all, Value::Int(*number))?;
+        insert(alloc, &mut all, Value::Int(*number))?;
     }
     Ok(all)
 }
@@ -90,22 +90,20 @@ fn taken(alloc: Global, all: &mut Value) -> Result<String, RowError>
     requires { IsInOrder (datum_of all.old) }
     ensures { IsInOrder (datum_of all.new) }
 {
-    let least = take_least(all);
+    let least = match take_least(alloc, all) {
+        Ok(least) => flat::value_text(alloc, &least)?,
+        Err(Refusal::Because { cause }) => format!(in alloc; "fault {cause:?}")?,
+        Err(Refusal::NoMemory) => return Err(RowError::NoMemory),
+    };
     let left = flat::value_text(alloc, all)?;
-    match least {
-        Ok(least) => {
-            let least = flat::value_text(alloc, &least)?;
-            Ok(format!(in alloc; "{least} of {left}")?)
-        }
-        Err(fault) => Ok(format!(in alloc; "fault {fault:?} of {left}")?),
-    }
+    Ok(format!(in alloc; "{least} of {left}")?)
 }
 
 fn deleted(alloc: Global, all: &mut Value, number: i64) -> Result<String, RowError>
     requires { IsInOrder (datum_of all.old) }
     ensures { IsInOrder (datum_of all.new) }
 {
-    delete(all, &Value::Int(number));
+    delete(alloc, all, &Value::Int(number))?;
     flat::value_text(alloc, all)
 }
 

@@ -7,7 +7,9 @@
 //!   or the fault. All of the bytes are written so again.
 //! - `written TEXT`: a value's spelling in bytes. `behind BYTES, TEXT`: the same behind other bytes.
 //! - `rises VALUES`: whether each of them is less than those behind it, and equal to itself and its copy alone.
-//! - `sorted VALUES`: in their order. `put in VALUES PLACE VALUE`: with one more at a place.
+//! - `sorted VALUES`: in their order. `put in VALUES, PLACE, VALUE`: two lists that share these values, of which one has one
+//!   more put in at a place: both of them.
+//! - `parts VALUE`: its parts, if both what is copied for a value that is shared and what is moved out are the same.
 //! - `instance VALUES`: whether the state of an object is copied.
 
 ghost use Rattle.std.specs.Prelude.{IfOk};
@@ -20,7 +22,7 @@ use row_files::{Row, RowError, bytes, flat, malformed, number_32, said};
 use std::alloc::Global;
 use std::cmp::Ordering;
 use value_bytes::{ValueError, push_value as push_bytes, read_value as read_bytes, write_value};
-use value_core::{Instance, Parts, Value};
+use value_core::{BoxedParts, Instance, Parts, Value};
 use value_texts::{
     print_value, push_value, push_values, read_value, value_in_front, values_in_front,
 };
@@ -47,6 +49,7 @@ fn of_one(alloc: Global, verb: &str, given: &str) -> Result<String, RowError> {
         "written" => written(alloc, given),
         "rises" => rises(alloc, given),
         "sorted" => sorted(alloc, given),
+        "parts" => parts(alloc, given),
         "instance" => instance(alloc, given),
         _ => malformed("no call"),
     }
@@ -270,15 +273,37 @@ fn sorted(alloc: Global, text: &str) -> Result<String, RowError> {
     list_text(alloc, &values)
 }
 
-fn put_in(alloc: Global, values: &str, place: &str, value: &str) -> Result<String, RowError> {
-    let mut values = values_of(alloc, values)?;
-    let place = number_32(place)? as usize;
-    let value = value_of(alloc, value)?;
-    if place > values.len() {
+// Puts one more value into a list, at a place.
+fn insert_at(list: &mut Parts, place: u32, value: Value) -> Result<(), RowError> {
+    let place = place as usize;
+    if place > list.len() {
         return malformed("no place");
     }
-    values.insert(place, value)?;
-    list_text(alloc, values.as_slice())
+    Ok(list.insert(place, value)?)
+}
+
+// Lists that share their values, of which one has one more put in at a place.
+fn put_in(alloc: Global, values: &str, place: &str, value: &str) -> Result<String, RowError> {
+    let kept = BoxedParts::new(alloc, values_of(alloc, values)?)?;
+    let mut list = kept.copy()?;
+    let place = number_32(place)?;
+    let value = value_of(alloc, value)?;
+    insert_at(list.as_parts_mut(alloc)?, place, value)?;
+    let list = list_text(alloc, list.as_parts().as_slice())?;
+    let kept = list_text(alloc, kept.as_parts().as_slice())?;
+    Ok(format!(in alloc; "{list} of {kept}")?)
+}
+
+// What `into_parts` gives of a value that is shared, and then of it alone.
+fn parts(alloc: Global, text: &str) -> Result<String, RowError> {
+    let value = value_of(alloc, text)?;
+    let copied = value.copy(alloc)?.into_parts(alloc)?;
+    let moved = value.into_parts(alloc)?;
+    if copied == moved {
+        list_text(alloc, moved.as_slice())
+    } else {
+        said(alloc, "otherwise where it is shared")
+    }
 }
 
 fn instance(alloc: Global, text: &str) -> Result<String, RowError> {
