@@ -3,7 +3,7 @@
 use guard_queue::{Answered, Objects, Queue, Suspended};
 use object_manager::CopiesState;
 use value_core::{
-    Action, BoxedParts, Class, Doing, Halt, Instance, Line, Making, Message, Parts, Reply,
+    Action, BoxedParts, Class, Doing, Halt, Instance, Line, Making, Message, Parts, Reply, Seen,
     TextValue, Tried, Value,
 };
 
@@ -26,6 +26,7 @@ fn actions_and_lines_may_be_sent() {
     may_be_sent::<Message>();
     may_be_sent::<Making>();
     may_be_sent::<Tried>();
+    may_be_sent::<Seen>();
     may_be_sent::<Doing>();
     may_be_sent::<Halt>();
 }
