@@ -247,7 +247,8 @@ pub fn value(alloc: Global, bytes: &[u8], at: u32) -> Result<Numbers, Refusal<Va
         found: Vec::new(alloc),
     };
     plain.value(LEVELS)?;
-    plain.put(i128::from(plain.at))?;
+    let end = i128::from(plain.at);
+    plain.put(end)?;
     Ok(plain.found)
 }
 
