@@ -1,4 +1,4 @@
-//! Values, their operators and bytes, and packets in bytes, as rows in files (`row_files`): a call, what it is
+//! Values, their operators, parts and bytes, and packets in bytes, as rows in files (`row_files`): a call, what it is
 //! given, and the answer that is wanted.
 //!
 //! Another case is another line of text in data/, and no proof. Behind the tables thousands of byte strings, made by a
@@ -11,8 +11,10 @@ mod byte_tries;
 mod element_rows;
 mod fields;
 mod flat_packet;
+mod graph_rows;
 mod operator_rows;
 mod packet_rows;
+mod path_rows;
 mod value_rows;
 
 use row_files::{Calls, Row, RowError, malformed, try_table};
@@ -20,7 +22,14 @@ use std::alloc::Global;
 use std::io;
 
 // The tables.
-const TABLES: [&str; 4] = ["values", "operators", "elements", "packets"];
+const TABLES: [&str; 6] = [
+    "values",
+    "operators",
+    "elements",
+    "graphs",
+    "paths",
+    "packets",
+];
 
 // The calls of values and packets.
 struct Values;
@@ -31,6 +40,8 @@ impl Calls for Values {
             "values" => value_rows::answer(alloc, row),
             "operators" => operator_rows::answer(alloc, row),
             "elements" => element_rows::answer(alloc, row),
+            "graphs" => graph_rows::answer(alloc, row),
+            "paths" => path_rows::answer(alloc, row),
             "packets" => packet_rows::answer(alloc, row),
             _ => malformed("no table"),
         }
