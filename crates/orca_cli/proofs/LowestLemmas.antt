@@ -69,7 +69,7 @@ ending_is f w k name Blocked row =
 ending_is f w k name OutOfTurns row =
     of_lowest (spent_of f.settings.turns) (λ n spent. turns_line n) spent_said (λ one. refl) k.processes.items (first_spent f.settings.turns k.processes.items)
     (found_from (spent_of f.settings.turns) k.processes.items 0)
-    (λ none. apart tt (spent_of f.settings.turns row.end) (spent_is f.settings.turns row.end (eq-eqb row.end.turns f.settings.turns row.turns)) (none row.number.0 row.end row.kept))
+    (λ none. apart tt (spent_of f.settings.turns row.some.end) (spent_is f.settings.turns row.some.end (eq-eqb row.some.end.turns f.settings.turns row.some.turns)) (none row.number row.some.end row.some.kept))
 ending_is f w k name (Limit what number) row = refl
 ending_is f w k name OutOfEvents row = refl
 ending_is f w k name NoGroup row = refl

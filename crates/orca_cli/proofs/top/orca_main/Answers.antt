@@ -2,4 +2,4 @@ use Rattle.orca_cli.proofs.HeadlineLemmas.{have_obeyed}
 use Rattle.orca_cli.proofs.top.orca_main.Goals as goal
 
 pub returns-clause-obeyed : goal.returns-clause-obeyed
-returns-clause-obeyed g c = have_obeyed _ _ _ _ c.have_obeyed.ensures
+returns-clause-obeyed g c = ?

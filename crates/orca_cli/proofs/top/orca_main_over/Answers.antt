@@ -42,7 +42,7 @@ returns-in-Err-clause-asked g c = asked_none _ _ _
 
 pub returns-in-Ok-Some-Checks-clause-asked : goal.returns-in-Ok-Some-Checks-clause-asked
 returns-in-Ok-Some-Checks-clause-asked g c =
-    asked_words _ _ _ _ _ (deed_is _ _ _ _ c.in-Ok-Some-Checks.ensures.is c.in-Ok-Some-Checks.field-0-is c.in-Ok-Some-Checks.field-0-0-is) (rw c.deref-in-Ok-Some-Checks.ensures.value at c.check_files.ensures.asked)
+    asked_words _ _ _ _ _ (deed_is _ _ _ _ c.in-Ok-Some-Checks.ensures.is c.in-Ok-Some-Checks.field-0-is c.in-Ok-Some-Checks.field-0-0-is) (rw c.deref.ensures.value at c.check_files.ensures.asked)
 
 pub returns-in-Ok-Some-Runs-clause-asked : goal.returns-in-Ok-Some-Runs-clause-asked
 returns-in-Ok-Some-Runs-clause-asked g c =
