@@ -8,5 +8,5 @@ decreases-list l = 2 * l.levels + 1
 abbrev pub decreases-value : goal.decreases-value
 decreases-value l = 2 * l.levels
 
-abbrev pub invariant-list-loop : goal.invariant-list-loop-nth
+abbrev pub invariant-list-loop : goal.invariant-list-loop
 invariant-list-loop l = Unit {0}
