@@ -235,17 +235,52 @@ fn is_reply_copied(alloc: Global, reply: &Reply) -> Result<bool, RowError> {
     Ok(copy.is(reply))
 }
 
-// What a line's process sends for it.
-fn message_of(alloc: Global, line: &Line) -> Result<Message, RowError> {
-    Ok(Message {
-        process: line.process,
-        call: line.call,
-        action: line.action.copy(alloc)?,
+// What a line's process sends for it; nothing where it ends or faults.
+fn message_of(alloc: Global, line: &Line) -> Result<Option<Message>, RowError> {
+    let process = line.process;
+    let call = line.call;
+    Ok(match line.action.copy(alloc)? {
+        Action::Make { kind, object } => Some(Message {
+            process,
+            call,
+            action: Action::Make { kind, object },
+        }),
+        Action::Call {
+            kind,
+            op,
+            object,
+            args,
+        } => Some(Message {
+            process,
+            call,
+            action: Action::Call {
+                kind,
+                op,
+                object,
+                args,
+            },
+        }),
+        Action::Fork {
+            process: text,
+            args,
+            place_on,
+        } => Some(Message {
+            process,
+            call,
+            action: Action::Fork {
+                process: text,
+                args,
+                place_on,
+            },
+        }),
+        Action::Ended | Action::Faulted { .. } => None,
     })
 }
 
 fn is_message_copied(alloc: Global, line: &Line) -> Result<bool, RowError> {
-    let message = message_of(alloc, line)?;
+    let Some(message) = message_of(alloc, line)? else {
+        return Ok(true);
+    };
     let copy = message.copy(alloc)?;
     Ok(copy.is(&message) && message.action.is(&line.action))
 }

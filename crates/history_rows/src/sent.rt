@@ -1,7 +1,5 @@
-//! What values are made of, what is made of values, and the parts of copies may be handed to another thread.
+//! What values are made of and what is made of values may be handed to another thread.
 
-use guard_queue::{Answered, Objects, Queue, Suspended};
-use object_manager::CopiesState;
 use value_core::{
     Action, BoxedParts, Class, Doing, Halt, Instance, Line, Making, Message, Parts, Reply, Seen,
     TextValue, Tried, Value,
@@ -31,17 +29,8 @@ fn actions_and_lines_may_be_sent() {
     may_be_sent::<Halt>();
 }
 
-fn parts_of_copies_may_be_sent() {
-    may_be_sent::<Objects>();
-    may_be_sent::<Queue>();
-    may_be_sent::<Suspended>();
-    may_be_sent::<Answered>();
-    may_be_sent::<CopiesState>();
-}
-
 /// Asks it of all of them: nothing runs.
 pub fn all_may_be_sent() {
     values_may_be_sent();
     actions_and_lines_may_be_sent();
-    parts_of_copies_may_be_sent();
 }

@@ -355,6 +355,13 @@ fn run_files<F: Shelf, K: Sink, W: Wire>(
     run_program(alloc, &machine, options, &script, out, wires)
 }
 
+// What these wires were asked since their scripts were loaded, they answered by their rules. A call of this function does nothing.
+fn obeyed<W: Wire>(wires: &[W])
+    ensures { HaveObeyed (wires_of W.told W.rule W.loaded wires.now) }
+{
+    have_obeyed(wires);
+}
+
 /// What `orca_main` does, over wires of one kind, of which its owner may know how they answer.
 pub fn orca_main_over<F: Shelf, K: Sink, W: Wire>(
     alloc: Global,
@@ -462,6 +469,6 @@ pub fn orca_main<F: Shelf, K: Sink>(
         wires.new.items) }
 {
     let ended = orca_main_over(alloc, words, shelf, out, wires);
-    have_obeyed(wires);
+    obeyed(wires);
     ended
 }
