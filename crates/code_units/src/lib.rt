@@ -1,5 +1,5 @@
-//! The code of a program: of each function, process, operation and making of a checked program within the limits, exactly as the definitions
-//! of code_rules have it.
+//! The code of a program: of each function, process, operation and making of a checked program within the limits, exactly as the
+//! definitions of code_rules have it.
 //!
 //! The crate above calls `compile`. Each body is emitted once, by the calls of code_exprs, into a listing of its own; what its names open
 //! with, and how many slots its loops need, stand beside it (emitted_code). What a name opens with is made anew for each name.

@@ -1,4 +1,5 @@
--- The headline: what a run keeps and prints, and that its network was really used, in time; and what is so of the wires where nothing is kept.
+-- The headline: what a run keeps and prints, and that its network was really used, in time; and what is so of the wires where nothing is
+-- kept.
 use Rattle.std.specs.Prelude.{◌≡◌, ◌≤◌, ◌⊎◌, ◌+◌, ◌++◌, ℕ, suc, List, [], length, map, Option, Some, option_map, slice_get}
 use Rattle.command_line.specs.declared.request.RunOptions.{RunOptions}
 use Rattle.net_rules.specs.declared.asked.Asked.{Asked}
@@ -53,8 +54,8 @@ settings_of options wires = record {
 }
 
 -- The words ask for the run of the accepted program in files, whose units are these, by these options; and the script in the file that they
--- name, where they name one, has these lines. Of a shelf that told the reads `old` before and tells `new`, the texts of that program were read,
--- and behind them that of the script, and nothing else
+-- name, where they name one, has these lines. Of a shelf that told the reads `old` before and tells `new`, the texts of that program were
+-- read, and behind them that of the script, and nothing else
 pub record IsNamed (words : List Word) (told : Option (List File)) (old new : List FileRead) (units : List Source)
     (lines : List ScriptLine) : Type 0 where
   pub options : RunOptions
@@ -94,8 +95,8 @@ pub record HaveObeyed (wires : Wires) : Type 0 where
       (wire since : ℕ) (rule : Rule) (told : List Asked) → slice_get wires.rules wire ≡ Some rule → slice_get wires.loaded wire ≡ Some since →
       slice_get wires.told wire ≡ Some told → HasObeyed rule since told
 
--- a run of the program with these units was begun, by these options: the first wire was loaded with these lines, and the wires were asked what
--- some steps of that run ask
+-- a run of the program with these units was begun, by these options: the first wire was loaded with these lines, and the wires were asked
+-- what some steps of that run ask
 pub record WasBegun (units : List Source) (options : RunOptions) (lines : List ScriptLine) (old new : Wires) : Type 0 where
   pub loaded : AreLoaded lines old new
   pub told : HaveToldOn old.told new.told
@@ -117,10 +118,10 @@ AreUntouched words files earlier later status old new = (new ≡ old) ⊎ HasLac
 -- ---- the run
 
 -- What is kept is the end of the run to which its events lead, and a history with its processes and copies. How that run stands is read off
--- what is kept (`row`, `only`), in both directions off its world (`reads`), and gives the status. What the history writes was printed, and behind
--- it what is said of the history and the line of the standing; where a write failed or memory lacked, a front of these was. And the wires, which
--- told `before` and tell `after`, were used in the run; one that was never in use was asked nothing; and each question about an act was put to
--- the wire in use, in the world before the event of its number, or before the one that would come next
+-- what is kept (`row`, `only`), in both directions off its world (`reads`), and gives the status. What the history writes was printed, and
+-- behind it what is said of the history and the line of the standing; where a write failed or memory lacked, a front of these was. And the
+-- wires, which told `before` and tell `after`, were used in the run; one that was never in use was asked nothing; and each question about
+-- an act was put to the wire in use, in the world before the event of its number, or before the one that would come next
 pub record IsRun (f : Frame) (name : Action → List ℕ) (says : List Line → List ℕ) (k : Kept) (status : ℕ) (old new : Option (List ℕ))
     (before after : List (List Asked)) : Type 0 where
   pub world : World
@@ -133,8 +134,8 @@ pub record IsRun (f : Frame) (name : Action → List ℕ) (says : List Line → 
   pub limited : (what : What) (number : ℕ) → limit f world ≡ Some (what, number) → standing f world ≡ Limit what number
   -- where each fate passed and no crash, suspicion or exchange came, a number of events is enough
   pub bounded : (IsFaulty k.events.items → ⊥) → HasGoneWell f world k
-  -- once faults have ended, ticks don't pass for long without progress: where no member is outside and at most r crashed, each idle stretch has
-  -- at most N + 8 of them
+  -- once faults have ended, ticks don't pass for long without progress: where no member is outside and at most r crashed, each idle stretch
+  -- has at most N + 8 of them
   pub idle :
       (stretch : List Step) → IsIdleStretch f k.events.items stretch world → crashes_in k.events.items ≤ f.settings.resilience →
       AllInside f world → ticks_in stretch ≤ f.settings.nodes + 8
@@ -150,9 +151,9 @@ pub record IsRun (f : Frame) (name : Action → List ℕ) (says : List Line → 
   pub unused : NoneAskedBehind world.swaps (asked_since before after)
   pub in_time : AreInTime f k.events.items (asked_since before after)
 
--- It is a run of the program with these units, in the source's meaning, by these options. By the program's names its line of a process that is
--- blocked names the operation, and its history is said, where that is asked for: each call that a process comes to next behind a history has its
--- names there. And the text of its history, printed or not, is read back as the history, and is legal
+-- It is a run of the program with these units, in the source's meaning, by these options. By the program's names its line of a process that
+-- is blocked names the operation, and its history is said, where that is asked for: each call that a process comes to next behind a history
+-- has its names there. And the text of its history, printed or not, is read back as the history, and is legal
 pub record IsProgramRun (units : List Source) (options : RunOptions) (wires : ℕ) (k : Kept) (status : ℕ) (old new : Option (List ℕ))
     (before after : List (List Asked)) : Type 0 where
   pub names : Names

@@ -105,8 +105,8 @@ IsEndedOrStuck f k i (standing.Waits act) = IsStuck f.performs f.computes k.book
 IsEndedOrStuck f k i standing.Busy = ⊥
 IsEndedOrStuck f k i standing.Crashed = ⊥
 
--- it goes well: no tick, no more events than its bound, but for one where it is out of turns or at a limit, and a group; it is out of events
--- only where no more than its bound were stated. And where it is over each process ended or is stuck
+-- it goes well: no tick, no more events than its bound, but for one where it is out of turns or at a limit, and a group; it is out of
+-- events only where no more than its bound were stated. And where it is over each process ended or is stuck
 pub record HasGoneWell (f : Frame) (w : World) (k : Kept) : Type 0 where
   pub well : GoesWell f w k.events.items
   pub stuck :

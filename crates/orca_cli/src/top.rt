@@ -407,15 +407,15 @@ pub fn orca_main_over<F: Shelf, K: Sink, W: Wire>(
     }
 }
 
-/// Does what the words ask for: `run` runs the accepted program in the files on as many members as they say, over the wires; `check` says whether
-/// the program in the files is accepted; `replay` says whether the history in a file is one of the accepted program in the others; `--help` and
-/// `--version` say what they name.
+/// Does what the words ask for: `run` runs the accepted program in the files on as many members as they say, over the wires; `check` says
+/// whether the program in the files is accepted; `replay` says whether the history in a file is one of the accepted program in the others;
+/// `--help` and `--version` say what they name.
 ///
-/// `words` leaves out the program's name; of the wires, from 1 to 1,000, the first is in use at the beginning, and is loaded with the script of
-/// the words, or with the empty one. The status is that of docs/FORMATS.md. Nothing is kept where nothing was run: the words ask for no run, a
-/// file wasn't read, the script is none, the texts are no accepted program, or memory lacked before the run, or for what is kept. Each
-/// refusal prints its line; a run prints what its history writes, once it is over, behind that the history, where the words ask for it, and the
-/// line of how it ended.
+/// `words` leaves out the program's name; of the wires, from 1 to 1,000, the first is in use at the beginning, and is loaded with the
+/// script of the words, or with the empty one. The status is that of docs/FORMATS.md. Nothing is kept where nothing was run: the words ask
+/// for no run, a file wasn't read, the script is none, the texts are no accepted program, or memory lacked before the run, or for what is
+/// kept. Each refusal prints its line; a run prints what its history writes, once it is over, behind that the history, where the words ask
+/// for it, and the line of how it ended.
 pub fn orca_main<F: Shelf, K: Sink>(
     alloc: Global,
     words: &[String],
@@ -425,8 +425,8 @@ pub fn orca_main<F: Shelf, K: Sink>(
 ) -> Ended
     requires wires { (1 ≤ length wires.old.items) × (length wires.old.items ≤ 1000) }
 
-    // Nothing is kept: an ending by its cause, with its line, or want of memory. What the wires tell, their scripts, and when these were loaded,
-    // are as before, unless memory lacked for the run that the words name: then that was begun.
+    // Nothing is kept: an ending by its cause, with its line, or want of memory. What the wires tell, their scripts, and when these were
+    // loaded, are as before, unless memory lacked for the run that the words name: then that was begun.
     ensures refused { IfNone result.kept (IsAnswer (map string_bytes words.now) (F.told shelf.old)
         (FailedAt (F.faults shelf.old) (F.faults shelf.new) (F.reads shelf.old) (F.reads shelf.new))
         (K.told out.old) (K.told out.new) result.status) }
@@ -437,9 +437,9 @@ pub fn orca_main<F: Shelf, K: Sink>(
         (wires_of (λ b. (Wire-box b).told b.value) (λ b. (Wire-box b).rule b.value) (λ b. (Wire-box b).loaded b.value)
         wires.new.items)) }
 
-    // A kept run is one of the program that the words name, whose texts were read: a history of it in the source's meaning, whose replies and
-    // copies its members have; what it writes was printed, and its own text, where that is asked for, which is read back and is legal. Its
-    // network was really used, by the script that the words name.
+    // A kept run is one of the program that the words name, whose texts were read: a history of it in the source's meaning, whose replies
+    // and copies its members have; what it writes was printed, and its own text, where that is asked for, which is read back and is legal.
+    // Its network was really used, by the script that the words name.
     ensures headline { IfSome result.kept (λ k. IsRunOf (map string_bytes words.now) (F.told shelf.old)
         (F.reads shelf.old) (F.reads shelf.new) k result.status (K.told out.old) (K.told out.new)
         (wires_of (λ b. (Wire-box b).told b.value) (λ b. (Wire-box b).rule b.value) (λ b. (Wire-box b).loaded b.value)

@@ -35,8 +35,8 @@ pub record HaveAnswered (wires : Wires) : Type 0 where
 -- ---- what is done
 
 -- Nothing is kept: an ending by its cause with its line, or want of memory, over wires that are as they were made, unless memory lacked for
--- the run that the words name. Or a run was kept, and is the one that the words ask for, of the program whose texts were read. Either way the
--- wires answered so; where a run was begun, the lines of the first are those that the words name (`AreLoaded` of orca_cli)
+-- the run that the words name. Or a run was kept, and is the one that the words ask for, of the program whose texts were read. Either way
+-- the wires answered so; where a run was begun, the lines of the first are those that the words name (`AreLoaded` of orca_cli)
 pub data IsServed (words : List Word) (files : Option (List File)) (earlier later : List FileRead) (failed : Word → Type 0)
     (old new : Option (List ℕ)) (status : ℕ) : Type 0 where
   ended : (after : Wires) → HaveAnswered after → IsAnswer words files failed old new status →

@@ -25,9 +25,9 @@ told_more wire more told = slice_set told wire (slice_index_or told wire [] ++ m
 
 -- ---- between events
 
--- the run goes on by these steps, with no task out, and each packet that came was the first of those that were ready; the wire in use is behind
--- as many as there were swaps; and the wires, which told `old` before the run, were used in it, those behind the one in use asked nothing; each
--- question about an act was in time, and came before an event with a number below `next`
+-- the run goes on by these steps, with no task out, and each packet that came was the first of those that were ready; the wire in use is
+-- behind as many as there were swaps; and the wires, which told `old` before the run, were used in it, those behind the one in use asked
+-- nothing; each question about an act was in time, and came before an event with a number below `next`
 pub record IsDrivenTo {S : Type 0} (f : Frame) (s : Seen S) (next in_use : ℕ) (old new : List (List Asked)) : Type 0 where
   pub world : World
   pub replays : Replays f s.steps world
@@ -90,8 +90,8 @@ pub record WentOn {S : Type 0} (f : Frame) (before after : Seen S) (in_use : ℕ
   pub driven : IsDriven f after in_use old new
   pub one : length after.steps ≡ suc (length before.steps)
 
--- memory lacked: the steps lead to a world that is going, each packet that came was the first of those that were ready, and the wires were used
--- but for a last question; those behind the one in use were asked nothing; each question about an act was in time
+-- memory lacked: the steps lead to a world that is going, each packet that came was the first of those that were ready, and the wires were
+-- used but for a last question; those behind the one in use were asked nothing; each question about an act was in time
 pub record HasStopped {S : Type 0} (f : Frame) (s : Seen S) (old new : List (List Asked)) : Type 0 where
   pub world : World
   pub replays : Replays f s.steps world

@@ -32,8 +32,8 @@ pub record IsLeft (f : Frame) (w : World) (standing : Standing) (end : RunEnd) :
   pub stuck : AllStuck f w
   pub mean : EndsMean f w
 
--- and each packet that came was the first of those that were ready; the wires, which told `old` before it and tell `new` behind it, were used
--- in it; a wire that was never in use was asked nothing; and each question about an act was in time
+-- and each packet that came was the first of those that were ready; the wires, which told `old` before it and tell `new` behind it, were
+-- used in it; a wire that was never in use was asked nothing; and each question about an act was in time
 pub record HasRun (f : Frame) (standing : Standing) (old new : List (List Asked)) (end : RunEnd) : Type 0 where
   pub world : World
   pub left : IsLeft f world standing end

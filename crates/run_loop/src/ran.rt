@@ -25,11 +25,11 @@ pub struct Ran {
 /// Runs the program of a machine by these settings over these wires, until the run isn't going or memory lacks. The first wire is in use
 /// at the beginning. There are as many wires as before, and each place tells what it told and goes on from there, by the same script.
 ///
-/// What is kept is the end of the run to which its steps lead (`HasRun`). Each packet that came was the first of those that were ready then,
-/// by number and copy. And the wires were used in it: each was asked about just the packets that were sent while it was in use, and each
-/// crash, suspicion and exchange is what the wire in use gave. Each question about an act was put to the wire in use while the run was going,
-/// once, before the event of its number or the one that would come next, when that wire had been asked about just the packets that the steps
-/// before sent while it was in use. Where nothing is kept, the wires were asked what some steps of the run ask.
+/// What is kept is the end of the run to which its steps lead (`HasRun`). Each packet that came was the first of those that were ready
+/// then, by number and copy. And the wires were used in it: each was asked about just the packets that were sent while it was in use, and
+/// each crash, suspicion and exchange is what the wire in use gave. Each question about an act was put to the wire in use while the run was
+/// going, once, before the event of its number or the one that would come next, when that wire had been asked about just the packets that
+/// the steps before sent while it was in use. Where nothing is kept, the wires were asked what some steps of the run ask.
 pub fn run<M: Processor, W: Wire>(
     alloc: Global,
     machine: &M,
