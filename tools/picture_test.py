@@ -26,6 +26,12 @@ ONE_CELL = """0 0 make Cell o0.1 none
 0 2 call Cell$Value o0.1 () guard 0 6
 0 3 call Output$WriteLine o0.0 ("6") guard 0 none
 """
+# What `run --explain` prints of that run.
+ONE_CELL_PLACES = """0 0 entry 1
+0 1 entry 2
+0 2 read at 2
+0 3 entry 3
+"""
 # A Take is suspended until a process that was forked before it puts 11.
 ONE_TAKE = """0 0 make Pool o0.1 none
 0 1 fork Producer (o0.1 10) on 1 none
@@ -192,6 +198,10 @@ class Drawn:
     def members(self):
         return [it for it in self.texts("quiet strong")]
 
+    def entries(self):
+        """Of each line above an entry that entry, and how many members surely applied it."""
+        return [(int(it.get("data-entry")), len(self.having("path", "applied", it))) for it in self.having("g", "step")]
+
     def told(self):
         return self.root.find(SVG + "desc").text
 
@@ -314,11 +324,64 @@ class WorkedHistories(PictureTest):
         """The first is of an example, and its history is the one that docs/FORMATS.md has."""
         with open(os.path.join(PICTURES, "one.history"), encoding="ascii") as file:
             self.assertEqual(file.read(), ONE_CELL)
+        words = ["--nodes", "2", "--title", "A read at an earlier view, with its places"]
+        done = run([*words, os.path.join(PICTURES, "early.txt")])
+        with open(os.path.join(PICTURES, "early.svg"), "rb") as file:
+            self.assertEqual(done.stdout, file.read())
         for name, program in [("one", os.path.join(HOME, "examples", "one.orca")), ("pool", os.path.join(PICTURES, "pool.orca"))]:
             words = ["--nodes", "3", "--title", f"A run of {name}.orca on three members"]
             done = run([*words, os.path.join(PICTURES, f"{name}.history"), program])
             with open(os.path.join(PICTURES, f"{name}.svg"), "rb") as file:
                 self.assertEqual(done.stdout, file.read())
+
+
+class Places(PictureTest):
+    def test_one_cell(self):
+        """The read shows that member 0 applied two entries. Nothing shows that it applied the third: its process has no line behind it."""
+        picture = self.drawn("6\n" + ONE_CELL + ONE_CELL_PLACES)
+        self.assertEqual(picture.numbers(), [1, 2, 3, 4])
+        self.assertEqual(picture.texts("place"), ["entry 1", "entry 2", "read at 2", "entry 3"])
+        self.assertEqual(picture.entries(), [(1, 1), (2, 1), (3, 0)])
+        self.assertIn("applied 2 or more", picture.texts("quiet"))
+
+    def test_without_places_none_is_drawn(self):
+        picture = self.drawn(ONE_CELL)
+        self.assertEqual((picture.texts("place"), picture.entries()), ([], []))
+
+    def test_the_output_may_look_like_places_and_lines(self):
+        given = ONE_CELL_PLACES + ONE_CELL
+        picture = self.drawn(given + ONE_CELL + ONE_CELL_PLACES + "orca: blocked: process 0 waits for Cell$Value\n")
+        self.assertEqual((picture.numbers(), picture.entries()), ([1, 2, 3, 4], [(1, 1), (2, 1), (3, 0)]))
+
+    def test_two_members(self):
+        """Process 1 reads at 2 behind the assignment's entry, and at 4: so its member applied four entries, and member 0 at least two."""
+        with open(os.path.join(PICTURES, "early.txt"), encoding="ascii") as file:
+            text = file.read()
+        picture = self.drawn(text, "--nodes", "2")
+        self.assertEqual(picture.entries(), [(1, 2), (2, 2), (3, 1), (4, 1)])
+        self.assertEqual([it for it in picture.texts("quiet") if it.startswith("applied")], ["applied 2 or more", "applied 4 or more"])
+        self.assertEqual(self.drawn(text, "--nodes", "2", "--from", "4").entries(), [(3, 1), (4, 1)])
+
+    def test_a_call_on_a_single_copy(self):
+        """Its place says what its owner had applied, and the line behind it that its process's member did so too."""
+        lines = "0 0 make Cell o0.1 none\n0 1 call Cell$Assign o0.1 (6) guard 0 none\n0 2 call Cell$Value o0.1 () guard 0 6\n"
+        picture = self.drawn(lines + "0 0 entry 1\n0 1 single at 1\n0 2 single at 1\n")
+        self.assertEqual((picture.texts("place"), picture.entries()), (["entry 1", "single at 1", "single at 1"], [(1, 1)]))
+
+    def test_entries_without_a_line(self):
+        """Of the third entry the call is suspended, and the fourth lets it go."""
+        places = "0 0 entry 1\n0 1 entry 2\n1 0 entry 4\n0 2 entry 4\n"
+        picture = self.drawn(ONE_TAKE + places)
+        self.assertEqual([it for it, _ in picture.entries()], [1, 2, 4])
+        self.assertEqual([it.find(SVG + "title").text for it in picture.having("g", "step")], ["entry 1", "entry 2", "entries 3 to 4"])
+
+    def test_refused(self):
+        """A place of another call; places that fall, and an entry's behind a read at it; and more places than lines."""
+        self.refused("6\n" + ONE_CELL + ONE_CELL_PLACES.replace("0 1 entry", "0 7 entry"), 7)
+        self.refused(ONE_CELL + ONE_CELL_PLACES.replace("read at 2", "read at 1"), 7)
+        self.refused(ONE_CELL + ONE_CELL_PLACES.replace("entry 3", "entry 2"), 8)
+        self.refused(ONE_CELL_PLACES, 4)
+        self.refused("6\n" + ONE_CELL.replace("0 2 call", "0 3 call") + ONE_CELL_PLACES, 4)
 
 
 class Members(PictureTest):

@@ -26,7 +26,7 @@ _orca() {
     fi
     case ${COMP_WORDS[1]} in
         check) options=' -h --help ' before_files=0 ;;
-        run) options=' --nodes --resilience --turns --events --script --history -h --help ' before_files=0 ;;
+        run) options=' --nodes --resilience --turns --events --script --history --explain -h --help ' before_files=0 ;;
         replay) options=' -h --help ' before_files=1 ;;
         *) return ;;
     esac

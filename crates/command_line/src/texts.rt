@@ -47,7 +47,7 @@ usage: orca run [OPTIONS] FILE...
   --history       prints the history of the run, too
   --explain       prints where each line of the history took place, too
 
-So far `--workers` and `--explain` aren't built.
+So far `--workers` isn't built.
 ";
 
 /// The command `code`.

@@ -26,6 +26,7 @@ use Rattle.world_book.specs.Processes.{IsKnownAs}
 use Rattle.world_book.specs.Promise.{IsKept, applied_book}
 use Rattle.world_facts.specs.Ends as facts
 use Rattle.world_facts.specs.Ends.{EndsStand, Stand, StandsBy, end_of, process_end, process_ends, replies_in}
+use Rattle.world_places.specs.Explained.{AreItsPlaces}
 use Rattle.world_facts.specs.Places.{IsPlaced, book_behind, lines_to}
 use Rattle.world_facts.specs.Processes.{HomesAreMembers}
 use Rattle.run_ends.specs.Telling.{AreNodeEnds, AreProcessEnds, EndsMean, IsNodeEnd, on_process_end, on_standing}
@@ -178,10 +179,11 @@ home_kept f w homes some stand nodes are ends processes i end at =
 
 -- ---- all together
 
-pub history_kept : (f : Frame) (w : World) → f.settings.choices ≡ [] → 0 < f.settings.nodes → IsKept f w → EndsStand f w → EndsMean f w → IsPlaced f w → HomesAreMembers → (k : Kept) → IsEndOf f w k → IsHistory f w k
-history_kept f w none some kept stand mean placed homes k end = record {
+pub history_kept : (f : Frame) (w : World) → f.settings.choices ≡ [] → 0 < f.settings.nodes → IsKept f w → EndsStand f w → EndsMean f w → IsPlaced f w → HomesAreMembers → (k : Kept) → AreItsPlaces f w k.places.items → IsEndOf f w k → IsHistory f w k
+history_kept f w none some kept stand mean placed homes k its end = record {
   legal = subst (history.Legal f.performs f.computes) (sym end.book) kept.legal;
   processes = processes_kept f w kept stand mean k.book.items end.book k.processes.items end.processes;
   homes = home_kept f w homes some stand k.nodes.items end.nodes k.processes.items end.processes;
   copies = λ m node at. copies_kept f none w kept placed k.book.items end.book m node (end.nodes.each m node at);
+  places = its;
 }

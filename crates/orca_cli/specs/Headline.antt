@@ -9,9 +9,7 @@ use Rattle.orca_io.specs.Reading.{FileRead, ReadSince, had}
 use Rattle.link_rules.specs.Units.{Source}
 use Rattle.meaning_rules.specs.Meanings.{computes_of, performs_of}
 use Rattle.program_names.specs.Naming.{AreNamesOf, CallsNamed}
-use Rattle.value_core.specs.History.{output_of}
 use Rattle.value_core.specs.declared.action.Action.{Action}
-use Rattle.value_core.specs.declared.action.Line.{Line}
 use Rattle.history_commands.specs.ReadBack.{ReadsBack}
 use Rattle.history_text.specs.declared.names.Names.{Names}
 use Rattle.wires.specs.Wired.{HasObeyed, Rule, with_script}
@@ -38,7 +36,7 @@ use Rattle.command_output.specs.Printed.{Ends, EndsAs, Grew}
 use Rattle.orca_cli.specs.Programs.{IsProgram}
 use Rattle.orca_cli.specs.Rows.{HasGoneWell, KeptRow, ShownRows}
 use Rattle.orca_cli.specs.Scripts.{IsScriptOf, script_read}
-use Rattle.orca_cli.specs.Standings.{IsEndingLine, awaited_name, history_said, standing_status}
+use Rattle.orca_cli.specs.Standings.{IsEndingLine, awaited_name, run_said, standing_status}
 
 -- ---- which run it is
 
@@ -118,12 +116,12 @@ AreUntouched words files earlier later status old new = (new ≡ old) ⊎ HasLac
 -- ---- the run
 
 -- What is kept is the end of the run to which its events lead, and a history with its processes and copies. How that run stands is read off
--- what is kept (`row`, `only`), in both directions off its world (`reads`), and gives the status. What the history writes was printed, and
--- behind it what is said of the history and the line of the standing; where a write failed or memory lacked, a front of these was. And the
+-- what is kept (`row`, `only`), in both directions off its world (`reads`), and gives the status. What is said of that world, of what is kept
+-- and with the line of the standing was printed; where a write failed or memory lacked, a front of it was. And the
 -- wires, which told `before` and tell `after`, were used in the run; one that was never in use was asked nothing; and each question about
 -- an act was put to the wire in use, in the world before the event of its number, or before the one that would come next
-pub record IsRun (f : Frame) (name : Action → List ℕ) (says : List Line → List ℕ) (k : Kept) (status : ℕ) (old new : Option (List ℕ))
-    (before after : List (List Asked)) : Type 0 where
+pub record IsRun (f : Frame) (name : Action → List ℕ) (says : World → Kept → List ℕ → List ℕ) (k : Kept) (status : ℕ)
+    (old new : Option (List ℕ)) (before after : List (List Asked)) : Type 0 where
   pub world : World
   pub end : IsEndOf f world k
   pub history : IsHistory f world k
@@ -132,7 +130,7 @@ pub record IsRun (f : Frame) (name : Action → List ℕ) (says : List Line → 
   pub only : ShownRows f world k
   -- of several limits that are passed it is the first: that before which the lowest member stops, and that of lines behind it
   pub limited : (what : What) (number : ℕ) → limit f world ≡ Some (what, number) → standing f world ≡ Limit what number
-  -- where each fate passed and no crash, suspicion or exchange came, a number of events is enough
+  -- where each fate is Pass, or a Hold for no ticks, and no crash, suspicion or exchange came, a number of events is enough
   pub bounded : (IsFaulty k.events.items → ⊥) → HasGoneWell f world k
   -- once faults have ended, ticks don't pass for long without progress: where no member is outside and at most r crashed, each idle stretch
   -- has at most N + 8 of them
@@ -145,22 +143,23 @@ pub record IsRun (f : Frame) (name : Action → List ℕ) (says : List Line → 
   pub lacked : standing f world ≡ Going → status ≡ NO_MEMORY
   pub line : List ℕ
   pub line_is : IsEndingLine name f.settings.turns (standing f world) k.processes.items line
-  pub printed : Grew old new (Ends (standing_status (standing f world)) status (output_of k.book.items ++ (says k.book.items ++ line)))
+  pub printed : Grew old new (Ends (standing_status (standing f world)) status (says world k line))
   pub told : HaveToldOn before after
   pub used : WereUsedSo (standing f world) f k.events.items world (asked_since before after)
   pub unused : NoneAskedBehind world.swaps (asked_since before after)
   pub in_time : AreInTime f k.events.items (asked_since before after)
 
 -- It is a run of the program with these units, in the source's meaning, by these options. By the program's names its line of a process that
--- is blocked names the operation, and its history is said, where that is asked for: each call that a process comes to next behind a history
--- has its names there. And the text of its history, printed or not, is read back as the history, and is legal
+-- is blocked names the operation; what its history writes was printed, and the history and its places where these are asked for: each call
+-- that a process comes to next behind a history has its names there. And the text of its history, printed or not, is read back as the
+-- history, and is legal
 pub record IsProgramRun (units : List Source) (options : RunOptions) (wires : ℕ) (k : Kept) (status : ℕ) (old new : Option (List ℕ))
     (before after : List (List Asked)) : Type 0 where
   pub names : Names
   pub are : AreNamesOf units names
   pub calls : CallsNamed units names
   pub run : IsRun (run_of (performs_of units) (computes_of units) (settings_of options wires)) (awaited_name names)
-      (history_said options.history names) k status old new before after
+      (λ w. run_said options names) k status old new before after
   pub back : ReadsBack (performs_of units) (computes_of units) names k.book.items
 
 -- it is the run that the words ask for, of the accepted program whose texts were read

@@ -1,5 +1,5 @@
 -- What the program does for its words (docs/FORMATS.md, The program).
-use Rattle.std.specs.Prelude.{ℕ, ◌==◌, ◌&&◌, not, Bool, List, [], ◌∷◌, ◌++◌, map, Option, Some, None, option_and_then, option_map, if◌then◌else◌}
+use Rattle.std.specs.Prelude.{ℕ, ◌==◌, Bool, List, [], ◌∷◌, ◌++◌, map, Option, Some, None, option_and_then, option_map, if◌then◌else◌}
 use Rattle.command_line.specs.declared.request.RunOptions.{RunOptions}
 use Rattle.command_line.specs.Asked.{Asked, IsRunWithin}
 use Rattle.command_line.specs.Asked as ask
@@ -44,12 +44,12 @@ IsDeedWithin (checks files) = Unit {0}
 IsDeedWithin (runs options script files) = IsRunWithin options
 IsDeedWithin (replays history files) = Unit {0}
 
--- so far a run is by one thread, whichever number of them isn't asked for, and doesn't tell where lines took place
+-- so far a run is by one thread, whichever number of them isn't asked for
 abbrev pub usual_workers : ℕ
 usual_workers = 4
 
 abbrev pub is_run_built : RunOptions → Bool
-is_run_built options = options.workers == usual_workers && not options.explain
+is_run_built options = options.workers == usual_workers
 
 abbrev pub run_built : RunOptions → Option Word → List Word → Option Deed
 run_built options script files = if is_run_built options then Some (runs options script files) else None

@@ -12,16 +12,18 @@ use Rattle.world_rules.specs.Steps.{Replays}
 use Rattle.world_rules.specs.Worlds.{Book, World, places}
 use Rattle.world_facts.specs.Ends.{StandsBy}
 use Rattle.world_facts.specs.Places.{lines_to}
+use Rattle.world_places.specs.Explained.{AreItsPlaces}
 use Rattle.run_ends.specs.Telling.{AreNodeEnds, AreProcessEnds, on_standing}
 use Rattle.run_ends.specs.declared.ends.NodeEnd.{NodeEnd}
 use Rattle.run_ends.specs.declared.ends.ProcessEnd.{ProcessEnd}
 use Rattle.run_ends.specs.declared.ends.ProcessStanding.TheVariants as standing
 use Rattle.orca_cli.specs.declared.kept.Kept.{Kept}
 
--- the kept events lead to this world, and the book, the members and the processes are this world's
+-- the kept events lead to this world, and the book, the places of its lines, the members and the processes are this world's
 pub record IsEndOf (f : Frame) (w : World) (k : Kept) : Type 0 where
   pub replays : Replays f k.events.items w
   pub book : k.book.items ≡ Book f w
+  pub places : k.places.items ≡ places f w
   pub nodes : AreNodeEnds f w k.nodes.items
   pub processes : AreProcessEnds f w k.processes.items
 
@@ -49,10 +51,11 @@ pub record HasCopies (f : Frame) (w : World) (book : List Line) (end : NodeEnd) 
   pub copies : (o : ObjectId) → object_at end.copies o ≡ object_at (objects_of f.performs f.computes front) o
 
 -- The kept book is a history of the program. The kept processes are the history's, one by one. Each member's copies are what the history
--- left up to what it applied
+-- left up to what it applied. Each line was performed at its kept place, and the lines stand in the order of these
 pub record IsHistory (f : Frame) (w : World) (k : Kept) : Type 0 where
   pub legal : Legal f.performs f.computes k.book.items
   pub processes : (number : ProcessNo) → MatchOption (slice_get k.processes.items number.0)
       (slice_get (processes_of f.performs f.computes k.book.items) number.0 ≡ None) (IsProcess f.performs f.computes k.book.items number)
   pub homes : (i : ℕ) (end : ProcessEnd) → slice_get k.processes.items i ≡ Some end → IsHome k.nodes.items end
   pub copies : (m : ℕ) (end : NodeEnd) → slice_get k.nodes.items m ≡ Some end → HasCopies f w k.book.items end
+  pub places : AreItsPlaces f w k.places.items

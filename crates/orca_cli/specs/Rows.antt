@@ -95,7 +95,7 @@ pub record ShownRows (f : Frame) (w : World) (k : Kept) : Type 0 where
       rules.standing f w ≡ Blocked
   pub finished : MayGoOn f w → AllEnded k → rules.standing f w ≡ Finished
 
--- ---- a faultless run: each fate passed, and no crash, suspicion or exchange came
+-- ---- a faultless run: each fate is Pass, or a Hold for no ticks, and no crash, suspicion or exchange came
 
 -- a process ended or faulted; or it waits for the reply to an action, and is stuck
 abbrev pub IsEndedOrStuck : Frame → Kept → ProcessNo → ProcessStanding → Type 0

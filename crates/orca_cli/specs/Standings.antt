@@ -1,6 +1,7 @@
--- How a run ends by how it stands: its status, and what is said behind its output: its history, where that is asked for, and the line of its
--- status (docs/FORMATS.md, Statuses, Histories).
-use Rattle.std.specs.Prelude.{◌≡◌, ◌<◌, Bool, ℕ, ◌==◌, if◌then◌else◌, List, [], Option, None, Some, Result, Ok, Err, slice_get}
+-- How a run ends by how it stands: its status, and what is said behind its output: its history and the places of that, where these are
+-- asked for, and the line of its status (docs/FORMATS.md, Statuses, Histories, Places).
+use Rattle.std.specs.Prelude.{◌≡◌, ◌<◌, ◌++◌, Bool, ℕ, ◌==◌, if◌then◌else◌, List, [], Option, None, Some, Result, Ok, Err, slice_get}
+use Rattle.command_line.specs.declared.request.RunOptions.{RunOptions}
 use Rattle.orca_base.specs.declared.fault.FaultKind.{FaultKind}
 use Rattle.orca_io.specs.declared.sink.SinkFault.{SinkFault}
 use Rattle.orca_io.specs.declared.sink.SinkFault.TheVariants as faults
@@ -8,14 +9,18 @@ use Rattle.orca_front.specs.Lines.{limit_line}
 use Rattle.value_core.specs.declared.action.Action.{Action}
 use Rattle.value_core.specs.declared.action.Action.TheVariants as action
 use Rattle.value_core.specs.declared.action.Line.{Line}
+use Rattle.value_core.specs.History.{output_of}
 use Rattle.history_text.specs.Spelling.{called_name, history_text}
 use Rattle.history_text.specs.declared.names.Names.{Names}
+use Rattle.world_places.specs.Text.{places_text}
+use Rattle.world_rules.specs.declared.standing.PlaceNote.{PlaceNote}
 use Rattle.world_rules.specs.declared.standing.Standing.{Standing}
 use Rattle.world_rules.specs.declared.standing.Standing.TheVariants.{Limit, OutOfTurns, OutOfEvents, NoGroup, Faulted, Blocked, Finished, Going}
 use Rattle.run_ends.specs.declared.ends.ProcessEnd.{ProcessEnd}
 use Rattle.run_ends.specs.declared.ends.ProcessStanding.{ProcessStanding}
 use Rattle.run_ends.specs.declared.ends.ProcessStanding.TheVariants as process
 use Rattle.command_output.specs.declared.statuses.TheConstants.{BLOCKED, FAULTED, FINISHED, LIMIT, NO_GROUP, NO_MEMORY, OUT_OF_EVENTS, OUT_OF_TURNS, WRITE_FAULT}
+use Rattle.orca_cli.specs.declared.kept.Kept.{Kept}
 use Rattle.orca_cli.specs.Lines.{blocked_line, events_line, faulted_line, no_group_line, turns_line, what_name}
 
 -- a run that is still going stopped for want of memory
@@ -76,6 +81,17 @@ IsLowest says ends n x =
 
 abbrev pub history_said : Bool → Names → List Line → List ℕ
 history_said asked names book = if asked then history_text names book else []
+
+-- the places of its lines
+abbrev pub places_said : Bool → List Line → List PlaceNote → List ℕ
+places_said asked book notes = if asked then places_text book notes else []
+
+-- what a run prints of what is kept, and its line at the end: what the history writes, and behind that the history and the places of its lines,
+-- where these are asked for
+abbrev pub run_said : RunOptions → Names → Kept → List ℕ → List ℕ
+run_said options names k line =
+    output_of k.book.items
+    ++ (history_said options.history names k.book.items ++ (places_said options.explain k.book.items k.places.items ++ line))
 
 -- ---- the line
 

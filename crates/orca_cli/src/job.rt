@@ -70,12 +70,11 @@ fn job_built<'a>(request: Request<'a>) -> Option<Job<'a>>
 // How many threads a run has that asks for no other number.
 const USUAL_WORKERS: u8 = 4;
 
-// Whether runs with these options are built: by one thread, whatever number of them isn't asked for, and without what tells where lines took
-// place.
+// Whether runs with these options are built: by one thread, whatever number of them isn't asked for.
 fn is_run_built(options: RunOptions) -> bool
     ensures { result ≡ is_run_built options }
 {
-    options.workers == USUAL_WORKERS && !options.explain
+    options.workers == USUAL_WORKERS
 }
 
 // The run of the files, where that is built.

@@ -1,13 +1,14 @@
 //! What a run leaves.
 
-use run_loop::{NodeEnd, ProcessEnd, Step};
+use run_loop::{NodeEnd, PlaceNote, ProcessEnd, Step};
 use value_core::Line;
 
-/// What a run leaves: its history, line by line; its events, with the fates of the packets that they sent; its members and its processes,
-/// by their numbers.
+/// What a run leaves: its history, line by line, and where each line was performed; its events, with the fates of the packets that they
+/// sent; its members and its processes, by their numbers.
 #[derive(Drop)]
 pub struct Kept {
     pub book: Vec<Line>,
+    pub places: Vec<PlaceNote>,
     pub events: Vec<Step>,
     pub nodes: Vec<NodeEnd>,
     pub processes: Vec<ProcessEnd>,

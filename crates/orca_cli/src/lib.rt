@@ -12,6 +12,7 @@ mod kept;
 mod laws;
 mod lines;
 mod names;
+mod places;
 mod program;
 mod replay;
 mod report;

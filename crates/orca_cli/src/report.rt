@@ -9,12 +9,13 @@ ghost use Rattle.world_rules.specs.declared.standing.Standing.TheVariants.{Going
 ghost use Rattle.orca_cli.specs.Lines.{line_with};
 ghost use Rattle.command_output.specs.Printed.{Ends, EndsAs, Grew, HasStopped, WroteOf};
 ghost use Rattle.orca_cli.specs.Said.{ending_line, fault_said, first_faulted, first_spent, first_waiting, spent_said, wait_said};
-ghost use Rattle.orca_cli.specs.Standings.{awaited_name, awaited_of, fault_of, history_said, run_status, standing_status};
+ghost use Rattle.orca_cli.specs.Standings.{awaited_name, awaited_of, fault_of, history_said, places_said, run_status, standing_status};
 
 use crate::lines::{
     blocked_line, events_line, faulted_line, no_group_line, run_limit_line, turns_line,
 };
 use crate::names::awaited_name;
+use crate::places::print_places;
 use command_line::RunOptions;
 use command_output::{
     BLOCKED, FAULTED, FINISHED, LIMIT, NO_GROUP, NO_MEMORY, OUT_OF_EVENTS, OUT_OF_TURNS,
@@ -28,8 +29,8 @@ use run_loop::{ProcessEnd, ProcessStanding, RunEnd, Standing};
 use std::alloc::Global;
 use value_core::{Action, Line, Parts, Value};
 
-/// Prints what a run's history writes, one put a line, behind it the history, where that is asked for, and the line of its standing, up to
-/// the first put that fails; and gives the status.
+/// Prints what a run's history writes, one put a line, behind it the history and the places of its lines, where these are asked for, and the
+/// line of its standing, up to the first put that fails; and gives the status.
 pub fn report<K: Sink>(
     alloc: Global,
     out: &mut K,
@@ -44,7 +45,8 @@ pub fn report<K: Sink>(
     ensures lacked { standing ≡ Going → result ≡ NO_MEMORY }
     ensures printed { Grew (K.told out.old) (K.told out.new) (Ends (standing_status standing) result
         (output_of end.now.book.items ++ (history_said options.history names.now end.now.book.items
-        ++ ending_line (awaited_name names.now) options.turns standing end.now.processes.items))) }
+        ++ (places_said options.explain end.now.book.items end.now.places.items
+        ++ ending_line (awaited_name names.now) options.turns standing end.now.processes.items)))) }
     ensures later { K.faults out.old ≤ K.faults out.new }
     ensures failed { result ≡ WRITE_FAULT → Rose (K.faults out.old) (K.faults out.new) }
     ensures stopped { K.faults out.old < K.faults out.new → HasStopped result }
@@ -93,7 +95,8 @@ fn print_run<K: Sink>(
     requires lines { All (IsPrintable names.now) end.now.book.items }
     ensures wrote { Grew (K.told out.old) (K.told out.new) (WroteOf result (output_of end.now.book.items
         ++ (history_said options.history names.now end.now.book.items
-        ++ ending_line (awaited_name names.now) options.turns standing end.now.processes.items))) }
+        ++ (places_said options.explain end.now.book.items end.now.places.items
+        ++ ending_line (awaited_name names.now) options.turns standing end.now.processes.items)))) }
     ensures later { K.faults out.old ≤ K.faults out.new }
     ensures failed { IsErrOf result SinkFault.Failed → Rose (K.faults out.old) (K.faults out.new) }
     ensures quiet { OnOk result (K.faults out.new ≡ K.faults out.old) }
@@ -102,7 +105,7 @@ fn print_run<K: Sink>(
     print_behind(alloc, out, names, options, standing, end)
 }
 
-// Prints the history, where it is asked for, and the line of the standing.
+// Prints the history and the places of its lines, where these are asked for, and the line of the standing.
 fn print_behind<K: Sink>(
     alloc: Global,
     out: &mut K,
@@ -114,12 +117,32 @@ fn print_behind<K: Sink>(
     requires tables { AreTables names.now }
     requires lines { All (IsPrintable names.now) end.now.book.items }
     ensures wrote { Grew (K.told out.old) (K.told out.new) (WroteOf result (history_said options.history names.now end.now.book.items
-        ++ ending_line (awaited_name names.now) options.turns standing end.now.processes.items)) }
+        ++ (places_said options.explain end.now.book.items end.now.places.items
+        ++ ending_line (awaited_name names.now) options.turns standing end.now.processes.items))) }
     ensures later { K.faults out.old ≤ K.faults out.new }
     ensures failed { IsErrOf result SinkFault.Failed → Rose (K.faults out.old) (K.faults out.new) }
     ensures quiet { OnOk result (K.faults out.new ≡ K.faults out.old) }
 {
     print_history(alloc, out, names, options.history, &end.book)?;
+    print_ending(alloc, out, names, options, standing, end)
+}
+
+// Prints the places of the history's lines, where they are asked for, and the line of the standing.
+fn print_ending<K: Sink>(
+    alloc: Global,
+    out: &mut K,
+    names: &Names,
+    options: RunOptions,
+    standing: Standing,
+    end: &RunEnd,
+) -> Result<(), SinkFault>
+    ensures wrote { Grew (K.told out.old) (K.told out.new) (WroteOf result (places_said options.explain end.now.book.items end.now.places.items
+        ++ ending_line (awaited_name names.now) options.turns standing end.now.processes.items)) }
+    ensures later { K.faults out.old ≤ K.faults out.new }
+    ensures failed { IsErrOf result SinkFault.Failed → Rose (K.faults out.old) (K.faults out.new) }
+    ensures quiet { OnOk result (K.faults out.new ≡ K.faults out.old) }
+{
+    print_places(alloc, out, options.explain, &end.book, &end.places)?;
     let line = ending_line(alloc, names, options.turns, standing, &end.processes)?;
     put_some(out, &line)
 }

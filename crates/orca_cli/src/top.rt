@@ -25,7 +25,7 @@ ghost use Rattle.command_files.specs.Loaded.{IsFailed, IsLoadFault};
 ghost use Rattle.command_output.specs.Printed.{HasStopped};
 ghost use Rattle.orca_cli.specs.Scripts.{HasScript, IsScriptFault, IsUnreadable};
 ghost use Rattle.orca_cli.specs.Programs.{IsProgramFault, units_of};
-ghost use Rattle.orca_cli.specs.Standings.{awaited_name, history_said};
+ghost use Rattle.orca_cli.specs.Standings.{awaited_name, run_said};
 ghost use Rattle.command_files.specs.Sources.{AreRead};
 
 use crate::ending::{nothing, said};
@@ -203,7 +203,7 @@ fn run_loaded<K: Sink, W: Wire>(
     ensures none { IfNone result.kept ((result.status ≡ NO_MEMORY) × (K.told out.new ≡ K.told out.old)) }
     ensures kept { IfSome result.kept (λ k. IsRun
         (run_of (performs_of (units_of machine.now)) (computes_of (units_of machine.now)) (settings_of options (length wires.old)))
-        (awaited_name names.now) (history_said options.history names.now) k result.status (K.told out.old) (K.told out.new)
+        (awaited_name names.now) (λ w. run_said options names.now) k result.status (K.told out.old) (K.told out.new)
         (map W.told wires.old) (map W.told wires.new)) }
     ensures back { IfSome result.kept (λ k.
         ReadsBack (performs_of (units_of machine.now)) (computes_of (units_of machine.now)) names.now k.book.items) }
@@ -230,6 +230,7 @@ fn run_loaded<K: Sink, W: Wire>(
         status,
         kept: Some(Kept {
             book: end.book,
+            places: end.places,
             events: end.steps,
             nodes: end.nodes,
             processes: end.processes,
@@ -414,8 +415,8 @@ pub fn orca_main_over<F: Shelf, K: Sink, W: Wire>(
 /// `words` leaves out the program's name; of the wires, from 1 to 1,000, the first is in use at the beginning, and is loaded with the
 /// script of the words, or with the empty one. The status is that of docs/FORMATS.md. Nothing is kept where nothing was run: the words ask
 /// for no run, a file wasn't read, the script is none, the texts are no accepted program, or memory lacked before the run, or for what is
-/// kept. Each refusal prints its line; a run prints what its history writes, once it is over, behind that the history, where the words ask
-/// for it, and the line of how it ended.
+/// kept. Each refusal prints its line; a run prints what its history writes, once it is over, behind that the history and the places of its
+/// lines, where the words ask for these, and the line of how it ended.
 pub fn orca_main<F: Shelf, K: Sink>(
     alloc: Global,
     words: &[String],
@@ -438,8 +439,9 @@ pub fn orca_main<F: Shelf, K: Sink>(
         wires.new.items)) }
 
     // A kept run is one of the program that the words name, whose texts were read: a history of it in the source's meaning, whose replies
-    // and copies its members have; what it writes was printed, and its own text, where that is asked for, which is read back and is legal.
-    // Its network was really used, by the script that the words name.
+    // and copies its members have, and each line of which was performed at its kept place; what it writes was printed, and its own text and
+    // its places, where these are asked for; its text is read back and is legal. Its network was really used, by the script that the words
+    // name. `bounded`, `idle` and `counted` of `IsRun` say how many events and how many idle ticks it may have.
     ensures headline { IfSome result.kept (λ k. IsRunOf (map string_bytes words.now) (F.told shelf.old)
         (F.reads shelf.old) (F.reads shelf.new) k result.status (K.told out.old) (K.told out.new)
         (wires_of (λ b. (Wire-box b).told b.value) (λ b. (Wire-box b).rule b.value) (λ b. (Wire-box b).loaded b.value)

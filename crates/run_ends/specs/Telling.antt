@@ -1,8 +1,17 @@
 -- What is told of a run at its end.
 use Rattle.std.specs.Prelude.{◌≡◌, ℕ, Bool, not, if◌then◌else◌, List, map, length, take, Option, None, Some, slice_get}
+use Rattle.std.specs.BTreeSet.{BTreeSet, contains}
+use Rattle.std.specs.List.Sorted.{IsPermutation}
+use Rattle.std.specs.Ordering.{nat_cmp, ordering_then}
+use Rattle.std.specs.declared.cmp.Ordering.{Ordering}
 use Rattle.book_law.specs.Events.{lines_by, replies_to}
+use Rattle.book_law.specs.declared.placing.Placed.{Placed}
 use Rattle.value_core.specs.declared.action.Line.{Line}
 use Rattle.value_core.specs.declared.action.Reply.{Reply}
+use Rattle.value_core.specs.declared.message.Message.{Message}
+use Rattle.world_parts.specs.Standing.{Is}
+use Rattle.world_parts.specs.declared.parts.Parts.{Parts}
+use Rattle.world_places.specs.Told.{is_among}
 use Rattle.world_rules.specs.Nodes as nodes
 use Rattle.world_rules.specs.Standings.{process_count}
 use Rattle.node_parts.specs.Shown.{Left, Stood, on_stage}
@@ -11,7 +20,7 @@ use Rattle.node_core.specs.declared.node.Node.{Node}
 use Rattle.node_parts.specs.declared.resident.Resident.{Resident}
 use Rattle.object_manager.specs.Singles.{IsBoth}
 use Rattle.world_rules.specs.Frame.{Frame}
-use Rattle.world_rules.specs.Worlds.{World}
+use Rattle.world_rules.specs.Worlds.{Book, World}
 use Rattle.world_facts.specs.Ends as facts
 use Rattle.world_facts.specs.Ends.{Stand, StandsBy, end_at, node_end, process_end, process_ends, replies_in}
 use Rattle.world_rules.specs.Played.{Played}
@@ -80,3 +89,22 @@ pub record HasHeard (f : Frame) (w : World) (lines : List Line) (replies : List 
   pub each :
       (i : ℕ) (heard : List Reply) → slice_get replies i ≡ Some heard →
       heard ≡ take (length (replies_in (played_in f w i))) (replies_to (lines_by i lines))
+
+-- ---- places
+
+-- what was performed, in an order in which its lines are the book
+pub record IsInOrder {P S : Type 0} (stood : Stood S) (left : Left S) (f : Frame) (s : Parts P S) (performed : List Placed) : Type 0 where
+  pub same : IsPermutation s.ledger.performed performed
+  pub lines : Is stood left f s (λ w. map (λ (r : Placed). r.line) performed ≡ Book f w)
+
+-- by process, then by number
+abbrev pub call_cmp : ℕ × ℕ → ℕ × ℕ → Ordering
+call_cmp a b = ordering_then (nat_cmp a.0 b.0) (nat_cmp a.1 b.1)
+
+-- whether the line's call is in a set of calls
+abbrev pub has : BTreeSet (ℕ × ℕ) → Line → Bool
+has calls line = contains call_cmp calls (line.process.0, line.call.0)
+
+-- the set has the calls that these messages are of
+abbrev pub ListsCalls : List Message → BTreeSet (ℕ × ℕ) → Type 0
+ListsCalls messages calls = (line : Line) → has calls line ≡ is_among messages line

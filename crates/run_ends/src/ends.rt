@@ -3,7 +3,7 @@
 use guard_queue::Objects;
 use orca_base::{FaultKind, Items};
 use value_core::{Action, Line, Reply};
-use world_rules::Step;
+use world_rules::{PlaceNote, Step};
 
 /// A member when a run ends.
 #[derive(Drop)]
@@ -49,6 +49,8 @@ pub struct ProcessEnd {
 pub struct RunEnd {
     /// Its history: the performed operations by place.
     pub book: Vec<Line>,
+    /// Where each line of its history was performed.
+    pub places: Vec<PlaceNote>,
     /// Its events, with the fates of the packets that they sent.
     pub steps: Vec<Step>,
     /// The length of the longest log of a member.

@@ -2,17 +2,18 @@
 
 ghost use Rattle.std.specs.Prelude.{◌≡◌, ◌++◌, ◌∷◌, [], if◌then◌else◌, nat_lt, List, IfOk, OnOk, length, map, None};
 ghost use Rattle.std.specs.Option.{option_copied};
-ghost use Rattle.book_law.specs.Performed.{IsBook, placed};
+ghost use Rattle.book_law.specs.Performed.{placed};
 ghost use Rattle.node_parts.specs.Shown.{on_stage};
 ghost use Rattle.value_core.specs.declared.action.Line.{Line as LineOf};
 ghost use Rattle.world_facts.specs.Ends.{end_at, end_crashed, end_living, end_of, end_over, process_end, replies_in};
-ghost use Rattle.world_rules.specs.Worlds.{Book, played_in};
+ghost use Rattle.world_rules.specs.Worlds.{Book, places, played_in};
 ghost use Rattle.world_facts.specs.Logs.{longest_log};
 ghost use Rattle.world_parts.specs.Recorded.{of_piece, of_pieces};
 ghost use Rattle.world_parts.specs.Standing.{Is, Stands};
-ghost use Rattle.run_ends.specs.Telling.{AreNodeEnds, AreProcessEnds, HasHeard, TellsNode, on_process_end, on_standing, standing_as};
+ghost use Rattle.run_ends.specs.Telling.{AreNodeEnds, AreProcessEnds, HasHeard, IsInOrder, TellsNode, on_process_end, on_standing, standing_as};
 
 use crate::ends::{NodeEnd, ProcessEnd, ProcessStanding, RunEnd};
+use crate::placing::notes_of;
 use book_law::{Placed, sort_by_place};
 use node_core::Node;
 use node_parts::{OneRun, Resident, Stage};
@@ -29,9 +30,19 @@ pub fn book<P: OneRun>(parts: &Parts<P>, alloc: Global) -> Result<Vec<Line>, NoM
     requires { Stands P.stood P.left P.run.frame parts.now }
     ensures { Is P.stood P.left P.run.frame parts.now (λ w. IfOk result (λ lines. lines.items ≡ Book P.run.frame w)) }
 {
-    let performed = copied(alloc, parts.ledger.pieces())?;
-    let lines = sorted(alloc, performed)?;
+    let performed = in_order(parts, alloc)?;
+    let lines = lines_of(alloc, performed)?;
     Ok(lines)
+}
+
+/// What was performed, in the order of the book.
+pub(crate) fn in_order<P: OneRun>(parts: &Parts<P>, alloc: Global) -> Result<Vec<Placed>, NoMemory>
+    requires { Stands P.stood P.left P.run.frame parts.now }
+    ensures { IfOk result (λ performed. IsInOrder P.stood P.left P.run.frame parts.now performed.items) }
+{
+    let mut performed = copied(alloc, parts.ledger.pieces())?;
+    sort_by_place(&mut performed)?;
+    Ok(performed)
 }
 
 // What was performed, piece by piece, copied.
@@ -82,16 +93,6 @@ fn copy_line(
     let line = line.copy(alloc)?;
     performed.push(Placed { place, line })?;
     Ok(())
-}
-
-// The lines by place.
-fn sorted(alloc: Global, performed: Vec<Placed>) -> Result<Vec<Line>, NoMemory>
-    ensures { IfOk result (λ lines. (sorted : List Placed) × IsBook performed.items sorted × (lines.items ≡ map (λ (r : Placed). r.line) sorted)) }
-{
-    let mut performed = performed;
-    sort_by_place(&mut performed)?;
-    let lines = lines_of(alloc, performed)?;
-    Ok(lines)
 }
 
 // The lines of these operations.
@@ -366,16 +367,21 @@ pub fn into_end<P: OneRun>(parts: Parts<P>, alloc: Global) -> Result<RunEnd, NoM
     ensures steps { IfOk result (λ end. end.steps.items ≡ parts.ledger.steps) }
     ensures longest { Is P.stood P.left P.run.frame parts (λ w. IfOk result (λ end. end.longest ≡ longest_log P.run.frame w)) }
     ensures book { Is P.stood P.left P.run.frame parts (λ w. IfOk result (λ end. end.book.items ≡ Book P.run.frame w)) }
+    ensures places { Is P.stood P.left P.run.frame parts (λ w. IfOk result (λ end. end.places.items ≡ places P.run.frame w)) }
     ensures nodes { Is P.stood P.left P.run.frame parts (λ w. IfOk result (λ end. AreNodeEnds P.run.frame w end.nodes.items)) }
     ensures processes { Is P.stood P.left P.run.frame parts (λ w. IfOk result (λ end. AreProcessEnds P.run.frame w end.processes.items)) }
 {
     let nodes = node_ends(&parts, alloc)?;
-    let lines = book(&parts, alloc)?;
+    let performed = in_order(&parts, alloc)?;
+    let order = performed.as_slice();
+    let notes = notes_of(&parts, alloc, order)?;
+    let lines = lines_of(alloc, performed)?;
     let processes = ends_by(&parts, alloc, lines.as_slice())?;
     let longest = parts.longest_log();
     let (steps, _) = parts.ledger.into_parts();
     Ok(RunEnd {
         book: lines,
+        places: notes,
         steps,
         longest,
         nodes,

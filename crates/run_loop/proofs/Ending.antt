@@ -10,11 +10,12 @@ use Rattle.world_rules.specs.declared.event.Step.{Step}
 use Rattle.world_rules.specs.Frame.{AreSettings, Frame}
 use Rattle.world_rules.specs.Standings as rules
 use Rattle.world_rules.specs.Steps.{Replays}
-use Rattle.world_rules.specs.Worlds.{Book, World, opening_world}
+use Rattle.world_rules.specs.Worlds.{Book, World, opening_world, places}
 use Rattle.world_book.specs.Promise.{AllStuck, IsKept}
 use Rattle.world_enough.specs.Faultless.{LeadsFirst}
 use Rattle.world_facts.specs.Logs.{longest_log}
 use Rattle.world_parts.specs.Seen.{Of, Seen, tasks_out}
+use Rattle.world_places.specs.Explained.{AreItsPlaces}
 use Rattle.run_ends.specs.Telling.{AreNodeEnds, AreProcessEnds, EndsMean}
 use Rattle.run_ends.specs.declared.ends.RunEnd.{RunEnd}
 use Rattle.run_loop.specs.Asked.{AreInTime, HaveToldOn, NoneAskedBehind, WereAskedIn, WereUsedSo, asked_since}
@@ -88,15 +89,17 @@ asked_nothing f told = record {
 
 -- what is kept of it
 pub ran : {S : Type 0} (f : Frame) (s : Seen S) (st : Standing) (old new : List (List Asked)) (r : Result RunEnd NoMemory) → HasGone f s st old new → Of f s (λ w. st ≡ rules.standing f w) → Of f s (AllStuck f)
-    → IfOk r (λ end. end.steps.items ≡ s.steps) → Of f s (λ w. IfOk r (λ end. end.book.items ≡ Book f w)) → Of f s (λ w. IfOk r (λ end. end.longest ≡ longest_log f w)) → Of f s (λ w. IfOk r (λ end. AreNodeEnds f w end.nodes.items))
+    → IfOk r (λ end. end.steps.items ≡ s.steps) → Of f s (λ w. IfOk r (λ end. end.book.items ≡ Book f w)) → Of f s (λ w. IfOk r (λ end. end.places.items ≡ places f w)) → Of f s (λ w. AreItsPlaces f w (places f w)) → Of f s (λ w. IfOk r (λ end. end.longest ≡ longest_log f w)) → Of f s (λ w. IfOk r (λ end. AreNodeEnds f w end.nodes.items))
     → Of f s (λ w. IfOk r (λ end. AreProcessEnds f w end.processes.items)) → Of f s (EndsMean f) → Of f s (IsKept f) → IfSome (result_ok r) (HasRun f st old new)
-ran f s st old new (Err e) h stands stuck steps book longest nodes processes mean kept = tt
-ran f s st old new (Ok end) h stands stuck steps book longest nodes processes mean kept = record {
+ran f s st old new (Err e) h stands stuck steps book notes its longest nodes processes mean kept = tt
+ran f s st old new (Ok end) h stands stuck steps book notes its longest nodes processes mean kept = record {
   world = h.world;
   left = record {
     replays = subst (λ (l : List Step). Replays f l h.world) (sym steps) h.replays;
     stands = stands h.world h.replays;
     book = book h.world h.replays;
+    places = notes h.world h.replays;
+    its = subst (AreItsPlaces f h.world) (sym (notes h.world h.replays)) (its h.world h.replays);
     longest = longest h.world h.replays;
     nodes = nodes h.world h.replays;
     processes = processes h.world h.replays;

@@ -59,7 +59,7 @@ MayBe f s event = Of f s (λ w. MayStep f w event)
 abbrev pub ComesFirst : {S : Type 0} → Frame → Seen S → Event → Type 0
 ComesFirst f s event = Of f s (λ w. IsFirst w event)
 
--- it is none that a wire gives
+-- it is an action, a delivery or a tick
 abbrev pub IsDue : Event → Type 0
 IsDue (event.Act process) = Unit {0}
 IsDue (event.Deliver packet copy) = Unit {0}

@@ -7,9 +7,10 @@ use Rattle.world_rules.specs.declared.standing.Standing.{Standing}
 use Rattle.world_rules.specs.Frame.{Frame}
 use Rattle.world_rules.specs.Standings as rules
 use Rattle.world_rules.specs.Steps.{Replays}
-use Rattle.world_rules.specs.Worlds.{Book, World, opening_world}
+use Rattle.world_rules.specs.Worlds.{Book, World, opening_world, places}
 use Rattle.world_enough.specs.Faultless.{LeadsFirst}
 use Rattle.world_book.specs.Promise.{AllStuck, IsKept}
+use Rattle.world_places.specs.Explained.{AreItsPlaces}
 use Rattle.run_ends.specs.Telling.{AreNodeEnds, AreProcessEnds, EndsMean}
 use Rattle.run_ends.specs.declared.ends.RunEnd.{RunEnd}
 use Rattle.world_facts.specs.Logs.{longest_log}
@@ -20,11 +21,14 @@ abbrev pub run_of : Performs → Computes → Settings → Frame
 run_of p q settings = record { performs = p; computes = q; settings = settings }
 
 -- how a run stands, and what is kept, are those of the world to which its steps lead. What is so of each run: its book is a history, and
--- replies and copies are the book's; who waits at its end is stuck; processes stand by what they do next
+-- replies and copies are the book's; each line of its book was performed at its place; who waits at its end is stuck; processes stand by
+-- what they do next
 pub record IsLeft (f : Frame) (w : World) (standing : Standing) (end : RunEnd) : Type 0 where
   pub replays : Replays f end.steps.items w
   pub stands : standing ≡ rules.standing f w
   pub book : end.book.items ≡ Book f w
+  pub places : end.places.items ≡ places f w
+  pub its : AreItsPlaces f w end.places.items
   pub longest : end.longest ≡ longest_log f w
   pub nodes : AreNodeEnds f w end.nodes.items
   pub processes : AreProcessEnds f w end.processes.items

@@ -8,10 +8,11 @@ ghost use Rattle.net_rules.specs.Flights.{first_ready};
 ghost use Rattle.world_rules.specs.Frame.{AreSettings};
 ghost use Rattle.world_rules.specs.Standings as rules;
 ghost use Rattle.world_rules.specs.Steps.{Replays, lives_in};
-ghost use Rattle.world_rules.specs.Worlds.{Book, World as RunWorld, home_of};
+ghost use Rattle.world_rules.specs.Worlds.{Book, World as RunWorld, home_of, places};
 ghost use Rattle.world_rules.specs.declared.standing.Standing.TheVariants.{Going};
 ghost use Rattle.world_book.specs.Promise.{AllStuck, IsKept};
 ghost use Rattle.world_facts.specs.Logs.{longest_log};
+ghost use Rattle.world_places.specs.Explained.{AreItsPlaces};
 ghost use Rattle.world_parts.specs.Choosing.{due_act, is_ready, spent_process};
 ghost use Rattle.world_parts.specs.Seen.{Of, tasks_out};
 ghost use Rattle.world_core.specs.Stepping.{AreOut, ChecksIn, HandsOutOf, HasComputed, IsAstray, IsRefused, KeepsOut, OutBefore, Stepped};
@@ -28,7 +29,7 @@ use std::marker::Model;
 use value_core::Line;
 use wires::Wire;
 use world_parts::Parts;
-use world_rules::{Event, Settings, Standing, Step};
+use world_rules::{Event, PlaceNote, Settings, Standing, Step};
 
 /// The world of one run. It stores the steps of the run, and stands for the world to which they lead.
 pub struct World<P: OneRun> {
@@ -292,6 +293,17 @@ impl<P: OneRun> World<P> {
         run_ends::book(&self.parts, alloc)
     }
 
+    /// Where the lines of the book were performed, one place for each line, in their order: at an entry of the list, as a read on objects
+    /// that had seen so many entries, or on a single copy whose owner had applied so many.
+    ///
+    /// Each line was performed at its place, and the lines stand in the order of their places (`its`).
+    pub fn places(&self, alloc: Global) -> Result<Vec<PlaceNote>, NoMemory>
+        ensures places { Of P.run.frame self.now (λ w. IfOk result (λ notes. notes.items ≡ places P.run.frame w)) }
+        ensures its { Of P.run.frame self.now (λ w. AreItsPlaces P.run.frame w (places P.run.frame w)) }
+    {
+        run_ends::places(&self.parts, alloc)
+    }
+
     /// The members as they stand, by their numbers.
     pub fn node_ends(&self, alloc: Global) -> Result<Vec<NodeEnd>, NoMemory>
         ensures ends { Of P.run.frame self.now (λ w. IfOk result (λ ends. AreNodeEnds P.run.frame w ends.items)) }
@@ -309,14 +321,16 @@ impl<P: OneRun> World<P> {
         run_ends::process_ends(&self.parts, alloc)
     }
 
-    /// All that is kept of the run, as `book`, `node_ends` and `process_ends` tell it. Its history is copied once. Where there is no
-    /// memory, it is gone.
+    /// All that is kept of the run, as `book`, `places`, `node_ends` and `process_ends` tell it. Its history is copied once. Where there is
+    /// no memory, it is gone.
     pub fn into_end(self, alloc: Global) -> Result<RunEnd, NoMemory>
         ensures steps { IfOk result (λ end. end.steps.items ≡ self.steps) }
         ensures longest { Of P.run.frame self (λ w. IfOk result (λ end. end.longest ≡ longest_log P.run.frame w)) }
         ensures replayed { (w : RunWorld) × Replays P.run.frame self.steps w }
         ensures book { Of P.run.frame self (λ w. IfOk result (λ end. end.book.items ≡ Book P.run.frame w)) }
         ensures legal { IfOk result (λ end. Legal P.run.frame.performs P.run.frame.computes end.book.items) }
+        ensures places { Of P.run.frame self (λ w. IfOk result (λ end. end.places.items ≡ places P.run.frame w)) }
+        ensures its { Of P.run.frame self (λ w. AreItsPlaces P.run.frame w (places P.run.frame w)) }
         ensures nodes { Of P.run.frame self (λ w. IfOk result (λ end. AreNodeEnds P.run.frame w end.nodes.items)) }
         ensures processes { Of P.run.frame self (λ w. IfOk result (λ end. AreProcessEnds P.run.frame w end.processes.items)) }
         ensures mean { Of P.run.frame self (EndsMean P.run.frame) }

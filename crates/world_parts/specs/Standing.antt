@@ -25,6 +25,8 @@ use Rattle.world_law.specs.Homes.{AllHome}
 use Rattle.world_law.specs.Lists.{AllGrow}
 use Rattle.world_law.specs.Packets.{AllNumber}
 use Rattle.world_law.specs.SoundPackets.{AllLettersSound}
+use Rattle.world_places.specs.Explained.{RunsHavePlaces}
+use Rattle.world_places.specs.Told.{RunsTellPlaces}
 use Rattle.run_law.specs.Growing.{EventsGrow}
 use Rattle.run_law.specs.Limits.{AllStopBefore}
 use Rattle.run_law.specs.Parts.{AllTicksApart, InAllParts}
@@ -139,6 +141,8 @@ pub record Laws (p : Performs) (q : Computes) : Type 0 where
   pub begin : AllBegin
   pub stand : AllStand
   pub homes : HomesAreMembers
+  pub places : RunsHavePlaces p q
+  pub told : RunsTellPlaces p q
 
 -- the numbers of a run's settings
 pub record HasNumbers (s : Numbers) (settings : Settings) : Type 0 where

@@ -20,6 +20,7 @@ use world_facts::{ends_mean, processes_stand, standings_mean, worlds_count};
 use world_law::{
     group_steps, letters_are_sound, numbers_stay_small, packets_are_numbered, processes_are_home,
 };
+use world_places::lines_have_places;
 use world_rules::Settings;
 
 /// The numbers of a run's settings.
@@ -109,6 +110,7 @@ fn laws_of_runs<P: OneRun>(machine: &P)
     standings_mean();
     worlds_count();
     processes_stand();
+    lines_have_places(machine);
 }
 
 // The members before the first event.

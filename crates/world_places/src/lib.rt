@@ -2,10 +2,11 @@
 //!
 //! Each line of a run's book was performed at a place: at an entry of the list, as a read on copies that had applied so many entries, or
 //! on a single copy whose owner had applied so many. `places` of `world_rules` gives them; here stands what is so of them in every run,
-//! and the text that `--explain` is to print. It has no code: its functions are laws, whose bodies are empty or call the laws below.
+//! how what is kept of a run tells them, and the text that `--explain` is to print. It has no code: its functions are laws, whose bodies are empty or call the laws below.
 #![tactic(auto)]
 
 ghost use Rattle.world_places.specs.Explained.{PlacesAreOne, PlacesNeverFall, RunsHavePlaces, StepsPerform};
+ghost use Rattle.world_places.specs.Told.{RunsTellPlaces};
 ghost use Rattle.world_places.specs.Worked.{WorkedPlaces};
 
 use book_law::every_call_fits;
@@ -22,9 +23,13 @@ use world_law::{group_steps, runs_hold};
 /// - `lines`: so it is of the book of each world of a run.
 /// - `steps`: and in each step what is new beside the list is a read at its place, or a call on a single object, at a place between what
 ///   its owner had applied before the step and what it has after it.
+/// - `told`: what was performed, once it is sorted into the book, tells these places: a call on an object that some member keeps as a
+///   single one was performed on that; any other line was at its entry where the list has a message of its process and number, and else
+///   it is a read.
 pub fn lines_have_places<P: Processor>(machine: &P)
     ensures lines { RunsHavePlaces (P.performs machine.now) (P.computes machine.now) }
     ensures steps { StepsPerform (P.performs machine.now) (P.computes machine.now) }
+    ensures told { RunsTellPlaces (P.performs machine.now) (P.computes machine.now) }
 {
     agreement_law::<Message>();
     runs_hold();

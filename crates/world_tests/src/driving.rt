@@ -1,12 +1,12 @@
 //! What drives a run: the event that the wire in use gives, or else what is due.
 
-ghost use Rattle.std.specs.Prelude.{◌≡◌, ◌+◌, ◌*◌, ◌<◌, ◌≤◌, Some};
+ghost use Rattle.std.specs.Prelude.{◌≡◌, ◌+◌, ◌*◌, ◌<◌, ◌≤◌, IfOk, Some};
 ghost use Rattle.world_rules.specs.Frame.{AreSettings};
 
 use net_rules::WireAct;
 use node_core::Task;
 use node_parts::{OneRun, RunMachine, RunName};
-use orca_base::{Items, NoMemory, ProcessNo};
+use orca_base::{Choice, Items, NoMemory, ProcessNo};
 use std::alloc::Global;
 use std::marker::Brand;
 use value_core::Processor;
@@ -39,6 +39,24 @@ pub fn settings(alloc: Global, nodes: u8, resilience: u8, events: u64, wires: u1
         wires,
         choices,
     }
+}
+
+/// Settings of two members, of which the first object that a process of the first text makes is at its maker alone.
+pub fn single_settings(alloc: Global) -> Result<Settings, NoMemory>
+    ensures ranges { IfOk result AreSettings }
+{
+    let mut own = Vec::new(alloc);
+    own.push(Choice::Single)?;
+    let mut choices = Vec::new(alloc);
+    choices.push(Items::new(own))?;
+    Ok(Settings {
+        nodes: 2,
+        resilience: 0,
+        turns: 1_000_000,
+        events: 1000,
+        wires: 1,
+        choices: Items::new(choices),
+    })
 }
 
 /// Runs the program of a machine over these wires, of which the first is in use at the start, until the run isn't going or a thousand events

@@ -13,5 +13,5 @@ mod full_wire;
 mod runs;
 
 pub use cells::{Cells, Player};
-pub use driving::{Run, computes, due, go, hands_out, ran, settings};
+pub use driving::{Run, computes, due, go, hands_out, ran, settings, single_settings};
 pub use full_wire::FullWire;

@@ -3,7 +3,7 @@
 ghost use Rattle.std.specs.Prelude.{◌≤◌};
 
 use crate::cells::Cells;
-use crate::driving::{Run, ran, settings};
+use crate::driving::{Run, ran, settings, single_settings};
 use bag_processes::Scripts;
 use fault_scripts::read_script;
 use lossy_net::PlainWire;
@@ -12,7 +12,7 @@ use orca_base::{NoMemory, ProcessNo, Refusal};
 use std::alloc::Global;
 use std::test::Fail;
 use wires::{ScriptWire, Wire};
-use world_core::{Event, ProcessStanding, Standing, Step};
+use world_core::{Event, PlaceNote, ProcessStanding, Standing, Step};
 
 // A wire with this script.
 fn scripted(alloc: Global, text: &[u8]) -> Result<ScriptWire, Fail> {
@@ -69,7 +69,8 @@ fn ticks(steps: &[Step]) -> u64 {
     ticks
 }
 
-// One cell on three members, of which none acknowledges: 4 bursts, 3 acts and 6 deliveries; the book, the members and the process.
+// One cell on three members, of which none acknowledges: 4 bursts, 3 acts and 6 deliveries; the book with its places, the members and the
+// process.
 #[test]
 fn one_cell(rt: HostRuntime) -> Result<(), Fail> {
     let alloc = rt.alloc();
@@ -90,6 +91,13 @@ fn one_cell(rt: HostRuntime) -> Result<(), Fail> {
     for line in &ran.end.book {
         assert_eq!(rt; line.process, ProcessNo::MAIN);
     }
+    let places = [
+        PlaceNote::Entry { number: 1 },
+        PlaceNote::Entry { number: 2 },
+        PlaceNote::Read { number: 2 },
+        PlaceNote::Entry { number: 3 },
+    ];
+    assert_eq!(rt; ran.end.places.as_slice(), places.as_slice());
     assert_eq!(rt; ran.end.nodes.len(), 3);
     for node in &ran.end.nodes {
         assert_eq!(rt;
@@ -151,6 +159,29 @@ fn one_cell_resilient(rt: HostRuntime) -> Result<(), Fail> {
             assert_eq!(rt; ran.end.steps.len(), 22);
         }
     }
+    Ok(())
+}
+
+// A single cell on two members: its make is an entry, and the calls on it are performed on its copy, which its maker keeps.
+#[test]
+fn single_cell(rt: HostRuntime) -> Result<(), Fail> {
+    let alloc = rt.alloc();
+    let mut wires = Vec::new(alloc);
+    wires.push(PlainWire::new(alloc))?;
+    let ran = ran(
+        alloc,
+        &Cells,
+        single_settings(alloc)?,
+        wires.as_mut_slice(),
+    )?;
+    assert_eq!(rt; ran.standing, Standing::Finished);
+    let places = [
+        PlaceNote::Entry { number: 1 },
+        PlaceNote::Single { number: 1 },
+        PlaceNote::Single { number: 1 },
+        PlaceNote::Single { number: 1 },
+    ];
+    assert_eq!(rt; ran.end.places.as_slice(), places.as_slice());
     Ok(())
 }
 
@@ -249,6 +280,9 @@ fn three_processes(rt: HostRuntime) -> Result<(), Fail> {
         assert_eq!(rt; node.applied, 10);
     }
     assert_eq!(rt; ran.end.book.len(), 9);
+    for place in &ran.end.places {
+        assert!(rt; matches!(place, PlaceNote::Entry { .. }));
+    }
     let mut replies = Vec::new(alloc);
     for process in &ran.end.processes {
         replies.push(process.replies.len())?;

@@ -1,5 +1,5 @@
 use Rattle.std.proofs.lemmas.Result.{err_from_is_err_and}
-use Rattle.orca_cli.proofs.ReportLemmas.{front_of_both, line_behind, no_line}
+use Rattle.orca_cli.proofs.ReportLemmas.{front_of_both, text_behind}
 use Rattle.orca_cli.proofs.report.print_behind.Goals as goal
 
 pub returns-in_err-print_history-clause-wrote : goal.returns-in_err-print_history-clause-wrote
@@ -7,10 +7,5 @@ returns-in_err-print_history-clause-wrote g c =
     let p = err_from_is_err_and c.from_residual.result c.from_residual.ensures.1 in
     rw (p.1, p.2) (front_of_both _ _ _ _ p.0 (rw c.deref.ensures.value at c.in_err-print_history.ensures.wrote))
 
-pub returns-in_err-line-clause-wrote : goal.returns-in_err-line-clause-wrote
-returns-in_err-line-clause-wrote g c =
-    let p = err_from_is_err_and c.from_residual-in_err-line.result c.from_residual-in_err-line.ensures.1 in
-    rw p.1 (no_line _ _ _ _ p.0 (rw c.deref.ensures.value at c.in_ok-print_history.ensures.wrote))
-
 pub returns-clause-wrote : goal.returns-clause-wrote
-returns-clause-wrote g c = line_behind _ _ _ _ _ _ (rw c.deref.ensures.value at c.in_ok-print_history.ensures.wrote) (rw (c.deref-3.ensures.value, c.in_ok-line.ensures, c.deref-2.ensures.value) at c.put_some.ensures.puts)
+returns-clause-wrote g c = text_behind _ _ _ _ _ _ (rw c.deref.ensures.value at c.in_ok-print_history.ensures.wrote) c.print_ending.ensures.wrote

@@ -4,7 +4,7 @@ use Rattle.world_rules.specs.declared.settings.Settings.{Settings}
 use Rattle.run_loop.specs.Asked.{WereAskedIn}
 use Rattle.run_loop.specs.Left.{HasRun, run_of}
 use Rattle.orca_cli.specs.Programs.{units_of}
-use Rattle.orca_cli.specs.Standings.{awaited_name, history_said}
+use Rattle.orca_cli.specs.Standings.{awaited_name, run_said}
 use Rattle.orca_cli.proofs.HeadlineLemmas.{book_back, book_printable, is_run_by, ranges_as, some_is}
 use Rattle.orca_cli.proofs.top.run_loaded.Goals as goal
 
@@ -58,10 +58,10 @@ returns-clause-kept g c =
     let before = map g.W.Wire.told c.args.wires.now in
     let after = map g.W.Wire.told c.run-ran.new.wires in
     let says = c.report-status.ensures in
-    is_run_by (performs_of units) (computes_of units) c.args.options (length c.args.wires.now) c.settings_of-settings.result (awaited_name c.args.names.now) (history_said c.args.options.history c.args.names.now) c.in-Some.end c.run-ran.result.standing c.report-status.result
+    is_run_by (performs_of units) (computes_of units) c.args.options (length c.args.wires.now) c.settings_of-settings.result (awaited_name c.args.names.now) (λ w. run_said c.args.options c.args.names.now) c.in-Some.end c.run-ran.result.standing c.report-status.result
     (g.K.Sink.told c.args.out.now) (g.K.Sink.told c.report-status.new.out) before after
     c.laws_of_runs.ensures c.settings_of-settings.ensures
     (ranges_as c.args.options (length c.args.wires.now) c.settings_of-settings.result c.settings_of-settings.ensures c.requires.options c.requires.wires)
     (some_is c.run-ran.result.end c.in-Some.end (HasRun (run_of (performs_of units) (computes_of units) c.settings_of-settings.result) c.run-ran.result.standing before after) c.in-Some.is
     c.run-ran.ensures.run) c.run-ran.ensures.told
-    (record { ends = says.ends; lacked = says.lacked; printed = says.printed })
+    (record { ends = says.ends; lacked = says.lacked; printed = λ w. says.printed })

@@ -34,5 +34,5 @@ returns-clause-run g c =
     (subst (λ (l : List (List Asked)). IfSome (result_ok c.into_end.result) (HasRun f c.standing.result l now)) (sym c.requires.told)
     (ran f s c.standing.result g.P.OneRun.run.told now c.into_end.result
     (gone f s c.drive.new.self.in_use c.standing.result g.P.OneRun.run.told now c.drive.result c.drive.ensures.driven c.drive.ensures.over c.drive.ensures.stopped c.standing.ensures.standing)
-    c.standing.ensures.standing c.standing.ensures.stuck c.into_end.ensures.steps c.into_end.ensures.book c.into_end.ensures.longest c.into_end.ensures.nodes c.into_end.ensures.processes c.into_end.ensures.mean
+    c.standing.ensures.standing c.standing.ensures.stuck c.into_end.ensures.steps c.into_end.ensures.book c.into_end.ensures.places c.into_end.ensures.its c.into_end.ensures.longest c.into_end.ensures.nodes c.into_end.ensures.processes c.into_end.ensures.mean
     c.into_end.ensures.kept))

@@ -27,4 +27,6 @@ returns g c =
       begin = c.processes_stand.ensures.begins;
       stand = c.processes_stand.ensures.stands;
       homes = c.processes_stand.ensures.homes;
+      places = c.lines_have_places.ensures.lines;
+      told = c.lines_have_places.ensures.told;
     })

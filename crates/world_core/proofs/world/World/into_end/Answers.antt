@@ -13,3 +13,7 @@ returns-clause-replayed g c =
 pub returns-clause-stuck : goal.returns-clause-stuck
 returns-clause-stuck g c w replays =
     c.self.invariant.laws.stuck g.P.OneRun.run.frame refl refl c.self.invariant.settings c.args.self.steps w replays
+
+pub returns-clause-its : goal.returns-clause-its
+returns-clause-its g c w replays =
+    c.self.invariant.laws.places g.P.OneRun.run.frame refl refl c.self.invariant.settings c.args.self.steps w replays
