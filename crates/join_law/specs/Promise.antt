@@ -1,7 +1,6 @@
 -- What is promised of a member that joins late, beside every run without single objects.
 use Rattle.std.specs.Prelude.{◌≡◌, ◌≤◌, ◌<◌, ◌⊎◌, ℕ, suc, true, false, List, [], ◌∷◌, ◌++◌, length, None, Some}
 use Rattle.std.specs.List.{AllByRecursion}
-use Rattle.orca_base.specs.declared.ids.TextNo.{TextNo}
 use Rattle.value_core.specs.History.{objects_of}
 use Rattle.value_core.specs.Meaning.{Computes, Performs}
 use Rattle.object_manager.specs.After.{Copied}
@@ -13,17 +12,14 @@ use Rattle.net_rules.specs.declared.flight.Flight.{Flight}
 use Rattle.group_join.specs.declared.packet.JoinPacket.{JoinPacket}
 use Rattle.group_join.specs.Following.{AreAfter, MayReceive, TellsList}
 use Rattle.world_rules.specs.declared.event.Step.{Step}
-use Rattle.world_rules.specs.Frame.{AreSettings, Frame, chooses_single}
+use Rattle.world_rules.specs.Frame.{AreSettings, Frame}
 use Rattle.world_rules.specs.Worlds.{World, agreed}
+use Rattle.world_facts.specs.Replicated.{AllReplicated}
 use Rattle.world_book.specs.Promise.{book_up_to}
 use Rattle.join_law.specs.Followed.{Followed, Joining, Move, opening_joining}
 use Rattle.world_rules.specs.Steps.{Next}
 use Rattle.join_law.specs.Rounds.{BehindRun, BesideRun, Carried, Rounding, Rounds, ahead, can_answer, has_passed, most_rounds, releases, round, turns}
 use Rattle.join_law.specs.Moments.{BeginsBehind, IsBehind, IsReached, Moment, RoundsUpTo, WithinRound, asks_member, between, moments, next_moment, opens_round}
-
--- each object is replicated
-abbrev pub AllReplicated : Frame → Type 0
-AllReplicated f = (text : TextNo) (number : ℕ) → chooses_single f.settings.choices text number ≡ false
 
 -- the follower's copies are those after the first entries of the agreed list, as many as it applied; and so its objects are those that
 -- the lines of the book leave whose places are at most that number

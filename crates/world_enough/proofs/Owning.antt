@@ -39,6 +39,7 @@ use Rattle.world_book.specs.Processes.{has_out}
 use Rattle.world_enough.proofs.Letters.{AreLetters, IsLetter}
 use Rattle.world_law.proofs.Onwards.{AreOnward, Onward, on_catches, on_read, stay}
 use Rattle.world_facts.specs.Passing.{AllPass}
+use Rattle.world_facts.specs.Replicated.{AllReplicated}
 use Rattle.world_enough.specs.Faultless.{IsFaultless, IsFirst, IsPlain, IsTick}
 use Rattle.world_enough.specs.Tie.{AreCalm}
 use Rattle.world_law.proofs.Maps.{at_both, at_here}
@@ -199,7 +200,7 @@ came_as f w m i r call Reads own process number may =
     came_on f w m v _ (bare_read f (group f) m i v) (on_read f i v) (came_plays f w m i t (idle (w.nodes m)) refl (came_idle f w m own))
 came_as f w m i r call Writes own process number may = came_submits f w m i r (message_of call).action (message_of call) own process number refl may
 
-came_calls : (f : Frame) (w : World) (m i : ℕ) (r : Played) (call : Suspended) → f.settings.choices ≡ [] → Owned f w → call.process ≡ record { 0 = i } → call.call ≡ next_call r →
+came_calls : (f : Frame) (w : World) (m i : ℕ) (r : Played) (call : Suspended) → AllReplicated f → Owned f w → call.process ≡ record { 0 = i } → call.call ≡ next_call r →
     may_submit (group f) (group_world w) m (message_of call) ≡ true → Came f w m (calls f m i r call (idle (w.nodes m)))
 came_calls f w m i r call none own process number may = cond_both (singles_of f (known f (w.nodes m)) call.object) _ _ (λ u. Came f w m u)
     (λ e. let c : true ≡ false = sym e ∙ no_single f (known f (w.nodes m)) call.object none in absurd (cc c))
@@ -208,7 +209,7 @@ came_calls f w m i r call none own process number may = cond_both (singles_of f 
 abbrev May : Frame → World → ℕ → ℕ → Played → Type 0
 May f w m i r = (x : Message) → x.process.0 ≡ i → x.call.0 ≡ length r.replies → may_submit (group f) (group_world w) m x ≡ true
 
-came_by : (f : Frame) (w : World) (m i : ℕ) (r : Played) (act : Action) → f.settings.choices ≡ [] → Owned f w → May f w m i r → Came f w m (acts_by f m i r act (idle (w.nodes m)))
+came_by : (f : Frame) (w : World) (m i : ℕ) (r : Played) (act : Action) → AllReplicated f → Owned f w → May f w m i r → Came f w m (acts_by f m i r act (idle (w.nodes m)))
 came_by f w m i r (action.Make kind object) none own may =
     let x : Message = record { process = record { 0 = i }; call = next_call r; action = action.Make kind object; performable = refl } in
     came_submits f w m i r (action.Make kind object) x own refl refl refl (may x refl refl)
@@ -221,7 +222,7 @@ came_by f w m i r (action.Fork text args place_on) none own may =
 came_by f w m i r action.Ended none own may = came_idle f w m own
 came_by f w m i r (action.Faulted fault) none own may = came_idle f w m own
 
-came_at : (f : Frame) (w : World) (m i : ℕ) (r : Played) (stage : Stage) → f.settings.choices ≡ [] → Owned f w → ((act : Action) → stage ≡ Acting act → May f w m i r) →
+came_at : (f : Frame) (w : World) (m i : ℕ) (r : Played) (stage : Stage) → AllReplicated f → Owned f w → ((act : Action) → stage ≡ Acting act → May f w m i r) →
     Came f w m (acts_at f m i r stage (idle (w.nodes m)))
 came_at f w m i r (Acting act) none own may = came_by f w m i r act none own (may act refl)
 came_at f w m i r Computing none own may = came_idle f w m own
@@ -230,7 +231,7 @@ came_at f w m i r (Reading act) none own may = came_idle f w m own
 came_at f w m i r (Asking act) none own may = came_idle f w m own
 came_at f w m i r (Over act) none own may = came_idle f w m own
 
-came_acts : (f : Frame) (w : World) (m i : ℕ) (here : Option Played) → f.settings.choices ≡ [] → Owned f w → ((r : Played) (act : Action) → here ≡ Some r → r.stage ≡ Acting act → May f w m i r) →
+came_acts : (f : Frame) (w : World) (m i : ℕ) (here : Option Played) → AllReplicated f → Owned f w → ((r : Played) (act : Action) → here ≡ Some r → r.stage ≡ Acting act → May f w m i r) →
     Came f w m (acts_of f m i here (idle (w.nodes m)))
 came_acts f w m i None none own may = came_idle f w m own
 came_acts f w m i (Some r) none own may = came_at f w m i r r.stage none own (λ act e. may r act refl e)
@@ -338,7 +339,7 @@ owned_delivers f w step number copy own calm head pass few =
 
 -- ---- a step
 
-owned_event : (f : Frame) (w : World) (step : Step) (e : world.Event) (given : Known e) → e ≡ step.event → f.settings.choices ≡ [] → Possible f w e given → ((i : ℕ) → MaySubmit f w i) →
+owned_event : (f : Frame) (w : World) (step : Step) (e : world.Event) (given : Known e) → e ≡ step.event → AllReplicated f → Possible f w e given → ((i : ℕ) → MaySubmit f w i) →
     AreCalm w.sent w.flights → IsFaultless w step → (IsTick e → ⊥) → length step.fates ≡ length (happens f w e given).mails → Owned f w → Owned f (closes f w step (happens f w e given))
 owned_event f w step (event.Burst process place turns) given same none may submit calm less never few own =
     let m : ℕ = home_of f w process.0 in
@@ -358,7 +359,7 @@ owned_event f w step (event.Crash node) given same none may submit calm less nev
 owned_event f w step (event.Suspect node) given same none may submit calm less never few own = absurd (subst (λ z. IsPlain z) (sym same) less.plain)
 owned_event f w step event.Swap given same none may submit calm less never few own = absurd (subst (λ z. IsPlain z) (sym same) less.plain)
 
-pub owned_step : (f : Frame) (w v : World) (step : Step) → f.settings.choices ≡ [] → Next f w step v → ((i : ℕ) → MaySubmit f w i) → AreCalm w.sent w.flights → IsFaultless w step →
+pub owned_step : (f : Frame) (w v : World) (step : Step) → AllReplicated f → Next f w step v → ((i : ℕ) → MaySubmit f w i) → AreCalm w.sent w.flights → IsFaultless w step →
     (IsTick step.event → ⊥) → Owned f w → Owned f v
 owned_step f w v step none next submit calm less never own = subst (λ (z : World). Owned f z) (sym next.after)
     (owned_event f w step step.event next.given refl none next.possible submit calm less never next.fates own)

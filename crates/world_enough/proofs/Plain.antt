@@ -3,8 +3,6 @@ use Rattle.std.proofs.Common.{◌≡◌, ◌==◌, ◌++◌, ℕ, zero, suc, fal
 use Rattle.std.specs.Prelude.{slice_get}
 use Rattle.std.proofs.lemmas.Bool.{cond_both}
 use Rattle.orca_base.specs.declared.ids.ObjectId.{ObjectId}
-use Rattle.orca_base.specs.declared.ids.TextNo.{TextNo}
-use Rattle.orca_base.specs.declared.what.Choice.{Choice}
 use Rattle.value_core.specs.declared.action.Action.{Action}
 use Rattle.value_core.specs.declared.action.Line.{Line}
 use Rattle.value_core.specs.declared.meaning.Tried.{Tried}
@@ -16,7 +14,7 @@ use Rattle.group_rules.specs.Messages.{Group}
 use Rattle.group_rules.specs.Work.{Act, Work}
 use Rattle.group_rules.specs.World.{Past, remembers}
 use Rattle.world_rules.specs.Applying.{answers, applies, applies_all, applies_each, applies_one, applies_with, begins, copies_take, due_entries, passes_limit, performs_read, round, rounds, tries_as, tries_of, tries_read, tries_reads}
-use Rattle.world_rules.specs.Frame.{Frame, chooses_single}
+use Rattle.world_rules.specs.Frame.{Frame}
 use Rattle.world_rules.specs.Mail.{Errand, Mail}
 use Rattle.world_rules.specs.Nodes.{Deed, NodeWork, becomes, changes, does, if_played, joins, known, past_after, mails_of}
 use Rattle.world_rules.specs.Nodes.Deed.{Submits, Acts, Mails, Applies, Performs}
@@ -25,19 +23,17 @@ use Rattle.world_rules.specs.Parts.{catches_up, performs_all}
 use Rattle.world_rules.specs.Played.{Played, Stage, receives}
 use Rattle.world_rules.specs.Played.Stage.{Computing, Acting, Submitted, Reading, Asking, Over}
 use Rattle.world_rules.specs.Processes.{Begun, begun_by, home_in, single_by, singles_of}
+use Rattle.world_facts.specs.Replicated.{AllReplicated}
 use Rattle.world_enough.proofs.Letters.{IsLetter}
 
 -- ---- no object is single
 
-not_chosen : (choices : List (List Choice)) (text : TextNo) (number : ℕ) → choices ≡ [] → chooses_single choices text number ≡ false
-not_chosen choices text number e = ap (λ (c : List (List Choice)). chooses_single c text number) e
+not_by : (f : Frame) (o : Option Begun) (number : ℕ) → AllReplicated f → single_by f o number ≡ false
+not_by f None number all = refl
+not_by f (Some maker) number all = all maker.text number
 
-not_by : (f : Frame) (o : Option Begun) (number : ℕ) → f.settings.choices ≡ [] → single_by f o number ≡ false
-not_by f None number e = refl
-not_by f (Some maker) number e = not_chosen f.settings.choices maker.text number e
-
-pub no_single : (f : Frame) (ps : List Begun) (o : ObjectId) → f.settings.choices ≡ [] → singles_of f ps o ≡ false
-no_single f ps o e = not_by f (slice_get ps o.process) o.number e
+pub no_single : (f : Frame) (ps : List Begun) (o : ObjectId) → AllReplicated f → singles_of f ps o ≡ false
+no_single f ps o all = not_by f (slice_get ps o.process) o.number all
 
 -- ---- deeds
 

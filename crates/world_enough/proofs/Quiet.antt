@@ -30,6 +30,7 @@ use Rattle.world_rules.specs.Worlds.{World, agreed, group_world, home_of, openin
 use Rattle.world_facts.specs.Rows.{AllRest, IsBegun, IsUnlimited, ReadsStanding, Rests}
 use Rattle.world_facts.specs.Rows.{IsDone as MemberDone}
 use Rattle.world_facts.specs.Rows.{IsQuiet as MomentQuiet}
+use Rattle.world_facts.specs.Replicated.{AllReplicated}
 use Rattle.world_law.specs.CaughtUp.{StopsAt}
 use Rattle.world_law.specs.Grouped.{MaySubmit}
 use Rattle.world_law.specs.Grouped.{Submits as MayAll}
@@ -49,7 +50,7 @@ pub record Lore (f : Frame) : Type 0 where
   pub laws : Laws f
   pub lists : ListsGrow f
   pub reads : (w : World) → ReadsStanding f w
-  pub none : f.settings.choices ≡ []
+  pub none : AllReplicated f
   pub messages : MessagesLaw Message
   pub small : 2 * f.settings.resilience < f.settings.nodes
 

@@ -13,6 +13,7 @@ use Rattle.world_rules.specs.Standings.{process_count, standing, stands}
 use Rattle.world_rules.specs.Worlds.{Book, World, opening_world, played_in}
 use Rattle.world_facts.specs.Ends.{turns_in}
 use Rattle.world_facts.specs.Logs.{longest_log}
+use Rattle.world_facts.specs.Replicated.{AllReplicated}
 use Rattle.world_enough.specs.Faultless.{IsFaulty, LeadsFirst, NoTick, OfFaultlessRuns, delivered, worked}
 use Rattle.world_enough.specs.Paid.{IsSpent, sum}
 
@@ -107,7 +108,7 @@ FaultlessRunsGoWell p q = OfFaultlessRuns p q (λ f w steps. GoesWell f w steps)
 
 abbrev pub OfRunsInOrder : Performs → Computes → (Frame → World → List Step → Type 0) → Type 0
 OfRunsInOrder p q P =
-    (f : Frame) → f.performs ≡ p → f.computes ≡ q → AreSettings f.settings → f.settings.choices ≡ [] → (steps : List Step) (w : World) →
+    (f : Frame) → f.performs ≡ p → f.computes ≡ q → AreSettings f.settings → AllReplicated f → (steps : List Step) (w : World) →
     LeadsFirst f (opening_world f) steps w → P f w steps
 
 -- the row of a run that is out of events: as many as stated, and it was faulty, or those stated are no more than the bound

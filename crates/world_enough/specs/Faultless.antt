@@ -10,6 +10,7 @@ use Rattle.world_rules.specs.Frame.{AreSettings, Frame}
 use Rattle.world_rules.specs.Steps.{Next}
 use Rattle.world_rules.specs.Worlds.{World, opening_world}
 use Rattle.world_facts.specs.Passing.{AllPass}
+use Rattle.world_facts.specs.Replicated.{AllReplicated}
 
 -- ---- events
 
@@ -59,7 +60,7 @@ LeadsFaultless f w (step ∷ steps) v = (u : World) × Next f w step u × IsFaul
 -- so it is of each faultless run of a program with these meanings, by settings that a run may have, where no object is single
 abbrev pub OfFaultlessRuns : Performs → Computes → (Frame → World → List Step → Type 0) → Type 0
 OfFaultlessRuns p q P =
-    (f : Frame) → f.performs ≡ p → f.computes ≡ q → AreSettings f.settings → f.settings.choices ≡ [] → (steps : List Step) (w : World) →
+    (f : Frame) → f.performs ≡ p → f.computes ≡ q → AreSettings f.settings → AllReplicated f → (steps : List Step) (w : World) →
     LeadsFaultless f (opening_world f) steps w → P f w steps
 
 -- ---- its events

@@ -45,7 +45,7 @@ pub record IsSpent (f : Frame) (w : World) : Type 0 where
   pub computes : process.stage ≡ Computing
   pub turns : f.settings.turns ≤ process.turns
 
--- each burst and each act is paid by what its process has done, but for one burst that used the last turns
+-- the bursts and acts are paid by what processes have done, all together, but for one burst that used the last turns
 abbrev pub IsPaid : Frame → World → ℕ → Type 0
 IsPaid f w n = (BURST_TURNS * n ≤ weight_in f w) ⊎ (IsSpent f w × (BURST_TURNS * n ≤ weight_in f w + BURST_TURNS))
 

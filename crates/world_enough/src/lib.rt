@@ -1,4 +1,5 @@
-//! Enough events, the world's half: how many events are enough where the network loses nothing and no member fails (docs/EVENTS.md).
+//! Enough events, the world's half: how many events are enough where each packet comes once, whole and unheld, and no member fails
+//! (docs/EVENTS.md).
 //!
 //! A run is faultless where each packet's fate is Pass, or a Hold for no ticks, no member crashes or is suspected, no wire is exchanged,
 //! and of the packets that are ready the first is delivered; actions and bursts may come in any order. Its group is then what a list of
@@ -18,7 +19,11 @@ ghost use Rattle.world_enough.specs.Bound.{
 ghost use Rattle.world_enough.specs.Faultless.{LeadsFaultless};
 ghost use Rattle.world_enough.specs.Paid.{FaultlessRunsPay};
 ghost use Rattle.world_enough.specs.Tie.{FaultlessRunsHaveGroup, FaultlessRunsNeedNoTick};
+ghost use Rattle.value_core.specs.declared.action.Action.TheVariants as action;
 ghost use Rattle.world_rules.specs.OneCell.{one_cell, one_cell_end, one_cell_steps};
+ghost use Rattle.world_rules.specs.Played.Stage.{Over, Submitted};
+ghost use Rattle.world_rules.specs.ProcessSteps.{with_stage};
+ghost use Rattle.world_rules.specs.Programs.{assign};
 ghost use Rattle.world_rules.specs.Worlds.{opening_world};
 
 use group_bound::enough_events;
@@ -44,7 +49,7 @@ pub fn faultless_runs_need_no_tick<P: Processor>(machine: &P)
     enough_events::<Message>();
 }
 
-/// Each burst and each act of a faultless run is paid by what its process has done, in turns, but for one more where a process that
+/// The bursts and acts of a faultless run are paid by what processes have done, in turns, but for one more where a process that
 /// computes has no turns left. A call of this function does nothing.
 pub fn faultless_runs_pay<P: Processor>(machine: &P)
     ensures { FaultlessRunsPay (P.performs machine.now) (P.computes machine.now) }
@@ -125,8 +130,8 @@ pub fn faultless_runs_go_well<P: Processor>(machine: &P)
 }
 
 /// In every run in which of the packets that are ready the first comes: without a fault it goes well; and where it is out of events it had
-/// as many as were stated, and some fate didn't pass, or a member crashed or was suspected, or a wire was exchanged, or the events
-/// stated are no more than its bound. A call of this function does nothing.
+/// as many as were stated, and some fate was neither Pass nor a Hold for no ticks, or a member crashed or was suspected, or a wire was
+/// exchanged, or the events stated are no more than its bound. A call of this function does nothing.
 pub fn events_are_enough<P: Processor>(machine: &P)
     ensures { EventsAreEnough (P.performs machine.now) (P.computes machine.now) }
 {
@@ -134,8 +139,11 @@ pub fn events_are_enough<P: Processor>(machine: &P)
     faultless_runs_go_well(machine);
 }
 
-/// The worked run of one cell on three members, of which one acknowledges, is faultless, and 81 events are its bound.
+/// The worked run of one cell on three members, of which one acknowledges, is faultless, and 81 events are its bound. Two more are it
+/// where its process took 25,000 turns, and where that waits at an action.
 pub fn one_cell_is_bounded()
     ensures faultless { LeadsFaultless one_cell (opening_world one_cell) one_cell_steps one_cell_end }
     ensures bound { bound one_cell one_cell_end ≡ 81 }
+    ensures turns { bound one_cell (with_stage 25000 (Over action.Ended)) ≡ 83 }
+    ensures waits { bound one_cell (with_stage 0 (Submitted (assign 6))) ≡ 83 }
 {}

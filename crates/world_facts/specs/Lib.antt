@@ -8,3 +8,4 @@ pub mod WorkedEnds
 pub mod TooManyCrashes
 pub mod Logs
 pub mod Passing
+pub mod Replicated

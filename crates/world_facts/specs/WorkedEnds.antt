@@ -1,11 +1,10 @@
 -- The ends of worked worlds, which the check computes; and that the premises of the law of runs can be met together.
 use Rattle.std.specs.Prelude.{◌≡◌, ◌==◌, ℕ, true, false, [], ◌∷◌}
 use Rattle.orca_base.specs.declared.fault.FaultKind.TheVariants as fault
-use Rattle.orca_base.specs.declared.ids.TextNo.{TextNo}
 use Rattle.value_core.specs.History.{objects_of}
 use Rattle.value_core.specs.declared.action.Action.TheVariants as action
 use Rattle.value_core.specs.declared.action.Reply.TheVariants as answer
-use Rattle.world_rules.specs.Frame.{AreSettings, chooses_single}
+use Rattle.world_rules.specs.Frame.{AreSettings}
 use Rattle.world_rules.specs.LostEntry.{lost_entry}
 use Rattle.world_rules.specs.OneCell.{actions, one_cell, one_cell_book, one_cell_end, one_cell_steps}
 use Rattle.world_rules.specs.Played.{Stage}
@@ -14,6 +13,7 @@ use Rattle.world_rules.specs.ProcessSteps.{forked, with_stage}
 use Rattle.world_rules.specs.Programs.{assign, gives, performs, two_texts}
 use Rattle.world_rules.specs.Steps.{Replays}
 use Rattle.world_rules.specs.Worlds.{World}
+use Rattle.world_facts.specs.Replicated.{AllReplicated}
 use Rattle.world_facts.specs.Ends.{NodeEnd, ProcessEnd, Stand, node_end, node_ends, process_end, process_ends}
 
 -- the run of one cell at its end: three members, each with three entries, and one process
@@ -55,5 +55,5 @@ pub record WorkedEnds : Type 0 where
 -- what the law of runs asks of a run is so of the run of one cell
 pub record PremisesMet : Type 0 where
   pub settings : AreSettings one_cell.settings
-  pub replicated : (text : TextNo) (number : ℕ) → chooses_single one_cell.settings.choices text number ≡ false
+  pub replicated : AllReplicated one_cell
   pub replays : Replays one_cell one_cell_steps one_cell_end
