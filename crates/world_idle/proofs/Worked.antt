@@ -1,4 +1,4 @@
--- The run with a crash, step by step, and its two idle stretches.
+-- The runs with a crash, step by step, and their three idle stretches.
 use Rattle.std.proofs.Common.{◌≡◌, ◌==◌, ◌&&◌, ◌++◌, ℕ, zero, suc, Bool, true, List, [], ◌∷◌, refl, arith}
 use Rattle.std.proofs.lemmas.Bool.{and_parts, eqb-true}
 use Rattle.value_core.specs.Datum as datum
@@ -13,7 +13,7 @@ use Rattle.world_rules.specs.Scenes.{Scene, Unfolds, steps_of, world_after}
 use Rattle.world_rules.specs.Steps.{after_step}
 use Rattle.world_rules.specs.Worlds.{World, opening_world}
 use Rattle.world_idle.specs.Stretches.{AllInside, AllSame, LeadsIdle, SameNumbers}
-use Rattle.world_idle.specs.Worked.{HeldTicks, SixTicks, coordinated, crash_scenes, crashed, crashing, held_end, held_ticks, holding, holding_tick, let_go, rounds, seventh, waited}
+use Rattle.world_idle.specs.Worked.{GrowingLogs, HeldTicks, SixTicks, accepted, accepts, acker_scenes, ackerless, coordinated, crash_scenes, crashed, crashing, growing, grown, held_end, held_ticks, holding, holding_tick, let_go, rounds, seventh, waited}
 
 -- ---- the same numbers, as a test
 
@@ -477,6 +477,100 @@ three_rounds = (
   ),
 )
 
+to_loss : Unfolds crashing (opening_world crashing) acker_scenes
+to_loss = (
+  refl,
+  checks_in crashing _ first 0 (runner 0 datum.none [] 0 Computing) make refl refl refl (omega arith) (omega arith) refl (omega arith) refl refl,
+  refl,
+  (
+    refl,
+    refl,
+    refl,
+    (
+      refl,
+      refl,
+      refl,
+      (
+        refl,
+        refl,
+        refl,
+        (
+          refl,
+          refl,
+          refl,
+          (
+            refl,
+            refl,
+            refl,
+            tt,
+          ),
+        ),
+      ),
+    ),
+  ),
+)
+
+to_accepts : Unfolds crashing ackerless accepts
+to_accepts = (
+  refl,
+  refl,
+  refl,
+  (
+    refl,
+    refl,
+    refl,
+    tt,
+  ),
+)
+
+to_growth : Unfolds crashing accepted growing
+to_growth = (
+  refl,
+  checks_in crashing _ first 1 (runner 0 datum.none (answer.Done ∷ []) 1 Computing) (fork_on 2) refl refl refl (omega arith) (omega arith) refl (omega arith) refl refl,
+  refl,
+  (
+    refl,
+    refl,
+    refl,
+    (
+      refl,
+      refl,
+      refl,
+      (
+        refl,
+        refl,
+        refl,
+        (
+          refl,
+          refl,
+          refl,
+          (
+            refl,
+            refl,
+            refl,
+            (
+              refl,
+              refl,
+              refl,
+              (
+                refl,
+                refl,
+                refl,
+                (
+                  refl,
+                  refl,
+                  refl,
+                  tt,
+                ),
+              ),
+            ),
+          ),
+        ),
+      ),
+    ),
+  ),
+)
+
 -- ---- the stretches
 
 six_inside : AllInside crashing coordinated
@@ -499,6 +593,8 @@ promises same =
 
 pub six_ticks : SixTicks
 six_ticks = record {
+  none = refl;
+  lost = refl;
   fault = refl;
   stretch = record {
     faulty = steps_of crash_scenes;
@@ -544,4 +640,27 @@ held_packets = record {
   ticks = refl;
   crashes = omega arith;
   inside = held_inside;
+}
+
+pub growing_logs : GrowingLogs
+growing_logs = record {
+  fault = refl;
+  stretch = record {
+    faulty = steps_of acker_scenes;
+    waits = steps_of accepts;
+    rest = [];
+    cut = refl;
+    last = refl;
+    fault = ackerless;
+    begin = accepted;
+    end = grown;
+    to_fault = leads crashing (opening_world crashing) acker_scenes to_loss;
+    to_begin = leads crashing ackerless accepts to_accepts;
+    idle = leads_idle accepted growing to_growth refl;
+    to_end = refl;
+    held = omega arith;
+  };
+  ticks = refl;
+  before = refl;
+  behind = refl;
 }

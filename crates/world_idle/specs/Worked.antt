@@ -1,7 +1,7 @@
 -- A run with idle stretches, computed: three members, of which one may be lost. Process 0 makes the cell and forks process 1 on member 2,
 -- which assigns 6 to it. Member 0, the sequencer, knows that this entry is accepted, both its Accepts are lost, and it crashes. At each
 -- of six ticks members 1 and 2 send it a Status; at the seventh member 1 coordinates.
-use Rattle.std.specs.Prelude.{◌≡◌, ◌≤◌, ◌++◌, ℕ, zero, suc, List, [], ◌∷◌}
+use Rattle.std.specs.Prelude.{◌≡◌, ◌≤◌, ◌++◌, ℕ, zero, suc, List, [], ◌∷◌, length, take}
 use Rattle.value_core.specs.declared.action.Action.{Action}
 use Rattle.value_core.specs.declared.action.Reply.TheVariants as answer
 use Rattle.net_rules.specs.declared.fate.Fate.{Fate}
@@ -60,8 +60,11 @@ waited = world_after crashing crashed (rounds 6 17)
 abbrev pub coordinated : World
 coordinated = world_after crashing waited seventh
 
--- the crash, step 21, is the last fault; from there on six ticks are an idle stretch, and the seventh isn't idle
+-- bursts, acts and deliveries whose packets pass are no faults, the lost Accepts of step 20 are one; the crash, step 21, is the last fault;
+-- from there on six ticks are an idle stretch, and the seventh isn't idle
 pub record SixTicks : Type 0 where
+  pub none : last_fault (steps_of (take 19 crash_scenes)) ≡ 0
+  pub lost : last_fault (steps_of (take 20 crash_scenes)) ≡ 20
   pub fault : last_fault (steps_of six_scenes) ≡ 21
   pub stretch : IsIdleStretch crashing (steps_of six_scenes) (steps_of (rounds 6 17)) coordinated
   pub ticks : ticks_in (steps_of (rounds 6 17)) ≡ 6
@@ -101,3 +104,40 @@ pub record HeldTicks : Type 0 where
   pub ticks : ticks_in (steps_of (rounds 3 23)) ≡ 3
   pub crashes : crashes_in (steps_of held_scenes) ≤ crashing.settings.resilience
   pub inside : AllInside crashing held_end
+
+-- ---- logs that grow
+
+-- another run of the program: member 1, which acknowledges, crashes once the first entry is accepted
+abbrev pub acker_scenes : List Scene
+acker_scenes =
+    burst 0 0 [] (first_at [] 0 make) ∷ act 0 both ∷ deliver 1 one ∷ deliver 2 [] ∷ deliver 3 both ∷ crash 1 ∷ []
+
+-- the Accepts of that entry come
+abbrev pub accepts : List Scene
+accepts = deliver 4 [] ∷ deliver 5 [] ∷ []
+
+-- the second entry comes to member 2, and nobody acknowledges it; at a tick member 0 sends it again, and member 2 asks how it stands
+abbrev pub growing : List Scene
+growing =
+    burst 0 1 [] (first_at (answer.Done ∷ []) 1 (fork_on 2)) ∷ act 0 both ∷ deliver 6 [] ∷ deliver 7 []
+    ∷ tick (fate.Pass ∷ fate.Pass ∷ fate.Pass ∷ []) ∷ deliver 8 [] ∷ deliver 9 [] ∷ deliver 10 one ∷ deliver 11 [] ∷ []
+
+abbrev pub grown_scenes : List Scene
+grown_scenes = acker_scenes ++ (accepts ++ growing)
+
+abbrev pub ackerless : World
+ackerless = world_after crashing (opening_world crashing) acker_scenes
+
+abbrev pub accepted : World
+accepted = world_after crashing ackerless accepts
+
+abbrev pub grown : World
+grown = world_after crashing accepted growing
+
+-- a stretch in which a log grows is idle
+pub record GrowingLogs : Type 0 where
+  pub fault : last_fault (steps_of grown_scenes) ≡ 6
+  pub stretch : IsIdleStretch crashing (steps_of grown_scenes) (steps_of growing) grown
+  pub ticks : ticks_in (steps_of growing) ≡ 1
+  pub before : length (accepted.nodes 2).member.log ≡ 1
+  pub behind : length (grown.nodes 2).member.log ≡ 2

@@ -1,14 +1,15 @@
 //! Idle stretches of a run, the world's half: after faults have ended, only so many ticks pass in a row without progress (docs/EVENTS.md).
 //!
-//! A fault is a crash, a suspicion, an exchange of the wire, or a packet whose fate doesn't pass. Behind the last fault of a run, and
-//! behind the ticks for which packets are then still held, an idle stretch is a list of steps none of which changes the promised,
-//! installed, accepted or applied number of any member. How many stretches follow, so how long a run takes to end, isn't bounded. It is of lawful
-//! programs, with single objects and without. It has no code: its functions are laws, whose bodies are empty or call the laws below.
+//! A fault is a crash, a suspicion, an exchange of the wire, or a packet whose fate is neither Pass nor a Hold for no ticks. Behind the last
+//! fault of a run, and behind the ticks for which packets are then still held, an idle stretch is a list of steps none of which changes
+//! the promised, installed, accepted or applied number of any member. How many stretches follow, so how long a run takes to end, isn't
+//! bounded. It is of lawful programs, with single objects and without. It has no code: its functions are laws, whose bodies are empty or
+//! call the laws below.
 #![tactic(auto)]
 
 ghost use Rattle.world_idle.specs.Counting.{IdleTicksAreCounted};
 ghost use Rattle.world_idle.specs.Stretches.{IdleStretchesAreShort, IdleStretchesAreShorter};
-ghost use Rattle.world_idle.specs.Worked.{HeldTicks, SixTicks};
+ghost use Rattle.world_idle.specs.Worked.{GrowingLogs, HeldTicks, SixTicks};
 
 use book_law::book_law;
 use group_idle::idle_stretches_are_short;
@@ -45,11 +46,14 @@ pub fn idle_ticks_are_counted()
     ensures { IdleTicksAreCounted }
 {}
 
-/// A run on three members, of which one may be lost, whose sequencer crashes while it alone knows that an entry is accepted.
+/// Runs on three members, of which one may be lost: in the first two the sequencer crashes while it alone knows that an entry is accepted,
+/// and in the third the member that acknowledges crashes.
 ///
 /// - `six`: six ticks are an idle stretch, and at the seventh a member coordinates.
 /// - `held`: where two packets are held behind the crash, for one tick and for two, the stretch begins two ticks later.
+/// - `grown`: a stretch in which a log grows is idle.
 pub fn worked_stretches()
     ensures six { SixTicks }
     ensures held { HeldTicks }
+    ensures grown { GrowingLogs }
 {}
