@@ -27,6 +27,7 @@ use Rattle.world_rules.specs.declared.standing.Standing.TheVariants.{Going}
 use Rattle.world_rules.specs.Frame.{AreSettings, Frame}
 use Rattle.world_rules.specs.Standings as rules
 use Rattle.world_rules.specs.Worlds.{World}
+use Rattle.world_facts.specs.Replicated.{AllReplicated}
 use Rattle.run_ends.specs.declared.ends.RunEnd.{RunEnd}
 use Rattle.run_loop.specs.Asked.{HaveToldOn, WereAskedIn, WereUsedSo, asked_since}
 use Rattle.run_loop.specs.Left.{HasRun, run_of}
@@ -80,7 +81,7 @@ pub record IsTold (name : Action → List ℕ) (says : World → Kept → List �
   pub printed : (w : World) → Grew old new (Ends (standing_status standing) status (says w (kept_of end) (ending_line name turns standing end.processes.items)))
 
 pub is_run : (f : Frame) (name : Action → List ℕ) (says : World → Kept → List ℕ → List ℕ) (end : RunEnd) (standing : Standing) (status : ℕ) (old new : Option (List ℕ)) (before after : List (List Asked))
-    → RunLaws f.performs f.computes → AreSettings f.settings → f.settings.choices ≡ [] → HasRun f standing before after end → HaveToldOn before after → IsTold name says f.settings.turns end standing status old new
+    → RunLaws f.performs f.computes → AreSettings f.settings → AllReplicated f → HasRun f standing before after end → HaveToldOn before after → IsTold name says f.settings.turns end standing status old new
     → IsRun f name says (kept_of end) status old new before after
 is_run f name says end standing status old new before after laws settings none h told printed =
     let w = h.world in
@@ -122,7 +123,7 @@ pub is_run_by : (p : Performs) (q : Computes) (options : RunOptions) (wires : �
     → RunLaws p q → settings ≡ settings_of options wires → AreSettings settings → HasRun (run_of p q settings) standing before after end → HaveToldOn before after → IsTold name says options.turns end standing status old new
     → IsRun (run_of p q (settings_of options wires)) name says (kept_of end) status old new before after
 is_run_by p q options wires settings name says end standing status old new before after laws is ranges h told printed =
-    is_run (run_of p q (settings_of options wires)) name says end standing status old new before after laws (subst AreSettings is ranges) refl
+    is_run (run_of p q (settings_of options wires)) name says end standing status old new before after laws (subst AreSettings is ranges) (λ text number. refl)
     (subst (λ (s : Settings). HasRun (run_of p q s) standing before after end) is h) told printed
 
 -- ---- its history as a text

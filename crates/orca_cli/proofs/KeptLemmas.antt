@@ -4,7 +4,6 @@ use Rattle.std.specs.Prelude.{MatchOption, slice_get, option_map}
 use Rattle.std.proofs.lemmas.List.{length-map}
 use Rattle.std.proofs.lemmas.Option.{slice_get-map, slice_get_past, slice_get_within}
 use Rattle.orca_base.specs.declared.ids.ObjectId.{ObjectId}
-use Rattle.orca_base.specs.declared.what.Choice.{Choice}
 use Rattle.orca_base.specs.declared.ids.ProcessNo.{ProcessNo}
 use Rattle.value_core.specs.declared.action.Instance.{Instance}
 use Rattle.value_core.specs.declared.action.Line.{Line}
@@ -17,7 +16,7 @@ use Rattle.value_core.specs.declared.meaning.Doing.{Doing}
 use Rattle.orca_base.specs.declared.ids.TextNo.{TextNo}
 use Rattle.book_law.specs.Promise.{AtMostOneMore}
 use Rattle.guard_queue.specs.Shown.{or_else}
-use Rattle.world_rules.specs.Frame.{Frame, chooses_single}
+use Rattle.world_rules.specs.Frame.{Frame}
 use Rattle.world_rules.specs.Played.{Played}
 use Rattle.world_rules.specs.Processes.{Begun, single_by}
 use Rattle.world_rules.specs.Standings.{process_count}
@@ -29,6 +28,7 @@ use Rattle.world_facts.specs.Ends.{EndsStand, Stand, StandsBy, end_of, process_e
 use Rattle.world_places.specs.Explained.{AreItsPlaces}
 use Rattle.world_facts.specs.Places.{IsPlaced, book_behind, lines_to}
 use Rattle.world_facts.specs.Processes.{HomesAreMembers}
+use Rattle.world_facts.specs.Replicated.{AllReplicated}
 use Rattle.run_ends.specs.Telling.{AreNodeEnds, AreProcessEnds, EndsMean, IsNodeEnd, on_process_end, on_standing}
 use Rattle.run_ends.specs.declared.ends.NodeEnd.{NodeEnd}
 use Rattle.run_ends.specs.declared.ends.ProcessEnd.{ProcessEnd}
@@ -39,12 +39,12 @@ use Rattle.orca_cli.specs.Kept.{HasCopies, IsEndOf, IsHistory, IsHome, IsProcess
 
 -- ---- no object is single
 
-none_chosen : (f : Frame) → f.settings.choices ≡ [] → (maker : Option Begun) (number : ℕ) → single_by f maker number ≡ false
-none_chosen f none None number = refl
-none_chosen f none (Some maker) number = ap (λ (choices : List (List Choice)). chooses_single choices maker.text number) none
+none_chosen : (f : Frame) → AllReplicated f → (maker : Option Begun) (number : ℕ) → single_by f maker number ≡ false
+none_chosen f all None number = refl
+none_chosen f all (Some maker) number = all maker.text number
 
-pub none_single : (f : Frame) → f.settings.choices ≡ [] → (w : World) (o : ObjectId) → singles_in f w o ≡ false
-none_single f none w o = none_chosen f none (slice_get (processes_of f w) o.process) o.number
+pub none_single : (f : Frame) → AllReplicated f → (w : World) (o : ObjectId) → singles_in f w o ≡ false
+none_single f all w o = none_chosen f all (slice_get (processes_of f w) o.process) o.number
 
 -- ---- copies
 
@@ -59,7 +59,7 @@ nothing_else (Some kept) h = absurd (h kept refl)
 apart : (b : Bool) → b ≡ true → b ≡ false → ⊥
 apart b one two = let e : true ≡ false = sym one ∙ two in cc e
 
-pub copies_kept : (f : Frame) → f.settings.choices ≡ [] → (w : World) → IsKept f w → IsPlaced f w → (book : List Line) → book ≡ Book f w → (m : ℕ) (end : NodeEnd) → IsNodeEnd end (facts.node_end w m) → HasCopies f w book end
+pub copies_kept : (f : Frame) → AllReplicated f → (w : World) → IsKept f w → IsPlaced f w → (book : List Line) → book ≡ Book f w → (m : ℕ) (end : NodeEnd) → IsNodeEnd end (facts.node_end w m) → HasCopies f w book end
 copies_kept f none w kept placed book is m end ends =
     let has = kept.copies m in
     let n = (w.nodes m).member.applied in
@@ -179,7 +179,7 @@ home_kept f w homes some stand nodes are ends processes i end at =
 
 -- ---- all together
 
-pub history_kept : (f : Frame) (w : World) → f.settings.choices ≡ [] → 0 < f.settings.nodes → IsKept f w → EndsStand f w → EndsMean f w → IsPlaced f w → HomesAreMembers → (k : Kept) → AreItsPlaces f w k.places.items → IsEndOf f w k → IsHistory f w k
+pub history_kept : (f : Frame) (w : World) → AllReplicated f → 0 < f.settings.nodes → IsKept f w → EndsStand f w → EndsMean f w → IsPlaced f w → HomesAreMembers → (k : Kept) → AreItsPlaces f w k.places.items → IsEndOf f w k → IsHistory f w k
 history_kept f w none some kept stand mean placed homes k its end = record {
   legal = subst (history.Legal f.performs f.computes) (sym end.book) kept.legal;
   processes = processes_kept f w kept stand mean k.book.items end.book k.processes.items end.processes;
