@@ -168,6 +168,7 @@ unfolding bytes.eight
 seek_is_lost = refl
 
 pub follows_one_cell : FollowsOneCell
+unfolding bytes.eight
 follows_one_cell = record {
   stands = refl;
   passing = record { before = beside one_cell (all_pass 9) 8 1 (opening_world one_cell) scenes opening_rounding; along = along one_cell (all_pass 9) 8 1 (opening_world one_cell) scenes opening_rounding unfolds; end = refl; fates_are = refl };
@@ -181,6 +182,12 @@ follows_one_cell = record {
     fates_are = refl;
   };
   none = refl;
+  last = refl;
+  nobody = refl;
+  outside = refl;
+  outside_ahead = refl;
+  crashed = refl;
+  crashed_ahead = refl;
   faulty = record {
     before = beside one_cell faults 8 1 (opening_world one_cell) scenes opening_rounding;
     along = along one_cell faults 8 1 (opening_world one_cell) scenes opening_rounding unfolds;

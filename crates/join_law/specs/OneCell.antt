@@ -1,6 +1,6 @@
 -- A follower beside a whole run: one cell on three members, of which none may be lost. The process makes the cell, assigns 6, reads it in a
 -- burst, and writes it: 13 steps. From the 8th on the follower does a round after each.
-use Rattle.std.specs.Prelude.{◌≡◌, ℕ, suc, List, [], ◌∷◌, replicate, take}
+use Rattle.std.specs.Prelude.{◌≡◌, ℕ, suc, true, false, List, [], ◌∷◌, replicate, take, None, Some, slice_get}
 use Rattle.value_core.specs.declared.action.Action.TheVariants as action
 use Rattle.value_core.specs.declared.action.Reply.TheVariants as answer
 use Rattle.group_packets.specs.declared.packet.PacketKind.TheVariants as kind
@@ -110,6 +110,20 @@ purged_world = record one_cell_end { nodes = with_at one_cell_end.nodes 0 (purge
 abbrev pub with_state : Rounding
 with_state = round one_cell (fate.Pass ∷ fate.Twice ∷ []) purged_world 0 opening_rounding
 
+-- ---- who answers: one round with member 0 at the end, if it were outside, or had crashed
+
+abbrev pub leaves : Node → Node
+leaves node = record node { member = record node.member { outside = true } }
+
+abbrev pub outside_world : World
+outside_world = record one_cell_end { nodes = with_at one_cell_end.nodes 0 (leaves (one_cell_end.nodes 0)) }
+
+abbrev pub crashed_world : World
+crashed_world = record one_cell_end { lives = with_at one_cell_end.lives 0 false }
+
+abbrev pub asked_in : World → List Asked
+asked_in w = (round one_cell (all_pass 2) w 0 opening_rounding).asked
+
 -- ---- cuts: one round with member 0 at the end. A Seek has 9 bytes, and the first entry 28: cut to so many they are whole, to fewer lost
 
 abbrev pub with_cuts : List Fate → Rounding
@@ -119,7 +133,9 @@ abbrev pub asked_with_cuts : ℕ → List Asked
 asked_with_cuts kept = status 1 0 (fate.Cut 9) ∷ entry 2 0 28 (fate.Cut kept) ∷ []
 
 -- `passing`, it applied 3 entries of 3, by 3 entries, each of which it asked for, and no state; `dropping`, 0 of 3, where all that it
--- sent was lost: a packet for each of the 6 rounds beside the run and of the 70 behind it. `faulty` and `held`, it applied all 3 as well,
+-- sent was lost: a packet for each of the 6 rounds beside the run and of the 70 behind it, the last one to member 0, which is the lowest
+-- of those that applied most. A member that is outside or crashed answers nothing, and isn't ahead; where nobody is, the number of entries
+-- is that of the agreed list. `faulty` and `held`, it applied all 3 as well,
 -- and the wire was asked just this; `state`, it took one state, and the second was stale; `whole`, both packets are cut and whole;
 -- `entry`, the entry is lost, which the wire was asked about; `seek`, the Seek is lost, and nothing is answered
 pub record FollowsOneCell : Type 0 where
@@ -130,6 +146,12 @@ pub record FollowsOneCell : Type 0 where
   pub states : (follower (all_pass 9)).states ≡ 0
   pub dropping : Rounds one_cell 8 (all_drop 76) one_cell_steps one_cell_end (follower (all_drop 76))
   pub none : (follower (all_drop 76)).copies.applied ≡ 0
+  pub last : slice_get (follower (all_drop 76)).asked 75 ≡ Some (status 76 0 fate.Drop)
+  pub nobody : last_number one_cell one_cell_end None ≡ 3
+  pub outside : asked_in outside_world ≡ status 1 0 fate.Pass ∷ []
+  pub outside_ahead : ahead one_cell outside_world 3 ≡ Some 1
+  pub crashed : asked_in crashed_world ≡ status 1 0 fate.Pass ∷ []
+  pub crashed_ahead : ahead one_cell crashed_world 3 ≡ Some 1
   pub faulty : Rounds one_cell 8 faults one_cell_steps one_cell_end (follower faults)
   pub faulty_applied : (follower faults).copies.applied ≡ 3
   pub faulty_asked : (follower faults).asked ≡ asked_with_faults

@@ -24,8 +24,8 @@ use world_law::group_steps;
 ///   again and in any order, the follower's copies are those after the first entries of the agreed list, as many as it applied; its
 ///   objects are those that the book's lines up to there leave; and each packet that was ever sent tells that list.
 /// - `rises`: its applied number never falls.
-/// - `rounds`: so it is after the command's rounds, from whichever event on and whatever fates their packets have.
-/// - `moments`: so it is at each moment of these rounds, also within one, to which there are as many fates as questions.
+/// - `rounds`: its copies and objects are so after the command's rounds, from whichever event on and whatever fates their packets have.
+/// - `moments`: so they are at each moment of these rounds, also within one, to which there are as many fates as questions.
 /// - `catches`: where each packet that was asked about passes, the follower applied in the end at least as much as each living member
 ///   that isn't outside.
 pub fn followers_law<P: Processor>(machine: &P)
