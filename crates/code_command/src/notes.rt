@@ -179,7 +179,7 @@ pub fn notes_of(
     add_functions(alloc, &mut notes, &tops, &code.functions)?;
     add_texts(alloc, &mut notes, &tops, &code.texts)?;
     add_types(alloc, &mut notes, &tops, &code.types)?;
-    let Notes { rows, .. } = notes;
+    let rows = notes.rows;
     if are_lines(&rows) {
         Ok(rows)
     } else {
