@@ -4,8 +4,8 @@
 //! on the compiler (code_programs) and its listing (stack_code), on the places that stand beside packed code, and on the names of the top
 //! level.
 //!
-//! Not in it: reading files, statuses and their lines. Which notes the source's lines are no clause says: that is tested (docs/LANGUAGE.md,
-//! The listing, has it in words).
+//! Not in it: reading files, statuses and their lines. Which notes the source's lines are no clause says (docs/LANGUAGE.md, The listing, has
+//! it in words).
 //!
 //! Its main clause is `listed` of `listing_of`: what is printed is the listing of the code that the definitions have of the program, with notes,
 //! each of one line, in front of its lines or without.

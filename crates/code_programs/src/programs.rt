@@ -50,8 +50,6 @@ fn packed<'p>(alloc: Global, emitted: Emitted<'p>) -> Result<Code<'p>, NoMemory>
 /// The code of a checked program (docs/LANGUAGE.md, Code). It is exactly that of the definitions, and so means the program's sources
 /// (`code_law`); it can't get stuck.
 ///
-/// Memory and time are those of `Code::new` of eval_bodies.
-///
 /// # Errors
 /// The limit that the program passes, that of parameters first: a function, process or operation has more than 255, or else the units have
 /// more than 100,000 tokens and declared names together (`CodeLength`). And want of memory.
