@@ -21,7 +21,7 @@ pub data Asked : Type 0 where
   version : Asked
   check : List Text → Asked
   run : RunOptions → Option Text → List Text → Asked
-  code : List Text → Asked
+  code : Bool → List Text → Asked
   choice : ℕ → List Text → Asked
   replay : Text → List Text → Asked
   make : MakeOptions → ℕ → Asked
@@ -33,7 +33,7 @@ asked_of (requests.Help of) = help of
 asked_of requests.Version = version
 asked_of (requests.Check files) = check (map (λ s. s.now) files.items)
 asked_of (requests.Run options script files) = run options (option_map (λ s. s.now) script) (map (λ s. s.now) files.items)
-asked_of (requests.Code files) = code (map (λ s. s.now) files.items)
+asked_of (requests.Code source files) = code source (map (λ s. s.now) files.items)
 asked_of (requests.Choice nodes files) = choice nodes (map (λ s. s.now) files.items)
 asked_of (requests.Replay history files) = replay history.now (map (λ s. s.now) files.items)
 asked_of (requests.Make options number) = make options number
@@ -127,7 +127,7 @@ join_options_of rows =
 abbrev pub asked_by : CommandName → List Row → Option Asked
 asked_by names.Check rows = Some (check (files_of rows))
 asked_by names.Run rows = option_map (λ o. run o (first_of (codes "script") rows) (files_of rows)) (run_options_of rows)
-asked_by names.Code rows = Some (code (files_of rows))
+asked_by names.Code rows = Some (code (is_set (codes "source") rows) (files_of rows))
 asked_by names.Choice rows = option_map (λ n. choice n (files_of rows)) (nodes_of rows)
 asked_by names.Replay rows = option_map (λ h. replay h (files_of rows)) (first_of (codes "history") rows)
 asked_by names.Make rows = option_and_then (λ o. option_map (λ n. make o n) (option_and_then number_of (first_of (codes "number") rows)))

@@ -50,7 +50,7 @@ budgets = workers ∷ defaulted (codes "turns") (codes "1000000") ∷ defaulted 
 abbrev pub rules_of : CommandName → List Rule
 rules_of Check = files ∷ []
 rules_of Run = group ++ budgets ++ named (codes "script") ∷ flag (codes "history") ∷ flag (codes "explain") ∷ files ∷ []
-rules_of Code = files ∷ []
+rules_of Code = flag (codes "source") ∷ files ∷ []
 rules_of Choice = nodes ∷ files ∷ []
 rules_of Replay = needed (codes "history") ∷ files ∷ []
 rules_of Make = group ++ workers ∷ defaulted (codes "lose") (codes "0") ∷ flag (codes "source") ∷ needed (codes "number") ∷ []

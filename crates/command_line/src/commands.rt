@@ -110,6 +110,15 @@ fn join<'a>(alloc: Global) -> Result<Command<'a>, AllocError>
     files(alloc, command)
 }
 
+// The options of `code`.
+#[tactic(auto, unfolding(crate::specs::Rules::app))]
+fn code<'a>(alloc: Global) -> Result<Command<'a>, AllocError>
+    ensures { IfOk result (λ c. app_of c ≡ rules.app CommandName.Code) }
+{
+    let command = flag(alloc, Command::new(alloc, "code"), "source")?;
+    files(alloc, command)
+}
+
 // The options of `choice`.
 #[tactic(auto, unfolding(crate::specs::Rules::app))]
 fn choice<'a>(alloc: Global) -> Result<Command<'a>, AllocError>
@@ -136,7 +145,7 @@ pub fn command<'a>(alloc: Global, name: CommandName) -> Result<Command<'a>, Allo
     match name {
         CommandName::Check => files(alloc, Command::new(alloc, "check")),
         CommandName::Run => run(alloc),
-        CommandName::Code => files(alloc, Command::new(alloc, "code")),
+        CommandName::Code => code(alloc),
         CommandName::Choice => choice(alloc),
         CommandName::Replay => replay(alloc),
         CommandName::Make => make(alloc),

@@ -93,6 +93,13 @@ fn workers(matches: &ArgMatches) -> Option<u8>
     small_at(matches, "workers", 1, WORKERS)
 }
 
+/// Whether the source is asked for, too.
+pub fn asks_source(matches: &ArgMatches) -> bool
+    ensures { result ≡ asked.is_set (codes "source") (rows_of (found_of matches.now)) }
+{
+    is_set(matches, "source")
+}
+
 /// The options of `run`.
 pub fn run_options(matches: &ArgMatches) -> Option<RunOptions>
     ensures is { result ≡ asked.run_options_of (rows_of (found_of matches.now)) }

@@ -8,7 +8,9 @@ ghost use Rattle.command_line.specs.Asked.{IsWithin, asked_by, asked_of};
 ghost use Rattle.command_line.specs.Command.{Command, asked_in, found_in, is_help, is_version, name_of};
 
 use crate::commands::command;
-use crate::options::{files, join_options, make_options, nodes, run_options, seed, text};
+use crate::options::{
+    asks_source, files, join_options, make_options, nodes, run_options, seed, text,
+};
 use crate::request::{CommandName, Request};
 use clap::ArgMatches;
 use clap::error::ErrorKind;
@@ -96,7 +98,10 @@ fn asked<'a>(
     let files = files(alloc, matches)?;
     let request = match name {
         CommandName::Check => Request::Check { files },
-        CommandName::Code => Request::Code { files },
+        CommandName::Code => {
+            let source = asks_source(matches);
+            Request::Code { source, files }
+        }
         CommandName::Run => {
             let Some(options) = run_options(matches) else {
                 return Ok(None);

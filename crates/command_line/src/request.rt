@@ -67,8 +67,9 @@ pub enum Request<'a> {
         script: Option<&'a str>,
         files: Vec<&'a str>,
     },
-    /// The code of the program in the files.
+    /// The code of the program in the files, with the source's lines before their code where that is asked for.
     Code {
+        source: bool,
         files: Vec<&'a str>,
     },
     /// Which objects of the program are replicated, on so many members.

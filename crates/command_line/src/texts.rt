@@ -15,7 +15,7 @@ usage: orca COMMAND
 
   check FILE...               says ok, or the first mistake in the program
   run [OPTIONS] FILE...       runs the program
-  code FILE...                prints the code that the program is compiled to
+  code [--source] FILE...     prints the code that the program is compiled to
   choice [--nodes N] FILE...  prints which objects are replicated
   replay HISTORY FILE...      says whether a history is one of the program
   make [OPTIONS] NUMBER       makes a program from a number, and runs it
@@ -24,7 +24,7 @@ usage: orca COMMAND
   -h, --help                  prints this; behind a command's name, more about it
   -V, --version               prints the version
 
-So far `check`, `run` and `replay` are built.
+So far `check`, `run`, `code` and `replay` are built.
 ";
 
 /// The command `check`.
@@ -53,9 +53,9 @@ So far `--workers` isn't built.
 /// The command `code`.
 pub const CODE_HELP: &str = "Prints the code that the program in the files is compiled to.
 
-usage: orca code FILE...
+usage: orca code [OPTIONS] FILE...
 
-Not built yet.
+  --source  prints the head of each body and the source's lines before their code, too
 ";
 
 /// The command `choice`.

@@ -18,6 +18,7 @@ use Rattle.orca_io.specs.Sinks.{Puts}
 use Rattle.value_core.specs.History.{output_by, output_of}
 use Rattle.value_core.specs.declared.action.Line.{Line}
 use Rattle.orca_cli.specs.declared.job.Job.{Job}
+use Rattle.orca_cli.specs.declared.listing.Listed.{Listed}
 use Rattle.orca_cli.specs.declared.program.ProgramFault.{ProgramFault}
 use Rattle.orca_cli.specs.declared.program.ProgramFault.TheVariants.{Limited, Refused}
 use Rattle.orca_cli.specs.declared.script.ScriptFault.{ScriptFault}
@@ -26,7 +27,7 @@ use Rattle.command_output.specs.declared.statuses.TheConstants.{NO_MEMORY, READ_
 use Rattle.orca_cli.specs.Endings as because
 use Rattle.orca_cli.specs.Endings.{IsAnswer, IsEnding}
 use Rattle.command_files.specs.Sources.{Word}
-use Rattle.orca_cli.specs.Job.{Deed, IsDeedWithin, checks, deed_in, deed_of, files_in, files_of, named_in, names_by, names_of, replays, runs, script_in, script_of}
+use Rattle.orca_cli.specs.Job.{Deed, IsDeedWithin, checks, deed_in, deed_of, files_in, files_of, lists, named_in, names_by, names_of, replays, runs, script_in, script_of}
 use Rattle.command_output.proofs.Putting.{GrewUpTo, grew_fault, grew_put}
 use Rattle.command_output.specs.Printed.{Grew, WroteOf, Ends, EndsAs}
 use Rattle.orca_cli.specs.Scripts.{HasScript, IsScriptFault, IsScriptOf, IsScriptSince, IsUnreadable, script_status}
@@ -80,6 +81,10 @@ pub if_any : {T E : Type 0} (r : Result T E) (P : Type 0) → P → IfOk r (λ _
 if_any (Ok x) P p = p
 if_any (Err e) P p = tt
 
+pub if_three : {T E A B : Type 0} {C D : T → Type 0} (r : Result T E) → ((x : T) → A → B → C x → D x) → IfOk r (λ _. A) → IfOk r (λ _. B) → IfOk r C → IfOk r D
+if_three (Ok x) so a b c = so x a b c
+if_three (Err e) so a b c = tt
+
 -- ---- the words
 
 pub deed_is : (words : List Word) (found : Option Job) (job is : Job) → option_map deed_of found ≡ deed_in words → found ≡ Some job → job ≡ is → deed_in words ≡ Some (deed_of is)
@@ -97,6 +102,9 @@ within_is found job is within some same = subst (λ (j : Job). IsDeedWithin (dee
 pub files_checked : (words files : List Word) → deed_in words ≡ Some (checks files) → files_in words ≡ Some files
 files_checked words files asked = ap (option_and_then files_of) asked
 
+pub files_listed : (words files : List Word) (what : Listed) → deed_in words ≡ Some (lists what files) → files_in words ≡ Some files
+files_listed words files what asked = ap (option_and_then files_of) asked
+
 pub files_run : (words files : List Word) (options : RunOptions) (script : Option Word) → deed_in words ≡ Some (runs options script files) → files_in words ≡ Some files
 files_run words files options script asked = ap (option_and_then files_of) asked
 
@@ -110,9 +118,15 @@ script_checked words files asked = ap (option_and_then script_of) asked
 pub asked_words : (may_fail : Bool) (words : List Word) (deed : Deed) (old new : List FileRead) → deed_in words ≡ Some deed → HasAsked may_fail (names_of deed) old new → HasAsked may_fail (named_in words) old new
 asked_words may_fail words deed old new is asked = subst (λ (l : List Word). HasAsked may_fail l old new) (sym (ap names_by is)) asked
 
--- a check has no script; a run has the one that was read
+pub script_listed : (words files : List Word) (what : Listed) → deed_in words ≡ Some (lists what files) → script_in words ≡ None
+script_listed words files what asked = ap (option_and_then script_of) asked
+
+-- a check has no script, nor has a listing; a run has the one that was read
 pub has_none : (words : List Word) (told : Option (List File)) (files : List Word) → deed_in words ≡ Some (checks files) → HasScript told words
 has_none words told files asked = ([], subst (λ (o : Option Word). IsScriptOf told o []) (sym (script_checked words files asked)) refl)
+
+pub lists_none : (words : List Word) (told : Option (List File)) (files : List Word) (what : Listed) → deed_in words ≡ Some (lists what files) → HasScript told words
+lists_none words told files what asked = ([], subst (λ (o : Option Word). IsScriptOf told o []) (sym (script_listed words files what asked)) refl)
 
 pub has_script : (words : List Word) (told : Option (List File)) (files : List Word) (options : RunOptions) (script : Option Word) (lines : List ScriptLine) → deed_in words ≡ Some (runs options script files) → IsScriptOf told script lines → HasScript told words
 has_script words told files options script lines asked is = (lines, subst (λ (o : Option Word). IsScriptOf told o lines) (sym (script_run words files options script asked)) is)

@@ -1,23 +1,30 @@
 -- Where files are told and no read failed, an ending without a run excludes the others, and a run; and the run that words name is one.
-use Rattle.std.proofs.Common.{◌≡◌, ℕ, List, ◌++◌, map, Option, Some, None, option_and_then, refl, sym, ap, ◌∙◌, subst}
+use Rattle.std.proofs.Common.{◌≡◌, ℕ, true, false, List, [], ◌++◌, map, Option, Some, None, ◌⊎◌, inl, inr, option_and_then, refl, sym, ap, ◌∙◌, subst}
 use Rattle.std.proofs.lemmas.List.{append_cancel_left}
 use Rattle.net_rules.specs.declared.line.ScriptLine.{ScriptLine}
 use Rattle.orca_io.specs.Files.{File}
 use Rattle.orca_io.specs.Reading.{FileRead, had}
 use Rattle.link_rules.specs.Units.{Source}
 use Rattle.orca_front.specs.Sources.{IsAccepted}
+use Rattle.code_rules.specs.Machine as machine
+use Rattle.code_rules.specs.Program.{program_code}
 use Rattle.command_files.specs.Loaded.{Never, IsLoadFault, load_line, load_status}
 use Rattle.command_files.specs.Sources.{AreRead, Word}
 use Rattle.command_files.specs.declared.load_fault.LoadFault.{LoadFault}
 use Rattle.command_output.specs.declared.statuses.TheConstants.{FINISHED, USAGE}
 use Rattle.replay_command.specs.Endings.{IsReplayEnding}
+use Rattle.stack_code.specs.Text.{code_text}
+use Rattle.code_command.specs.Listings.{IsListing}
 use Rattle.orca_cli.specs.Endings as because
 use Rattle.orca_cli.specs.Endings.{IsEnding}
 use Rattle.orca_cli.specs.Headline.{IsNamed}
-use Rattle.orca_cli.specs.Job.{Deed, checks, deed_in, files_of, replays, runs, says, script_of}
+use Rattle.orca_cli.specs.Job.{Deed, checks, deed_in, files_of, lists, replays, runs, says, script_of}
+use Rattle.orca_cli.specs.Listings.{IsListed, IsSameText}
 use Rattle.orca_cli.specs.Lines.{ok_line, usage_line}
 use Rattle.orca_cli.specs.Programs.{IsProgram, IsProgramFault, program_line, program_status}
 use Rattle.orca_cli.specs.Scripts.{IsScriptFault, IsScriptOf, script_fault_line, script_read, script_status}
+use Rattle.orca_cli.specs.declared.listing.Listed.{Listed}
+use Rattle.orca_cli.specs.declared.listing.Listed.TheVariants.{Code}
 use Rattle.orca_cli.specs.declared.program.ProgramFault.{ProgramFault}
 use Rattle.orca_cli.specs.declared.script.ScriptFault.{ScriptFault}
 use Rattle.orca_cli.proofs.FilesOnce.{SameEnd, load_apart, load_once, load_quiet, same_sources, some_apart, some_same}
@@ -42,13 +49,24 @@ abbrev is_check : Option Deed → Type 0
 is_check None = ⊥
 is_check (Some (says text)) = ⊥
 is_check (Some (checks files)) = Unit {0}
+is_check (Some (lists what files)) = ⊥
 is_check (Some (runs options script files)) = ⊥
 is_check (Some (replays history files)) = ⊥
+
+-- two texts that are printed for what is done are the same, but for notes (`IsSameText`)
+abbrev IsSameBy : Option Deed → List ℕ → List ℕ → Type 0
+IsSameBy deed one other =
+    (one ≡ other) ⊎ ((files : List Word) × (code : machine.Code) × (deed ≡ Some (lists (Code true) files)) × IsListing true code one × IsListing true code other)
+
+-- how a program's listing ends
+abbrev IsListedAt : List File → Listed → List Word → ℕ → List ℕ → Type 0
+IsListedAt shelf what files one a = (units : List Source) × IsProgram (Some shelf) files units × (one ≡ FINISHED) × IsListed what units a
 
 abbrev EndsBy : List File → Option Deed → ℕ → List ℕ → Type 0
 EndsBy shelf None one a = (one ≡ USAGE) × (a ≡ usage_line)
 EndsBy shelf (Some (says text)) one a = (one ≡ FINISHED) × (a ≡ text)
 EndsBy shelf (Some (checks files)) one a = ProgramEnds shelf files None (Unit {0}) one a
+EndsBy shelf (Some (lists what files)) one a = ProgramEnds shelf files None ⊥ one a ⊎ IsListedAt shelf what files one a
 EndsBy shelf (Some (runs options script files)) one a = ProgramEnds shelf files script ⊥ one a
 EndsBy shelf (Some (replays history files)) one a = IsReplayEnding (Some shelf) Never history files one a
 
@@ -62,6 +80,7 @@ by_files : (shelf : List File) (deed : Option Deed) (files : List Word) (one : �
 by_files shelf None files one a has ends = absurd (some_apart files (sym has))
 by_files shelf (Some (says text)) files one a has ends = absurd (some_apart files (sym has))
 by_files shelf (Some (checks others)) files one a has ends = subst (λ (fs : List Word). ProgramEnds shelf fs None (Unit {0}) one a) (sym (some_same others files has)) ends
+by_files shelf (Some (lists what others)) files one a has ends = inl (subst (λ (fs : List Word). ProgramEnds shelf fs None ⊥ one a) (sym (some_same others files has)) ends)
 by_files shelf (Some (runs options script others)) files one a has ends = subst (λ (fs : List Word). ProgramEnds shelf fs script ⊥ one a) (sym (some_same others files has)) ends
 by_files shelf (Some (replays history others)) files one a has ends = absurd (some_apart files (sym has))
 
@@ -76,6 +95,8 @@ by_deed words shelf deed one a is (because.refused files sources fault has read 
     by_files shelf deed files (program_status fault) (program_line fault) (ap files_by (sym is) ∙ has)
     (refused sources script.0 fault read (subst (λ (o : Option Word). IsScriptOf (Some shelf) o script.0) (ap script_by is) script.1) h)
 by_deed words shelf deed one a is (because.accepted files units asked h) = subst (λ (d : Option Deed). EndsBy shelf d FINISHED ok_line) (sym asked ∙ is) (accepted units tt refl h)
+by_deed words shelf deed one a is (because.listed what files units text asked h listing) =
+    subst (λ (d : Option Deed). EndsBy shelf d FINISHED text) (sym asked ∙ is) (inr (units, h, refl, listing))
 by_deed words shelf deed one a is (because.replayed history files wanted line asked h) = subst (λ (d : Option Deed). EndsBy shelf d wanted line) (sym asked ∙ is) h
 
 -- ---- one ending of a check, or of a run that isn't begun
@@ -128,16 +149,33 @@ module _ (shelf : List File) (files : List Word) where
   run_apart script us lines one a program has (refused s more f read had h) = refused_apart s f us read h program
   run_apart script us lines one a program has (accepted vs so none h) = so
 
+  -- two listings are of one program
+  listing_once : (what : Listed) (us vs : List Source) (a b : List ℕ) → us ≡ vs → IsListed what us a → IsListed what vs b → IsSameBy (Some (lists what files)) a b
+  listing_once (Code false) us vs a b same h k = inl (h ∙ ap (λ (ws : List Source). code_text (program_code ws)) same ∙ sym k)
+  listing_once (Code true) us vs a b same h k = inr (files, program_code us, refl, h, subst (λ (ws : List Source). IsListing true (program_code ws) b) (sym same) k)
+
+  lists_once : (what : Listed) (one two : ℕ) (a b : List ℕ) → ProgramEnds shelf files None ⊥ one a ⊎ IsListedAt shelf what files one a → ProgramEnds shelf files None ⊥ two b ⊎ IsListedAt shelf what files two b →
+      (one ≡ two) × IsSameBy (Some (lists what files)) a b
+  lists_once what one two a b (inl h) (inl k) = let same = program_ends_once None ⊥ one two a b h k in (same.0, inl same.1)
+  lists_once what one two a b (inl h) (inr k) = absurd (run_apart None k.0 [] one a k.1 refl h)
+  lists_once what one two a b (inr h) (inl k) = absurd (run_apart None h.0 [] two b h.1 refl k)
+  lists_once what one two a b (inr h) (inr k) = (h.2 ∙ sym k.2, listing_once what h.0 k.0 a b (loaded_once h.0 k.0 h.1 k.1) h.3 k.3)
+
 -- ---- one ending
 
-ends_once : GiveTables → (shelf : List File) (deed : Option Deed) (one two : ℕ) (a b : List ℕ) → EndsBy shelf deed one a → EndsBy shelf deed two b → SameEnd one a two b
-ends_once tables shelf None one two a b h k = (h.0 ∙ sym k.0, h.1 ∙ sym k.1)
-ends_once tables shelf (Some (says text)) one two a b h k = (h.0 ∙ sym k.0, h.1 ∙ sym k.1)
-ends_once tables shelf (Some (checks files)) one two a b h k = program_ends_once shelf files None (Unit {0}) one two a b h k
-ends_once tables shelf (Some (runs options script files)) one two a b h k = program_ends_once shelf files script ⊥ one two a b h k
-ends_once tables shelf (Some (replays history files)) one two a b h k = replay_once tables shelf history files one two a b h k
+whole : (deed : Option Deed) (one two : ℕ) (a b : List ℕ) → SameEnd one a two b → (one ≡ two) × IsSameBy deed a b
+whole deed one two a b same = (same.0, inl same.1)
 
-pub ending_once : GiveTables → (words : List Word) (shelf : List File) (one two : ℕ) (a b : List ℕ) → IsEnding words (Some shelf) Never one a → IsEnding words (Some shelf) Never two b → SameEnd one a two b
+ends_once : GiveTables → (shelf : List File) (deed : Option Deed) (one two : ℕ) (a b : List ℕ) → EndsBy shelf deed one a → EndsBy shelf deed two b → (one ≡ two) × IsSameBy deed a b
+ends_once tables shelf None one two a b h k = (h.0 ∙ sym k.0, inl (h.1 ∙ sym k.1))
+ends_once tables shelf (Some (says text)) one two a b h k = (h.0 ∙ sym k.0, inl (h.1 ∙ sym k.1))
+ends_once tables shelf (Some (checks files)) one two a b h k = whole (Some (checks files)) one two a b (program_ends_once shelf files None (Unit {0}) one two a b h k)
+ends_once tables shelf (Some (lists what files)) one two a b h k = lists_once shelf files what one two a b h k
+ends_once tables shelf (Some (runs options script files)) one two a b h k =
+    whole (Some (runs options script files)) one two a b (program_ends_once shelf files script ⊥ one two a b h k)
+ends_once tables shelf (Some (replays history files)) one two a b h k = whole (Some (replays history files)) one two a b (replay_once tables shelf history files one two a b h k)
+
+pub ending_once : GiveTables → (words : List Word) (shelf : List File) (one two : ℕ) (a b : List ℕ) → IsEnding words (Some shelf) Never one a → IsEnding words (Some shelf) Never two b → (one ≡ two) × IsSameText words a b
 ending_once tables words shelf one two a b h k =
     ends_once tables shelf (deed_in words) one two a b (by_deed words shelf (deed_in words) one a refl h) (by_deed words shelf (deed_in words) two b refl k)
 
@@ -183,3 +221,4 @@ ending_quiet words told failed never one a (because.refused files sources fault 
 ending_quiet words told failed never one a (because.accepted files units asked h) = because.accepted files units asked h
 ending_quiet words told failed never one a (because.replayed history files wanted line asked h) =
     because.replayed history files wanted line asked (replay_quiet told failed never history files wanted line h)
+ending_quiet words told failed never one a (because.listed what files units text asked h listing) = because.listed what files units text asked h listing

@@ -4,11 +4,13 @@ use Rattle.orca_io.specs.Files.{File}
 use Rattle.link_rules.specs.Units.{Source}
 use Rattle.command_files.specs.declared.load_fault.LoadFault.{LoadFault}
 use Rattle.command_output.specs.declared.statuses.TheConstants.{FINISHED, NO_MEMORY, USAGE}
+use Rattle.orca_cli.specs.declared.listing.Listed.{Listed}
 use Rattle.orca_cli.specs.declared.program.ProgramFault.{ProgramFault}
 use Rattle.orca_cli.specs.declared.script.ScriptFault.{ScriptFault}
 use Rattle.command_files.specs.Sources.{Word}
-use Rattle.orca_cli.specs.Job.{checks, deed_in, files_in, replays, says, script_in}
+use Rattle.orca_cli.specs.Job.{checks, deed_in, files_in, lists, replays, says, script_in}
 use Rattle.orca_cli.specs.Lines.{usage_line, ok_line}
+use Rattle.orca_cli.specs.Listings.{IsListed}
 use Rattle.replay_command.specs.Endings.{IsReplayEnding}
 use Rattle.command_files.specs.Loaded.{IsLoadFault, load_line, load_status}
 use Rattle.command_output.specs.Printed.{Grew, Ends, EndsAs}
@@ -16,9 +18,10 @@ use Rattle.orca_cli.specs.Programs.{IsProgram, IsProgramFault, program_line, pro
 use Rattle.orca_cli.specs.Scripts.{HasScript, IsScriptFault, script_fault_line, script_status}
 use Rattle.command_files.specs.Sources.{AreRead}
 
--- The words ask for help or for the version; they are no command, or ask for what isn't built. They ask for a check or a run of the program
--- in files, and these weren't read; or they were, and the script of the run wasn't, or is none; or that is one, and their texts are no accepted
--- program. They ask for a check of one that is. They ask whether a history is one of a program, and `replay` ends so
+-- The words ask for help or for the version; they are no command, or ask for what isn't built. They ask for a check, a listing or a run of
+-- the program in files, and these weren't read; or they were, and the script of the run wasn't, or is none; or that is one, and their texts
+-- are no accepted program. They ask for a check of one that is, or that it is listed. They ask whether a history is one of a program, and
+-- `replay` ends so
 pub data IsEnding (words : List Word) (told : Option (List File)) (failed : Word → Type 0) : ℕ → List ℕ → Type 0 where
   said : (text : List ℕ) → deed_in words ≡ Some (says text) → IsEnding words told failed FINISHED text
   usage : deed_in words ≡ None → IsEnding words told failed USAGE usage_line
@@ -31,6 +34,8 @@ pub data IsEnding (words : List Word) (told : Option (List File)) (failed : Word
       HasScript told words → IsProgramFault sources fault → IsEnding words told failed (program_status fault) (program_line fault)
   accepted : (files : List Word) (units : List Source) → deed_in words ≡ Some (checks files) → IsProgram told files units →
       IsEnding words told failed FINISHED ok_line
+  listed : (what : Listed) (files : List Word) (units : List Source) (text : List ℕ) → deed_in words ≡ Some (lists what files) →
+      IsProgram told files units → IsListed what units text → IsEnding words told failed FINISHED text
   replayed : (history : Word) (files : List Word) (wanted : ℕ) (line : List ℕ) → deed_in words ≡ Some (replays history files) →
       IsReplayEnding told failed history files wanted line → IsEnding words told failed wanted line
 

@@ -8,25 +8,30 @@ use Rattle.command_line.specs.Help.{help_of, version_line}
 use Rattle.command_files.specs.Sources.{Word}
 use Rattle.orca_cli.specs.declared.job.Job.{Job}
 use Rattle.orca_cli.specs.declared.job.Job.TheVariants as jobs
+use Rattle.orca_cli.specs.declared.listing.Listed.{Listed}
+use Rattle.orca_cli.specs.declared.listing.Listed.TheVariants.{Code}
 
--- it says a text, checks the program in files, runs it, with these options and this file of a script, or says whether the history in a file is
--- one of it
+-- it says a text, checks the program in files, lists this of it, runs it, with these options and this file of a script, or says whether the
+-- history in a file is one of it
 pub data Deed : Type 0 where
   says : List ℕ → Deed
   checks : List Word → Deed
+  lists : Listed → List Word → Deed
   runs : RunOptions → Option Word → List Word → Deed
   replays : Word → List Word → Deed
 
 abbrev pub deed_of : Job → Deed
 deed_of (jobs.Says text) = says text.now
 deed_of (jobs.Checks files) = checks (map (λ s. s.now) files.items)
+deed_of (jobs.Lists what files) = lists what (map (λ s. s.now) files.items)
 deed_of (jobs.Runs options script files) = runs options (option_map (λ s. s.now) script) (map (λ s. s.now) files.items)
 deed_of (jobs.Replays history files) = replays history.now (map (λ s. s.now) files.items)
 
--- the files with the texts of its program, in order, where it checks or runs one
+-- the files with the texts of its program, in order, where it checks, lists or runs one
 abbrev pub files_of : Deed → Option (List Word)
 files_of (says text) = None
 files_of (checks files) = Some files
+files_of (lists what files) = Some files
 files_of (runs options script files) = Some files
 files_of (replays history files) = None
 
@@ -34,6 +39,7 @@ files_of (replays history files) = None
 abbrev pub script_of : Deed → Option Word
 script_of (says text) = None
 script_of (checks files) = None
+script_of (lists what files) = None
 script_of (runs options script files) = script
 script_of (replays history files) = None
 
@@ -41,6 +47,7 @@ script_of (replays history files) = None
 abbrev pub IsDeedWithin : Deed → Type 0
 IsDeedWithin (says text) = Unit {0}
 IsDeedWithin (checks files) = Unit {0}
+IsDeedWithin (lists what files) = Unit {0}
 IsDeedWithin (runs options script files) = IsRunWithin options
 IsDeedWithin (replays history files) = Unit {0}
 
@@ -59,6 +66,7 @@ abbrev pub built : Asked → Option Deed
 built (ask.help of) = Some (says (help_of of))
 built ask.version = Some (says version_line)
 built (ask.check files) = Some (checks files)
+built (ask.code source files) = Some (lists (Code source) files)
 built (ask.run options script files) = run_built options script files
 built (ask.replay history files) = Some (replays history files)
 built _ = None
@@ -85,6 +93,7 @@ script_names (Some file) = file ∷ []
 abbrev pub names_of : Deed → List Word
 names_of (says text) = []
 names_of (checks files) = files
+names_of (lists what files) = files
 names_of (runs options script files) = files ++ script_names script
 names_of (replays history files) = files ++ history ∷ []
 

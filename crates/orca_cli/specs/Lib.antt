@@ -2,6 +2,7 @@ pub mod Job
 pub mod Lines
 pub mod Programs
 pub mod Scripts
+pub mod Listings
 pub mod Endings
 pub mod Standings
 pub mod Said

@@ -4,6 +4,7 @@ ghost use Rattle.std.specs.Prelude.{◌≡◌, map, option_map, string_bytes, If
 ghost use Rattle.command_line.specs.Asked.{IsRunWithin, IsWithin, asked_of};
 ghost use Rattle.orca_cli.specs.Job.{IsDeedWithin, built, deed_in, deed_of, is_run_built, run_built};
 
+use crate::listing::Listed;
 use command_line::{Request, RunOptions, help, read_words, version};
 use orca_base::{NoMemory, Refusal};
 use std::alloc::Global;
@@ -17,6 +18,11 @@ pub enum Job<'a> {
     },
     /// It checks the program in these files.
     Checks {
+        files: Vec<&'a str>,
+    },
+    /// It lists this of the program in these files.
+    Lists {
+        what: Listed,
         files: Vec<&'a str>,
     },
     /// It runs the program in these files, with these options, over the wire that this script tells.
@@ -54,6 +60,12 @@ fn job_built<'a>(request: Request<'a>) -> Option<Job<'a>>
         Request::Help { of } => Some(Job::Says { text: help(of) }),
         Request::Version => Some(Job::Says { text: version() }),
         Request::Check { files } => Some(Job::Checks { files }),
+        Request::Code { source, files } => Some(Job::Lists {
+            what: Listed::Code {
+                with_source: source,
+            },
+            files,
+        }),
         Request::Run {
             options,
             script,

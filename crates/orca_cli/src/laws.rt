@@ -9,19 +9,20 @@ ghost use Rattle.command_files.specs.Loaded.{Never};
 ghost use Rattle.command_files.specs.Sources.{Word};
 ghost use Rattle.orca_cli.specs.Endings.{IsEnding};
 ghost use Rattle.orca_cli.specs.Headline.{IsNamed};
+ghost use Rattle.orca_cli.specs.Listings.{IsSameText};
 
 use program_names::names_law;
 
 /// The law of endings, where files are told and no read failed, and of the run that words name; it does nothing.
 ///
-/// - `once`: words have one ending without a run at most, by its status and its line (docs/FORMATS.md, Statuses).
+/// - `once`: words have one ending without a run at most, by its status and its line, but for the notes of a listing (docs/FORMATS.md, Statuses).
 /// - `apart`: they have none where they name a run, of a program that is accepted and with a script.
 /// - `named`: they name one run at most, by its program and its script.
 /// - `read`: so they do by what was read, whether files are told or not.
 /// - `quiet`: where no file's read failed, an ending is one without a fault.
 pub fn endings_law()
     ensures once { (words : List Word) (files : List File) (one two : ℕ) (a b : List ℕ) → IsEnding words (Some files) Never one a →
-        IsEnding words (Some files) Never two b → (one ≡ two) × (a ≡ b) }
+        IsEnding words (Some files) Never two b → (one ≡ two) × IsSameText words a b }
     ensures apart { (words : List Word) (files : List File) (old new : List FileRead) (units : List Source) (lines : List ScriptLine)
         (one : ℕ) (a : List ℕ) → IsEnding words (Some files) Never one a → IsNamed words (Some files) old new units lines → ⊥ }
     ensures named { (words : List Word) (files : List File) (old new was now : List FileRead) (units others : List Source)

@@ -2,8 +2,9 @@
 //!
 //! Its clauses are the product's: what each status means, which line each prints, and that a kept run is a history of the program in the
 //! files, on all of its members, over a network that was really used (`IsRun` of specs/Headline.antt). It stands on the words of the command
-//! line, the shelf and the sink, the front end, the machine of accepted programs and their names, what `replay` says, and on `run_loop`, which
-//! runs a machine over wires; it knows no real file and no packet. What of the commands is built, `built` of specs/Job.antt alone says.
+//! line, the shelf and the sink, the front end, the machine of accepted programs and their names, the compiler and its listing, what
+//! `replay` says, and on `run_loop`, which runs a machine over wires; it knows no real file and no packet. What of the commands is built,
+//! `built` of specs/Job.antt alone says.
 #![tactic(auto)]
 
 mod ending;
@@ -11,6 +12,7 @@ mod job;
 mod kept;
 mod laws;
 mod lines;
+mod listing;
 mod names;
 mod places;
 mod program;

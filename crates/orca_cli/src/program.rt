@@ -66,8 +66,8 @@ pub fn linked_program(
     }
 }
 
-// The program beside its tables, where it breaks no rule of typing.
-fn typed<'p>(alloc: Global, program: &'p Program) -> Result<Checked<'p>, Refusal<ProgramFault>>
+/// The program beside its tables, where it breaks no rule of typing.
+pub fn typed<'p>(alloc: Global, program: &'p Program) -> Result<Checked<'p>, Refusal<ProgramFault>>
     ensures program { IfOk result (λ c. c.program.now ≡ program.now) }
     ensures accepted { (files : List File) → AreUnits files (map source program.now.units.items) →
         IfOk result (λ _. IsAccepted files (map source program.now.units.items)) }

@@ -21,22 +21,22 @@ ghost use Rattle.orca_cli.specs.Headline.{AreLoaded, AreUntouched, HaveObeyed, I
 ghost use Rattle.command_files.specs.Sources.{Word};
 ghost use Rattle.orca_cli.specs.Job.{checks, deed_in, files_in, named_in, runs, script_in, script_names};
 ghost use Rattle.orca_cli.specs.Laws.{RunLaws};
-ghost use Rattle.command_files.specs.Loaded.{IsFailed, IsLoadFault};
 ghost use Rattle.command_output.specs.Printed.{HasStopped};
 ghost use Rattle.orca_cli.specs.Scripts.{HasScript, IsScriptFault, IsUnreadable};
 ghost use Rattle.orca_cli.specs.Programs.{IsProgramFault, units_of};
 ghost use Rattle.orca_cli.specs.Standings.{awaited_name, run_said};
 ghost use Rattle.command_files.specs.Sources.{AreRead};
 
-use crate::ending::{nothing, said};
+use crate::ending::{nothing, said, said_refused, said_unread};
 use crate::job::{Job, job_of};
 use crate::kept::{Ended, Kept};
 use crate::lines::{ok_line, usage_line, whole};
+use crate::listing::list_program;
 use crate::program::{ProgramFault, judged, linked_program, machine_of};
 use crate::replay::replay;
 use crate::report::report;
 use crate::script::{ScriptFault, script_of};
-use command_files::{LoadFault, sources};
+use command_files::sources;
 use command_line::RunOptions;
 use command_output::{FINISHED, NO_MEMORY, READ_FAULT, USAGE, WRITE_FAULT};
 use eval_machine::TreeMachine;
@@ -54,35 +54,6 @@ use world_book::legal_book;
 use world_enough::events_are_enough;
 use world_facts::{book_by_places, ends_stand, processes_stand, standings_mean, worlds_count};
 use world_idle::{idle_ticks_are_counted, stretches_are_short};
-
-// Prints why files weren't read.
-fn said_unread<K: Sink>(alloc: Global, out: &mut K, fault: LoadFault<'_>) -> Ended
-    ensures none { result.kept ≡ None }
-    ensures said { (words : List Word) (told : Option (List File)) (before now : ℕ) (old new : List FileRead)
-        (files : List Word) → files_in words ≡ Some files →
-        IsLoadFault told (FailedAt before now old new) files fault.entry →
-        IsAnswer words told (FailedAt before now old new) (K.told out.old) (K.told out.new) result.status }
-    ensures status { IsFailed fault.entry → (result.status ≡ READ_FAULT) ⊎ HasStopped result.status }
-    ensures later { K.faults out.old ≤ K.faults out.new }
-    ensures failed { result.status ≡ WRITE_FAULT → Rose (K.faults out.old) (K.faults out.new) }
-    ensures stopped { K.faults out.old < K.faults out.new → HasStopped result.status }
-{
-    said(out, fault.line(alloc), fault.status())
-}
-
-// Prints why texts are no accepted program.
-fn said_refused<K: Sink>(alloc: Global, out: &mut K, fault: &ProgramFault) -> Ended
-    ensures none { result.kept ≡ None }
-    ensures said { (words : List Word) (told : Option (List File)) (before now : ℕ) (old new : List FileRead)
-        (files : List Word) (sources : List File) →
-        files_in words ≡ Some files → AreRead told files sources → HasScript told words → IsProgramFault sources fault.now →
-        IsAnswer words told (FailedAt before now old new) (K.told out.old) (K.told out.new) result.status }
-    ensures later { K.faults out.old ≤ K.faults out.new }
-    ensures failed { result.status ≡ WRITE_FAULT → Rose (K.faults out.old) (K.faults out.new) }
-    ensures stopped { K.faults out.old < K.faults out.new → HasStopped result.status }
-{
-    said(out, fault.line(alloc), fault.status())
-}
 
 // Whether sources are an accepted program, or why not.
 fn judged_sources(alloc: Global, files: &[SourceFile<'_>]) -> Result<(), Refusal<ProgramFault>>
@@ -393,6 +364,7 @@ pub fn orca_main_over<F: Shelf, K: Sink, W: Wire>(
     match job_of(alloc, words) {
         Ok(Some(Job::Says { text })) => said(out, whole(alloc, text), FINISHED),
         Ok(Some(Job::Checks { files })) => check_files(alloc, &files, shelf, out),
+        Ok(Some(Job::Lists { what, files })) => list_program(alloc, what, &files, shelf, out),
         Ok(
             Some(
                 Job::Runs {
@@ -409,8 +381,8 @@ pub fn orca_main_over<F: Shelf, K: Sink, W: Wire>(
 }
 
 /// Does what the words ask for: `run` runs the accepted program in the files on as many members as they say, over the wires; `check` says
-/// whether the program in the files is accepted; `replay` says whether the history in a file is one of the accepted program in the others;
-/// `--help` and `--version` say what they name.
+/// whether the program in the files is accepted; `code` lists its code, with the source's lines or not; `replay` says whether the history
+/// in a file is one of the accepted program in the others; `--help` and `--version` say what they name.
 ///
 /// `words` leaves out the program's name; of the wires, from 1 to 1,000, the first is in use at the beginning, and is loaded with the
 /// script of the words, or with the empty one. The status is that of docs/FORMATS.md. Nothing is kept where nothing was run: the words ask

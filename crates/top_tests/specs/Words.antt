@@ -34,7 +34,14 @@ abbrev pub code_line : Words
 code_line = codes "code" ∷ codes "a.orca" ∷ []
 
 abbrev pub code_asked : Asked
-code_asked = ask.code (codes "a.orca" ∷ [])
+code_asked = ask.code false (codes "a.orca" ∷ [])
+
+-- code --source a.orca
+abbrev pub noted_line : Words
+noted_line = codes "code" ∷ codes "--source" ∷ codes "a.orca" ∷ []
+
+abbrev pub noted_asked : Asked
+noted_asked = ask.code true (codes "a.orca" ∷ [])
 
 -- choice a.orca
 abbrev pub choice_line : Words

@@ -81,7 +81,12 @@ fn every_command_is_read(rt: HostRuntime) -> Result<(), Fail> {
     );
     let line = words(alloc, "code a.orca")?;
     assert!(rt;
-        matches!(&read_words(alloc, &line), Ok(Request::Code { files }) if files.as_slice() == ["a.orca"].as_slice())
+        matches!(&read_words(alloc, &line), Ok(Request::Code { source: false, files }) if files.as_slice() == ["a.orca"].as_slice())
+    );
+    let line = words(alloc, "code a.orca --source b.orca")?;
+    assert!(rt;
+        matches!(&read_words(alloc, &line),
+        Ok(Request::Code { source: true, files }) if files.as_slice() == ["a.orca", "b.orca"].as_slice())
     );
     let line = words(alloc, "choice --nodes 16 a.orca")?;
     assert!(rt;
@@ -141,7 +146,7 @@ fn other_words_are_no_command(rt: HostRuntime) -> Result<(), Fail> {
         | walk a.orca | run | run --nodes | run --nodes 2 --resilience 1 a.orca | run --nodes 17 a.orca | run --nodes 0 a.orca
         | run --nodes +3 a.orca | run --nodes 00000000000000000003 a.orca | run --turns 10000001 a.orca | run --history=x a.orca
         | run --history --history a.orca | run --nodes 3 --nodes 3 a.orca | run --script -x a.orca | run --lose 1 a.orca
-        | replay h.txt | make | make 1 2 | make 12345678901234567890 | make --lose 101 1 | join --at 4000001 a.orca | check --nodes 3 a.orca";
+        | replay h.txt | make | make 1 2 | make 12345678901234567890 | make --lose 101 1 | join --at 4000001 a.orca | code --source | code --source=x a.orca | check --nodes 3 a.orca";
     for line in lines.split('|') {
         assert!(rt; is_usage(rt.alloc(), line)?, "{line}");
     }

@@ -12,6 +12,7 @@ pub fn command_rows()
     ensures check { Command words.check_line ≡ Some words.check_asked }
     ensures run { Command words.run_line ≡ Some words.run_asked }
     ensures code { Command words.code_line ≡ Some words.code_asked }
+    ensures noted { Command words.noted_line ≡ Some words.noted_asked }
     ensures choice { Command words.choice_line ≡ Some words.choice_asked }
     ensures replay { Command words.replay_line ≡ Some words.replay_asked }
     ensures make { Command words.make_line ≡ Some words.make_asked }

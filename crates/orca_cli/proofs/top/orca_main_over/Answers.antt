@@ -16,6 +16,10 @@ pub returns-in-Ok-Some-Replays-clause-refused : goal.returns-in-Ok-Some-Replays-
 returns-in-Ok-Some-Replays-clause-refused g c =
     if_none _ _ ((rw c.deref-in-Ok-Some-Replays.ensures.value at c.replay.ensures.said) _ (deed_is _ _ _ _ c.in-Ok-Some-Replays.ensures.is c.in-Ok-Some-Replays.field-0-is c.in-Ok-Some-Replays.field-0-0-is))
 
+pub returns-in-Ok-Some-Lists-clause-refused : goal.returns-in-Ok-Some-Lists-clause-refused
+returns-in-Ok-Some-Lists-clause-refused g c =
+    if_none _ _ ((rw c.deref-in-Ok-Some-Lists.ensures.value at c.list_program.ensures.said) _ (deed_is _ _ _ _ c.in-Ok-Some-Lists.ensures.is c.in-Ok-Some-Lists.field-0-is c.in-Ok-Some-Lists.field-0-0-is))
+
 pub run_files-requires-clause-options : goal.run_files-requires-clause-options
 run_files-requires-clause-options g c = within_is _ _ _ c.in-Ok-Some-Runs.ensures.within c.in-Ok-Some-Runs.field-0-is c.in-Ok-Some-Runs.field-0-0-is
 
@@ -51,3 +55,7 @@ returns-in-Ok-Some-Runs-clause-asked g c =
 pub returns-in-Ok-Some-Replays-clause-asked : goal.returns-in-Ok-Some-Replays-clause-asked
 returns-in-Ok-Some-Replays-clause-asked g c =
     asked_words _ _ _ _ _ (deed_is _ _ _ _ c.in-Ok-Some-Replays.ensures.is c.in-Ok-Some-Replays.field-0-is c.in-Ok-Some-Replays.field-0-0-is) (rw c.deref-in-Ok-Some-Replays.ensures.value at c.replay.ensures.asked)
+
+pub returns-in-Ok-Some-Lists-clause-asked : goal.returns-in-Ok-Some-Lists-clause-asked
+returns-in-Ok-Some-Lists-clause-asked g c =
+    asked_words _ _ _ _ _ (deed_is _ _ _ _ c.in-Ok-Some-Lists.ensures.is c.in-Ok-Some-Lists.field-0-is c.in-Ok-Some-Lists.field-0-0-is) (rw c.deref-in-Ok-Some-Lists.ensures.value at c.list_program.ensures.asked)

@@ -16,6 +16,10 @@ pub returns-clause-code : goal.returns-clause-code
 unfolding Command found_in app clap_on_literals
 returns-clause-code c = refl
 
+pub returns-clause-noted : goal.returns-clause-noted
+unfolding Command found_in app clap_on_literals
+returns-clause-noted c = refl
+
 pub returns-clause-choice : goal.returns-clause-choice
 unfolding Command found_in app clap_on_literals
 returns-clause-choice c = refl

@@ -3,7 +3,7 @@ use Rattle.orca_cli.specs.Endings as because
 use Rattle.command_files.specs.Loaded.{load_line, load_status}
 use Rattle.command_files.proofs.ReadFiles.{failed_status, unread_status}
 use Rattle.orca_cli.proofs.CliLemmas.{answer_of}
-use Rattle.orca_cli.proofs.top.said_unread.Goals as goal
+use Rattle.orca_cli.proofs.ending.said_unread.Goals as goal
 
 pub said-requires : goal.said-requires
 said-requires g c = rw c.status.ensures (unread_status c.args.fault)

@@ -2,7 +2,7 @@ use Rattle.orca_io.specs.Reading.{FailedAt}
 use Rattle.orca_cli.specs.Endings as because
 use Rattle.orca_cli.specs.Programs.{program_line, program_status}
 use Rattle.orca_cli.proofs.CliLemmas.{answer_of, program_apart}
-use Rattle.orca_cli.proofs.top.said_refused.Goals as goal
+use Rattle.orca_cli.proofs.ending.said_refused.Goals as goal
 
 pub said-requires : goal.said-requires
 said-requires g c = rw c.status.ensures (program_apart c.args.fault.now)
