@@ -48,7 +48,7 @@ module _ (first old new : Option (List ℕ)) (book : List Line) (notes : List Pl
       grew_fault first old new (places_text book notes) piece (places_text (drop (suc i) book) (drop (suc i) notes)) fault (here low less is at says told) puts
 
 -- all were
-drop_none : {A : Type 0} (i : ℕ) → drop {X = A} i [] ≡ []
+drop_none : {A : Type 0} (i : ℕ) → ◌≡◌ {A = List A} (drop i []) []
 drop_none zero = refl
 drop_none (suc i) = refl
 

@@ -46,17 +46,17 @@ fn print_all<K: Sink>(
 {
     let count = book.len().min(notes.len());
     'lines: for at in 0..count {
-        let text = place_line(alloc, &book[at], notes[at])?;
+        let text = place_line(alloc, &book[at], &notes[at])?;
         out.put(&text)?;
     }
     Ok(())
 }
 
 // The line of one, by its place.
-fn place_line(alloc: Global, line: &Line, note: PlaceNote) -> Result<Vec<u8>, NoMemory>
-    ensures { IfOk result (λ text. text.items ≡ placed_text line.now note) }
+fn place_line(alloc: Global, line: &Line, note: &PlaceNote) -> Result<Vec<u8>, NoMemory>
+    ensures { IfOk result (λ text. text.items ≡ placed_text line.now note.now) }
 {
-    match note {
+    match *note {
         PlaceNote::Entry { number } => place_said(alloc, line, "entry ", number),
         PlaceNote::Read { number } => place_said(alloc, line, "read at ", number),
         PlaceNote::Single { number } => place_said(alloc, line, "single at ", number),

@@ -57,6 +57,29 @@ fn one_cell_with_its_history(rt: HostRuntime) -> Result<(), Fail> {
     Ok(())
 }
 
+// The places of its lines stand behind its history: the make, the assignment and the write are entries, and the read saw the first two of
+// them.
+#[test]
+fn one_cell_with_its_places(rt: HostRuntime) -> Result<(), Fail> {
+    let alloc = rt.alloc();
+    let files = [("one.orca", ONE)];
+    let places = "0 0 entry 1\n0 1 entry 2\n0 2 read at 2\n0 3 entry 3\n";
+    for (line, printed) in [
+        (
+            ["run", "--nodes=1", "--explain", "one.orca"],
+            format!(in alloc; "6\n{places}")?,
+        ),
+        (
+            ["run", "--history", "--explain", "one.orca"],
+            format!(in alloc; "6\n{BOOK}{places}")?,
+        ),
+    ] {
+        let run = called(alloc, &line, &files, &[])?;
+        assert!(rt; run.says(FINISHED, printed.as_str()) && run.book() == Some(4));
+    }
+    Ok(())
+}
+
 // The line of how a run ended stands behind its history, which is a front of the whole one: of 13 events none is left to end in, and after four the
 // make isn't accepted.
 #[test]

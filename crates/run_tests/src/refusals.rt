@@ -23,7 +23,7 @@ fn is_refused(
 
 #[test]
 fn faulty_words(rt: HostRuntime) -> Result<(), Fail> {
-    let lines: [&[&str]; 10] = [
+    let lines: [&[&str]; 9] = [
         &["run", "--nodes", "2", "--resilience", "1", "one.orca"],
         &["run", "--nodes", "0", "one.orca"],
         &["run", "--nodes", "17", "one.orca"],
@@ -33,7 +33,6 @@ fn faulty_words(rt: HostRuntime) -> Result<(), Fail> {
         &["run", "--events", "4000001", "one.orca"],
         &["run", "--script", "one.orca"],
         // Not built yet.
-        &["run", "--explain", "one.orca"],
         &["run", "--workers", "3", "one.orca"],
     ];
     for line in lines {
