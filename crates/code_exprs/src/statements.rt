@@ -47,7 +47,8 @@ fn fill(holes: Vec<usize>, out: &mut Listing<'_>)
     }
 }
 
-/// The code of statements, one after the other. Where each begins in the text stands beside it in the listing.
+/// The code of statements, one after the other. Beside it stands in the listing where it comes from in the text: each statement's code from
+/// where that begins; the test of a `while`, a `repeat` or an arm from where the test begins; and `upto` from the loop's variable.
 ///
 /// # Errors
 /// Want of memory.
@@ -129,6 +130,7 @@ fn emit_while<'p>(
     let back = out.len();
     out.put(Instr::Turn)?;
     emit_statements(alloc, here, body, out)?;
+    out.comes_from(test.place())?;
     let ask = out.len();
     emit_expression(alloc, here, test, out)?;
     close(back, out)?;
@@ -151,6 +153,7 @@ fn emit_repeat<'p>(
     let at = out.len();
     out.put(Instr::Turn)?;
     emit_statements(alloc, here, body, out)?;
+    out.comes_from(test.place())?;
     emit_expression(alloc, here, test, out)?;
     out.put(Instr::Unless { to: at })
 }
@@ -178,6 +181,7 @@ fn emit_for<'p>(
     let back = out.len();
     out.put(Instr::Turn)?;
     emit_statements(alloc, here.in_loops(&loops), body, out)?;
+    out.comes_from(name.at)?;
     out.put(Instr::Upto { slot, to: back })?;
     let to = out.len();
     out.fix(at, Instr::Count { slot, to });
@@ -225,6 +229,7 @@ fn emit_when<'p>(
     ensures { (w : Scope) (l : Layout) → IsCodeSite here.entry w l →
         IfOk result (λ hole. IsArm (expr_code w l (expr test.now)) (stmts_code w l (stmts body.now)) (code_of out.old) (code_of out.new) hole) }
 {
+    out.comes_from(test.place())?;
     emit_expression(alloc, here, test, out)?;
     let at = out.len();
     out.put(Instr::Unless { to: 0 })?;

@@ -47,6 +47,23 @@ pub fn end_of(has_result: bool) -> Ending
     }
 }
 
+// The fault of a missing result comes from the last statement, where there is one. Other ends can't fault.
+fn end_comes_from(
+    end: Ending,
+    statements: &[Statement],
+    out: &mut Listing<'_>,
+) -> Result<(), NoMemory>
+    ensures { code_of out.new ≡ code_of out.old }
+{
+    if !matches!(end, Ending::Missing) {
+        return Ok(());
+    }
+    match statements.last() {
+        None => Ok(()),
+        Some(last) => out.comes_from(last.place()),
+    }
+}
+
 // The instruction at the end.
 fn emit_end(end: Ending, out: &mut Listing<'_>) -> Result<(), NoMemory>
     ensures { OnOk result (Appends (one (last_of end)) (code_of out.old) (code_of out.new)) }
@@ -76,6 +93,7 @@ pub fn emit_body<'p>(
 {
     let here = CodeSite::new(code, body, false, spare)?;
     emit_statements(alloc, here, statements, out)?;
+    end_comes_from(end, statements, out)?;
     emit_end(end, out)
 }
 

@@ -1,6 +1,6 @@
 //! The code of processes.
 
-ghost use Rattle.std.specs.Prelude.{◌≡◌, ◌≤◌, ◌<◌, ◌+◌, ◌^◌, ℕ, IfOk, List, OnOk, drop, false, map, slice_get, Some};
+ghost use Rattle.std.specs.Prelude.{◌≡◌, ◌≤◌, ◌<◌, ◌+◌, ◌++◌, ◌^◌, ℕ, IfOk, List, OnOk, drop, false, flat_map, map, slice_get, Some};
 ghost use Rattle.link_rules.specs.Units.{Source};
 ghost use Rattle.type_rules.specs.Scopes.{Scope};
 ghost use Rattle.type_rules.specs.Types.{object_in as rule_object_in, outside_of};
@@ -22,7 +22,8 @@ use crate::bodies::{Ending, emit_body, openings};
 use crate::depths::depth_of_all;
 use emitted_code::{EmittedBody, Instr, Listing};
 use eval_bodies::{BlockCode, Code};
-use orca_base::{KindNo, NoMemory};
+use orca_base::{KindNo, NoMemory, Place};
+use orca_tree::{Name, Variables};
 use std::alloc::Global;
 use type_forms::{Top, What};
 use type_rules::{Base, DataType};
@@ -57,10 +58,27 @@ fn kind_at(code: &Code<'_>, number: usize) -> KindNo
     code.tables().kind(number)
 }
 
-// The making of an object for a slot; what it leaves goes.
-fn emit_make(kind: KindNo, count: usize, slot: usize, out: &mut Listing<'_>) -> Result<(), NoMemory>
+// What is put next comes from where a variable is declared.
+fn comes_from_variable(at: Option<&Place>, out: &mut Listing<'_>) -> Result<(), NoMemory>
+    ensures { code_of out.new ≡ code_of out.old }
+{
+    match at {
+        None => Ok(()),
+        Some(at) => out.comes_from(*at),
+    }
+}
+
+// The making of an object for a slot, whose variable is declared at this place; what it leaves goes.
+fn emit_make(
+    kind: KindNo,
+    count: usize,
+    slot: usize,
+    at: Option<&Place>,
+    out: &mut Listing<'_>,
+) -> Result<(), NoMemory>
     ensures { OnOk result (Appends (seq (one (instrs.Make kind count slot)) (one instrs.Pop)) (code_of out.old) (code_of out.new)) }
 {
+    comes_from_variable(at, out)?;
     out.put(Instr::Make { kind, count, slot })?;
     out.put(Instr::Pop)
 }
@@ -71,6 +89,7 @@ fn emit_variable(
     slot: usize,
     made: usize,
     kind: &Option<DataType>,
+    at: Option<&Place>,
     out: &mut Listing<'_>,
 ) -> Result<usize, NoMemory>
     requires { made + 1 < 2 ^ 64 }
@@ -82,17 +101,39 @@ fn emit_variable(
         None => Ok(made),
         Some(number) => {
             let count = made + 1;
-            emit_make(kind_at(code, number), count, slot, out)?;
+            emit_make(kind_at(code, number), count, slot, at, out)?;
             Ok(count)
         }
     }
 }
 
-// The makings of the objects of variables, which stand behind so many parameters among these.
+// Where these names are declared, behind the places so far.
+fn add_places(names: &[Name], places: &mut Vec<Place>) -> Result<(), NoMemory>
+    ensures { OnOk result (places.new.items ≡ places.old.items ++ map (λ n. n.at) names.now) }
+{
+    'names: for name in names {
+        places.push(name.at)?;
+    }
+    Ok(())
+}
+
+// Where the variables of a process are declared, in their order.
+fn declared_at(alloc: Global, variables: &[Variables]) -> Result<Vec<Place>, NoMemory>
+    ensures { IfOk result (λ places. places.items ≡ flat_map (λ own. map (λ n. n.at) own.names.items) variables.now) }
+{
+    let mut places = Vec::new(alloc);
+    'groups: for own in variables {
+        add_places(&own.names, &mut places)?;
+    }
+    Ok(places)
+}
+
+// The makings of the objects of variables, which stand behind so many parameters among these, and are declared at these places.
 fn emit_variables(
     code: &Code<'_>,
     parameters: usize,
     types: &[Option<DataType>],
+    places: &[Place],
     out: &mut Listing<'_>,
 ) -> Result<(), NoMemory>
     ensures { (w : Scope) → IsCode w.program code.now → types.now ≡ map (λ l. l.type) w.locals →
@@ -101,16 +142,18 @@ fn emit_variables(
     let count = types.len();
     let mut made = 0;
     'own: for slot in parameters..count {
-        made = emit_variable(code, slot, made, &types[slot], out)?;
+        let at = places.get(slot - parameters);
+        made = emit_variable(code, slot, made, &types[slot], at, out)?;
     }
     Ok(())
 }
 
-// A process with so many parameters.
+// A process with so many parameters, and these variables.
 fn compile_block<'p>(
     alloc: Global,
     code: &Code<'p>,
     parameters: usize,
+    variables: &[Variables],
     block: &BlockCode<'p>,
 ) -> Result<EmittedBody<'p>, NoMemory>
     ensures { (r : Routine) → IsCode r.scope.program code.now → IsBlockCode block.now r → r.scope.in_guard ≡ false →
@@ -118,8 +161,9 @@ fn compile_block<'p>(
 {
     let types = &block.body.names.types;
     let spare = depth_of_all(block.statements)?;
+    let places = declared_at(alloc, variables)?;
     let mut out = Listing::new(alloc);
-    emit_variables(code, parameters, types, &mut out)?;
+    emit_variables(code, parameters, types, &places, &mut out)?;
     emit_body(
         alloc,
         code,
@@ -148,11 +192,12 @@ fn nothing<'p>(alloc: Global) -> EmittedBody<'p>
     }
 }
 
-// A process with so many parameters, where there is one.
+// A process with so many parameters, and these variables, where there is one.
 fn compile_known<'p>(
     alloc: Global,
     code: &Code<'p>,
     parameters: usize,
+    variables: &[Variables],
     block: Option<&BlockCode<'p>>,
 ) -> Result<EmittedBody<'p>, NoMemory>
     ensures { (r : Routine) → IsCode r.scope.program code.now → Both (λ c r. IsBlockCode c.now r) block.entry (Some r) → r.scope.in_guard ≡ false →
@@ -160,7 +205,7 @@ fn compile_known<'p>(
 {
     match block {
         None => Ok(nothing(alloc)),
-        Some(block) => compile_block(alloc, code, parameters, block),
+        Some(block) => compile_block(alloc, code, parameters, variables, block),
     }
 }
 
@@ -178,9 +223,13 @@ pub fn compile_process<'p>(
         IfOk result (λ b. body_seen b ≡ process_at us (top item.now)) }
 {
     match item.what {
-        What::Process { parameters, .. } => {
-            compile_known(alloc, code, parameters.len(), code.process_at(place))
-        }
+        What::Process { parameters, body } => compile_known(
+            alloc,
+            code,
+            parameters.len(),
+            &body.variables,
+            code.process_at(place),
+        ),
         _ => Ok(nothing(alloc)),
     }
 }

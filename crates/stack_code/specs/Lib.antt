@@ -5,6 +5,7 @@ pub mod Views
 pub mod Packed
 pub mod Bodies
 pub mod Shown
+pub mod Spots
 pub mod Text
 pub mod ListingExamples
 pub mod Printed

@@ -3,6 +3,7 @@
 ghost use Rattle.std.specs.Prelude.{◌≡◌};
 ghost use Rattle.stack_code.specs.Bodies.{program_shown};
 ghost use Rattle.stack_code.specs.Sound.{IsWholeCode};
+ghost use Rattle.stack_code.specs.Spots.{packed_spots};
 
 use crate::bodies::{PackedBody, PackedType};
 use orca_base::TextNo;
@@ -28,8 +29,10 @@ impl<'p> Code<'p> {
         types: Vec<Option<PackedType<'p>>>,
     ) -> Code<'p>
         requires { IsWholeCode (program_shown functions.items texts.items main types.items) }
-        ensures { program_shown result.functions.items result.texts.items result.main result.types.items ≡
+        ensures code { program_shown result.functions.items result.texts.items result.main result.types.items ≡
             program_shown functions.entry.items texts.entry.items main types.entry.items }
+        ensures spots { packed_spots result.functions.items result.texts.items result.types.items ≡
+            packed_spots functions.entry.items texts.entry.items types.entry.items }
     {
         Code {
             functions,

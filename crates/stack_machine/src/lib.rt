@@ -1,6 +1,6 @@
 //! The inside of the machine that runs compiled code: instructions on integers and truths, calls and returns.
 //!
-//! `go` runs from where a machine stands (`MachineState`) through calls and returns, until the body that the run began in ends, it
+//! `go` runs from where a machine stands (`MachineState`) through calls and returns, until the outermost body ends, it
 //! faults, no turn is left, or an instruction isn't for it. What it does is what `exec` of `code_rules` says, for every code, and what it
 //! may not decline says `covers` (specs/Covering.antt). That is its main clause, `RunsUntil` (specs/Running.antt).
 //!

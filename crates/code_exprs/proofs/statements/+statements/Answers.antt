@@ -124,10 +124,13 @@ emit_statements-statements-preserved t c = λ w l d new h.
 
 pub emit_while-returns : goal.emit_while-returns
 emit_while-returns t c = λ w l d.
-    while_made (expr_code w l (expr c.args.test.now)) (stmts_code w l (stmts c.args.body.now)) (Jump 0)
-    (code_of c.args.out.now) (code_of c.put.new.self) (code_of c.put-2.new.self) (code_of c.emit_statements.new.out) (code_of c.emit_expression.new.out)
+    let body = stmts_code w l (stmts c.args.body.now) in
+    let begun = code_of c.put-2.new.self in
+    while_made (expr_code w l (expr c.args.test.now)) body (Jump 0)
+    (code_of c.args.out.now) (code_of c.put.new.self) begun (code_of c.comes_from.new.self) (code_of c.emit_expression.new.out)
     (code_of c.close.new.out) (code_of c.fix.new.self) c.len-at.result c.len-back.result c.len-ask.result
-    c.len-at.ensures c.in_ok-put.ensures.code c.len-back.ensures c.in_ok-put-2.ensures.code ((c.in_ok-emit_statements.ensures {u = tt}) w l d)
+    c.len-at.ensures c.in_ok-put.ensures.code c.len-back.ensures c.in_ok-put-2.ensures.code
+    (subst (λ (o : List Instr). Appends body begun o) (sym c.in_ok-comes_from.ensures.code) ((c.in_ok-emit_statements.ensures {u = tt}) w l d))
     c.len-ask.ensures ((c.in_ok-emit_expression.ensures {u = tt}) w l d) c.in_ok-close.ensures c.fix.ensures.code
 
 pub emit_repeat-returns : goal.emit_repeat-returns
@@ -138,8 +141,9 @@ emit_repeat-returns t c = λ w l d.
     let last = code_of c.emit_expression.new.out in
     let new = code_of c.put-2.new.self in
     on_ok c.put-2.result (Appends (one (Unless c.len-at.result)) last new) (Appends (repeat_piece body test) old new)
-    (λ h. repeat_made body test old (code_of c.put.new.self) (code_of c.emit_statements.new.out) last new c.len-at.result c.len-at.ensures c.in_ok-put.ensures.code
-    ((c.in_ok-emit_statements.ensures {u = tt}) w l d) ((c.in_ok-emit_expression.ensures {u = tt}) w l d) h) c.put-2.ensures.code
+    (λ h. repeat_made body test old (code_of c.put.new.self) (code_of c.comes_from.new.self) last new c.len-at.result c.len-at.ensures c.in_ok-put.ensures.code
+    (subst (λ (o : List Instr). Appends body (code_of c.put.new.self) o) (sym c.in_ok-comes_from.ensures.code) ((c.in_ok-emit_statements.ensures {u = tt}) w l d))
+    ((c.in_ok-emit_expression.ensures {u = tt}) w l d) h) c.put-2.ensures.code
 
 pub emit_for-returns : goal.emit_for-returns
 emit_for-returns t c = λ w l d.
@@ -156,9 +160,10 @@ emit_for-returns t c = λ w l d.
     let texts : lent_texts c.deref.result.now ≡ name.text ∷ lent_texts c.args.here.site.loops.now =
     ap lent_texts c.deref.ensures.value ∙ c.in_ok-loops.ensures ∙ ap (λ (k : List ℕ). k ∷ lent_texts c.args.here.site.loops.now) c.as_str.ensures in
     let loop : Appends (loop_piece slot body) both new =
-    loop_made slot body (Count slot 0) both (code_of c.put.new.self) (code_of c.put-2.new.self) (code_of c.emit_statements.new.out) (code_of c.put-3.new.self) new
+    loop_made slot body (Count slot 0) both (code_of c.put.new.self) (code_of c.put-2.new.self) (code_of c.comes_from.new.self) (code_of c.put-3.new.self) new
     c.len-at.result c.len-back.result c.len-to.result c.len-at.ensures c.in_ok-put.ensures.code c.len-back.ensures c.in_ok-put-2.ensures.code
-    ((c.in_ok-emit_statements.ensures {u = tt}) (with_loop w name) (inside l) (c.in_loops.ensures w l d name texts))
+    (subst (λ (o : List Instr). Appends body (code_of c.put-2.new.self) o) (sym c.in_ok-comes_from.ensures.code)
+    ((c.in_ok-emit_statements.ensures {u = tt}) (with_loop w name) (inside l) (c.in_loops.ensures w l d name texts)))
     c.in_ok-put-3.ensures.code c.len-to.ensures c.fix.ensures.code in
     let rounds : Appends (loop_piece (free l) body) both new = subst (λ (k : ℕ). Appends (loop_piece k body) both new) (c.free-slot.ensures w l d) loop in
     then low (seq high (loop_piece (free l) body)) begins first new ((c.in_ok-emit_expression.ensures {u = tt}) w l d)
@@ -166,10 +171,12 @@ emit_for-returns t c = λ w l d.
 
 pub emit_when-returns : goal.emit_when-returns
 emit_when-returns t c = λ w l d.
-    arm_made (expr_code w l (expr c.args.test.now)) (stmts_code w l (stmts c.args.body.now)) (Unless 0) (Jump 0)
+    let test = expr_code w l (expr c.args.test.now) in
+    arm_made test (stmts_code w l (stmts c.args.body.now)) (Unless 0) (Jump 0)
     (code_of c.args.out.now) (code_of c.emit_expression.new.out) (code_of c.put.new.self) (code_of c.emit_statements.new.out) (code_of c.put-2.new.self)
     (code_of c.fix.new.self) c.len-at.result c.len-hole.result c.len-to.result
-    ((c.in_ok-emit_expression.ensures {u = tt}) w l d) c.len-at.ensures c.in_ok-put.ensures.code ((c.in_ok-emit_statements.ensures {u = tt}) w l d)
+    (subst (λ (o : List Instr). Appends test o (code_of c.emit_expression.new.out)) c.in_ok-comes_from.ensures.code ((c.in_ok-emit_expression.ensures {u = tt}) w l d))
+    c.len-at.ensures c.in_ok-put.ensures.code ((c.in_ok-emit_statements.ensures {u = tt}) w l d)
     c.len-hole.ensures c.in_ok-put-2.ensures.code c.len-to.ensures c.fix.ensures.code
 
 pub emit_arms-arms-preserved : goal.emit_arms-arms-preserved

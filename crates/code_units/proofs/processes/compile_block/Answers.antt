@@ -36,6 +36,6 @@ returns c = λ r code block guard.
     ∙ ap (λ (x : Stmts). seq makes (body_piece v c.in_ok-spare.spare x End) 0) block.statements
     ∙ ap (λ (k : ℕ). seq makes (body_piece v k r.statements End) 0) depth)
     ((c.in_ok-opens.ensures {u = tt}) us code
-    ∙ ap (λ (ts : List (Option DataType)). map (opening us) ts) (c.deref-2.ensures.value ∙ types)
+    ∙ ap (λ (ts : List (Option DataType)). map (opening us) ts) (c.deref-3.ensures.value ∙ types)
     ∙ opened_is us v.locals)
     depth
