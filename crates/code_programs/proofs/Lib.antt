@@ -1,0 +1,4 @@
+mod Any
+mod Once
+mod Premises
+mod Short
