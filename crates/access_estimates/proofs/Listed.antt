@@ -1,7 +1,6 @@
 -- What stands at a position of the top level, and what is known of it as a process.
-use Rattle.std.proofs.Common.{◌≡◌, ℕ, ◌<◌, Bool, true, false, cond, List, [], ◌++◌, length, get_or, map, Option, Some, None, refl, sym, ap, subst, ◌∙◌}
-use Rattle.std.specs.Prelude.{slice_get, option_map, option_and_then, OnOk, Result}
-use Rattle.std.specs.Borrow.{Bor}
+use Rattle.std.proofs.Common.{◌≡◌, ℕ, ◌<◌, Bool, true, false, cond, List, [], ◌++◌, length, get_or, map, Option, Some, None, sym, ap, ◌∙◌}
+use Rattle.std.specs.Prelude.{slice_get, option_map, OnOk, Result}
 use Rattle.std.specs.Option.{option_map_or}
 use Rattle.std.proofs.lemmas.List.{append-nil}
 use Rattle.std.proofs.lemmas.Option.{slice_get-get_or, slice_get-map}
@@ -9,9 +8,7 @@ use Rattle.std.proofs.lemmas.Result.{on_ok_weaker}
 use Rattle.type_rules.specs.TopLevel.{TopName}
 use Rattle.type_forms.specs.declared.tops.Top.{Top}
 use Rattle.type_forms.specs.Seen.{top}
-use Rattle.eval_bodies.specs.Matching.{Both, Match}
-use Rattle.access_estimates.proofs.Matched.{match_get}
-use Rattle.eval_bodies.specs.Matching.{or_none}
+use Rattle.eval_bodies.specs.Matching.{Both}
 
 pub item_there : (tops : List Top) (names : List TopName) (i : ℕ) (x : Top) → i < length tops → x ≡ get_or tops i x → map top tops ≡ names → slice_get names i ≡ Some (top x)
 item_there tops names i x lt is e =

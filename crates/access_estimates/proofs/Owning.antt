@@ -1,15 +1,12 @@
 -- A name with its object type, and the scope's word for it.
-use Rattle.std.proofs.Common.{◌≡◌, ℕ, Bool, true, false, cond, List, [], ◌∷◌, length, find, map, Option, Some, None, refl, sym, ap, ◌∙◌}
-use Rattle.std.specs.Prelude.{bytes_eq, slice_get, option_map, option_and_then}
+use Rattle.std.proofs.Common.{◌≡◌, ℕ, List, find, Option, Some, None, refl, ap, ◌∙◌}
+use Rattle.std.specs.Prelude.{bytes_eq, option_map}
 use Rattle.std.specs.Option.{option_map_or}
 use Rattle.orca_tree.specs.declared.tree.Name.{Name}
-use Rattle.type_rules.specs.declared.types.DataType.{DataType}
-use Rattle.type_rules.specs.Scopes.{Local, Scope}
+use Rattle.type_rules.specs.Scopes.{Local}
 use Rattle.type_exprs.specs.declared.scope.Local as tree
 use Rattle.type_exprs.specs.Scoped.{local_as}
-use Rattle.type_tables.specs.Entries.{entry}
-use Rattle.type_decls.specs.Bodies.{AreLocals}
-use Rattle.access_estimates.specs.Locals.{PlainLocal, named}
+use Rattle.access_estimates.specs.Locals.{PlainLocal}
 use Rattle.access_estimates.specs.Collected.{named_in, object_by, object_kind}
 
 pub local_is : (ls : List Local) (n : Name) (text : List ℕ) (o : Option tree.Local) (object : Option ℕ) → text ≡ n.text →

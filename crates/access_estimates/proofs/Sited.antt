@@ -1,10 +1,8 @@
 -- The estimates of a process's sites are those of its locals from a position on, by its summary.
-use Rattle.std.proofs.Common.{◌≡◌, ℕ, suc, zero, ◌<◌, ◌+◌, List, [], ◌∷◌, ◌++◌, length, get_or, drop, map, Some, None, Option, cond, refl, sym, ap, ◌∙◌, arith, append_assoc}
-use Rattle.std.specs.Prelude.{OnOk, Result, slice_get}
+use Rattle.std.proofs.Common.{◌≡◌, ℕ, suc, zero, ◌<◌, ◌+◌, List, [], ◌∷◌, ◌++◌, length, get_or, drop, map, Some, Option, cond, refl, ap, ◌∙◌, arith}
+use Rattle.std.specs.Prelude.{slice_get}
 use Rattle.std.specs.Option.{option_map_or}
 use Rattle.std.proofs.Math.Seq.{drop-cons}
-use Rattle.std.proofs.lemmas.List.{append-nil}
-use Rattle.std.proofs.lemmas.Result.{on_ok_weaker}
 use Rattle.orca_tree.specs.declared.tree.Name.{Name}
 use Rattle.link_rules.specs.Units.{Source}
 use Rattle.site_estimates.specs.declared.estimate.Estimate.{Estimate}
@@ -15,7 +13,7 @@ use Rattle.estimate_rules.specs.Routines as rules
 use Rattle.access_estimates.specs.declared.locals.Local.{Local}
 use Rattle.access_estimates.specs.declared.routines.Routine.{Routine}
 use Rattle.access_estimates.specs.Resolved.{IsRoutine}
-use Rattle.access_estimates.specs.Locals.{PlainLocal, locals_seen, named, local_seen}
+use Rattle.access_estimates.specs.Locals.{locals_seen, named, local_seen}
 use Rattle.access_estimates.specs.Summaries.{IsSummary, counts_in, site_at, sites_seen}
 use Rattle.access_estimates.proofs.Rest.{appended}
 use Rattle.access_estimates.proofs.Summed.{summary_is}

@@ -1,6 +1,6 @@
 -- What is resolved at a position, name by name looked up, is what the uses of the name there count.
 use Rattle.std.proofs.Common.{◌≡◌, ℕ, Bool, true, false, cond, List, [], ◌∷◌, fold, map, filter, Option, Some, None, refl, sym, ap, ◌∙◌}
-use Rattle.std.specs.Prelude.{◌==◌, slice_get, option_map, option_and_then}
+use Rattle.std.specs.Prelude.{◌==◌, option_map}
 use Rattle.std.specs.List.{cons_option}
 use Rattle.std.proofs.lemmas.Bool.{eqb-true}
 use Rattle.link_rules.specs.Units.{Source}
@@ -13,12 +13,11 @@ use Rattle.meaning_rules.specs.Classes.{class_of}
 use Rattle.meaning_rules.specs.Programs.{kind_of, op_of}
 use Rattle.site_estimates.specs.declared.counts.Counts.{Counts}
 use Rattle.site_estimates.specs.Numbers.{plus, times}
-use Rattle.site_estimates.specs.Numbers as counting
 use Rattle.estimate_rules.specs.Uses.{UseKind, Calls, Passes, Use}
 use Rattle.estimate_rules.specs.Estimates.{Summaries, class_counts, counts_once, passed_counts, use_counts}
 use Rattle.access_estimates.specs.declared.resolved.ResolvedUse.{ResolvedUse}
 use Rattle.access_estimates.specs.Locals.{PlainLocal}
-use Rattle.access_estimates.specs.Resolved.{all_resolved, class_effect, resolved_at, resolved_by, resolved_counts, resolved_with, effect_counts, effect_of, object_at, position_in, standing_effect, tally}
+use Rattle.access_estimates.specs.Resolved.{all_resolved, class_effect, resolved_by, resolved_counts, resolved_with, effect_counts, effect_of, object_at, position_in, standing_effect, tally}
 
 -- ---- one use
 

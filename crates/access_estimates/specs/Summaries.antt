@@ -1,8 +1,8 @@
 -- Cited by private functions alone. Tables of summaries: one for each name of the top level, with counts for each local of a function or a
 -- process.
-use Rattle.std.specs.Prelude.{◌≡◌, ℕ, suc, ◌<◌, ◌&&◌, nat_le, List, [], ◌∷◌, ◌++◌, length, map, slice_get, unwrap_or, is_some, if◌then◌else◌, Option, Some, None}
+use Rattle.std.specs.Prelude.{◌≡◌, ℕ, suc, ◌<◌, ◌&&◌, nat_le, List, [], ◌∷◌, ◌++◌, length, slice_get, unwrap_or, is_some, if◌then◌else◌, Option, Some, None}
 use Rattle.link_rules.specs.Units.{Source}
-use Rattle.type_rules.specs.TopLevel.{TopName, top_names}
+use Rattle.type_rules.specs.TopLevel.{top_names}
 use Rattle.site_estimates.specs.declared.estimate.Estimate.{Estimate}
 use Rattle.site_estimates.specs.declared.counts.Counts.{Counts}
 use Rattle.site_estimates.specs.Numbers as counting

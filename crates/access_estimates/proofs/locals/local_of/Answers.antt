@@ -1,6 +1,4 @@
 use Rattle.std.proofs.Common.{ℕ, List, ap, ◌∙◌}
-use Rattle.std.specs.Prelude.{option_map}
-use Rattle.type_exprs.specs.Scoped.{local_as}
 use Rattle.type_tables.specs.Entries.{entry}
 use Rattle.access_estimates.specs.Collected.{object_by}
 use Rattle.access_estimates.proofs.Owning.{local_is}

@@ -1,4 +1,4 @@
-use Rattle.std.proofs.Common.{map, refl}
+use Rattle.std.proofs.Common.{refl}
 use Rattle.type_forms.specs.Seen.{top}
 use Rattle.access_estimates.proofs.Listed.{adds_none, adds_own}
 use Rattle.access_estimates.proofs.program.add_item.Goals as goal

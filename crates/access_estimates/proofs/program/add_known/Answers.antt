@@ -1,7 +1,6 @@
 use Rattle.std.proofs.Common.{ℕ, List, Option, map, subst, sym, ap}
 use Rattle.std.specs.Borrow.{Bor}
 use Rattle.estimate_rules.specs.Estimates.{sites_in}
-use Rattle.estimate_rules.specs.Routines as rules
 use Rattle.estimate_rules.specs.Routines.{routine_of}
 use Rattle.access_estimates.specs.declared.routines.Routine.{Routine}
 use Rattle.access_estimates.specs.Resolved.{IsRoutine}

@@ -1,7 +1,6 @@
-use Rattle.std.proofs.Common.{◌≡◌, ℕ, List, length, filter, map, Option, subst, sym, ap, ◌∙◌}
+use Rattle.std.proofs.Common.{List, length, filter, map, Option, subst, sym, ap, ◌∙◌}
 use Rattle.std.specs.Prelude.{flat_map}
 use Rattle.std.proofs.Common.{Vec, Global}
-use Rattle.std.specs.Borrow.{Bor}
 use Rattle.type_rules.specs.TopLevel.{TopName}
 use Rattle.site_estimates.specs.declared.counts.Counts.{Counts}
 use Rattle.meaning_rules.specs.Programs.{process_texts}

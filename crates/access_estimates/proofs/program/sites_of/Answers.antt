@@ -1,7 +1,6 @@
-use Rattle.std.proofs.Common.{◌≡◌, ◌+◌, List, ◌++◌, drop, filter, map, Option, Some, subst, sym, ap, ◌∙◌}
-use Rattle.std.specs.Prelude.{flat_map, slice_get, option_and_then}
+use Rattle.std.proofs.Common.{List, filter, map, Option, subst, ap, ◌∙◌}
+use Rattle.std.specs.Prelude.{flat_map, option_and_then}
 use Rattle.std.proofs.Math.ListN.{drop_of_length-le}
-use Rattle.std.proofs.lemmas.Option.{slice_get-get_or, slice_get-map}
 use Rattle.type_rules.specs.TopLevel.{TopName, top_names}
 use Rattle.type_forms.specs.declared.tops.Top.{Top}
 use Rattle.type_forms.specs.Seen.{top}

@@ -1,7 +1,6 @@
 use Rattle.std.proofs.Common.{ℕ, Option, Some, sym, ap, ◌∙◌}
 use Rattle.std.specs.Prelude.{option_map}
 use Rattle.access_estimates.specs.Seen.{use_seen}
-use Rattle.access_estimates.specs.declared.resolved.ResolvedUse.{ResolvedUse}
 use Rattle.access_estimates.specs.declared.resolved.Effect.{Effect}
 use Rattle.access_estimates.specs.Resolved.{resolved_with}
 use Rattle.access_estimates.proofs.resolving.resolved_at.Goals as goal

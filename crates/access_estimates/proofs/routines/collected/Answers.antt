@@ -6,7 +6,6 @@ use Rattle.type_rules.specs.Rules.{is_among}
 use Rattle.type_rules.specs.Scopes.{Local, own_names, texts, view_of}
 use Rattle.type_forms.specs.Seen.{lent}
 use Rattle.type_decls.specs.Bodies.{AreLocals}
-use Rattle.estimate_rules.specs.Routines as rules
 use Rattle.access_estimates.specs.Resolved.{IsRoutine}
 use Rattle.access_estimates.proofs.routines.collected.Goals as goal
 

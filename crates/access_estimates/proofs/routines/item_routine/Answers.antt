@@ -1,4 +1,4 @@
-use Rattle.std.proofs.Common.{Some, map, refl, subst, sym, ap}
+use Rattle.std.proofs.Common.{Some, refl, subst, sym, ap}
 use Rattle.type_rules.specs.TopLevel as tops
 use Rattle.type_forms.specs.Seen.{what}
 use Rattle.estimate_rules.specs.Routines.{routine_in}

@@ -1,11 +1,10 @@
 use Rattle.std.proofs.Common.{◌≡◌, ℕ, List, map, refl, sym, ap, ◌∙◌}
-use Rattle.orca_tree.specs.declared.tree.Name.{Name}
 use Rattle.orca_tree.specs.declared.tree.Statement.{Statement}
 use Rattle.orca_syntax.specs.Shown.{block, stmts}
 use Rattle.type_forms.specs.Seen.{lent}
 use Rattle.access_estimates.specs.declared.uses.Use.{Use as SeenUse}
 use Rattle.access_estimates.specs.Seen.{all_seen}
-use Rattle.estimate_rules.specs.Uses.{Use, stmts_uses}
+use Rattle.estimate_rules.specs.Uses.{stmts_uses}
 use Rattle.access_estimates.specs.declared.locals.Local.{Local}
 use Rattle.access_estimates.specs.Resolved.{all_resolved}
 use Rattle.access_estimates.specs.Locals.{PlainLocal, locals_seen, named}

@@ -1,4 +1,4 @@
-use Rattle.std.proofs.Common.{ℕ, ◌<◌, length, map, drop, ◌∙◌, arith}
+use Rattle.std.proofs.Common.{◌<◌, length, map, ◌∙◌, arith}
 use Rattle.std.proofs.Math.ListN.{drop_of_length-le}
 use Rattle.access_estimates.specs.Summaries.{by_table, counts_in}
 use Rattle.access_estimates.proofs.Summed.{tally_ended, tally_more}

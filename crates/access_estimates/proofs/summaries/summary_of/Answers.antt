@@ -1,8 +1,7 @@
-use Rattle.std.proofs.Common.{◌≡◌, ℕ, ◌<◌, List, length, vec_len, map, sym, ap, ◌∙◌, arith, rules}
+use Rattle.std.proofs.Common.{◌≡◌, ◌<◌, List, length, vec_len, map, ap, ◌∙◌, arith, rules}
 use Rattle.std.proofs.lemmas.List.{length-replicate}
 use Rattle.site_estimates.specs.declared.counts.Counts.{Counts}
 use Rattle.site_estimates.specs.Numbers as counting
-use Rattle.access_estimates.specs.declared.resolved.ResolvedUse.{ResolvedUse}
 use Rattle.access_estimates.specs.Resolved.{tally}
 use Rattle.access_estimates.specs.Summaries.{by_table, counts_in}
 use Rattle.access_estimates.proofs.Summed.{empty_at}
