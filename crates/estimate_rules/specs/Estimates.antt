@@ -1,7 +1,7 @@
 -- Estimates of sites (docs/RUNTIME.md, Choice of copies). Each object variable of a process's text is a site. An estimate counts the reads
 -- and the writes of its object: a call counts 1, and what is done in a loop ten times as much; a function or a forked process that is
 -- passed the object counts what it does with its parameter, by rounds that start at 0 and are as many as there are functions and processes.
-use Rattle.std.specs.Prelude.{ℕ, zero, suc, Bool, ◌&&◌, ◌==◌, nat_le, List, [], ◌∷◌, ◌++◌, map, filter, flat_map, slice_get, is_some, bytes_eq, if◌then◌else◌, option_and_then}
+use Rattle.std.specs.Prelude.{ℕ, zero, suc, Bool, ◌&&◌, ◌==◌, nat_le, List, [], ◌∷◌, ◌++◌, map, filter, flat_map, fold, slice_get, is_some, bytes_eq, if◌then◌else◌, option_and_then}
 use Rattle.std.specs.Option.{option_map_or}
 use Rattle.std.specs.List.{position_or_len}
 use Rattle.orca_tree.specs.declared.tree.Name.{Name}
@@ -47,11 +47,6 @@ use_counts summaries w number u = times u.times (counts_once summaries w number 
 
 -- ---- a parameter or a variable
 
--- one after the other added
-abbrev pub total : Counts → List Counts → Counts
-total sum [] = sum
-total sum (a ∷ as_) = total (plus sum a) as_
-
 -- the position of a use's name among these
 abbrev pub position_of : List Name → Use → ℕ
 position_of ns u = position_or_len (λ n. bytes_eq n.text u.object) ns
@@ -59,9 +54,9 @@ position_of ns u = position_or_len (λ n. bytes_eq n.text u.object) ns
 abbrev pub uses_at : Routine → ℕ → List Use
 uses_at r position = filter (λ u. position_of r.names u == position) (stmts_uses 1 r.statements)
 
--- what a routine does with the object at this position, whose type has this number: all its uses together
+-- what a routine does with the object at this position, whose type has this number: all its uses, added up
 abbrev pub object_counts : Summaries → Routine → ℕ → ℕ → Counts
-object_counts summaries r position number = total counts.zero (map (use_counts summaries r.scope number) (uses_at r position))
+object_counts summaries r position number = fold plus counts.zero (map (use_counts summaries r.scope number) (uses_at r position))
 
 abbrev pub name_counts : Summaries → Routine → ℕ → Name → Counts
 name_counts summaries r position n = option_map_or (object_counts summaries r position) (object_type_number r.scope n) counts.zero

@@ -116,10 +116,10 @@ AreUntouched words files earlier later status old new = (new ≡ old) ⊎ HasLac
 -- ---- the run
 
 -- What is kept is the end of the run to which its events lead, and a history with its processes and copies. How that run stands is read off
--- what is kept (`row`, `only`), in both directions off its world (`reads`), and gives the status. What is said of that world, of what is kept
--- and with the line of the standing was printed; where a write failed or memory lacked, a front of it was. And the
--- wires, which told `before` and tell `after`, were used in the run; one that was never in use was asked nothing; and each question about
--- an act was put to the wire in use, in the world before the event of its number, or before the one that would come next
+-- what is kept (`row`, `only`), in both directions off its world (`reads`), and gives the status. What is said of that world and of what
+-- is kept, with the line of the standing, was printed; where a write failed or memory lacked, a front of it was. And the wires, which told
+-- `before` and tell `after`, were used in the run; one that was never in use was asked nothing; and each question about an act was put to
+-- the wire in use, in the world before the event of its number, or before the one that would come next
 pub record IsRun (f : Frame) (name : Action → List ℕ) (says : World → Kept → List ℕ → List ℕ) (k : Kept) (status : ℕ)
     (old new : Option (List ℕ)) (before after : List (List Asked)) : Type 0 where
   pub world : World

@@ -86,8 +86,8 @@ history_said asked names book = if asked then history_text names book else []
 abbrev pub places_said : Bool → List Line → List PlaceNote → List ℕ
 places_said asked book notes = if asked then places_text book notes else []
 
--- what a run prints of what is kept, and its line at the end: what the history writes, and behind that the history and the places of its lines,
--- where these are asked for
+-- what a run prints of what is kept, and its line at the end: what the history writes, and behind that the history and the places of its
+-- lines, where these are asked for
 abbrev pub run_said : RunOptions → Names → Kept → List ℕ → List ℕ
 run_said options names k line =
     output_of k.book.items

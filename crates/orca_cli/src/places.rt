@@ -1,6 +1,6 @@
 //! The places of a history's lines.
 
-ghost use Rattle.std.specs.Prelude.{◌≡◌, ◌≤◌, IfOk, IsErrOf, OnOk};
+ghost use Rattle.std.specs.Prelude.{◌≡◌, ◌<◌, ◌≤◌, IfOk, IsErrOf, OnOk, Some, length, slice_get};
 ghost use Rattle.orca_io.specs.Causes.{Rose};
 ghost use Rattle.command_output.specs.Printed.{Grew, WroteOf};
 ghost use Rattle.world_places.specs.Text.{placed_text, places_text};
@@ -46,17 +46,26 @@ fn print_all<K: Sink>(
 {
     let count = book.len().min(notes.len());
     'lines: for at in 0..count {
-        let text = place_line(alloc, &book[at], &notes[at])?;
+        let note = note_at(notes, at);
+        let text = place_line(alloc, &book[at], note)?;
         out.put(&text)?;
     }
     Ok(())
 }
 
-// The line of one, by its place.
-fn place_line(alloc: Global, line: &Line, note: &PlaceNote) -> Result<Vec<u8>, NoMemory>
-    ensures { IfOk result (λ text. text.items ≡ placed_text line.now note.now) }
+// The place of this number, which there is.
+fn note_at(notes: &[PlaceNote], at: usize) -> PlaceNote
+    requires { at < length notes.now }
+    ensures { Some result ≡ slice_get notes.now at }
 {
-    match *note {
+    notes[at]
+}
+
+// The line of one, by its place.
+fn place_line(alloc: Global, line: &Line, note: PlaceNote) -> Result<Vec<u8>, NoMemory>
+    ensures { IfOk result (λ text. text.items ≡ placed_text line.now note) }
+{
+    match note {
         PlaceNote::Entry { number } => place_said(alloc, line, "entry ", number),
         PlaceNote::Read { number } => place_said(alloc, line, "read at ", number),
         PlaceNote::Single { number } => place_said(alloc, line, "single at ", number),
@@ -64,12 +73,7 @@ fn place_line(alloc: Global, line: &Line, note: &PlaceNote) -> Result<Vec<u8>, N
 }
 
 // What is said of it.
-fn place_said(
-    alloc: Global,
-    line: &Line,
-    said: &str,
-    number: u64,
-) -> Result<Vec<u8>, NoMemory>
+fn place_said(alloc: Global, line: &Line, said: &str, number: u64) -> Result<Vec<u8>, NoMemory>
     ensures { IfOk result (λ text. text.items ≡ place_said line.now said.now number) }
 {
     let process = line.process.0;

@@ -29,8 +29,8 @@ use run_loop::{ProcessEnd, ProcessStanding, RunEnd, Standing};
 use std::alloc::Global;
 use value_core::{Action, Line, Parts, Value};
 
-/// Prints what a run's history writes, one put a line, behind it the history and the places of its lines, where these are asked for, and the
-/// line of its standing, up to the first put that fails; and gives the status.
+/// Prints what a run's history writes, one put a line, behind it the history and the places of its lines, where these are asked for, and
+/// the line of its standing, up to the first put that fails; and gives the status.
 pub fn report<K: Sink>(
     alloc: Global,
     out: &mut K,
@@ -136,7 +136,8 @@ fn print_ending<K: Sink>(
     standing: Standing,
     end: &RunEnd,
 ) -> Result<(), SinkFault>
-    ensures wrote { Grew (K.told out.old) (K.told out.new) (WroteOf result (places_said options.explain end.now.book.items end.now.places.items
+    ensures wrote { Grew (K.told out.old) (K.told out.new) (WroteOf result
+        (places_said options.explain end.now.book.items end.now.places.items
         ++ ending_line (awaited_name names.now) options.turns standing end.now.processes.items)) }
     ensures later { K.faults out.old ≤ K.faults out.new }
     ensures failed { IsErrOf result SinkFault.Failed → Rose (K.faults out.old) (K.faults out.new) }

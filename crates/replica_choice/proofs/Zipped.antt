@@ -6,7 +6,7 @@ use Rattle.std.proofs.lemmas.List.{append-nil, length-append, length-take-le, ma
 use Rattle.orca_base.specs.declared.what.Choice.{Choice}
 use Rattle.site_estimates.specs.declared.estimate.Estimate.{Estimate}
 use Rattle.replica_choice.specs.declared.policy.Asked.{Asked}
-use Rattle.replica_choice.specs.Asking.{Rule, asked, by_cost, choice_by, choice_by_cost, choices_by, questions}
+use Rattle.replica_choice.specs.Asking.{Rule, asked, by_cost, choice_by_cost, choices_by, questions}
 use Rattle.replica_choice.specs.Printed.{choice_text}
 
 -- ---- one more
@@ -28,25 +28,25 @@ questions_more nodes es cs i e c lt is long =
 -- what a rule chooses for one site more
 choices_push : (rule : Rule) (nodes : ℕ) (told : List Asked) (es : List Estimate) (e : Estimate) →
     choices_by rule nodes told (es ++ e ∷ [])
-    ≡ choices_by rule nodes told es ++ choice_by rule (told ++ questions nodes es (choices_by rule nodes told es)) nodes e ∷ []
-choices_push rule nodes told [] e = ap (λ (l : List Asked). choice_by rule l nodes e ∷ []) (sym (append-nil told))
+    ≡ choices_by rule nodes told es ++ rule (told ++ questions nodes es (choices_by rule nodes told es)) nodes e ∷ []
+choices_push rule nodes told [] e = ap (λ (l : List Asked). rule l nodes e ∷ []) (sym (append-nil told))
 choices_push rule nodes told (x ∷ xs) e =
-    let c = choice_by rule told nodes x in
+    let c = rule told nodes x in
     let first = told ++ asked nodes x c ∷ [] in
     let others = choices_by rule nodes first xs in
     ap (λ (l : List Choice). c ∷ l)
     (choices_push rule nodes first xs e
-    ∙ ap (λ (l : List Asked). others ++ choice_by rule l nodes e ∷ []) (append_assoc told (asked nodes x c ∷ []) (questions nodes xs others)))
+    ∙ ap (λ (l : List Asked). others ++ rule l nodes e ∷ []) (append_assoc told (asked nodes x c ∷ []) (questions nodes xs others)))
 
 pub choices_more : (rule : Rule) (nodes : ℕ) (told now : List Asked) (es : List Estimate) (cs ds : List Choice) (i : ℕ) (e : Estimate) (c : Choice) →
     i < length es → e ≡ get_or es i e → cs ≡ choices_by rule nodes told (take i es) → now ≡ told ++ questions nodes (take i es) cs →
-    c ≡ choice_by rule now nodes e → ds ≡ cs ++ c ∷ [] → ds ≡ choices_by rule nodes told (take (i + 1) es)
+    c ≡ rule now nodes e → ds ≡ cs ++ c ∷ [] → ds ≡ choices_by rule nodes told (take (i + 1) es)
 choices_more rule nodes told now es cs ds i e c lt is before asked_so chosen pushed =
     let more = take_more es i e lt ∙ ap (λ (x : Estimate). take i es ++ x ∷ []) (sym is) in
     let knew = asked_so ∙ ap (λ (l : List Choice). told ++ questions nodes (take i es) l) before in
     pushed
     ∙ ap (λ (l : List Choice). l ++ c ∷ []) before
-    ∙ ap (λ (d : Choice). choices_by rule nodes told (take i es) ++ d ∷ []) (chosen ∙ ap (λ (l : List Asked). choice_by rule l nodes e) knew)
+    ∙ ap (λ (d : Choice). choices_by rule nodes told (take i es) ++ d ∷ []) (chosen ∙ ap (λ (l : List Asked). rule l nodes e) knew)
     ∙ sym (choices_push rule nodes told (take i es) e)
     ∙ ap (λ (l : List Estimate). choices_by rule nodes told l) (sym more)
 

@@ -168,12 +168,7 @@ fn single_cell(rt: HostRuntime) -> Result<(), Fail> {
     let alloc = rt.alloc();
     let mut wires = Vec::new(alloc);
     wires.push(PlainWire::new(alloc))?;
-    let ran = ran(
-        alloc,
-        &Cells,
-        single_settings(alloc)?,
-        wires.as_mut_slice(),
-    )?;
+    let ran = ran(alloc, &Cells, single_settings(alloc)?, wires.as_mut_slice())?;
     assert_eq!(rt; ran.standing, Standing::Finished);
     let places = [
         PlaceNote::Entry { number: 1 },

@@ -1,0 +1,11 @@
+pub mod Rest
+pub mod Passed
+pub mod Tallied
+pub mod Matched
+pub mod Summed
+pub mod Sited
+pub mod Owning
+pub mod Listing
+pub mod Listed
+pub mod Once
+pub mod Coded
