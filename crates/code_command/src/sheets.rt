@@ -13,7 +13,7 @@ pub struct Sheet<'a> {
 }
 
 // The lines of a file's text. A text that isn't UTF-8 has none.
-fn sheet<'a>(alloc: Global, file: &'a SourceFile<'a>) -> Result<Sheet<'a>, NoMemory> {
+fn sheet_of<'a>(alloc: Global, file: &'a SourceFile<'a>) -> Result<Sheet<'a>, NoMemory> {
     let mut lines = Vec::new(alloc);
     if let Ok(text) = str::from_utf8(&file.text) {
         for line in text.lines() {
@@ -30,7 +30,7 @@ fn sheet<'a>(alloc: Global, file: &'a SourceFile<'a>) -> Result<Sheet<'a>, NoMem
 pub fn sheets<'a>(alloc: Global, files: &'a [SourceFile<'a>]) -> Result<Vec<Sheet<'a>>, NoMemory> {
     let mut all = Vec::new(alloc);
     for file in files {
-        all.push(sheet(alloc, file)?)?;
+        all.push(sheet_of(alloc, file)?)?;
     }
     Ok(all)
 }
