@@ -32,7 +32,12 @@ impl Notes<'_> {
 
     // The rows of a body: its head stands in front of its first line, and the line of the text where a statement begins in front of the
     // statement's code, once for those that begin on one.
-    fn add_body(&mut self, alloc: Global, head: Head<'_>, body: &BodyCode<'_>) -> Result<(), NoMemory> {
+    fn add_body(
+        &mut self,
+        alloc: Global,
+        head: Head<'_>,
+        body: &BodyCode<'_>,
+    ) -> Result<(), NoMemory> {
         let first = self.rows.len();
         for _ in 0..body.words.len() {
             self.rows.push(Vec::new(alloc))?;
@@ -49,7 +54,13 @@ impl Notes<'_> {
     }
 
     // A line of a file's text in front of a line.
-    fn add_line(&mut self, alloc: Global, line: usize, file: &str, number: u32) -> Result<(), NoMemory> {
+    fn add_line(
+        &mut self,
+        alloc: Global,
+        line: usize,
+        file: &str,
+        number: u32,
+    ) -> Result<(), NoMemory> {
         match line_of(&self.sheets, file, number) {
             Some(text) => {
                 let note = Text::from_str(alloc, text)?;
@@ -92,7 +103,9 @@ fn add_texts(
     tops: &[Top<'_>],
     texts: &[PackedBody<'_>],
 ) -> Result<(), NoMemory> {
-    let processes = tops.iter().filter(|top| matches!(top.what, What::Process { .. }));
+    let processes = tops
+        .iter()
+        .filter(|top| matches!(top.what, What::Process { .. }));
     for (top, text) in processes.zip(texts.iter()) {
         notes.add_body(alloc, head(Kind::Process, top), &text.code)?;
     }
