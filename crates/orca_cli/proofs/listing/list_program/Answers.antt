@@ -7,7 +7,8 @@ use Rattle.orca_cli.proofs.listing.list_program.Goals as goal
 
 pub returns-in-Err-Because-clause-said : goal.returns-in-Err-Because-clause-said
 returns-in-Err-Because-clause-said g c = λ words asked.
-    c.said_unread.ensures.said words _ _ _ _ _ _ (files_listed words _ _ asked) (rw c.in-Err-Because.field-0-is at c.in-Err-Because.ensures.refused)
+    c.said_unread.ensures.said words _ _ _ _ _ _ (files_listed words _ _ asked)
+    (rw c.in-Err-Because.field-0-is (rw c.in-Err-Because.field-0-is at c.in-Err-Because.ensures.refused))
 
 pub returns-in-Err-Because-program_listing-clause-said : goal.returns-in-Err-Because-program_listing-clause-said
 returns-in-Err-Because-program_listing-clause-said g c = λ words asked.
