@@ -47,8 +47,8 @@ tops_long : (us vs : List Source) → IsShort us → (P : TopName → Type 0) �
     AnyOf P (top_names vs) → 2 ^ 32 < sum_by words_in vs
 tops_long us vs law P own h =
     let each : (u : Source) → AnyOf P (unit_names u) → AnyOf (IsLong us (module_name u)) u.syntax.declarations =
-        λ u k. any_weaker (λ (d : Decl). AnyOf P (names_in (module_name u) u.file d)) (IsLong us (module_name u)) (own (module_name u) u.file)
-            u.syntax.declarations (any_flat P (names_in (module_name u) u.file) u.syntax.declarations k) in
+    λ u k. any_weaker (λ (d : Decl). AnyOf P (names_in (module_name u) u.file d)) (IsLong us (module_name u)) (own (module_name u) u.file)
+    u.syntax.declarations (any_flat P (names_in (module_name u) u.file) u.syntax.declarations k) in
     units_long us vs law
     (any_weaker (λ (u : Source). AnyOf P (unit_names u)) (λ (u : Source). AnyOf (IsLong us (module_name u)) u.syntax.declarations) each vs
     (any_flat P unit_names vs h))
@@ -118,9 +118,9 @@ object_long us t (inl h) =
     long
 object_long us t (inr h) =
     let bodies = any_map (λ (o : OperationCode). AnyOf IsGreat (operation_bodies o)) (operation_code us t) t.operations
-        (any_flat IsGreat operation_bodies (map (operation_code us t) t.operations) h) in
+    (any_flat IsGreat operation_bodies (map (operation_code us t) t.operations) h) in
     let long = any_weaker (λ (o : Operation). AnyOf IsGreat (operation_bodies (operation_code us t o))) (λ (o : Operation). 2 ^ 32 < operation_length us t o)
-        (λ o k. one_body (operation_code us t o).body k) t.operations bodies in
+    (λ o k. one_body (operation_code us t o).body k) t.operations bodies in
     let above = any_above (operation_length us t) (2 ^ 32) t.operations long in
     let all : 2 ^ 32 < length (making_code us t).code + sum_by (operation_length us t) t.operations = omega (arith, above) in
     all
@@ -143,11 +143,11 @@ type_long : (us : List Source) → IsShort us → (n : TopName) (t : ObjectType)
 type_long us law n t is long =
     let name = n.defined.name.text in
     let made = any_flat (λ (x : Declared). implements name x.by x.decl ≡ Some t) declarations_of us
-        (any_made (λ (x : Declared). implements name x.by x.decl) t (declarations us) is) in
+    (any_made (λ (x : Declared). implements name x.by x.decl) t (declarations us) is) in
     let own : (u : Source) → AnyOf (λ (x : Declared). implements name x.by x.decl ≡ Some t) (declarations_of u) → AnyOf (IsLong us (module_name u)) u.syntax.declarations =
-        λ u k. any_weaker (λ (d : Decl). implements name (module_name u) d ≡ Some t) (IsLong us (module_name u))
-            (λ d e. subst (λ (k : ℕ). 2 ^ 32 < k) (sym (implemented us name (module_name u) d t e)) long) u.syntax.declarations
-            (any_map (λ (x : Declared). implements name x.by x.decl ≡ Some t) (λ (d : Decl). record { by = module_name u; file = u.file; decl = d }) u.syntax.declarations k) in
+    λ u k. any_weaker (λ (d : Decl). implements name (module_name u) d ≡ Some t) (IsLong us (module_name u))
+    (λ d e. subst (λ (k : ℕ). 2 ^ 32 < k) (sym (implemented us name (module_name u) d t e)) long) u.syntax.declarations
+    (any_map (λ (x : Declared). implements name x.by x.decl ≡ Some t) (λ (d : Decl). record { by = module_name u; file = u.file; decl = d }) u.syntax.declarations k) in
     units_long us us law
     (any_weaker (λ (u : Source). AnyOf (λ (x : Declared). implements name x.by x.decl ≡ Some t) (declarations_of u))
     (λ (u : Source). AnyOf (IsLong us (module_name u)) u.syntax.declarations) own us made)

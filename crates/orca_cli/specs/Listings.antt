@@ -18,4 +18,4 @@ abbrev pub IsSameText : List Word → List ℕ → List ℕ → Type 0
 IsSameText words one other =
     (one ≡ other)
     ⊎ ((files : List Word) × (code : machine.Code) × (deed_in words ≡ Some (lists (Code true) files)) × IsListing true code one
-        × IsListing true code other)
+    × IsListing true code other)
