@@ -168,11 +168,12 @@ fn add_types(
     Ok(())
 }
 
-/// The notes of a program's listing, by the numbers of its lines: in front of a body its head, and in front of the code of each statement
-/// and guard the line of the text where it begins, once for those that begin on one line. Each is one line: where a file's name has a line
-/// feed there are none.
+/// The notes of a program's listing, by the numbers of its lines: in front of a body its head, and in front of an instruction that has a
+/// place of its own the line of that place, where that is another line than the one of the note before it in the same body. Each is one
+/// line: where a file's name has a line feed there are none.
 ///
-/// The cost is linear in the texts and the code, but for object types: each is sought among the names of the top level.
+/// The cost is linear in the texts and the code, but for object types, each of which is sought among the names of the top level, and for
+/// files, which are gone through by name for each note.
 ///
 /// # Errors
 /// Want of memory.

@@ -15,7 +15,8 @@ use program_names::names_law;
 
 /// The law of endings, where files are told and no read failed, and of the run that words name; it does nothing.
 ///
-/// - `once`: words have one ending without a run at most, by its status and its line, but for the notes of a listing (docs/FORMATS.md, Statuses).
+/// - `once`: words have one ending without a run at most, by its status and its line, but for the notes of a listing (docs/FORMATS.md,
+///   Statuses).
 /// - `apart`: they have none where they name a run, of a program that is accepted and with a script.
 /// - `named`: they name one run at most, by its program and its script.
 /// - `read`: so they do by what was read, whether files are told or not.

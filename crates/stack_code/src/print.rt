@@ -623,8 +623,8 @@ fn put_types(
     Ok(())
 }
 
-/// The listing of code (docs/LANGUAGE.md, The listing) with notes: those at the place n stand in front of the line n, each on a line of its
-/// own behind `; `.
+/// The listing of code (docs/LANGUAGE.md, The listing) with notes: those at the place n stand in front of the line n, each behind `; ` on a
+/// line of its own, where no line feed stands in it.
 ///
 /// # Errors
 /// Want of memory.
