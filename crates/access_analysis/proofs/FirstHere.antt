@@ -3,7 +3,7 @@ use Rattle.std.proofs.Common.{◌≡◌, true, false, List, ◌∷◌, ◌++◌,
 use Rattle.std.specs.Prelude.{is_some, option_map, slice_get}
 use Rattle.std.specs.List.{cons_option, filter_map}
 use Rattle.type_tables.specs.Entries.{or_other}
-use Rattle.eval_bodies.proofs.FirstGiven.{first_given, given_append}
+use Rattle.program_bodies.proofs.FirstGiven.{first_given, given_append}
 
 none_seen : {A Y : Type 0} (view : A → Y) (own : Option A) → is_some own ≡ false → option_map view own ≡ None
 none_seen view None is = refl

@@ -15,7 +15,7 @@ use Rattle.value_core.specs.declared.action.Class.{Class}
 use Rattle.value_core.specs.declared.action.Class.TheVariants.{Writes}
 use Rattle.meaning_rules.specs.Classes.{class_of, operation_class, type_class}
 use Rattle.meaning_rules.specs.Programs.{ObjectType, specifications, specified, type_at}
-use Rattle.eval_bodies.proofs.Matched.{seen_more}
+use Rattle.program_bodies.proofs.Matched.{seen_more}
 use Rattle.access_analysis.specs.Tables.{class_at_place, specified_classes, type_classes}
 
 -- one operation more

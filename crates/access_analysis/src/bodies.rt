@@ -7,15 +7,15 @@ ghost use Rattle.link_rules.specs.Units.{Source};
 ghost use Rattle.type_rules.specs.Scopes as scopes;
 ghost use Rattle.type_forms.specs.Indexed.{Indexes};
 ghost use Rattle.meaning_rules.specs.Classes as rules;
-ghost use Rattle.eval_bodies.specs.Objects.{object_type_seen};
+ghost use Rattle.program_bodies.specs.Objects.{object_type_seen};
 ghost use Rattle.access_analysis.specs.Sites.{IsSite};
 
 use crate::expressions::changes;
 use crate::loops::Loops;
 use crate::site::Site;
 use crate::statements::stmts_change;
-use eval_bodies::Implemented;
 use orca_tree::{Guard, Operation, OperationBody};
+use program_bodies::Implemented;
 use type_forms::Index;
 use value_core::Class;
 

@@ -10,15 +10,15 @@ ghost use Rattle.meaning_rules.specs.Classes as rules;
 ghost use Rattle.meaning_rules.specs.Operations.{tries_of};
 ghost use Rattle.meaning_rules.specs.Programs.{is_specification as rule_is_specification, object_type};
 ghost use Rattle.meaning_rules.specs.ReadsKeep.{IsCall};
-ghost use Rattle.eval_bodies.specs.Codes.{sources};
-ghost use Rattle.eval_bodies.specs.Objects.{object_type_seen};
+ghost use Rattle.program_bodies.specs.Codes.{sources};
+ghost use Rattle.program_bodies.specs.Objects.{object_type_seen};
 
 use crate::bodies::operation_class;
 use crate::implementations::implementation;
-use eval_bodies::Implemented;
 use link_rules::Role;
 use orca_base::{KindNo, OpNo};
 use orca_tree::Operation;
+use program_bodies::Implemented;
 use type_decls::Checked;
 use type_forms::{Index, Top};
 use value_core::Class;

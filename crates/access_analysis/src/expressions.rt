@@ -5,12 +5,12 @@ ghost use Rattle.orca_syntax.specs.Shown.{expr, exprs, links as links_shown, pat
 ghost use Rattle.type_rules.specs.Scopes as scopes;
 ghost use Rattle.meaning_rules.specs.Calls.{first_mode, modes_of};
 ghost use Rattle.meaning_rules.specs.Classes as rules;
-ghost use Rattle.eval_bodies.specs.Named.{callee_seen};
+ghost use Rattle.program_bodies.specs.Named.{callee_seen};
 ghost use Rattle.access_analysis.specs.Sites.{IsSite};
 
 use crate::site::Site;
-use eval_bodies::Callee;
 use orca_tree::{Designator, Expression, Link, Selector};
+use program_bodies::Callee;
 
 /// Whether an expression changes a field: whether that is the root of a `from` in it, or of an argument for `out`.
 #[cycle(expressions)]

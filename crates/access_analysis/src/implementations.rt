@@ -6,11 +6,11 @@ ghost use Rattle.orca_syntax.specs.Shown.{decl};
 ghost use Rattle.link_rules.specs.Declarations.{declarations_of};
 ghost use Rattle.link_rules.specs.Units.{source};
 ghost use Rattle.meaning_rules.specs.Programs.{implementation as rule_implementation, implements};
-ghost use Rattle.eval_bodies.specs.Objects.{object_type_seen};
+ghost use Rattle.program_bodies.specs.Objects.{object_type_seen};
 
-use eval_bodies::Implemented;
 use link_rules::NamedUnit;
 use orca_tree::Declaration;
+use program_bodies::Implemented;
 use type_forms::module_of;
 
 // The implementation that a declaration of a module is, where it is one of this name.

@@ -10,15 +10,15 @@ ghost use Rattle.type_forms.specs.Indexed.{Indexes};
 ghost use Rattle.meaning_rules.specs.Calls.{callee as rule_callee};
 ghost use Rattle.meaning_rules.specs.Classes.{lends_field, names_field};
 ghost use Rattle.meaning_rules.specs.Programs.{operation_scope};
-ghost use Rattle.eval_bodies.specs.Named.{callee_seen};
-ghost use Rattle.eval_bodies.specs.Objects.{object_type_seen};
+ghost use Rattle.program_bodies.specs.Named.{callee_seen};
+ghost use Rattle.program_bodies.specs.Objects.{object_type_seen};
 ghost use Rattle.access_analysis.specs.Loops.{variables_of};
 ghost use Rattle.access_analysis.specs.Sites.{IsSite, hide};
 
 use crate::declared::{declares, takes};
 use crate::loops::{Loops, counts};
-use eval_bodies::{Callee, Implemented, function_named};
 use orca_tree::{Expression, Mode, Name, Operation, Variables};
+use program_bodies::{Callee, Implemented, function_named};
 use type_forms::Index;
 
 /// Where a phrase of an operation stands: the names of its program, its module, the operation, the fields of its object, and the loops that

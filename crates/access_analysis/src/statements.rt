@@ -10,8 +10,8 @@ ghost use Rattle.access_analysis.specs.Sites.{IsSite};
 use crate::expressions::{arguments_change, changes, changes_if_any, root_changes};
 use crate::loops::Loops;
 use crate::site::Site;
-use eval_bodies::Callee;
 use orca_tree::{Arm, Designator, Expression, Name, Range, Statement};
+use program_bodies::Callee;
 
 /// Whether statements change a field: whether that is the root of an assignment, an `insert`, a `delete` or a `from` among them, or of an
 /// argument for `out`.

@@ -8,14 +8,14 @@ ghost use Rattle.type_forms.specs.Seen.{top};
 ghost use Rattle.type_tables.specs.Entries.{entry};
 ghost use Rattle.meaning_rules.specs.Classes as rules;
 ghost use Rattle.meaning_rules.specs.Programs.{implementation, is_specification as rule_is_specification, specifications};
-ghost use Rattle.eval_bodies.specs.Codes.{sources};
-ghost use Rattle.eval_bodies.specs.Objects.{object_type_seen};
+ghost use Rattle.program_bodies.specs.Codes.{sources};
+ghost use Rattle.program_bodies.specs.Objects.{object_type_seen};
 ghost use Rattle.access_analysis.specs.Tables.{class_at_place, specified_classes, type_classes};
 
 use crate::bodies::operation_class;
 use crate::classes::is_specification;
-use eval_bodies::{Implementations, Implemented, implementations_of};
 use orca_base::{KindNo, NoMemory, OpNo};
+use program_bodies::{Implementations, Implemented, implementations_of};
 use std::alloc::Global;
 use type_decls::Checked;
 use type_forms::{Index, Top};

@@ -9,8 +9,8 @@ use Rattle.accepted_law.specs.Limits.{IsWithinLimits}
 use Rattle.accepted_law.proofs.Accepted.{accepted}
 use Rattle.accepted_law.proofs.Numbers.{are_numbers}
 use Rattle.meaning_rules.specs.Accepted.{AreTexts}
-use Rattle.eval_tables.specs.Tables.{AreCoded}
-use Rattle.eval_bodies.specs.Codes.{sources}
+use Rattle.program_tables.specs.Tables.{AreCoded}
+use Rattle.program_bodies.specs.Codes.{sources}
 
 -- words are sound, since each unit is that of a text
 are_texts : (units : List NamedUnit) → AreTexts (map source units)

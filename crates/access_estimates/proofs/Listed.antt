@@ -8,7 +8,7 @@ use Rattle.std.proofs.lemmas.Result.{on_ok_weaker}
 use Rattle.type_rules.specs.TopLevel.{TopName}
 use Rattle.type_forms.specs.declared.tops.Top.{Top}
 use Rattle.type_forms.specs.Seen.{top}
-use Rattle.eval_bodies.specs.Matching.{Both}
+use Rattle.program_bodies.specs.Matching.{Both}
 
 pub item_there : (tops : List Top) (names : List TopName) (i : ℕ) (x : Top) → i < length tops → x ≡ get_or tops i x → map top tops ≡ names → slice_get names i ≡ Some (top x)
 item_there tops names i x lt is e =

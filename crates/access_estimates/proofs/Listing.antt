@@ -7,8 +7,8 @@ use Rattle.std.proofs.lemmas.List.{length-append, map-append}
 use Rattle.std.proofs.lemmas.List.Elements.{filter-append}
 use Rattle.link_rules.specs.Units.{Source}
 use Rattle.type_tables.specs.Entries.{or_other}
-use Rattle.eval_tables.proofs.Listing.{placed_next}
-use Rattle.eval_bodies.proofs.Matched.{seen_more}
+use Rattle.program_tables.proofs.Listing.{placed_next}
+use Rattle.program_bodies.proofs.Matched.{seen_more}
 use Rattle.access_estimates.proofs.Rest.{appended, rest_is}
 use Rattle.access_estimates.specs.declared.uses.Use.{Use as SeenUse}
 use Rattle.access_estimates.specs.Seen.{all_seen, use_seen}

@@ -21,7 +21,7 @@ use Rattle.estimate_rules.specs.Routines.{object_type_number, routine_of}
 use Rattle.access_estimates.specs.declared.resolved.ResolvedUse.{ResolvedUse}
 use Rattle.access_estimates.specs.declared.routines.Routine.{Routine}
 use Rattle.access_estimates.specs.Resolved.{IsRoutine, all_resolved, resolved_counts, object_at, position_in, tally}
-use Rattle.eval_bodies.specs.Matching.{Both, Match}
+use Rattle.program_bodies.specs.Matching.{Both, Match}
 use Rattle.access_estimates.specs.Locals.{PlainLocal, locals_seen, named}
 use Rattle.access_estimates.specs.Summaries.{AreRoutines, IsNext, IsSummary, by_table, counts_in}
 use Rattle.access_estimates.proofs.Matched.{match_get}

@@ -5,7 +5,7 @@ use Rattle.orca_base.specs.declared.ids.OpNo.{OpNo}
 use Rattle.link_rules.specs.Units.{Source}
 use Rattle.type_forms.specs.Indexed.{Indexes}
 use Rattle.meaning_rules.specs.Classes.{class_of}
-use Rattle.eval_tables.specs.Tables.{IsTables}
+use Rattle.program_tables.specs.Tables.{IsTables}
 use Rattle.access_analysis.specs.Tables.{class_at_place}
 use Rattle.access_estimates.specs.declared.resolving.Lookups.{Lookups}
 

@@ -6,7 +6,7 @@ use Rattle.type_rules.specs.TopLevel.{top_names}
 use Rattle.site_estimates.specs.declared.estimate.Estimate.{Estimate}
 use Rattle.site_estimates.specs.declared.counts.Counts.{Counts}
 use Rattle.site_estimates.specs.Numbers as counting
-use Rattle.eval_bodies.specs.Matching.{Both, Match}
+use Rattle.program_bodies.specs.Matching.{Both, Match}
 use Rattle.estimate_rules.specs.Estimates.{Summaries}
 use Rattle.estimate_rules.specs.Routines.{routine_of}
 use Rattle.access_estimates.specs.declared.routines.Routine.{Routine}

@@ -5,7 +5,7 @@
 //! round goes through what is done with objects, without a name (`rounds`). So the cost is that of the program's text times a logarithm, and
 //! of its uses times the rounds.
 //!
-//! It stands on type_decls, whose tables of a checked program it asks, on the numbers of eval_tables and on the classes of access_analysis.
+//! It stands on type_decls, whose tables of a checked program it asks, on the numbers of program_tables and on the classes of access_analysis.
 //! It chooses nothing: that is for `replica_choice`. What specs/ has is cited by private functions alone.
 #![tactic(auto)]
 

@@ -10,7 +10,7 @@ ghost use Rattle.type_forms.specs.Forms.{AreTyped};
 ghost use Rattle.type_forms.specs.Seen.{lent, top};
 ghost use Rattle.type_forms.specs.Views.{IsView};
 ghost use Rattle.type_decls.specs.Bodies.{AreLocals};
-ghost use Rattle.eval_bodies.specs.Matching.{Both};
+ghost use Rattle.program_bodies.specs.Matching.{Both};
 ghost use Rattle.estimate_rules.specs.Routines.{routine_of};
 ghost use Rattle.access_estimates.specs.Collected.{locals_in};
 ghost use Rattle.access_estimates.specs.Resolved.{IsRoutine};

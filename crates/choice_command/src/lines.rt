@@ -2,7 +2,7 @@
 
 ghost use Rattle.std.specs.Prelude.{◌≡◌, ◌++◌, IfOk, OnErr};
 ghost use Rattle.accepted_law.specs.Limits.{IsWithinLimits};
-ghost use Rattle.eval_bodies.specs.Codes.{sources};
+ghost use Rattle.program_bodies.specs.Codes.{sources};
 ghost use Rattle.estimate_rules.specs.Estimates as rules;
 ghost use Rattle.replica_choice.specs.Asking.{AsksFirst, choices_by, questions};
 ghost use Rattle.replica_choice.specs.Printed as printed;

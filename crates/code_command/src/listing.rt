@@ -4,7 +4,7 @@ ghost use Rattle.std.specs.Prelude.{◌≡◌, string_bytes, true, IfOk};
 ghost use Rattle.orca_base.specs.Refusal.{IfBecause};
 ghost use Rattle.accepted_law.specs.Limits.{IsWithinLimits};
 ghost use Rattle.program_limits.specs.Passed.{Passes};
-ghost use Rattle.eval_bodies.specs.Codes.{sources};
+ghost use Rattle.program_bodies.specs.Codes.{sources};
 ghost use Rattle.code_rules.specs.Program.{program_code};
 ghost use Rattle.stack_code.specs.Shown.{shown};
 ghost use Rattle.code_command.specs.Listings.{IsListing};

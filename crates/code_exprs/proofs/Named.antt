@@ -6,8 +6,8 @@ use Rattle.type_rules.specs.TopLevel.{stands_for}
 use Rattle.type_rules.specs.Scopes.{Scope, local}
 use Rattle.value_core.specs.Datum.{Datum}
 use Rattle.meaning_rules.specs.Designators.{outer_value, slot}
-use Rattle.eval_bodies.specs.Bodies.{bears}
-use Rattle.eval_bodies.proofs.Placed.{none_there, one_there, place_or_all}
+use Rattle.program_bodies.specs.Bodies.{bears}
+use Rattle.program_bodies.proofs.Placed.{none_there, one_there, place_or_all}
 use Rattle.code_rules.specs.Instructions.{Mark, Get}
 use Rattle.code_rules.specs.Layouts.{Layout, spot, top}
 use Rattle.code_rules.specs.Phrases.{constant, object_slot, read_as, reading}

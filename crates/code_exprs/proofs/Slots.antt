@@ -5,9 +5,9 @@ use Rattle.std.specs.Borrow.{Bor}
 use Rattle.std.proofs.lemmas.List.{length-map}
 use Rattle.type_rules.specs.declared.types.DataType.{DataType}
 use Rattle.type_rules.specs.Scopes.{Local, Scope}
-use Rattle.eval_bodies.specs.Bodies.{IsBody}
-use Rattle.eval_bodies.specs.Codes.{IsCode, loop_local}
-use Rattle.eval_bodies.specs.Sites.{lent_texts}
+use Rattle.program_bodies.specs.Bodies.{IsBody}
+use Rattle.program_bodies.specs.Codes.{IsCode, loop_local}
+use Rattle.program_bodies.specs.Sites.{lent_texts}
 use Rattle.code_rules.specs.Layouts.{Layout, layout_of, spot, spot_in, top}
 use Rattle.code_exprs.specs.declared.code_site.CodeSite.{CodeSite}
 use Rattle.code_exprs.specs.CodeSites.{IsCodeSite}

@@ -1,7 +1,7 @@
 -- Where code is emitted: the site of the phrase, and the slots of its names.
 use Rattle.std.specs.Prelude.{◌≡◌, length}
 use Rattle.type_rules.specs.Scopes.{Scope}
-use Rattle.eval_bodies.specs.Sites.{IsSite}
+use Rattle.program_bodies.specs.Sites.{IsSite}
 use Rattle.code_rules.specs.Layouts.{Layout, top}
 use Rattle.code_exprs.specs.declared.code_site.CodeSite.{CodeSite}
 

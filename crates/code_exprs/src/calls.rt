@@ -8,7 +8,7 @@ ghost use Rattle.code_rules.specs.Instructions as instrs;
 ghost use Rattle.code_rules.specs.Phrases as rules;
 ghost use Rattle.code_rules.specs.Layouts.{Layout};
 ghost use Rattle.code_rules.specs.Phrases.{by_mode, call_of, lending, shapes_of};
-ghost use Rattle.eval_bodies.specs.Named.{callee_seen};
+ghost use Rattle.program_bodies.specs.Named.{callee_seen};
 ghost use Rattle.code_exprs.specs.CodeSites.{IsCodeSite};
 ghost use Rattle.emitted_code.specs.Views.{instr_of, shape_of};
 ghost use Rattle.code_exprs.specs.Lending.{lending_of};
@@ -16,9 +16,9 @@ ghost use Rattle.code_exprs.specs.Lending.{lending_of};
 use crate::code_site::CodeSite;
 use crate::names::marks;
 use emitted_code::{Instr, Shape};
-use eval_bodies::Callee;
 use orca_base::NoMemory;
 use orca_tree::{Designator, Expression, Mode, Name};
+use program_bodies::Callee;
 use std::alloc::Global;
 
 // The designator that an expression is, if it is one.

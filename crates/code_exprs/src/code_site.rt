@@ -4,17 +4,17 @@ ghost use Rattle.std.specs.Prelude.{◌≡◌, ◌∷◌, ◌+◌, [], IfOk, con
 ghost use Rattle.orca_tree.specs.declared.tree.Name.{Name as NameTree};
 ghost use Rattle.type_rules.specs.Scopes.{Scope, local};
 ghost use Rattle.type_rules.specs.Statements.{with_loop};
-ghost use Rattle.eval_bodies.specs.Bodies.{IsBody};
-ghost use Rattle.eval_bodies.specs.Codes.{IsCode};
-ghost use Rattle.eval_bodies.specs.Sites.{lent_texts};
+ghost use Rattle.program_bodies.specs.Bodies.{IsBody};
+ghost use Rattle.program_bodies.specs.Codes.{IsCode};
+ghost use Rattle.program_bodies.specs.Sites.{lent_texts};
 ghost use Rattle.code_rules.specs.Layouts as layouts;
 ghost use Rattle.code_rules.specs.Layouts.{Layout, inside, layout_of, spot_in};
 ghost use Rattle.code_rules.specs.Phrases.{at_slot, object_slot};
 ghost use Rattle.code_exprs.specs.CodeSites.{IsCodeSite};
 
-use eval_bodies::{Body, BodyNames, Code, Site};
 use orca_base::NoMemory;
 use orca_tree::Name;
+use program_bodies::{Body, BodyNames, Code, Site};
 
 /// The site of a phrase, and a slot that its body has not.
 #[derive(Clone, Copy)]

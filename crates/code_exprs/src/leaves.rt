@@ -10,7 +10,7 @@ ghost use Rattle.code_rules.specs.Layouts.{Layout};
 ghost use Rattle.code_rules.specs.Pieces.{one, seq};
 ghost use Rattle.code_rules.specs.Phrases.{all_code, all_names, calling, count_all, expr_code, fork_code, invoking, passed_code, path_code, return_code};
 ghost use Rattle.code_rules.specs.Instructions as instrs;
-ghost use Rattle.eval_bodies.specs.Sites.{IsSite};
+ghost use Rattle.program_bodies.specs.Sites.{IsSite};
 ghost use Rattle.emitted_code.specs.Appends.{Appends};
 ghost use Rattle.code_exprs.specs.CodeSites.{IsCodeSite};
 ghost use Rattle.emitted_code.specs.Views.{code_of, texts_of};
@@ -19,9 +19,9 @@ use crate::code_site::CodeSite;
 use crate::expressions::{emit_all, emit_call, emit_expression, emit_path, emit_request};
 use crate::names::marks;
 use emitted_code::{Instr, Listing};
-use eval_bodies::Site;
 use orca_base::{KindNo, NoMemory, OpNo, TextNo};
 use orca_tree::{Designator, Expression, Name};
+use program_bodies::Site;
 use std::alloc::Global;
 
 /// An assignment.

@@ -5,8 +5,8 @@ ghost use Rattle.orca_syntax.specs.Shown.{path as path_shown, step as step_shown
 ghost use Rattle.type_rules.specs.Scopes.{Scope};
 ghost use Rattle.code_rules.specs.Phrases as rules;
 ghost use Rattle.code_rules.specs.Layouts.{Layout};
-ghost use Rattle.eval_tables.specs.Layers.{type_seen};
-ghost use Rattle.eval_bodies.specs.Sites.{IsSite};
+ghost use Rattle.program_tables.specs.Layers.{type_seen};
+ghost use Rattle.program_bodies.specs.Sites.{IsSite};
 ghost use Rattle.code_exprs.specs.CodeSites.{IsCodeSite};
 ghost use Rattle.emitted_code.specs.Views.{instr_of, mark_of, marks_of};
 ghost use Rattle.value_core.specs.View.{datum_of};
@@ -16,10 +16,10 @@ ghost use Rattle.meaning_rules.specs.Designators.{field_of_base, step_to_field};
 
 use crate::code_site::CodeSite;
 use emitted_code::{Instr, Mark};
-use eval_bodies::Site;
-use eval_tables::Seen;
 use orca_base::NoMemory;
 use orca_tree::{Name, Selector};
+use program_bodies::Site;
+use program_tables::Seen;
 use std::alloc::Global;
 use type_rules::{Base, Layer};
 use value_core::Value;

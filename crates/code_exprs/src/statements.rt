@@ -19,9 +19,9 @@ use crate::leaves::{
     assign, call_function, call_operation, delete, fork, give_back, insert, write_line,
 };
 use emitted_code::{Instr, Listing};
-use eval_bodies::inner_loops;
 use orca_base::NoMemory;
 use orca_tree::{Arm, Expression, Name, Range, Statement};
+use program_bodies::inner_loops;
 use std::alloc::Global;
 
 // The end of a loop.

@@ -11,8 +11,8 @@ use Rattle.accepted_law.specs.Limits.{IsWithinLimits}
 use Rattle.accepted_law.specs.Numbers.{AreNumbers}
 use Rattle.meaning_rules.specs.Accepted.{AreTexts, IsAccepted}
 use Rattle.meaning_rules.specs.Programs.{main_text}
-use Rattle.eval_tables.specs.Tables.{AreCoded}
-use Rattle.eval_bodies.specs.Codes.{sources}
+use Rattle.program_tables.specs.Tables.{AreCoded}
+use Rattle.program_bodies.specs.Codes.{sources}
 use Rattle.code_rules.specs.Correct.{IsStart}
 
 -- words are sound, since each unit is that of a text

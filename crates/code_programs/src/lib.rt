@@ -2,7 +2,7 @@
 //!
 //! The floor above uses `compile`: a program within the limits gets exactly the code that the definitions have of it (code_rules), packed
 //! (stack_code), and that code means the program's sources; any other is refused by the limit that it passes (program_limits). It stands on
-//! the tables that eval_bodies makes of a program, on code_units, which emits its code, and on `length_law`, by which no body is too long
+//! the tables that program_bodies makes of a program, on code_units, which emits its code, and on `length_law`, by which no body is too long
 //! to be packed.
 //!
 //! Not in it: text and typing (orca_front), which code a phrase gets (code_exprs, code_units), the listing (stack_code), and a machine.

@@ -1,7 +1,7 @@
 -- What is found, where something may be.
 use Rattle.std.proofs.Common.{◌≡◌, Option, Some, None, refl, subst}
 use Rattle.std.specs.Prelude.{option_and_then, option_map}
-use Rattle.eval_bodies.specs.Matching.{Both}
+use Rattle.program_bodies.specs.Matching.{Both}
 
 none_goes : {A B : Type 0} (R : A → B → Type 0) (o : Option B) → Both R None o → o ≡ None
 none_goes R None h = refl

@@ -7,8 +7,8 @@ use Rattle.type_rules.specs.TopLevel.{TopName, What}
 use Rattle.code_rules.specs.Machine as machine
 use Rattle.code_rules.specs.Bodies.{function_body}
 use Rattle.code_rules.specs.Program.{function_at, function_in}
-use Rattle.eval_bodies.specs.Blocks as blocks
-use Rattle.eval_bodies.specs.Blocks.{Routine}
+use Rattle.program_bodies.specs.Blocks as blocks
+use Rattle.program_bodies.specs.Blocks.{Routine}
 
 abbrev pub routine_body : List Source → Routine → machine.Body
 routine_body us r = function_body us r.scope r.statements r.has_result

@@ -3,10 +3,10 @@ use Rattle.std.specs.Prelude.{◌≡◌, ◌+◌, ◌∷◌, ◌++◌, length, t
 use Rattle.type_rules.specs.Scopes.{Scope}
 use Rattle.code_rules.specs.Instructions.{Guard}
 use Rattle.code_rules.specs.Pieces.{Piece}
-use Rattle.eval_bodies.specs.declared.code.Code.{Code}
-use Rattle.eval_bodies.specs.declared.bodies.Body.{Body}
-use Rattle.eval_bodies.specs.Bodies.{IsBody}
-use Rattle.eval_bodies.specs.Codes.{IsCode}
+use Rattle.program_bodies.specs.declared.code.Code.{Code}
+use Rattle.program_bodies.specs.declared.bodies.Body.{Body}
+use Rattle.program_bodies.specs.Bodies.{IsBody}
+use Rattle.program_bodies.specs.Codes.{IsCode}
 
 -- `test; guard others; body; others:`
 abbrev pub guarded : Piece → Piece → Piece

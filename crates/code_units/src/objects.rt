@@ -7,17 +7,17 @@ ghost use Rattle.link_rules.specs.Units.{Source};
 ghost use Rattle.meaning_rules.specs.Programs.{ObjectType, specifications};
 ghost use Rattle.code_rules.specs.Bodies.{begin_stmts, making_code, operation_code};
 ghost use Rattle.code_rules.specs.Program.{type_at, type_code};
-ghost use Rattle.eval_bodies.specs.Codes.{IsCode};
-ghost use Rattle.eval_bodies.specs.Matching.{Match};
-ghost use Rattle.eval_bodies.specs.Objects.{IsObjectCode, IsOperationCode};
+ghost use Rattle.program_bodies.specs.Codes.{IsCode};
+ghost use Rattle.program_bodies.specs.Matching.{Match};
+ghost use Rattle.program_bodies.specs.Objects.{IsObjectCode, IsOperationCode};
 ghost use Rattle.emitted_code.specs.Views.{body_seen, operation_seen, type_seen};
 
 use crate::bodies::{Ending, compile_statements};
 use crate::operations::compile_operation;
 use emitted_code::{EmittedBody, EmittedOperation, EmittedType};
-use eval_bodies::{Code, ObjectCode, OperationCode};
 use orca_base::NoMemory;
 use orca_tree::Statement;
+use program_bodies::{Code, ObjectCode, OperationCode};
 use std::alloc::Global;
 
 // The statements that open an object.

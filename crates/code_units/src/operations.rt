@@ -9,8 +9,8 @@ ghost use Rattle.meaning_rules.specs.Programs.{ObjectType};
 ghost use Rattle.code_rules.specs.Layouts.{layout_of};
 ghost use Rattle.code_rules.specs.Phrases.{expr_code};
 ghost use Rattle.code_rules.specs.Bodies.{alternatives_piece, body_piece, first_guard as first_number, guards_piece, last_instr, operation_code};
-ghost use Rattle.eval_bodies.specs.Codes.{IsCode};
-ghost use Rattle.eval_bodies.specs.Objects.{IsOperationCode};
+ghost use Rattle.program_bodies.specs.Codes.{IsCode};
+ghost use Rattle.program_bodies.specs.Objects.{IsOperationCode};
 ghost use Rattle.emitted_code.specs.Appends.{Appends};
 ghost use Rattle.emitted_code.specs.Views.{code_of};
 ghost use Rattle.code_units.specs.Guarded.{SeesGuards, guarded};
@@ -20,9 +20,9 @@ use crate::bodies::{emit_body, end_of, openings};
 use crate::depths::depth_of_body;
 use code_exprs::{CodeSite, emit_expression};
 use emitted_code::{EmittedBody, EmittedOperation, Instr, Listing};
-use eval_bodies::{Body, Code, OperationCode};
 use orca_base::NoMemory;
 use orca_tree::{Guard, OperationBody};
+use program_bodies::{Body, Code, OperationCode};
 use std::alloc::Global;
 
 // A guard and its body.

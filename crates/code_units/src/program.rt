@@ -5,15 +5,15 @@ ghost use Rattle.link_rules.specs.Units.{Source};
 ghost use Rattle.type_rules.specs.TopLevel.{top_names};
 ghost use Rattle.meaning_rules.specs.Programs.{main_text, process_texts, specifications};
 ghost use Rattle.code_rules.specs.Program.{function_at, process_at, program_code, type_at};
-ghost use Rattle.eval_bodies.specs.Codes.{IsCode};
+ghost use Rattle.program_bodies.specs.Codes.{IsCode};
 ghost use Rattle.emitted_code.specs.Views.{body_seen, program_seen, type_seen};
 
 use crate::bodies::compile_function;
 use crate::objects::compile_type;
 use crate::processes::compile_process;
 use emitted_code::{Emitted, EmittedBody, EmittedType};
-use eval_bodies::Code;
 use orca_base::{NoMemory, TextNo};
+use program_bodies::Code;
 use std::alloc::Global;
 
 // The function that is this one of the top level's names; none of what is no function.

@@ -8,11 +8,11 @@
 
 mod reading;
 
-use eval_bodies::{Code, Site};
 use eval_stmts::{Whole, execute_all};
 use eval_variables::{Frame, Run, Stop};
 use orca_base::{FaultKind, NoMemory};
 use orca_modules::link;
+use program_bodies::{Code, Site};
 use reading::units_of;
 use std::alloc::{AllocError, AllocFailed, Global};
 use std::io;

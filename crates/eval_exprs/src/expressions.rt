@@ -14,9 +14,9 @@ ghost use Rattle.meaning_rules.specs.Operators as operators;
 ghost use Rattle.meaning_rules.specs.States.{after, gives};
 ghost use Rattle.meaning_rules.specs.Variables as variables;
 ghost use Rattle.eval_variables.specs.Gives.{Gives, passed_of, path_of, state_of, step_of, target_of};
-ghost use Rattle.eval_tables.specs.Layers.{type_seen};
-ghost use Rattle.eval_bodies.specs.Named.{callee_seen};
-ghost use Rattle.eval_bodies.specs.Sites.{IsSite};
+ghost use Rattle.program_tables.specs.Layers.{type_seen};
+ghost use Rattle.program_bodies.specs.Named.{callee_seen};
+ghost use Rattle.program_bodies.specs.Sites.{IsSite};
 ghost use Rattle.eval_exprs.specs.Prefixes.{prefixed};
 
 use crate::invoking::invoke;
@@ -25,10 +25,10 @@ use crate::lists::add;
 use crate::operands::{Prefix, applied_to, result_of, string};
 use crate::reading::{link_part, load, prefix_part};
 use crate::requests::operate;
-use eval_bodies::{Callee, Site, step_by};
-use eval_tables::Seen;
 use eval_variables::{Passed, Run, Step, Stop, Target, applied, decides, take};
 use orca_tree::{Designator, Expression, Link, Mode, Name, Operator, Selector};
+use program_bodies::{Callee, Site, step_by};
+use program_tables::Seen;
 use std::alloc::Global;
 use value_core::Value;
 

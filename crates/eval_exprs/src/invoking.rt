@@ -8,14 +8,14 @@ ghost use Rattle.value_core.specs.View.{datum_of};
 ghost use Rattle.meaning_rules.specs.Calls as rules;
 ghost use Rattle.meaning_rules.specs.Functions.{calls};
 ghost use Rattle.eval_variables.specs.Gives.{Gives, passed_of, state_of};
-ghost use Rattle.eval_bodies.specs.Named.{callee_seen};
-ghost use Rattle.eval_bodies.specs.Sites.{IsSite};
+ghost use Rattle.program_bodies.specs.Named.{callee_seen};
+ghost use Rattle.program_bodies.specs.Sites.{IsSite};
 
 use crate::levels::Levels;
-use eval_bodies::{Callee, Site};
 use eval_variables::{Passed, Run, Stop, add_node, delete_node, fitting_passed};
 use orca_base::FaultKind;
 use orca_tree::Expression;
+use program_bodies::{Callee, Site};
 use std::alloc::Global;
 use value_core::Value;
 

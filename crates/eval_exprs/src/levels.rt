@@ -5,10 +5,10 @@ ghost use Rattle.link_rules.specs.Units.{Source};
 ghost use Rattle.value_core.specs.View.{datum_of};
 ghost use Rattle.meaning_rules.specs.Functions.{calls};
 ghost use Rattle.eval_variables.specs.Gives.{Gives, passed_of, state_of};
-ghost use Rattle.eval_bodies.specs.Codes.{IsCode};
+ghost use Rattle.program_bodies.specs.Codes.{IsCode};
 
-use eval_bodies::Code;
 use eval_variables::{Passed, Run, Stop};
+use program_bodies::Code;
 use std::alloc::Global;
 use value_core::Value;
 

@@ -12,17 +12,17 @@ ghost use Rattle.meaning_rules.specs.Operators as operators;
 ghost use Rattle.meaning_rules.specs.States.{after, gives};
 ghost use Rattle.meaning_rules.specs.Variables as rules;
 ghost use Rattle.eval_variables.specs.Gives.{Finds, Gives, path_of, state_of};
-ghost use Rattle.eval_bodies.specs.Named.{value_at};
-ghost use Rattle.eval_bodies.specs.Sites.{IsSite};
+ghost use Rattle.program_bodies.specs.Named.{value_at};
+ghost use Rattle.program_bodies.specs.Sites.{IsSite};
 ghost use Rattle.eval_exprs.specs.Prefixes.{prefixed};
 
 use crate::operands::{Prefix, applied_to};
-use eval_bodies::{Named, Site};
 use eval_variables::{
     Run, Step, Stop, Target, applied, find as find_own, has_at, is_in, part, related,
 };
 use orca_base::{FaultKind, ObjectId};
 use orca_tree::{Name, Operator};
+use program_bodies::{Named, Site};
 use std::alloc::Global;
 use value_core::Value;
 

@@ -6,12 +6,12 @@ ghost use Rattle.value_core.specs.Datum.{data_of};
 ghost use Rattle.value_core.specs.View.{datum_of};
 ghost use Rattle.meaning_rules.specs.Calls as rules;
 ghost use Rattle.eval_variables.specs.Gives.{Gives, state_of};
-ghost use Rattle.eval_bodies.specs.Sites.{IsSite};
+ghost use Rattle.program_bodies.specs.Sites.{IsSite};
 
 use crate::reading::object_named;
-use eval_bodies::Site;
 use eval_variables::{Run, Stop, act, fitting_all};
 use orca_tree::Name;
+use program_bodies::Site;
 use std::alloc::Global;
 use value_core::{Action, Parts, Value};
 

@@ -1,7 +1,7 @@
 -- What code has of an operation by its number.
 use Rattle.std.proofs.Common.{◌≡◌, ℕ, zero, suc, List, [], ◌∷◌, Some, None, refl, subst}
 use Rattle.std.specs.Prelude.{slice_get}
-use Rattle.eval_bodies.specs.Matching.{Match}
+use Rattle.program_bodies.specs.Matching.{Match}
 
 pub none_at : {A B : Type 0} (R : A → B → Type 0) (xs : List A) (ys : List B) (i : ℕ) → Match R xs ys → slice_get xs i ≡ None → slice_get ys i ≡ None
 none_at R [] [] i all is = refl

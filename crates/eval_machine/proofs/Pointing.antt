@@ -21,7 +21,7 @@ use Rattle.meaning_rules.proofs.Settling.{uses_front}
 use Rattle.meaning_rules.proofs.Turning.{counts_turns}
 use Rattle.eval_variables.specs.declared.stop.Stop.{Stop}
 use Rattle.eval_variables.specs.Gives.{Gives}
-use Rattle.eval_bodies.specs.Blocks.{Routine, process_at}
+use Rattle.program_bodies.specs.Blocks.{Routine, process_at}
 use Rattle.eval_stmts.specs.declared.flow.Flow.{Flow as FlowCode}
 use Rattle.eval_stmts.specs.Flows.{flow_of}
 use Rattle.eval_points.specs.Advances.{Advances, left_at}

@@ -23,9 +23,9 @@ use Rattle.meaning_rules.specs.States.{Goes, Out, State, Stops, act, after}
 use Rattle.meaning_rules.specs.Statements.{run_all}
 use Rattle.eval_variables.specs.declared.stop.Stop.{Stop}
 use Rattle.eval_variables.specs.Gives.{Fails}
-use Rattle.eval_bodies.specs.declared.blocks.BlockCode.{BlockCode}
-use Rattle.eval_bodies.specs.Blocks.{IsBlockCode, Routine, process_at, process_in, process_of}
-use Rattle.eval_bodies.specs.Matching.{Both}
+use Rattle.program_bodies.specs.declared.blocks.BlockCode.{BlockCode}
+use Rattle.program_bodies.specs.Blocks.{IsBlockCode, Routine, process_at, process_in, process_of}
+use Rattle.program_bodies.specs.Matching.{Both}
 use Rattle.eval_machine.proofs.Rows.{fails_then}
 use Rattle.eval_machine.specs.Routines.{next_number, object_type_in, routine_or_busy, value_made, values_made}
 

@@ -10,8 +10,8 @@ use Rattle.meaning_rules.specs.Statements.{run_all}
 use Rattle.meaning_rules.specs.Functions.{all_calls}
 use Rattle.meaning_rules.specs.Operations.{body_tried, guard_tried, operation_start, own_count}
 use Rattle.meaning_rules.specs.Programs.{ObjectType, operation_scope}
-use Rattle.eval_bodies.specs.Codes.{IsCode}
-use Rattle.eval_bodies.specs.Objects.{IsOperationCode}
+use Rattle.program_bodies.specs.Codes.{IsCode}
+use Rattle.program_bodies.specs.Objects.{IsOperationCode}
 use Rattle.eval_machine.specs.declared.attempts.Attempt.{Attempt}
 
 -- the operation of a program that is attempted

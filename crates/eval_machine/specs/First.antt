@@ -3,7 +3,7 @@ use Rattle.std.specs.Prelude.{◌≡◌, List, [], ◌++◌, Some}
 use Rattle.orca_base.specs.declared.ids.ProcessNo.{ProcessNo}
 use Rattle.value_core.specs.Datum.{Data, list_of}
 use Rattle.value_core.specs.declared.action.Reply.{Reply}
-use Rattle.eval_bodies.specs.Blocks.{Routine}
+use Rattle.program_bodies.specs.Blocks.{Routine}
 use Rattle.eval_points.specs.Advances.{Advances, left_at}
 use Rattle.eval_points.specs.Moves.{Moves}
 use Rattle.eval_points.specs.declared.points.Point.{Point}

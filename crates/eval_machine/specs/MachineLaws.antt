@@ -21,9 +21,9 @@ use Rattle.meaning_rules.proofs.PathsFit.{graphs_fit, paths_fit}
 use Rattle.meaning_rules.proofs.Premises.{Laws}
 use Rattle.meaning_rules.proofs.Preserved.{preservation}
 use Rattle.meaning_rules.proofs.Soundly.{fits_sound}
-use Rattle.eval_tables.specs.Tables.{AreCoded}
-use Rattle.eval_bodies.specs.Codes.{AreFew, sources}
-use Rattle.eval_bodies.proofs.Few.{few_values}
+use Rattle.program_tables.specs.Tables.{AreCoded}
+use Rattle.program_bodies.specs.Codes.{AreFew, sources}
+use Rattle.program_bodies.proofs.Few.{few_values}
 use Rattle.eval_machine.specs.ValueLaws.{ValueLaws}
 
 -- words are sound, since each unit is that of a text

@@ -12,7 +12,7 @@ use Rattle.meaning_rules.specs.Loops.{Flow}
 use Rattle.meaning_rules.specs.Processes.{doing_of, next_doing, text_run}
 use Rattle.meaning_rules.specs.Programs.{process_texts}
 use Rattle.meaning_rules.specs.States.{State, Out, Stops, Busy}
-use Rattle.eval_bodies.specs.Blocks.{Routine, process_at}
+use Rattle.program_bodies.specs.Blocks.{Routine, process_at}
 use Rattle.eval_points.specs.Advances.{left_at}
 use Rattle.eval_points.specs.declared.place.Place.{Place}
 use Rattle.eval_points.specs.declared.points.Point.{Point}

@@ -11,7 +11,7 @@ use Rattle.meaning_rules.specs.Openings.{opening}
 use Rattle.meaning_rules.specs.Processes.{behind, make}
 use Rattle.meaning_rules.specs.States.{State, Out, Goes, Stops, Busy, after}
 use Rattle.meaning_rules.specs.Statements.{run_all}
-use Rattle.eval_bodies.specs.Blocks.{Routine}
+use Rattle.program_bodies.specs.Blocks.{Routine}
 
 -- the number of the object type that a type is, if it is one
 abbrev pub object_type_in : Option DataType → Option ℕ

@@ -18,12 +18,12 @@ ghost use Rattle.eval_machine.specs.Attempts.{IsAttempt, begins, body_of, guard_
 ghost use Rattle.eval_machine.specs.Stops.{GivesSome};
 
 use crate::bodies::{add_openings, behind, fault_of, started};
-use eval_bodies::{Code, OperationCode, Site};
 use eval_exprs::evaluate;
 use eval_stmts::{Flow, Whole, execute_all};
 use eval_variables::{Frame, Run, Stop, truth_in};
 use orca_base::{FaultKind, NoMemory};
 use orca_tree::{Expression, Guard, OperationBody, Statement};
+use program_bodies::{Code, OperationCode, Site};
 use std::alloc::Global;
 use value_core::{ObjectState, Parts, Reply, Tried, Value};
 

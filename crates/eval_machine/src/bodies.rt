@@ -7,13 +7,13 @@ ghost use Rattle.value_core.specs.View.{datum_of};
 ghost use Rattle.meaning_rules.specs.Openings as openings;
 ghost use Rattle.meaning_rules.specs.Operations as rules;
 ghost use Rattle.eval_variables.specs.Gives.{state_of};
-ghost use Rattle.eval_bodies.specs.Codes.{IsCode};
+ghost use Rattle.program_bodies.specs.Codes.{IsCode};
 ghost use Rattle.eval_machine.specs.Stops.{told_fault};
 
-use eval_bodies::Code;
-use eval_tables::Seen;
 use eval_variables::{Frame, Run, Stop};
 use orca_base::{FaultKind, NoMemory, OPERATION_TURNS};
+use program_bodies::Code;
+use program_tables::Seen;
 use std::alloc::Global;
 use type_rules::DataType;
 use value_core::{Parts, Value};

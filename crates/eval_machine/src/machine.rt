@@ -4,13 +4,13 @@ ghost use Rattle.std.specs.Prelude.{◌≡◌, IfOk};
 ghost use Rattle.orca_base.specs.Refusal.{IfBecause};
 ghost use Rattle.accepted_law.specs.Limits.{IsWithinLimits};
 ghost use Rattle.program_limits.specs.Passed.{Passes};
-ghost use Rattle.eval_bodies.specs.Codes.{IsCode, sources};
+ghost use Rattle.program_bodies.specs.Codes.{IsCode, sources};
 ghost use Rattle.eval_machine.specs.ValueLaws.{ValueLaws};
 ghost use Rattle.eval_machine.specs.LawsOnce.{ValueLaws-prop};
 
-use eval_bodies::Code;
 use graph_values::graphs_law;
 use orca_base::Refusal;
+use program_bodies::Code;
 use program_limits::{PassedLimit, within_limits};
 use std::alloc::Global;
 use type_decls::Checked;

@@ -8,15 +8,15 @@ ghost use Rattle.meaning_rules.specs.Functions.{all_calls};
 ghost use Rattle.meaning_rules.specs.Operations as rules;
 ghost use Rattle.meaning_rules.specs.Programs.{ObjectType, begin_scope};
 ghost use Rattle.meaning_rules.specs.Statements.{run_all};
-ghost use Rattle.eval_bodies.specs.Codes.{IsCode};
-ghost use Rattle.eval_bodies.specs.Objects.{IsObjectCode};
+ghost use Rattle.program_bodies.specs.Codes.{IsCode};
+ghost use Rattle.program_bodies.specs.Objects.{IsObjectCode};
 
 use crate::bodies::{add_openings, fault_of, started};
-use eval_bodies::{Code, ObjectCode, Site};
 use eval_stmts::{Whole, execute_all};
 use eval_variables::Frame;
 use orca_base::{KindNo, NoMemory};
 use orca_tree::Statement;
+use program_bodies::{Code, ObjectCode, Site};
 use std::alloc::Global;
 use value_core::{Making, Parts};
 

@@ -4,8 +4,8 @@ ghost use Rattle.std.specs.Prelude.{◌≡◌, ◌↔◌, ◌<◌, ◌^◌, List
 ghost use Rattle.link_rules.specs.Units.{Source};
 ghost use Rattle.accepted_law.specs.Numbers.{AreNumbers};
 ghost use Rattle.eval_variables.specs.declared.stop.Stop.TheVariants.{NoMemory as Without};
-ghost use Rattle.eval_bodies.specs.Blocks.{IsBlockCode, Routine, process_at};
-ghost use Rattle.eval_bodies.specs.Codes.{IsCode};
+ghost use Rattle.program_bodies.specs.Blocks.{IsBlockCode, Routine, process_at};
+ghost use Rattle.program_bodies.specs.Codes.{IsCode};
 ghost use Rattle.eval_points.specs.Advances.{Advances, left_at};
 ghost use Rattle.eval_machine.specs.First.{IsFirst, IsFurther};
 ghost use Rattle.eval_machine.specs.Processes.{IsKept, IsMoved};
@@ -13,10 +13,10 @@ ghost use Rattle.eval_machine.specs.Processes.{IsKept, IsMoved};
 use crate::process::TreeProcess;
 use crate::replies::Replies;
 use crate::texts::{add_variables, types_behind};
-use eval_bodies::{BlockCode, Code};
 use eval_points::{Advanced, Place, Point, advance};
 use eval_variables::{Frame, Run, Stop};
 use orca_base::NoMemory;
+use program_bodies::{BlockCode, Code};
 use std::alloc::Global;
 use value_core::Parts;
 

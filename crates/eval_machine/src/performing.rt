@@ -13,7 +13,7 @@ impl Performer for TreeMachine<'_> {
     ghost use Rattle.meaning_rules.specs.Fitting.{FitsArgs, FitsReply, FitsState, FitsText};
     ghost use Rattle.meaning_rules.specs.Meanings.{performs_of};
     ghost use Rattle.meaning_rules.proofs.StaysFit.{args_more, state_more, text_more};
-    ghost use Rattle.eval_bodies.specs.Codes.{sources};
+    ghost use Rattle.program_bodies.specs.Codes.{sources};
     ghost use Rattle.eval_machine.specs.MachineLaws.{preserved, sound};
     ghost use Rattle.eval_machine.specs.ReadsKept.{read_keeps};
 

@@ -11,7 +11,7 @@ impl Processor for TreeMachine<'_> {
     ghost use Rattle.std.specs.Prelude.{◌≡◌, ◌↔◌, IsTrue};
     ghost use Rattle.meaning_rules.specs.Meanings.{computes_of};
     ghost use Rattle.meaning_rules.proofs.Settling.{is_settled};
-    ghost use Rattle.eval_bodies.specs.Codes.{sources};
+    ghost use Rattle.program_bodies.specs.Codes.{sources};
     ghost use Rattle.eval_machine.specs.MachineLaws.{preserved};
     ghost use Rattle.eval_machine.specs.Processes.{IsLeftAt, StandsFor};
 

@@ -11,9 +11,9 @@ ghost use Rattle.meaning_rules.specs.Processes as rules;
 ghost use Rattle.meaning_rules.specs.Programs.{process_texts};
 ghost use Rattle.meaning_rules.specs.States.{Out, State};
 ghost use Rattle.eval_variables.specs.Gives.{Gives, state_of};
-ghost use Rattle.eval_tables.specs.Layers.{type_seen};
-ghost use Rattle.eval_bodies.specs.Blocks.{IsBlockCode, Routine, process_at};
-ghost use Rattle.eval_bodies.specs.Codes.{IsCode};
+ghost use Rattle.program_tables.specs.Layers.{type_seen};
+ghost use Rattle.program_bodies.specs.Blocks.{IsBlockCode, Routine, process_at};
+ghost use Rattle.program_bodies.specs.Codes.{IsCode};
 ghost use Rattle.eval_stmts.specs.Flows.{flow_of};
 ghost use Rattle.eval_points.specs.Stepping.{IsResumed};
 ghost use Rattle.eval_machine.specs.Processes.{before_of, doing_here, frame_of, left_of, routine_left};
@@ -22,12 +22,12 @@ ghost use Rattle.eval_machine.specs.Routines.{routine_run, value_made, values_ma
 
 use crate::bodies::opening;
 use crate::process::TreeProcess;
-use eval_bodies::{BlockCode, Code, Site};
 use eval_points::{Place, Point, frame_at, resume};
 use eval_stmts::{Flow, Whole, execute_all};
-use eval_tables::Seen;
 use eval_variables::{Frame, Run, Stop, act};
 use orca_base::{NoMemory, ObjectId, ProcessNo, TextNo};
+use program_bodies::{BlockCode, Code, Site};
+use program_tables::Seen;
 use std::alloc::Global;
 use type_rules::{Base, DataType};
 use value_core::{Action, Doing, Parts, Reply, Value};

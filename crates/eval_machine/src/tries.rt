@@ -7,12 +7,12 @@ ghost use Rattle.value_core.specs.Sound.{AreSound};
 ghost use Rattle.accepted_law.specs.Numbers.{AreNumbers};
 ghost use Rattle.meaning_rules.specs.Operations as rules;
 ghost use Rattle.meaning_rules.specs.Programs.{ObjectType, object_type};
-ghost use Rattle.eval_bodies.specs.Codes.{IsCode};
-ghost use Rattle.eval_bodies.specs.Objects.{IsObjectCode};
+ghost use Rattle.program_bodies.specs.Codes.{IsCode};
+ghost use Rattle.program_bodies.specs.Objects.{IsObjectCode};
 
 use crate::attempts::{Attempt, try_attempt};
-use eval_bodies::{Code, ObjectCode, OperationCode};
 use orca_base::{KindNo, NoMemory, OpNo};
+use program_bodies::{Code, ObjectCode, OperationCode};
 use std::alloc::Global;
 use value_core::{ObjectState, Parts, Reply, Tried};
 

@@ -4,7 +4,7 @@ ghost use Rattle.std.specs.Prelude.{◌≡◌, ◌⊎◌, ◌≤◌, ◌+◌, �
 ghost use Rattle.value_core.specs.Goes.{Goes, IfAt};
 ghost use Rattle.value_core.specs.History.{most_turns};
 ghost use Rattle.value_core.specs.declared.meaning.Doing.TheVariants as doings;
-ghost use Rattle.eval_bodies.specs.Codes.{sources};
+ghost use Rattle.program_bodies.specs.Codes.{sources};
 ghost use Rattle.eval_machine.specs.Processes.{IsKept, IsLeftAt, IsMoved, IsReached, StandsFor, Told, doing_by, doing_here};
 
 use crate::machine::TreeMachine;

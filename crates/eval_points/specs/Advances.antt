@@ -5,7 +5,7 @@ use Rattle.value_core.specs.declared.action.Reply.{Reply}
 use Rattle.meaning_rules.specs.Functions.{all_calls}
 use Rattle.meaning_rules.specs.Loops.{Flow}
 use Rattle.meaning_rules.specs.States.{State, Out}
-use Rattle.eval_bodies.specs.Blocks.{Routine}
+use Rattle.program_bodies.specs.Blocks.{Routine}
 use Rattle.eval_points.specs.declared.place.Place.{Place}
 use Rattle.eval_points.specs.declared.points.Point.{Point}
 use Rattle.eval_points.specs.Moves.{Moves}

@@ -9,8 +9,8 @@ use Rattle.meaning_rules.specs.Loops.{Flow, Back}
 use Rattle.meaning_rules.specs.States.{State, Out, Goes, after}
 use Rattle.eval_variables.specs.declared.stop.Stop.{Stop}
 use Rattle.eval_variables.specs.Gives.{Fails}
-use Rattle.eval_bodies.specs.Codes.{loop_local}
-use Rattle.eval_bodies.specs.Sites.{lent_texts}
+use Rattle.program_bodies.specs.Codes.{loop_local}
+use Rattle.program_bodies.specs.Sites.{lent_texts}
 use Rattle.eval_points.specs.declared.inner.Inner.{Inner}
 use Rattle.eval_points.specs.declared.inner.Inside.{Inside as InsideCode}
 use Rattle.eval_points.specs.declared.inner.Inside.TheVariants as is

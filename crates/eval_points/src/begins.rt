@@ -12,15 +12,15 @@ ghost use Rattle.meaning_rules.specs.Functions.{calls};
 ghost use Rattle.meaning_rules.specs.Loops.{with_name};
 ghost use Rattle.meaning_rules.specs.States as rules;
 ghost use Rattle.eval_variables.specs.Gives.{Gives, state_of};
-ghost use Rattle.eval_bodies.specs.Sites.{IsSite};
+ghost use Rattle.program_bodies.specs.Sites.{IsSite};
 ghost use Rattle.eval_points.specs.Stepping.{IsBegun, arm_test};
 
 use crate::place::Part;
-use eval_bodies::Site;
 use eval_exprs::{Levels, evaluate};
 use eval_stmts::{Flow, execute_all};
 use eval_variables::{Run, Stop, add_name, integer_in, truth_in, turn};
 use orca_tree::{Arm, Expression, Range, Statement};
+use program_bodies::Site;
 use std::alloc::Global;
 use value_core::Value;
 

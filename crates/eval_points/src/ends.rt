@@ -9,17 +9,17 @@ ghost use Rattle.meaning_rules.specs.Functions.{calls};
 ghost use Rattle.meaning_rules.specs.Loops.{Flow};
 ghost use Rattle.meaning_rules.specs.States.{Out, State};
 ghost use Rattle.eval_variables.specs.Gives.{state_of};
-ghost use Rattle.eval_bodies.specs.Sites.{IsSite};
+ghost use Rattle.program_bodies.specs.Sites.{IsSite};
 ghost use Rattle.eval_points.specs.Leads.{inside_of};
 ghost use Rattle.eval_points.specs.Places.{InFor, InRepeat};
 ghost use Rattle.eval_points.specs.Stepping.{FallsIfNumber, IsEnded};
 
 use crate::begins::begin_number;
 use crate::inner::Inside;
-use eval_bodies::Site;
 use eval_exprs::{Levels, evaluate};
 use eval_variables::{Run, Stop, drop_name, truth_in};
 use orca_tree::Expression;
+use program_bodies::Site;
 use std::alloc::Global;
 
 /// What follows: the statement in which one stood again, the next one, or its round of another number.

@@ -4,19 +4,19 @@ ghost use Rattle.std.specs.Prelude.{◌≡◌, ◌<◌, IfOk, IfSome, false, len
 ghost use Rattle.orca_syntax.specs.Shown.{arm as arm_shown, arms as arms_shown, stmt, stmts};
 ghost use Rattle.type_rules.specs.Scopes.{Scope};
 ghost use Rattle.meaning_rules.specs.Calls.{Calls};
-ghost use Rattle.eval_bodies.specs.Bodies.{IsBody};
-ghost use Rattle.eval_bodies.specs.Codes.{IsCode};
-ghost use Rattle.eval_bodies.specs.Sites.{IsSite, lent_texts};
+ghost use Rattle.program_bodies.specs.Bodies.{IsBody};
+ghost use Rattle.program_bodies.specs.Codes.{IsCode};
+ghost use Rattle.program_bodies.specs.Sites.{IsSite, lent_texts};
 ghost use Rattle.eval_points.specs.Leads.{IsInner, in_loops, inside_of};
 ghost use Rattle.eval_points.specs.Places as places;
 ghost use Rattle.eval_points.specs.Places.{InArm, first_of, inside as inside_rule, scope_of, stmts_from};
 ghost use Rattle.eval_points.specs.declared.place.Part.TheVariants as part_rule;
 
 use crate::place::{Level, Part};
-use eval_bodies::{Body, Code, Site, inner_loops};
 use eval_variables::Stop;
 use orca_base::NoMemory;
 use orca_tree::{Arm, Expression, Name, Statement};
+use program_bodies::{Body, Code, Site, inner_loops};
 use std::alloc::Global;
 
 /// A statement in which one stands: its statements there, with what else hangs on the part.

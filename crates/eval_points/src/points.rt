@@ -3,17 +3,17 @@
 ghost use Rattle.std.specs.Prelude.{◌≡◌, ◌≤◌, ◌<◌, ◌+◌, ◌^◌, ◌↔◌, IfOk, IfSome, IsTrue, false};
 ghost use Rattle.value_core.specs.Datum.{list_of};
 ghost use Rattle.eval_variables.specs.Gives.{state_of};
-ghost use Rattle.eval_bodies.specs.Blocks.{IsBlockCode, Routine};
-ghost use Rattle.eval_bodies.specs.Codes.{IsCode};
+ghost use Rattle.program_bodies.specs.Blocks.{IsBlockCode, Routine};
+ghost use Rattle.program_bodies.specs.Codes.{IsCode};
 ghost use Rattle.eval_points.specs.Moves.{Steps};
 ghost use Rattle.eval_points.specs.Advances.{Advances, left_at};
 
 use crate::place::Place;
 use crate::steps::{Step, make_step};
-use eval_bodies::{BlockCode, Code};
 use eval_stmts::Whole;
 use eval_variables::{Frame, Run, Stop};
 use orca_base::NoMemory;
+use program_bodies::{BlockCode, Code};
 use std::alloc::Global;
 use value_core::{Parts, Reply};
 

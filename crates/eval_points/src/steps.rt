@@ -6,9 +6,9 @@ ghost use Rattle.orca_syntax.specs.Syntax.{Stmts};
 ghost use Rattle.type_rules.specs.Scopes.{Scope};
 ghost use Rattle.meaning_rules.specs.Functions.{calls};
 ghost use Rattle.eval_variables.specs.Gives.{state_of};
-ghost use Rattle.eval_bodies.specs.Blocks.{IsBlockCode, Routine};
-ghost use Rattle.eval_bodies.specs.Codes.{IsCode};
-ghost use Rattle.eval_bodies.specs.Sites.{IsSite};
+ghost use Rattle.program_bodies.specs.Blocks.{IsBlockCode, Routine};
+ghost use Rattle.program_bodies.specs.Codes.{IsCode};
+ghost use Rattle.program_bodies.specs.Sites.{IsSite};
 ghost use Rattle.eval_points.specs.Fronts.{front_of};
 ghost use Rattle.eval_points.specs.Leads.{LeadsTo, inside_of};
 ghost use Rattle.eval_points.specs.Places.{first_of, inside as inside_rule, left as left_rule, stmts_from};
@@ -18,12 +18,12 @@ use crate::begins::{Begun, begin};
 use crate::ends::{Ended, end};
 use crate::inner::{Inner, Inside, body_of, innermost, inside_at, opened, site_in};
 use crate::place::{Level, Part, Place};
-use eval_bodies::{BlockCode, Code, Site};
 use eval_exprs::Levels;
 use eval_stmts::{Flow, execute_all};
 use eval_variables::{Run, Stop};
 use orca_base::NoMemory;
 use orca_tree::Statement;
+use program_bodies::{BlockCode, Code, Site};
 use std::alloc::Global;
 
 /// How a step ends: at another place, or the process's statements have ended.

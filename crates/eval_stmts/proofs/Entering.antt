@@ -12,7 +12,7 @@ use Rattle.meaning_rules.specs.Loops.{Flow}
 use Rattle.meaning_rules.specs.Statements.{run_all}
 use Rattle.eval_variables.specs.declared.stop.Stop.{Stop}
 use Rattle.eval_variables.specs.Gives.{Fails, Gives}
-use Rattle.eval_bodies.specs.Blocks.{Routine}
+use Rattle.program_bodies.specs.Blocks.{Routine}
 use Rattle.eval_stmts.specs.Routines.{routine_run}
 use Rattle.eval_stmts.proofs.Rows.{fails_then}
 

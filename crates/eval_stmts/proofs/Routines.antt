@@ -10,10 +10,10 @@ use Rattle.type_rules.specs.TopLevel.{TopName, What, top_names}
 use Rattle.meaning_rules.specs.Calls.{Calls, Passed}
 use Rattle.meaning_rules.specs.Functions.{enter}
 use Rattle.meaning_rules.specs.States.{Faults, State, Stops}
-use Rattle.eval_bodies.specs.declared.blocks.BlockCode.{BlockCode}
-use Rattle.eval_bodies.specs.Blocks.{IsBlockCode, Routine, function_at, function_in, function_of}
-use Rattle.eval_bodies.specs.Matching.{Both}
-use Rattle.eval_bodies.proofs.Entering.{entered, enters}
+use Rattle.program_bodies.specs.declared.blocks.BlockCode.{BlockCode}
+use Rattle.program_bodies.specs.Blocks.{IsBlockCode, Routine, function_at, function_in, function_of}
+use Rattle.program_bodies.specs.Matching.{Both}
+use Rattle.program_bodies.proofs.Entering.{entered, enters}
 use Rattle.eval_stmts.specs.Routines.{routine_run}
 
 abbrev pub IsLent : Bor BlockCode → Routine → Type 0

@@ -5,7 +5,7 @@ use Rattle.meaning_rules.specs.States.{State, Out, after, turn}
 use Rattle.meaning_rules.specs.Calls.{Calls, Passed}
 use Rattle.meaning_rules.specs.Functions.{own_frame, returned}
 use Rattle.meaning_rules.specs.Statements.{run_all}
-use Rattle.eval_bodies.specs.Blocks.{Routine}
+use Rattle.program_bodies.specs.Blocks.{Routine}
 
 abbrev pub routine_run : Calls → Routine → List Passed → State → Out (Option Datum)
 routine_run call r ps s =

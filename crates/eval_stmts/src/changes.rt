@@ -7,14 +7,14 @@ ghost use Rattle.meaning_rules.specs.Functions.{calls};
 ghost use Rattle.meaning_rules.specs.Statements as rules;
 ghost use Rattle.meaning_rules.specs.Variables as variables;
 ghost use Rattle.eval_variables.specs.Gives.{Gives, state_of};
-ghost use Rattle.eval_bodies.specs.Sites.{IsSite};
+ghost use Rattle.program_bodies.specs.Sites.{IsSite};
 ghost use Rattle.eval_stmts.specs.Flows.{flow_of};
 
 use crate::flow::Flow;
-use eval_bodies::Site;
 use eval_exprs::{Levels, evaluate, walk};
 use eval_variables::{Run, Stop, Target, drop_element, put, store};
 use orca_tree::{Designator, Expression};
+use program_bodies::Site;
 use std::alloc::Global;
 
 /// An assignment: the indices of its left side, then its right side.

@@ -9,15 +9,15 @@ ghost use Rattle.meaning_rules.specs.Functions as rules;
 ghost use Rattle.meaning_rules.specs.States.{Goes, after};
 ghost use Rattle.eval_variables.specs.Gives.{Gives, passed_of, state_of};
 ghost use Rattle.eval_variables.specs.Lent.{AreLentAlike, given_by};
-ghost use Rattle.eval_bodies.specs.Codes.{IsCode};
+ghost use Rattle.program_bodies.specs.Codes.{IsCode};
 ghost use Rattle.eval_stmts.specs.Flows.{flow_of};
 ghost use Rattle.eval_stmts.specs.Frames.{begins_with, variables_of};
 
 use crate::flow::Flow;
-use eval_bodies::Code;
-use eval_tables::Seen;
 use eval_variables::{Frame, Passed, Run, Stop, hand_back};
 use orca_base::{FaultKind, NoMemory};
+use program_bodies::Code;
+use program_tables::Seen;
 use std::alloc::Global;
 use type_rules::DataType;
 use value_core::{Parts, Value};

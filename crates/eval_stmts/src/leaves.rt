@@ -8,16 +8,16 @@ ghost use Rattle.meaning_rules.specs.Calls as acts;
 ghost use Rattle.meaning_rules.specs.Functions.{calls};
 ghost use Rattle.meaning_rules.specs.Statements as rules;
 ghost use Rattle.eval_variables.specs.Gives.{Gives, state_of};
-ghost use Rattle.eval_bodies.specs.Sites.{IsSite};
+ghost use Rattle.program_bodies.specs.Sites.{IsSite};
 ghost use Rattle.eval_stmts.specs.Flows.{flow_of};
 
 use crate::flow::Flow;
 use crate::lines::line;
-use eval_bodies::Site;
 use eval_exprs::{Levels, arguments_of, call, evaluate, evaluate_all, request};
 use eval_variables::{Run, Stop, act, fitting, fitting_all, integer_in};
 use orca_base::{KindNo, ObjectId, OpNo, Text};
 use orca_tree::{Expression, Name};
+use program_bodies::Site;
 use std::alloc::Global;
 use value_core::{Action, Parts, TextValue, Value};
 

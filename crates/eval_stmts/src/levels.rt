@@ -7,16 +7,16 @@ ghost use Rattle.value_core.specs.View.{datum_of};
 ghost use Rattle.meaning_rules.specs.Functions as rules;
 ghost use Rattle.meaning_rules.specs.Functions.{calls};
 ghost use Rattle.eval_variables.specs.Gives.{Gives, passed_of, state_of};
-ghost use Rattle.eval_bodies.specs.Blocks.{IsBlockCode, Routine};
-ghost use Rattle.eval_bodies.specs.Codes.{IsCode};
+ghost use Rattle.program_bodies.specs.Blocks.{IsBlockCode, Routine};
+ghost use Rattle.program_bodies.specs.Codes.{IsCode};
 ghost use Rattle.eval_stmts.specs.Routines.{routine_run};
 
 use crate::frames::{returned, variables};
 use crate::statements::execute_all;
-use eval_bodies::{BlockCode, Code, Site};
 use eval_exprs::Levels;
 use eval_variables::{Frame, Passed, Run, Stop, exchange_frame, turn};
 use orca_base::FaultKind;
+use program_bodies::{BlockCode, Code, Site};
 use std::alloc::Global;
 use value_core::Value;
 

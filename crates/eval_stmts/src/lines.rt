@@ -8,12 +8,12 @@ ghost use Rattle.value_ops.specs.Texts.{joined, text_of as rule_text_of};
 ghost use Rattle.meaning_rules.specs.States.{State, gives};
 ghost use Rattle.meaning_rules.specs.Statements as rules;
 ghost use Rattle.eval_variables.specs.Gives.{Gives};
-ghost use Rattle.eval_bodies.specs.Sites.{IsSite};
+ghost use Rattle.program_bodies.specs.Sites.{IsSite};
 
-use eval_bodies::Site;
 use eval_variables::Stop;
 use orca_base::{FaultKind, NoMemory, TEXT_LENGTH, Text};
 use orca_tree::{Expression, Name};
+use program_bodies::Site;
 use std::alloc::Global;
 use value_core::{TextValue, Value};
 use value_ops::text_of;

@@ -9,16 +9,16 @@ ghost use Rattle.meaning_rules.specs.Functions.{calls};
 ghost use Rattle.meaning_rules.specs.Loops as loops;
 ghost use Rattle.meaning_rules.specs.Statements.{run as run_rule, run_all, run_arm, run_arms};
 ghost use Rattle.eval_variables.specs.Gives.{Gives, state_of};
-ghost use Rattle.eval_bodies.specs.Sites.{IsSite};
+ghost use Rattle.program_bodies.specs.Sites.{IsSite};
 ghost use Rattle.eval_stmts.specs.Flows.{FallsIfAgain, flow_of, round_by, round_of};
 
 use crate::changes::{assign, delete, insert};
 use crate::flow::{Flow, Round};
 use crate::leaves::{call_function, call_operation, fork_process, give_back, write_line};
-use eval_bodies::{Site, inner_loops};
 use eval_exprs::{Levels, evaluate};
 use eval_variables::{Run, Stop, add_name, drop_name, integer_in, truth_in, turn};
 use orca_tree::{Arm, Expression, Name, Range, Statement};
+use program_bodies::{Site, inner_loops};
 use std::alloc::Global;
 use value_core::Value;
 

@@ -1,11 +1,11 @@
 //! The code of a program: what its variables open with, and the values of its expressions.
 
-use eval_bodies::{Code, Site};
 use eval_exprs::{Levels, evaluate};
-use eval_tables::Seen;
 use eval_variables::{Passed, Run, Stop};
 use orca_base::{FaultKind, KindNo};
 use orca_tree::{Expression, Statement};
+use program_bodies::{Code, Site};
+use program_tables::Seen;
 use std::alloc::Global;
 use std::test::Fail;
 use test_texts::{code_of, program_of, run_over, value_of, values_of};

@@ -5,7 +5,7 @@ use Rattle.command_line.specs.declared.request.RunOptions.{RunOptions}
 use Rattle.net_rules.specs.declared.line.ScriptLine.{ScriptLine}
 use Rattle.link_rules.specs.Units.{Source}
 use Rattle.accepted_law.specs.Limits.{IsWithinLimits}
-use Rattle.eval_bodies.specs.Codes.{sources as sources_of}
+use Rattle.program_bodies.specs.Codes.{sources as sources_of}
 use Rattle.eval_machine.specs.declared.machine.TreeMachine.{TreeMachine}
 use Rattle.type_decls.specs.declared.checked.Checked.{Checked}
 use Rattle.orca_front.specs.declared.fault.FrontFault.{FrontFault}

@@ -9,7 +9,7 @@ use Rattle.orca_front.specs.Sources.{IsAccepted, IsFault}
 use Rattle.command_files.specs.Loaded.{IsLoaded, front_status}
 use Rattle.command_files.specs.Sources.{Word}
 use Rattle.command_output.specs.declared.statuses.TheConstants.{LIMIT}
-use Rattle.eval_bodies.specs.Codes.{sources}
+use Rattle.program_bodies.specs.Codes.{sources}
 use Rattle.eval_machine.specs.declared.machine.TreeMachine.{TreeMachine}
 use Rattle.replay_command.specs.Endings.{passed_line}
 use Rattle.orca_cli.specs.declared.program.ProgramFault.{ProgramFault}

@@ -8,7 +8,7 @@ ghost use Rattle.orca_io.specs.Reading.{FailedAt, HasAsked};
 ghost use Rattle.link_rules.specs.Units.{Source, source};
 ghost use Rattle.accepted_law.specs.Limits.{IsWithinLimits};
 ghost use Rattle.orca_front.specs.Sources.{AreUnits, IsAccepted, file_of};
-ghost use Rattle.eval_bodies.specs.Codes.{sources};
+ghost use Rattle.program_bodies.specs.Codes.{sources};
 ghost use Rattle.code_rules.specs.Program.{program_code};
 ghost use Rattle.code_command.specs.Listings.{IsListing};
 ghost use Rattle.command_files.specs.Sources.{Word};

@@ -2,7 +2,7 @@
 
 ghost use Rattle.std.specs.Prelude.{◌≡◌, List, map, IfOk, OnOk};
 ghost use Rattle.accepted_law.specs.Limits.{IsWithinLimits};
-ghost use Rattle.eval_bodies.specs.Codes.{sources};
+ghost use Rattle.program_bodies.specs.Codes.{sources};
 ghost use Rattle.link_rules.specs.Units.{source};
 ghost use Rattle.orca_base.specs.Refusal.{IfBecause};
 ghost use Rattle.orca_front.specs.Sources.{AreUnits, IsAccepted, file_of};

@@ -6,7 +6,6 @@ ghost use Rattle.orca_lexer.specs.Tokens.{HasRoom, Tokens};
 ghost use Rattle.orca_syntax.specs.TextSyntax.{IsOfText};
 ghost use Rattle.value_core.specs.Sound.{AreSound};
 
-use eval_bodies::Code;
 use eval_variables::{Frame, Run};
 use link_rules::NamedUnit;
 use orca_base::{NoMemory, Text};
@@ -14,6 +13,7 @@ use orca_lexer::{Token, tokens};
 use orca_modules::{Program, link};
 use orca_tree::Unit;
 use parse_units::parse;
+use program_bodies::Code;
 use std::alloc::Global;
 use std::test::Fail;
 use type_decls::check;

@@ -4,9 +4,9 @@ use Rattle.std.specs.Option.{option_map_or}
 use Rattle.value_core.specs.declared.action.Class.TheVariants.{Writes}
 use Rattle.meaning_rules.specs.Classes.{type_class}
 use Rattle.meaning_rules.specs.Programs.{ObjectType}
-use Rattle.eval_bodies.specs.declared.implementations.Implemented.{Implemented}
-use Rattle.eval_bodies.specs.Codes.{sources}
-use Rattle.eval_bodies.specs.Objects.{object_type_seen}
+use Rattle.program_bodies.specs.declared.implementations.Implemented.{Implemented}
+use Rattle.program_bodies.specs.Codes.{sources}
+use Rattle.program_bodies.specs.Objects.{object_type_seen}
 use Rattle.access_analysis.proofs.classes.class_at.Goals as goal
 
 pub returns-in-None : goal.returns-in-None

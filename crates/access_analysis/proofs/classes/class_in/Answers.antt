@@ -8,7 +8,7 @@ use Rattle.orca_syntax.specs.Syntax.{Operation}
 use Rattle.orca_syntax.specs.Shown.{operation}
 use Rattle.value_core.specs.declared.action.Class.TheVariants.{Writes}
 use Rattle.meaning_rules.specs.Classes.{operation_class}
-use Rattle.eval_bodies.specs.Objects.{object_type_seen}
+use Rattle.program_bodies.specs.Objects.{object_type_seen}
 use Rattle.access_analysis.proofs.classes.class_in.Goals as goal
 
 pub returns-in-None : goal.returns-in-None

@@ -1,7 +1,7 @@
 use Rattle.std.proofs.Common.{sym, ◌∙◌}
 use Rattle.meaning_rules.specs.Classes.{class_of}
 use Rattle.meaning_rules.proofs.ReadsKeeping.{reads_keep}
-use Rattle.eval_bodies.specs.Codes.{sources}
+use Rattle.program_bodies.specs.Codes.{sources}
 use Rattle.access_analysis.proofs.Specified.{class_known}
 use Rattle.access_analysis.proofs.classes.class_of.Goals as goal
 

@@ -7,7 +7,7 @@ use Rattle.type_rules.specs.TopLevel.{TopName}
 use Rattle.type_forms.specs.declared.tops.Top.{Top}
 use Rattle.type_forms.specs.Seen.{top}
 use Rattle.meaning_rules.specs.Programs.{ObjectType, implementation, is_specification, specifications, specified, type_at}
-use Rattle.eval_bodies.specs.Codes.{sources}
+use Rattle.program_bodies.specs.Codes.{sources}
 use Rattle.access_analysis.proofs.Specified.{numbered}
 use Rattle.access_analysis.proofs.classes.implemented.Goals as goal
 

@@ -8,7 +8,7 @@ use Rattle.orca_syntax.proofs.ShownLaws.{call_is, chain_is, from_is, get_is, inv
 use Rattle.type_forms.proofs.Loops.{rest_is}
 use Rattle.meaning_rules.specs.Calls.{Callee, NoFunction, callee, first_mode, modes_of}
 use Rattle.meaning_rules.specs.Classes.{arguments_change, changes, lends_field, links_change, path_changes, step_changes}
-use Rattle.eval_bodies.specs.Named.{callee_seen}
+use Rattle.program_bodies.specs.Named.{callee_seen}
 use Rattle.access_analysis.proofs.Changing.{argument_first, none_yet, one_does, or_behind, or_own}
 use Rattle.access_analysis.proofs.expressions.+expressions.Goals as goal
 

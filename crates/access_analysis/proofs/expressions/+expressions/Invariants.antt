@@ -3,7 +3,7 @@ use Rattle.orca_syntax.specs.Shown.{exprs, links, path}
 use Rattle.type_rules.specs.Scopes.{Scope}
 use Rattle.meaning_rules.specs.Calls.{modes_of}
 use Rattle.meaning_rules.specs.Classes.{arguments_change, links_change, path_changes}
-use Rattle.eval_bodies.specs.Named.{callee_seen}
+use Rattle.program_bodies.specs.Named.{callee_seen}
 use Rattle.access_analysis.specs.Sites.{IsSite}
 use Rattle.access_analysis.proofs.expressions.+expressions.Given as goal
 

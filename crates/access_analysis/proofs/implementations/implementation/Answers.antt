@@ -6,8 +6,8 @@ use Rattle.link_rules.specs.Declarations.{Declared, declarations_of}
 use Rattle.link_rules.specs.Units.{source}
 use Rattle.type_forms.proofs.Loops.{rest_is}
 use Rattle.meaning_rules.specs.Programs.{ObjectType, implements}
-use Rattle.eval_bodies.specs.Objects.{object_type_seen}
-use Rattle.eval_bodies.proofs.FirstGiven.{first_given}
+use Rattle.program_bodies.specs.Objects.{object_type_seen}
+use Rattle.program_bodies.proofs.FirstGiven.{first_given}
 use Rattle.access_analysis.proofs.FirstHere.{give_none, give_one}
 use Rattle.access_analysis.proofs.implementations.implementation.Goals as goal
 

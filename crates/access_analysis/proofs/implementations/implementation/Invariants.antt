@@ -3,7 +3,7 @@ use Rattle.std.specs.Prelude.{flat_map}
 use Rattle.link_rules.specs.Declarations.{declarations_of}
 use Rattle.link_rules.specs.Units.{source}
 use Rattle.meaning_rules.specs.Programs.{implements}
-use Rattle.eval_bodies.proofs.FirstGiven.{first_given}
+use Rattle.program_bodies.proofs.FirstGiven.{first_given}
 use Rattle.access_analysis.proofs.implementations.implementation.Given as goal
 
 abbrev pub invariant-units : goal.invariant-units

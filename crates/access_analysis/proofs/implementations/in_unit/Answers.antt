@@ -5,8 +5,8 @@ use Rattle.orca_syntax.specs.Shown.{decl}
 use Rattle.link_rules.specs.Declarations.{Declared}
 use Rattle.type_forms.proofs.Loops.{rest_is}
 use Rattle.meaning_rules.specs.Programs.{ObjectType, implements}
-use Rattle.eval_bodies.specs.Objects.{object_type_seen}
-use Rattle.eval_bodies.proofs.FirstGiven.{declared_as, first_given}
+use Rattle.program_bodies.specs.Objects.{object_type_seen}
+use Rattle.program_bodies.proofs.FirstGiven.{declared_as, first_given}
 use Rattle.access_analysis.proofs.FirstHere.{gives_none, gives_one}
 use Rattle.access_analysis.proofs.implementations.in_unit.Goals as goal
 

@@ -1,7 +1,7 @@
 use Rattle.std.proofs.Common.{◌≡◌, drop, map}
 use Rattle.orca_syntax.specs.Shown.{decl}
 use Rattle.meaning_rules.specs.Programs.{implements}
-use Rattle.eval_bodies.proofs.FirstGiven.{declared_as, first_given}
+use Rattle.program_bodies.proofs.FirstGiven.{declared_as, first_given}
 use Rattle.access_analysis.proofs.implementations.in_unit.Given as goal
 
 abbrev pub invariant-declarations : goal.invariant-declarations

@@ -3,7 +3,7 @@ use Rattle.std.proofs.lemmas.List.{take_all}
 use Rattle.orca_tree.specs.declared.tree.Operation as tree
 use Rattle.orca_syntax.specs.Shown.{operation}
 use Rattle.meaning_rules.specs.Classes.{operation_class}
-use Rattle.eval_bodies.specs.Objects.{object_type_seen}
+use Rattle.program_bodies.specs.Objects.{object_type_seen}
 use Rattle.access_analysis.proofs.Listed.{listed_more}
 use Rattle.access_analysis.proofs.tables.classes_in.Goals as goal
 

@@ -3,7 +3,7 @@ use Rattle.orca_syntax.specs.Shown.{operation}
 use Rattle.link_rules.specs.Units.{Source}
 use Rattle.type_forms.specs.Indexed.{Indexes}
 use Rattle.meaning_rules.specs.Classes.{operation_class}
-use Rattle.eval_bodies.specs.Objects.{object_type_seen}
+use Rattle.program_bodies.specs.Objects.{object_type_seen}
 use Rattle.access_analysis.proofs.tables.classes_in.Given as goal
 
 abbrev pub invariant-operations : goal.invariant-operations

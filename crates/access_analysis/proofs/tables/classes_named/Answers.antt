@@ -2,8 +2,8 @@ use Rattle.std.proofs.Common.{◌≡◌, [], Option, subst, sym, ap, ◌∙◌}
 use Rattle.std.specs.Prelude.{IfOk, option_copied, option_map}
 use Rattle.std.specs.Option.{option_map_or}
 use Rattle.std.specs.Borrow.{Bor}
-use Rattle.eval_bodies.specs.declared.implementations.Implemented.{Implemented}
-use Rattle.eval_bodies.specs.Objects.{object_type_seen}
+use Rattle.program_bodies.specs.declared.implementations.Implemented.{Implemented}
+use Rattle.program_bodies.specs.Objects.{object_type_seen}
 use Rattle.access_analysis.specs.Tables.{type_classes}
 use Rattle.access_analysis.proofs.tables.classes_named.Goals as goal
 

@@ -1,5 +1,5 @@
 use Rattle.meaning_rules.specs.Classes.{class_of}
-use Rattle.eval_bodies.specs.Codes.{sources}
+use Rattle.program_bodies.specs.Codes.{sources}
 use Rattle.access_analysis.proofs.Listed.{right_classes}
 use Rattle.access_analysis.proofs.Specified.{class_known}
 use Rattle.access_analysis.proofs.tables.classes_of.Goals as goal

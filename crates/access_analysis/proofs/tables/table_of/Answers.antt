@@ -4,7 +4,7 @@ use Rattle.link_rules.specs.Units.{source}
 use Rattle.type_rules.specs.TopLevel.{top_names}
 use Rattle.type_forms.specs.Seen.{top}
 use Rattle.meaning_rules.specs.Programs.{implementation, is_specification}
-use Rattle.eval_bodies.specs.Codes.{sources}
+use Rattle.program_bodies.specs.Codes.{sources}
 use Rattle.access_analysis.specs.Tables.{specified_classes}
 use Rattle.access_analysis.proofs.Listed.{all_grown, grown, one_empty}
 use Rattle.access_analysis.proofs.tables.table_of.Goals as goal

@@ -2,7 +2,7 @@ use Rattle.std.proofs.Common.{◌≡◌, [], ◌∷◌, take, map, filter}
 use Rattle.type_forms.specs.Indexed.{Indexes}
 use Rattle.type_forms.specs.Seen.{top}
 use Rattle.meaning_rules.specs.Programs.{is_specification}
-use Rattle.eval_bodies.specs.Codes.{sources}
+use Rattle.program_bodies.specs.Codes.{sources}
 use Rattle.access_analysis.specs.Tables.{specified_classes}
 use Rattle.access_analysis.proofs.tables.table_of.Given as goal
 

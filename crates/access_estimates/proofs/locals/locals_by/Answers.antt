@@ -5,7 +5,7 @@ use Rattle.orca_tree.specs.declared.tree.Name.{Name}
 use Rattle.type_forms.specs.Seen.{lent}
 use Rattle.access_estimates.specs.Locals.{local_seen}
 use Rattle.access_estimates.specs.Collected.{named_in}
-use Rattle.eval_bodies.proofs.Matched.{seen_more}
+use Rattle.program_bodies.proofs.Matched.{seen_more}
 use Rattle.access_estimates.proofs.Listing.{pushed}
 use Rattle.access_estimates.proofs.locals.locals_by.Goals as goal
 

@@ -4,7 +4,7 @@ use Rattle.estimate_rules.specs.Estimates.{sites_in}
 use Rattle.estimate_rules.specs.Routines.{routine_of}
 use Rattle.access_estimates.specs.declared.routines.Routine.{Routine}
 use Rattle.access_estimates.specs.Resolved.{IsRoutine}
-use Rattle.eval_bodies.specs.Matching.{Both}
+use Rattle.program_bodies.specs.Matching.{Both}
 use Rattle.access_estimates.specs.Summaries.{by_table}
 use Rattle.access_estimates.proofs.Listed.{none_known, one_known}
 use Rattle.access_estimates.proofs.program.add_known.Goals as goal

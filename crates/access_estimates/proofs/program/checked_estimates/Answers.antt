@@ -1,6 +1,6 @@
 use Rattle.std.proofs.Common.{List, map, ap, ◌∙◌}
 use Rattle.access_analysis.specs.Tables.{class_at_place}
-use Rattle.eval_bodies.specs.Codes.{sources}
+use Rattle.program_bodies.specs.Codes.{sources}
 use Rattle.std.proofs.Common.{Vec, Global}
 use Rattle.value_core.specs.declared.action.Class.{Class}
 use Rattle.access_estimates.proofs.program.checked_estimates.Goals as goal

@@ -1,4 +1,4 @@
-use Rattle.eval_bodies.specs.Codes.{sources}
+use Rattle.program_bodies.specs.Codes.{sources}
 use Rattle.estimate_rules.specs.Estimates.{estimates}
 use Rattle.access_estimates.proofs.Coded.{coded}
 use Rattle.access_estimates.proofs.Once.{known}

@@ -8,9 +8,9 @@ use Rattle.meaning_rules.specs.Programs.{is_process}
 use Rattle.estimate_rules.specs.Estimates.{process_estimates}
 use Rattle.estimate_rules.specs.Routines.{routine_of}
 use Rattle.access_estimates.specs.Resolved.{IsRoutine}
-use Rattle.eval_bodies.specs.Matching.{Both}
+use Rattle.program_bodies.specs.Matching.{Both}
 use Rattle.access_estimates.specs.Summaries.{by_table}
-use Rattle.eval_bodies.proofs.Matched.{got}
+use Rattle.program_bodies.proofs.Matched.{got}
 use Rattle.access_estimates.proofs.Listed.{item_there}
 use Rattle.access_estimates.proofs.Listing.{passed_flat}
 use Rattle.access_estimates.proofs.Rest.{appended, finished}

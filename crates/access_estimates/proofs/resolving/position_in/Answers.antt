@@ -1,7 +1,7 @@
 use Rattle.std.proofs.Common.{ℕ, Option, length, sym, ap, ◌∙◌}
 use Rattle.std.specs.Prelude.{bytes_eq, position, unwrap_or}
 use Rattle.std.proofs.lemmas.List.{length-map}
-use Rattle.eval_bodies.proofs.Placed.{place_or_all}
+use Rattle.program_bodies.proofs.Placed.{place_or_all}
 use Rattle.access_estimates.specs.Locals.{locals_seen, local_seen}
 use Rattle.access_estimates.proofs.resolving.position_in.Goals as goal
 

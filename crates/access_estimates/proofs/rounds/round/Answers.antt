@@ -1,7 +1,7 @@
 use Rattle.std.proofs.Common.{List, Option, map, subst, arith}
 use Rattle.std.proofs.lemmas.List.{take_all}
 use Rattle.access_estimates.specs.declared.routines.Routine.{Routine}
-use Rattle.eval_bodies.specs.Matching.{Match}
+use Rattle.program_bodies.specs.Matching.{Match}
 use Rattle.access_estimates.specs.Summaries.{IsNext, by_table}
 use Rattle.access_estimates.proofs.Matched.{match_map, match_next}
 use Rattle.access_estimates.proofs.Summed.{round_is}

@@ -1,5 +1,5 @@
 use Rattle.std.proofs.Common.{map, take}
-use Rattle.eval_bodies.specs.Matching.{Match}
+use Rattle.program_bodies.specs.Matching.{Match}
 use Rattle.access_estimates.specs.Summaries.{IsNext, by_table}
 use Rattle.access_estimates.proofs.rounds.round.Given as goal
 

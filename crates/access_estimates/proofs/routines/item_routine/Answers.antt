@@ -3,7 +3,7 @@ use Rattle.type_rules.specs.TopLevel as tops
 use Rattle.type_forms.specs.Seen.{what}
 use Rattle.estimate_rules.specs.Routines.{routine_in}
 use Rattle.access_estimates.specs.Resolved.{IsRoutine}
-use Rattle.eval_bodies.specs.Matching.{Both}
+use Rattle.program_bodies.specs.Matching.{Both}
 use Rattle.access_estimates.proofs.routines.item_routine.Goals as goal
 
 pub returns-in_ok-routine-in-Function : goal.returns-in_ok-routine-in-Function

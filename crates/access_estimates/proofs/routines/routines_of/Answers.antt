@@ -4,8 +4,8 @@ use Rattle.type_rules.specs.TopLevel.{TopName}
 use Rattle.type_forms.specs.Seen.{top}
 use Rattle.estimate_rules.specs.Routines.{routine_of}
 use Rattle.access_estimates.specs.Resolved.{IsRoutine}
-use Rattle.eval_bodies.specs.Matching.{Both, Match}
-use Rattle.eval_bodies.proofs.Matched.{match_more}
+use Rattle.program_bodies.specs.Matching.{Both, Match}
+use Rattle.program_bodies.proofs.Matched.{match_more}
 use Rattle.access_estimates.proofs.routines.routines_of.Goals as goal
 
 pub tops-preserved : goal.tops-preserved

@@ -4,7 +4,7 @@ use Rattle.type_forms.specs.Forms.{AreTyped}
 use Rattle.type_forms.specs.Seen.{top}
 use Rattle.estimate_rules.specs.Routines.{routine_of}
 use Rattle.access_estimates.specs.Resolved.{IsRoutine}
-use Rattle.eval_bodies.specs.Matching.{Both, Match}
+use Rattle.program_bodies.specs.Matching.{Both, Match}
 use Rattle.access_estimates.specs.Lookups.{AreLookups}
 use Rattle.access_estimates.proofs.routines.routines_of.Given as goal
 

@@ -1,7 +1,7 @@
 use Rattle.std.proofs.Common.{◌≡◌, List, ◌++◌, subst, ◌∙◌}
 use Rattle.std.specs.Prelude.{IfOk, OnErr}
 use Rattle.site_estimates.specs.declared.estimate.Estimate.{Estimate}
-use Rattle.eval_bodies.specs.Codes.{sources}
+use Rattle.program_bodies.specs.Codes.{sources}
 use Rattle.estimate_rules.specs.Estimates.{estimates}
 use Rattle.replica_choice.specs.Asking.{AsksFirst, choices_by, questions}
 use Rattle.replica_choice.specs.Printed.{choice_text}

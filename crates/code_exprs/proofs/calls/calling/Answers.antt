@@ -3,8 +3,8 @@ use Rattle.orca_syntax.specs.Shown.{exprs}
 use Rattle.meaning_rules.specs.Calls.{fresh_node, modes_of}
 use Rattle.code_rules.specs.Instructions.{AddNode, Call, DeleteNode, Shape}
 use Rattle.code_rules.specs.Phrases.{call_of, shapes_of}
-use Rattle.eval_bodies.specs.declared.callees.Callee.{Callee}
-use Rattle.eval_bodies.specs.Named.{callee_seen}
+use Rattle.program_bodies.specs.declared.callees.Callee.{Callee}
+use Rattle.program_bodies.specs.Named.{callee_seen}
 use Rattle.emitted_code.specs.declared.instr.Instr.{Instr as InstrTree}
 use Rattle.emitted_code.specs.Views.{instr_of, shape_of}
 use Rattle.code_exprs.proofs.Given.{on_if}

@@ -8,7 +8,7 @@ use Rattle.type_forms.proofs.Loops.{appended, rest_is}
 use Rattle.meaning_rules.specs.Calls.{first_mode, modes_of}
 use Rattle.code_rules.specs.Instructions.{Gives, Shape}
 use Rattle.code_rules.specs.Phrases.{by_mode, lending, shapes_of}
-use Rattle.eval_bodies.specs.Named.{callee_seen}
+use Rattle.program_bodies.specs.Named.{callee_seen}
 use Rattle.emitted_code.specs.Views.{shape_of}
 use Rattle.code_exprs.proofs.Rows.{drop_once}
 use Rattle.code_exprs.proofs.calls.shapes.Goals as goal

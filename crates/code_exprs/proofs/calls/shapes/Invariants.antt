@@ -4,7 +4,7 @@ use Rattle.type_rules.specs.Scopes.{Scope}
 use Rattle.meaning_rules.specs.Calls.{modes_of}
 use Rattle.code_rules.specs.Layouts.{Layout}
 use Rattle.code_rules.specs.Phrases.{shapes_of}
-use Rattle.eval_bodies.specs.Named.{callee_seen}
+use Rattle.program_bodies.specs.Named.{callee_seen}
 use Rattle.code_exprs.specs.CodeSites.{IsCodeSite}
 use Rattle.emitted_code.specs.Views.{shape_of}
 use Rattle.code_exprs.proofs.calls.shapes.Given as goal

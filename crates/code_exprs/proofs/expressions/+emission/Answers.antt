@@ -17,7 +17,7 @@ use Rattle.code_rules.specs.Instructions.{Instr, Mark, Least}
 use Rattle.code_rules.specs.Phrases as rules
 use Rattle.code_rules.specs.Pieces.{is_short, link_piece, one, seq}
 use Rattle.code_rules.specs.Phrases.{all_code, at_slot, by_mode, call_of, calling, expr_code, invoking, links_code, passed_code, path_code, reading, shapes_of, step_code, target_code}
-use Rattle.eval_bodies.specs.Named.{callee_seen}
+use Rattle.program_bodies.specs.Named.{callee_seen}
 use Rattle.emitted_code.specs.Appends.{Appends}
 use Rattle.emitted_code.specs.Views.{code_of, instr_of, marks_of}
 use Rattle.code_exprs.proofs.Pieces.{nothing, same, short_made, then, then_ok}

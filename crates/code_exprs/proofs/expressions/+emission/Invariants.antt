@@ -2,7 +2,7 @@ use Rattle.std.proofs.Common.{List, drop}
 use Rattle.orca_syntax.specs.Shown.{exprs, links, path}
 use Rattle.type_rules.specs.Scopes.{Scope}
 use Rattle.meaning_rules.specs.Calls.{modes_of}
-use Rattle.eval_bodies.specs.Named.{callee_seen}
+use Rattle.program_bodies.specs.Named.{callee_seen}
 use Rattle.code_rules.specs.Instructions.{Instr}
 use Rattle.code_rules.specs.Layouts.{Layout}
 use Rattle.code_rules.specs.Phrases.{all_code, links_code, passed_code, path_code}

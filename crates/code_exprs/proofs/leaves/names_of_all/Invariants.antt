@@ -2,7 +2,7 @@ use Rattle.std.proofs.Common.{◌≡◌, ◌++◌, drop}
 use Rattle.orca_syntax.specs.Shown.{exprs}
 use Rattle.type_rules.specs.Scopes.{Scope}
 use Rattle.code_rules.specs.Phrases.{all_names}
-use Rattle.eval_bodies.specs.Sites.{IsSite}
+use Rattle.program_bodies.specs.Sites.{IsSite}
 use Rattle.emitted_code.specs.Views.{texts_of}
 use Rattle.code_exprs.proofs.leaves.names_of_all.Given as goal
 

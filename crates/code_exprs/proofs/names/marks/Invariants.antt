@@ -3,8 +3,8 @@ use Rattle.std.specs.Prelude.{option_map}
 use Rattle.orca_syntax.specs.Shown.{path}
 use Rattle.type_rules.specs.Scopes.{Scope}
 use Rattle.code_rules.specs.Phrases as rules
-use Rattle.eval_tables.specs.Layers.{type_seen}
-use Rattle.eval_bodies.specs.Sites.{IsSite}
+use Rattle.program_tables.specs.Layers.{type_seen}
+use Rattle.program_bodies.specs.Sites.{IsSite}
 use Rattle.emitted_code.specs.Views.{marks_of}
 use Rattle.code_exprs.proofs.names.marks.Given as goal
 

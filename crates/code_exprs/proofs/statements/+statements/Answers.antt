@@ -10,7 +10,7 @@ use Rattle.orca_syntax.specs.Syntax.{Arm, Stmt}
 use Rattle.orca_syntax.proofs.ShownLaws.{for_is, if_is, otherwise_is, repeat_is, when_is, while_is}
 use Rattle.type_forms.proofs.Loops.{rest_is}
 use Rattle.type_rules.specs.Statements.{with_loop}
-use Rattle.eval_bodies.specs.Sites.{lent_texts}
+use Rattle.program_bodies.specs.Sites.{lent_texts}
 use Rattle.code_rules.specs.Instructions.{Instr, Count, Jump, Unless}
 use Rattle.code_rules.specs.Layouts.{free, inside}
 use Rattle.code_rules.specs.Pieces.{Piece, choice, loop_piece, one, repeat_piece, seq}

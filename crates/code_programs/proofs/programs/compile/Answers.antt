@@ -1,5 +1,5 @@
 use Rattle.std.proofs.Common.{◌∙◌, subst, sym}
-use Rattle.eval_bodies.specs.Codes.{sources}
+use Rattle.program_bodies.specs.Codes.{sources}
 use Rattle.code_rules.specs.Correct.{Means}
 use Rattle.code_rules.specs.Machine.{Code}
 use Rattle.stack_code.specs.Packed.{HasGreat}

@@ -1,6 +1,6 @@
 use Rattle.std.proofs.Math.Logic.{∥∥₁_elim}
-use Rattle.eval_bodies.proofs.Few.{few_values}
-use Rattle.eval_bodies.specs.Codes.{sources}
+use Rattle.program_bodies.proofs.Few.{few_values}
+use Rattle.program_bodies.specs.Codes.{sources}
 use Rattle.code_rules.specs.Program.{program_code}
 use Rattle.emitted_code.specs.Views.{program_seen}
 use Rattle.code_programs.proofs.Once.{shown_once}

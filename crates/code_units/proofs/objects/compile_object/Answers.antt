@@ -1,9 +1,9 @@
 use Rattle.std.proofs.Common.{List, ap, ◌∙◌, map, subst, sym}
 use Rattle.code_rules.specs.Machine as machine
 use Rattle.code_rules.specs.Bodies.{making_code}
-use Rattle.eval_bodies.specs.declared.objects.OperationCode.{OperationCode}
-use Rattle.eval_bodies.specs.Matching.{Match}
-use Rattle.eval_bodies.specs.Objects.{IsOperationCode}
+use Rattle.program_bodies.specs.declared.objects.OperationCode.{OperationCode}
+use Rattle.program_bodies.specs.Matching.{Match}
+use Rattle.program_bodies.specs.Objects.{IsOperationCode}
 use Rattle.emitted_code.specs.Views.{operation_seen}
 use Rattle.code_units.proofs.objects.compile_object.Goals as goal
 

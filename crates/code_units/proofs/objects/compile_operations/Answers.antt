@@ -1,7 +1,7 @@
 use Rattle.std.proofs.Common.{map, ap, ◌∙◌, arith}
 use Rattle.std.proofs.lemmas.List.{take_all}
 use Rattle.code_rules.specs.Bodies.{operation_code}
-use Rattle.eval_bodies.specs.Objects.{IsOperationCode}
+use Rattle.program_bodies.specs.Objects.{IsOperationCode}
 use Rattle.emitted_code.specs.Views.{operation_seen}
 use Rattle.code_units.proofs.Rows.{made_there, match_long, match_there}
 use Rattle.code_units.proofs.objects.compile_operations.Goals as goal

@@ -3,9 +3,9 @@ use Rattle.orca_syntax.specs.Syntax.{Operation}
 use Rattle.link_rules.specs.Units.{Source}
 use Rattle.meaning_rules.specs.Programs.{ObjectType}
 use Rattle.code_rules.specs.Bodies.{operation_code}
-use Rattle.eval_bodies.specs.Codes.{IsCode}
-use Rattle.eval_bodies.specs.Matching.{Match}
-use Rattle.eval_bodies.specs.Objects.{IsOperationCode}
+use Rattle.program_bodies.specs.Codes.{IsCode}
+use Rattle.program_bodies.specs.Matching.{Match}
+use Rattle.program_bodies.specs.Objects.{IsOperationCode}
 use Rattle.emitted_code.specs.Views.{operation_seen}
 use Rattle.code_units.proofs.objects.compile_operations.Given as goal
 

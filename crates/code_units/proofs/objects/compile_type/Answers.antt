@@ -4,8 +4,8 @@ use Rattle.std.specs.Borrow.{Bor}
 use Rattle.meaning_rules.specs.Programs.{specifications, specified}
 use Rattle.code_rules.specs.Machine as machine
 use Rattle.code_rules.specs.Program.{type_code}
-use Rattle.eval_bodies.specs.declared.objects.ObjectCode.{ObjectCode}
-use Rattle.eval_bodies.specs.Objects.{IsObjectCode}
+use Rattle.program_bodies.specs.declared.objects.ObjectCode.{ObjectCode}
+use Rattle.program_bodies.specs.Objects.{IsObjectCode}
 use Rattle.code_units.proofs.Found.{found_none, found_some, mapped_after}
 use Rattle.code_units.proofs.objects.compile_type.Goals as goal
 

@@ -1,8 +1,8 @@
 use Rattle.std.proofs.Common.{Option, Some, subst}
 use Rattle.std.specs.Borrow.{Bor}
-use Rattle.eval_bodies.specs.declared.blocks.BlockCode.{BlockCode}
-use Rattle.eval_bodies.specs.Blocks.{IsBlockCode, Routine}
-use Rattle.eval_bodies.specs.Matching.{Both}
+use Rattle.program_bodies.specs.declared.blocks.BlockCode.{BlockCode}
+use Rattle.program_bodies.specs.Blocks.{IsBlockCode, Routine}
+use Rattle.program_bodies.specs.Matching.{Both}
 use Rattle.code_units.proofs.processes.compile_known.Goals as goal
 
 abbrev goes : Option (Bor BlockCode) → Routine → Type 0

@@ -8,9 +8,9 @@ use Rattle.type_forms.specs.Seen.{top, what}
 use Rattle.meaning_rules.specs.Programs.{process_scope}
 use Rattle.code_rules.specs.Bodies.{block_body}
 use Rattle.code_rules.specs.Program.{process_in}
-use Rattle.eval_bodies.specs.declared.blocks.BlockCode.{BlockCode}
-use Rattle.eval_bodies.specs.Blocks.{IsBlockCode, Routine, process_in as routine_in, process_of}
-use Rattle.eval_bodies.specs.Matching.{Both}
+use Rattle.program_bodies.specs.declared.blocks.BlockCode.{BlockCode}
+use Rattle.program_bodies.specs.Blocks.{IsBlockCode, Routine, process_in as routine_in, process_of}
+use Rattle.program_bodies.specs.Matching.{Both}
 use Rattle.emitted_code.specs.Views.{body_seen}
 use Rattle.emitted_code.specs.declared.bodies.EmittedBody.{EmittedBody}
 use Rattle.code_units.proofs.Rows.{on_if}

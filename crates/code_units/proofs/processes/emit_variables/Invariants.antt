@@ -2,7 +2,7 @@ use Rattle.std.proofs.Common.{◌≡◌, ◌≤◌, ◌+◌, List, drop, map}
 use Rattle.type_rules.specs.Scopes.{Scope}
 use Rattle.code_rules.specs.Instructions.{Instr}
 use Rattle.code_rules.specs.Bodies.{variables_code}
-use Rattle.eval_bodies.specs.Codes.{IsCode}
+use Rattle.program_bodies.specs.Codes.{IsCode}
 use Rattle.emitted_code.specs.Appends.{Appends}
 use Rattle.emitted_code.specs.Views.{code_of}
 use Rattle.code_units.proofs.processes.emit_variables.Given as goal

@@ -3,7 +3,7 @@ use Rattle.std.specs.Prelude.{option_map}
 use Rattle.link_rules.specs.Units.{Source}
 use Rattle.type_rules.specs.TopLevel.{top_names}
 use Rattle.code_rules.specs.Program.{function_at}
-use Rattle.eval_bodies.specs.Codes.{IsCode}
+use Rattle.program_bodies.specs.Codes.{IsCode}
 use Rattle.emitted_code.specs.Views.{body_seen}
 use Rattle.code_units.proofs.program.compile_functions.Given as goal
 

@@ -4,8 +4,8 @@ use Rattle.type_forms.specs.declared.tops.Top.{Top}
 use Rattle.type_forms.specs.Seen.{top}
 use Rattle.meaning_rules.specs.Programs.{process_texts}
 use Rattle.code_rules.specs.Program.{process_at}
-use Rattle.eval_tables.specs.declared.tables.CodeTables.{CodeTables}
-use Rattle.eval_tables.specs.Tables.{IsTables}
+use Rattle.program_tables.specs.declared.tables.CodeTables.{CodeTables}
+use Rattle.program_tables.specs.Tables.{IsTables}
 use Rattle.emitted_code.specs.Views.{body_seen}
 use Rattle.code_units.proofs.Rows.{both_maps, made_next, seen_at}
 use Rattle.code_units.proofs.program.compile_processes.Goals as goal

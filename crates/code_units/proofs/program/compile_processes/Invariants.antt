@@ -2,7 +2,7 @@ use Rattle.std.proofs.Common.{◌≡◌, List, map, take}
 use Rattle.link_rules.specs.Units.{Source}
 use Rattle.type_forms.specs.Seen.{top}
 use Rattle.code_rules.specs.Program.{process_at}
-use Rattle.eval_bodies.specs.Codes.{IsCode}
+use Rattle.program_bodies.specs.Codes.{IsCode}
 use Rattle.emitted_code.specs.Views.{body_seen}
 use Rattle.code_units.proofs.program.compile_processes.Given as goal
 

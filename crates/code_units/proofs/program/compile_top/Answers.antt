@@ -4,9 +4,9 @@ use Rattle.std.specs.Borrow.{Bor}
 use Rattle.link_rules.specs.Units.{Source}
 use Rattle.type_rules.specs.TopLevel.{top_names}
 use Rattle.code_rules.specs.Machine as machine
-use Rattle.eval_bodies.specs.declared.blocks.BlockCode.{BlockCode}
-use Rattle.eval_bodies.specs.Codes.{IsCode}
-use Rattle.eval_bodies.specs.Blocks.{IsBlockCode, Routine, function_at as routine_at}
+use Rattle.program_bodies.specs.declared.blocks.BlockCode.{BlockCode}
+use Rattle.program_bodies.specs.Codes.{IsCode}
+use Rattle.program_bodies.specs.Blocks.{IsBlockCode, Routine, function_at as routine_at}
 use Rattle.code_units.proofs.Found.{found_none, found_some}
 use Rattle.code_units.proofs.Routines.{as_routine, routine_body, routine_program}
 use Rattle.code_units.proofs.program.compile_top.Goals as goal

@@ -3,7 +3,7 @@ use Rattle.std.specs.Prelude.{option_map}
 use Rattle.link_rules.specs.Units.{Source}
 use Rattle.meaning_rules.specs.Programs.{specifications}
 use Rattle.code_rules.specs.Program.{type_at}
-use Rattle.eval_bodies.specs.Codes.{IsCode}
+use Rattle.program_bodies.specs.Codes.{IsCode}
 use Rattle.emitted_code.specs.Views.{type_seen}
 use Rattle.code_units.proofs.program.compile_types.Given as goal
 

@@ -1,6 +1,6 @@
 use Rattle.std.proofs.Common.{subst, sym}
-use Rattle.eval_tables.specs.declared.tables.CodeTables.{CodeTables}
-use Rattle.eval_tables.specs.Tables.{IsTables}
+use Rattle.program_tables.specs.declared.tables.CodeTables.{CodeTables}
+use Rattle.program_tables.specs.Tables.{IsTables}
 use Rattle.code_units.proofs.program.main_of.Goals as goal
 
 pub returns : goal.returns

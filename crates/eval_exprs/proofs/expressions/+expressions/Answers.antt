@@ -27,8 +27,8 @@ use Rattle.meaning_rules.specs.Functions.{calls}
 use Rattle.meaning_rules.specs.Operators.{applied}
 use Rattle.meaning_rules.specs.Variables.{Target as RuleTarget}
 use Rattle.eval_variables.specs.Gives.{Fails, Gives, passed_of, path_of, state_of, step_of}
-use Rattle.eval_tables.specs.Layers.{type_seen}
-use Rattle.eval_bodies.specs.Named.{callee_seen}
+use Rattle.program_tables.specs.Layers.{type_seen}
+use Rattle.program_bodies.specs.Named.{callee_seen}
 use Rattle.eval_exprs.specs.Prefixes.{prefixed}
 use Rattle.eval_exprs.proofs.Rows.{drop_once, fails_first, fails_then, goes_first, goes_then, right_asked, value_given, row_ends, row_fails, row_goes, with_front}
 use Rattle.eval_exprs.proofs.expressions.+expressions.Goals as goal

@@ -7,9 +7,9 @@ use Rattle.meaning_rules.specs.Calls.{modes_of}
 use Rattle.meaning_rules.specs.Expressions.{eval_all, eval_links, eval_passed, eval_path}
 use Rattle.meaning_rules.specs.Functions.{calls}
 use Rattle.eval_variables.specs.Gives.{passed_of, path_of, state_of}
-use Rattle.eval_tables.specs.Layers.{type_seen}
-use Rattle.eval_bodies.specs.Named.{callee_seen}
-use Rattle.eval_bodies.specs.Sites.{IsSite}
+use Rattle.program_tables.specs.Layers.{type_seen}
+use Rattle.program_bodies.specs.Named.{callee_seen}
+use Rattle.program_bodies.specs.Sites.{IsSite}
 use Rattle.eval_exprs.proofs.Rows.{with_front}
 use Rattle.eval_exprs.proofs.expressions.+expressions.Given as goal
 

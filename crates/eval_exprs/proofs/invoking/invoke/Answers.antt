@@ -6,8 +6,8 @@ use Rattle.meaning_rules.specs.Calls.{Adds, Deletes, fresh_node, invoked}
 use Rattle.meaning_rules.specs.Functions.{calls}
 use Rattle.eval_variables.specs.declared.steps.Passed.{Passed}
 use Rattle.eval_variables.specs.Gives.{Gives, passed_of, state_of}
-use Rattle.eval_bodies.specs.declared.callees.Callee.{Callee}
-use Rattle.eval_bodies.specs.Named.{callee_seen}
+use Rattle.program_bodies.specs.declared.callees.Callee.{Callee}
+use Rattle.program_bodies.specs.Named.{callee_seen}
 use Rattle.eval_exprs.proofs.invoking.invoke.Goals as goal
 
 pub returns-in-Adds-clause-gives : goal.returns-in-Adds-clause-gives

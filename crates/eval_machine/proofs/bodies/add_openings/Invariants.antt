@@ -2,7 +2,7 @@ use Rattle.std.proofs.Common.{◌≡◌, ◌++◌, List, drop, map}
 use Rattle.link_rules.specs.Units.{Source}
 use Rattle.value_core.specs.Datum.{list_of}
 use Rattle.meaning_rules.specs.Openings.{opening}
-use Rattle.eval_bodies.specs.Codes.{IsCode}
+use Rattle.program_bodies.specs.Codes.{IsCode}
 use Rattle.eval_machine.proofs.bodies.add_openings.Given as goal
 
 -- what has opened, and what is left

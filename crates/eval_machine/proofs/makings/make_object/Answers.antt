@@ -5,9 +5,9 @@ use Rattle.value_core.specs.Datum.{data_of, data_of-list_of}
 use Rattle.value_core.specs.declared.meaning.Making.TheVariants as making
 use Rattle.meaning_rules.specs.Operations.{type_made}
 use Rattle.meaning_rules.specs.Programs.{ObjectType, object_type}
-use Rattle.eval_bodies.specs.declared.objects.ObjectCode.{ObjectCode}
-use Rattle.eval_bodies.specs.Matching.{Both}
-use Rattle.eval_bodies.specs.Objects.{IsObjectCode}
+use Rattle.program_bodies.specs.declared.objects.ObjectCode.{ObjectCode}
+use Rattle.program_bodies.specs.Matching.{Both}
+use Rattle.program_bodies.specs.Objects.{IsObjectCode}
 use Rattle.eval_machine.proofs.Texting.{nothing_there, something_there}
 use Rattle.eval_machine.proofs.makings.make_object.Goals as goal
 

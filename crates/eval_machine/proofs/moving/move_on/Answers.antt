@@ -3,10 +3,10 @@ use Rattle.std.specs.Borrow.{Bor}
 use Rattle.std.proofs.lemmas.Result.{IfOk-weaker}
 use Rattle.orca_base.specs.declared.ids.TextNo.{TextNo}
 use Rattle.link_rules.specs.Units.{Source}
-use Rattle.eval_bodies.specs.declared.blocks.BlockCode.{BlockCode}
-use Rattle.eval_bodies.specs.Blocks.{process_at}
-use Rattle.eval_bodies.specs.Codes.{IsCode}
-use Rattle.eval_bodies.specs.Matching.{Both}
+use Rattle.program_bodies.specs.declared.blocks.BlockCode.{BlockCode}
+use Rattle.program_bodies.specs.Blocks.{process_at}
+use Rattle.program_bodies.specs.Codes.{IsCode}
+use Rattle.program_bodies.specs.Matching.{Both}
 use Rattle.eval_machine.specs.Processes.{IsKept, IsMoved}
 use Rattle.eval_machine.proofs.Pointing.{kept_both, moved_both, moved_none}
 use Rattle.eval_machine.proofs.Texting.{IsLent, routine_there}

@@ -2,7 +2,7 @@ use Rattle.std.proofs.Common.{◌≡◌, ◌+◌, ◌≤◌, ◌<◌, ◌^◌, L
 use Rattle.link_rules.specs.Units.{Source}
 use Rattle.value_core.specs.Datum.{list_of}
 use Rattle.eval_variables.specs.Gives.{state_of}
-use Rattle.eval_bodies.specs.Codes.{IsCode}
+use Rattle.program_bodies.specs.Codes.{IsCode}
 use Rattle.eval_machine.specs.Routines.{values_made, with_front}
 use Rattle.eval_machine.proofs.texts.add_variables.Given as goal
 

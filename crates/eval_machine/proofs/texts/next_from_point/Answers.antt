@@ -4,7 +4,7 @@ use Rattle.value_core.specs.declared.action.Reply.{Reply}
 use Rattle.meaning_rules.specs.Loops.{Flow}
 use Rattle.meaning_rules.specs.Processes.{doing_of}
 use Rattle.meaning_rules.specs.States.{Out}
-use Rattle.eval_bodies.specs.Blocks.{process_at}
+use Rattle.program_bodies.specs.Blocks.{process_at}
 use Rattle.eval_points.specs.declared.place.Place.{Place}
 use Rattle.eval_machine.specs.Processes.{routine_left}
 use Rattle.eval_machine.proofs.texts.next_from_point.Goals as goal

@@ -4,10 +4,10 @@ use Rattle.link_rules.specs.Units.{Source}
 use Rattle.meaning_rules.specs.Loops.{Flow}
 use Rattle.meaning_rules.specs.States.{Out}
 use Rattle.eval_variables.specs.Gives.{state_of}
-use Rattle.eval_bodies.specs.declared.blocks.BlockCode.{BlockCode}
-use Rattle.eval_bodies.specs.Blocks.{Routine, process_at}
-use Rattle.eval_bodies.specs.Codes.{IsCode}
-use Rattle.eval_bodies.specs.Matching.{Both}
+use Rattle.program_bodies.specs.declared.blocks.BlockCode.{BlockCode}
+use Rattle.program_bodies.specs.Blocks.{Routine, process_at}
+use Rattle.program_bodies.specs.Codes.{IsCode}
+use Rattle.program_bodies.specs.Matching.{Both}
 use Rattle.eval_points.specs.Stepping.{IsResumed}
 use Rattle.eval_machine.specs.Processes.{routine_left}
 use Rattle.eval_machine.proofs.Texting.{IsLent, nothing_there, routine_there}

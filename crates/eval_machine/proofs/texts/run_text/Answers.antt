@@ -6,10 +6,10 @@ use Rattle.meaning_rules.specs.Loops.{Flow}
 use Rattle.meaning_rules.specs.Programs.{process_texts}
 use Rattle.meaning_rules.specs.States.{Out}
 use Rattle.eval_variables.specs.Gives.{Gives, state_of}
-use Rattle.eval_bodies.specs.declared.blocks.BlockCode.{BlockCode}
-use Rattle.eval_bodies.specs.Blocks.{Routine, process_at}
-use Rattle.eval_bodies.specs.Codes.{IsCode}
-use Rattle.eval_bodies.specs.Matching.{Both}
+use Rattle.program_bodies.specs.declared.blocks.BlockCode.{BlockCode}
+use Rattle.program_bodies.specs.Blocks.{Routine, process_at}
+use Rattle.program_bodies.specs.Codes.{IsCode}
+use Rattle.program_bodies.specs.Matching.{Both}
 use Rattle.eval_stmts.specs.Flows.{flow_of}
 use Rattle.eval_machine.specs.Routines.{routine_or_busy}
 use Rattle.eval_machine.proofs.Texting.{IsLent, by_routine, nothing_there, routine_there}

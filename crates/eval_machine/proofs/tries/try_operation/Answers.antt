@@ -7,9 +7,9 @@ use Rattle.value_core.specs.declared.meaning.Tried.{Tried}
 use Rattle.value_core.specs.declared.meaning.Tried.TheVariants as tried
 use Rattle.meaning_rules.specs.Operations.{type_tried}
 use Rattle.meaning_rules.specs.Programs.{ObjectType, object_type}
-use Rattle.eval_bodies.specs.declared.objects.ObjectCode.{ObjectCode}
-use Rattle.eval_bodies.specs.Matching.{Both}
-use Rattle.eval_bodies.specs.Objects.{IsObjectCode}
+use Rattle.program_bodies.specs.declared.objects.ObjectCode.{ObjectCode}
+use Rattle.program_bodies.specs.Matching.{Both}
+use Rattle.program_bodies.specs.Objects.{IsObjectCode}
 use Rattle.eval_machine.proofs.Attempting.{if_other, if_zero}
 use Rattle.eval_machine.proofs.Texting.{nothing_there, something_there}
 use Rattle.eval_machine.proofs.tries.try_operation.Goals as goal

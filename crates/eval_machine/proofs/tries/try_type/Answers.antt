@@ -3,8 +3,8 @@ use Rattle.std.specs.Prelude.{IfOk, option_map, slice_get}
 use Rattle.std.specs.Borrow.{Bor}
 use Rattle.meaning_rules.specs.Operations.{operation_tried}
 use Rattle.orca_syntax.specs.Syntax.{Operation}
-use Rattle.eval_bodies.specs.declared.objects.OperationCode.{OperationCode}
-use Rattle.eval_bodies.specs.Objects.{IsOperationCode}
+use Rattle.program_bodies.specs.declared.objects.OperationCode.{OperationCode}
+use Rattle.program_bodies.specs.Objects.{IsOperationCode}
 use Rattle.eval_machine.proofs.Numbered.{none_at, some_at}
 use Rattle.eval_machine.proofs.tries.try_type.Goals as goal
 

@@ -1,7 +1,7 @@
 use Rattle.std.proofs.Common.{◌≡◌, ◌+◌, ◌-◌, ◌≤◌, ◌∙◌, arith, subst, sym}
 use Rattle.value_core.specs.Goes.{Goes}
 use Rattle.value_core.specs.declared.processor.Halt.TheVariants as halt
-use Rattle.eval_bodies.specs.Codes.{sources}
+use Rattle.program_bodies.specs.Codes.{sources}
 use Rattle.eval_machine.specs.Processes.{IsLeftAt, StandsFor, doing_by}
 use Rattle.eval_machine.specs.declared.process.TreeProcess.{TreeProcess}
 use Rattle.eval_machine.proofs.Turning.{came_to, kept_none, left_at, went_on}

@@ -1,5 +1,5 @@
 use Rattle.std.proofs.Math.Logic.{∥∥₁_elim}
-use Rattle.eval_bodies.specs.Codes.{sources}
+use Rattle.program_bodies.specs.Codes.{sources}
 use Rattle.eval_machine.specs.MachineLaws.{numbers_of}
 use Rattle.eval_machine.proofs.Once.{moved_once}
 use Rattle.eval_machine.proofs.turns.moved.Goals as goal

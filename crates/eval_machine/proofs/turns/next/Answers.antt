@@ -1,5 +1,5 @@
 use Rattle.std.proofs.Math.Logic.{∥∥₁_elim}
-use Rattle.eval_bodies.specs.Codes.{sources}
+use Rattle.program_bodies.specs.Codes.{sources}
 use Rattle.eval_machine.specs.MachineLaws.{numbers_of}
 use Rattle.eval_machine.specs.Processes.{doing_here}
 use Rattle.eval_machine.specs.declared.texts.Next.{Next}

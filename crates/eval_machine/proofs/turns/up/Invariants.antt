@@ -1,6 +1,6 @@
 use Rattle.std.proofs.Common.{◌≡◌, ◌⊎◌, ◌≤◌, ◌-◌}
 use Rattle.value_core.specs.declared.meaning.Doing.TheVariants as doing
-use Rattle.eval_bodies.specs.Codes.{sources}
+use Rattle.program_bodies.specs.Codes.{sources}
 use Rattle.eval_machine.specs.Processes.{doing_here}
 use Rattle.eval_machine.proofs.turns.up.Given as goal
 

@@ -3,7 +3,7 @@ use Rattle.orca_base.specs.declared.place.Place.{Place}
 use Rattle.orca_syntax.specs.Syntax.{Stmts}
 use Rattle.type_rules.specs.Scopes.{Scope}
 use Rattle.eval_variables.specs.Gives.{state_of}
-use Rattle.eval_bodies.specs.Sites.{IsSite}
+use Rattle.program_bodies.specs.Sites.{IsSite}
 use Rattle.eval_points.specs.Moves.{Steps}
 use Rattle.eval_points.proofs.Begun.{arms_on, if_all}
 use Rattle.eval_points.proofs.begins.begin_if.Given as goal

@@ -3,7 +3,7 @@ use Rattle.std.specs.Prelude.{option_and_then}
 use Rattle.std.specs.Borrow.{Bor}
 use Rattle.std.proofs.lemmas.List.{append_assoc, take_all}
 use Rattle.orca_syntax.specs.Shown.{stmts}
-use Rattle.eval_bodies.specs.Sites.{lent_texts}
+use Rattle.program_bodies.specs.Sites.{lent_texts}
 use Rattle.eval_points.specs.Leads.{LeadsTo, in_loops, inside_of}
 use Rattle.eval_points.specs.Places.{first_of, inside, left, scope_of, stmts_from}
 use Rattle.eval_points.specs.declared.place.Level.{Level}

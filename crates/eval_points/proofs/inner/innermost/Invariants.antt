@@ -2,7 +2,7 @@ use Rattle.std.proofs.Common.{take}
 use Rattle.orca_syntax.specs.Shown.{stmts}
 use Rattle.type_rules.specs.Scopes.{Scope}
 use Rattle.meaning_rules.specs.Calls.{Calls}
-use Rattle.eval_bodies.specs.Sites.{lent_texts}
+use Rattle.program_bodies.specs.Sites.{lent_texts}
 use Rattle.eval_points.specs.Leads.{LeadsTo, in_loops}
 use Rattle.eval_points.proofs.inner.innermost.Given as goal
 

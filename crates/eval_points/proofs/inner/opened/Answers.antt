@@ -1,7 +1,7 @@
 use Rattle.std.proofs.Common.{◌≡◌, ◌∷◌, ℕ, List, Vec, Global, sym, ap, ◌∙◌}
 use Rattle.std.specs.Borrow.{Bor}
 use Rattle.std.proofs.lemmas.Result.{IfOk-weaker}
-use Rattle.eval_bodies.specs.Sites.{lent_texts}
+use Rattle.program_bodies.specs.Sites.{lent_texts}
 use Rattle.eval_points.specs.Leads.{in_loops, inside_of}
 use Rattle.eval_points.specs.Places.{scope_of}
 use Rattle.eval_points.specs.declared.inner.Inside.{Inside}

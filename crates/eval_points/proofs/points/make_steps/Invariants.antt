@@ -1,8 +1,8 @@
 use Rattle.std.proofs.Common.{◌≡◌, ◌≤◌}
 use Rattle.std.specs.Prelude.{false}
 use Rattle.eval_variables.specs.Gives.{state_of}
-use Rattle.eval_bodies.specs.Blocks.{IsBlockCode, Routine}
-use Rattle.eval_bodies.specs.Codes.{IsCode}
+use Rattle.program_bodies.specs.Blocks.{IsBlockCode, Routine}
+use Rattle.program_bodies.specs.Codes.{IsCode}
 use Rattle.eval_points.specs.Advances.{left_at}
 use Rattle.eval_points.specs.Moves.{Steps}
 use Rattle.eval_points.proofs.points.make_steps.Given as goal

@@ -10,7 +10,7 @@ use Rattle.meaning_rules.specs.Functions.{calls}
 use Rattle.meaning_rules.specs.States.{Goes}
 use Rattle.meaning_rules.specs.Statements.{run_all}
 use Rattle.eval_variables.specs.Gives.{Fails, state_of}
-use Rattle.eval_bodies.specs.Sites.{IsSite, lent_texts}
+use Rattle.program_bodies.specs.Sites.{IsSite, lent_texts}
 use Rattle.eval_stmts.specs.Flows.{flow_of}
 use Rattle.eval_stmts.specs.declared.flow.Flow.{Flow as FlowCode}
 use Rattle.eval_points.specs.Fronts.{front_of}

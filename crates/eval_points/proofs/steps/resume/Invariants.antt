@@ -2,8 +2,8 @@ use Rattle.std.proofs.Common.{◌≡◌, ◌≤◌, ◌+◌, length}
 use Rattle.std.specs.Prelude.{false}
 use Rattle.meaning_rules.specs.Functions.{calls}
 use Rattle.eval_variables.specs.Gives.{state_of}
-use Rattle.eval_bodies.specs.Blocks.{IsBlockCode, Routine}
-use Rattle.eval_bodies.specs.Codes.{IsCode}
+use Rattle.program_bodies.specs.Blocks.{IsBlockCode, Routine}
+use Rattle.program_bodies.specs.Codes.{IsCode}
 use Rattle.eval_points.specs.Places.{left as left_rule}
 use Rattle.eval_points.proofs.steps.resume.Given as goal
 

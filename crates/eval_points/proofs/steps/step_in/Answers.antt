@@ -7,7 +7,7 @@ use Rattle.orca_syntax.specs.Syntax.{Stmts}
 use Rattle.meaning_rules.specs.Functions.{calls}
 use Rattle.eval_variables.specs.Gives.{Fails, state_of}
 use Rattle.std.specs.Borrow.{Bor}
-use Rattle.eval_bodies.specs.Sites.{IsSite, lent_texts}
+use Rattle.program_bodies.specs.Sites.{IsSite, lent_texts}
 use Rattle.eval_points.specs.Fronts.{front_of}
 use Rattle.eval_points.specs.Leads.{in_loops, inside_of}
 use Rattle.eval_points.specs.Places.{body_of, first_of, inside, left, scope_of, stmts_from}

@@ -18,7 +18,7 @@ use Rattle.meaning_rules.specs.Loops.{Flow, On}
 use Rattle.meaning_rules.specs.States.{Goes, Out, State, after}
 use Rattle.meaning_rules.specs.Variables.{Target, put, target}
 use Rattle.eval_variables.specs.Gives.{Fails, path_of, state_of}
-use Rattle.eval_tables.specs.Layers.{type_seen}
+use Rattle.program_tables.specs.Layers.{type_seen}
 use Rattle.eval_stmts.proofs.Rows.{fails_then}
 use Rattle.eval_stmts.proofs.changes.insert.Goals as goal
 

@@ -3,7 +3,7 @@ use Rattle.link_rules.specs.Units.{Source}
 use Rattle.value_core.specs.Datum.{list_of}
 use Rattle.eval_variables.specs.Gives.{passed_of}
 use Rattle.eval_variables.specs.Lent.{AreLentAlike}
-use Rattle.eval_bodies.specs.Codes.{IsCode}
+use Rattle.program_bodies.specs.Codes.{IsCode}
 use Rattle.eval_stmts.specs.Frames.{variables_of}
 use Rattle.eval_stmts.proofs.frames.variables.Given as goal
 

@@ -6,10 +6,10 @@ use Rattle.value_core.specs.View.{datum_of}
 use Rattle.meaning_rules.specs.Functions.{calls}
 use Rattle.eval_variables.specs.declared.steps.Passed.{Passed}
 use Rattle.eval_variables.specs.Gives.{Gives, passed_of, state_of}
-use Rattle.eval_bodies.specs.declared.blocks.BlockCode.{BlockCode}
-use Rattle.eval_bodies.specs.Blocks.{function_at}
-use Rattle.eval_bodies.specs.Codes.{IsCode}
-use Rattle.eval_bodies.specs.Matching.{Both}
+use Rattle.program_bodies.specs.declared.blocks.BlockCode.{BlockCode}
+use Rattle.program_bodies.specs.Blocks.{function_at}
+use Rattle.program_bodies.specs.Codes.{IsCode}
+use Rattle.program_bodies.specs.Matching.{Both}
 use Rattle.eval_stmts.specs.Routines.{routine_run}
 use Rattle.eval_stmts.proofs.Routines.{IsLent, enters_none, enters_routine, routine_there}
 use Rattle.eval_stmts.proofs.levels.enter.Goals as goal

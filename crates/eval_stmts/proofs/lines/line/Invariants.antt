@@ -4,7 +4,7 @@ use Rattle.orca_syntax.specs.Shown.{exprs}
 use Rattle.type_rules.specs.Scopes.{Scope}
 use Rattle.value_core.specs.View.{datum_of}
 use Rattle.meaning_rules.specs.Statements.{line_of, texts_of}
-use Rattle.eval_bodies.specs.Sites.{IsSite}
+use Rattle.program_bodies.specs.Sites.{IsSite}
 use Rattle.eval_stmts.proofs.lines.line.Given as goal
 
 abbrev pub invariant-given : goal.invariant-given

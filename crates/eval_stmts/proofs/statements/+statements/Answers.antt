@@ -24,7 +24,7 @@ use Rattle.meaning_rules.specs.Expressions.{eval}
 use Rattle.meaning_rules.specs.Loops.{Again, Flow, On, Over, Round, between, count, rounds, counted_round, ended, go_on, otherwise, round_if, taken_if, until, when, while_round, until_round, with_name, without_name}
 use Rattle.meaning_rules.specs.Operators.{integer_in, truth_in}
 use Rattle.type_rules.specs.Statements.{with_loop}
-use Rattle.eval_bodies.specs.Sites.{lent_texts}
+use Rattle.program_bodies.specs.Sites.{lent_texts}
 use Rattle.meaning_rules.specs.States.{Goes, Out, State, after, turn}
 use Rattle.meaning_rules.specs.Statements.{call_operation, fork_process, write_line, run as run_rule, run_all, run_arm, run_arms}
 use Rattle.eval_variables.specs.Gives.{Fails, Gives, state_of}

@@ -6,7 +6,7 @@ use Rattle.meaning_rules.specs.Functions.{calls}
 use Rattle.meaning_rules.specs.Loops.{count, loop, rounds}
 use Rattle.meaning_rules.specs.Statements.{run_all, run_arms}
 use Rattle.eval_variables.specs.Gives.{state_of}
-use Rattle.eval_bodies.specs.Sites.{IsSite}
+use Rattle.program_bodies.specs.Sites.{IsSite}
 use Rattle.eval_stmts.specs.Flows.{round_by}
 use Rattle.eval_stmts.proofs.statements.+statements.Given as goal
 

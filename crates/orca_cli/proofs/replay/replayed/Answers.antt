@@ -1,7 +1,7 @@
 use Rattle.std.proofs.Common.{ap, map, subst, sym}
 use Rattle.accepted_law.specs.Limits.{IsWithinLimits}
 use Rattle.orca_front.specs.Sources.{IsAccepted, file_of}
-use Rattle.eval_bodies.specs.Codes.{sources}
+use Rattle.program_bodies.specs.Codes.{sources}
 use Rattle.meaning_rules.specs.Meanings.{computes_of, performs_of}
 use Rattle.orca_cli.proofs.replay.replayed.Goals as goal
 

@@ -1,6 +1,6 @@
 use Rattle.std.proofs.Common.{List, ap, length, map, subst, sym}
 use Rattle.accepted_law.specs.Limits.{IsWithinLimits}
-use Rattle.eval_bodies.specs.Codes.{sources}
+use Rattle.program_bodies.specs.Codes.{sources}
 use Rattle.link_rules.specs.Units.{Source}
 use Rattle.meaning_rules.specs.Meanings.{computes_of, performs_of}
 use Rattle.program_names.specs.Naming.{AreNamesOf, CallsNamed, HistoriesNamed}

@@ -1,6 +1,6 @@
 use Rattle.std.proofs.Common.{ℕ, suc, List, ◌∷◌, ◌++◌, map, sym, ap, ◌∙◌}
 use Rattle.type_rules.specs.Scopes.{Local}
-use Rattle.eval_bodies.specs.Codes.{loop_local}
+use Rattle.program_bodies.specs.Codes.{loop_local}
 use Rattle.code_exprs.proofs.Slots.{one_longer}
 use Rattle.code_exprs.proofs.code_site.CodeSite.in_loops.Goals as goal
 

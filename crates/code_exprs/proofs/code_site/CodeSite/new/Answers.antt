@@ -1,8 +1,8 @@
 use Rattle.std.proofs.Common.{ℕ, ◌+◌, length, subst, sym, ap, ◌∙◌}
-use Rattle.eval_bodies.specs.declared.bodies.Body.{Body}
-use Rattle.eval_bodies.specs.declared.code.Code.{Code}
-use Rattle.eval_bodies.specs.Bodies.{IsBody}
-use Rattle.eval_bodies.specs.Codes.{IsCode}
+use Rattle.program_bodies.specs.declared.bodies.Body.{Body}
+use Rattle.program_bodies.specs.declared.code.Code.{Code}
+use Rattle.program_bodies.specs.Bodies.{IsBody}
+use Rattle.program_bodies.specs.Codes.{IsCode}
 use Rattle.code_exprs.proofs.Slots.{body_site}
 use Rattle.code_exprs.proofs.code_site.CodeSite.new.Goals as goal
 

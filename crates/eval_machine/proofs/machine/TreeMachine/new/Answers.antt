@@ -2,7 +2,7 @@ use Rattle.std.proofs.Common.{subst, sym}
 use Rattle.std.proofs.Math.Logic.{∥∥₁_map}
 use Rattle.type_decls.specs.declared.checked.Checked.{Checked}
 use Rattle.accepted_law.specs.Limits.{IsWithinLimits}
-use Rattle.eval_bodies.specs.Codes.{IsCode, sources}
+use Rattle.program_bodies.specs.Codes.{IsCode, sources}
 use Rattle.eval_machine.specs.MachineLaws.{coded, few}
 use Rattle.eval_machine.proofs.machine.TreeMachine.new.Goals as goal
 

@@ -1,7 +1,7 @@
 use Rattle.std.proofs.Common.{◌∙◌, ap}
 use Rattle.type_decls.specs.declared.checked.Checked.{Checked}
 use Rattle.meaning_rules.specs.Classes.{class_of}
-use Rattle.eval_bodies.specs.Codes.{sources}
+use Rattle.program_bodies.specs.Codes.{sources}
 use Rattle.eval_machine.proofs.performing.TreeMachinePerformer.class.Goals as goal
 
 pub returns : goal.returns

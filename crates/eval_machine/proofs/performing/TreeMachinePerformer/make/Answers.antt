@@ -1,6 +1,6 @@
 use Rattle.std.proofs.Math.Logic.{∥∥₁_elim}
 use Rattle.meaning_rules.specs.Operations.{making_of}
-use Rattle.eval_bodies.specs.Codes.{sources}
+use Rattle.program_bodies.specs.Codes.{sources}
 use Rattle.eval_machine.proofs.Once.{making_once}
 use Rattle.eval_machine.proofs.performing.TreeMachinePerformer.make.Goals as goal
 

@@ -1,6 +1,6 @@
 use Rattle.std.proofs.Math.Logic.{∥∥₁_elim}
 use Rattle.meaning_rules.specs.Operations.{tries_of}
-use Rattle.eval_bodies.specs.Codes.{sources}
+use Rattle.program_bodies.specs.Codes.{sources}
 use Rattle.eval_machine.specs.MachineLaws.{numbers_of, sound}
 use Rattle.eval_machine.proofs.Once.{tried_once}
 use Rattle.eval_machine.proofs.performing.TreeMachinePerformer.try_op.Goals as goal

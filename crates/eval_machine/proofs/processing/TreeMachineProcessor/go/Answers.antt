@@ -1,4 +1,4 @@
-use Rattle.eval_bodies.specs.Codes.{sources}
+use Rattle.program_bodies.specs.Codes.{sources}
 use Rattle.eval_machine.proofs.Turning.{for_all}
 use Rattle.eval_machine.proofs.processing.TreeMachineProcessor.go.Goals as goal
 

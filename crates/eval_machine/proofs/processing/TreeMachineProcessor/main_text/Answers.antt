@@ -1,9 +1,9 @@
 use Rattle.std.proofs.Common.{sym, subst}
 use Rattle.std.proofs.Math.Logic.{∥∥₁_elim}
 use Rattle.meaning_rules.specs.Programs.{main_text}
-use Rattle.eval_tables.specs.Tables.{IsTables}
-use Rattle.eval_tables.specs.declared.tables.CodeTables.{CodeTables}
-use Rattle.eval_bodies.specs.Codes.{sources}
+use Rattle.program_tables.specs.Tables.{IsTables}
+use Rattle.program_tables.specs.declared.tables.CodeTables.{CodeTables}
+use Rattle.program_bodies.specs.Codes.{sources}
 use Rattle.eval_machine.proofs.Once.{text_once}
 use Rattle.eval_machine.proofs.processing.TreeMachineProcessor.main_text.Goals as goal
 

@@ -1,5 +1,5 @@
 use Rattle.std.proofs.Common.{sym, subst}
-use Rattle.eval_bodies.specs.Codes.{sources}
+use Rattle.program_bodies.specs.Codes.{sources}
 use Rattle.eval_machine.specs.Processes.{StandsFor, Told}
 use Rattle.eval_machine.specs.declared.process.TreeProcess.{TreeProcess}
 use Rattle.eval_machine.proofs.Turning.{one_more, receives}

@@ -1,6 +1,6 @@
 use Rattle.std.proofs.Common.{◌≡◌, subst, sym}
 use Rattle.std.proofs.lemmas.Result.{IfOk-weaker}
-use Rattle.eval_bodies.specs.Codes.{sources}
+use Rattle.program_bodies.specs.Codes.{sources}
 use Rattle.eval_machine.specs.Processes.{StandsFor}
 use Rattle.eval_machine.specs.declared.process.TreeProcess.{TreeProcess}
 use Rattle.eval_machine.proofs.Turning.{stands_first, started, told_first}

@@ -1,5 +1,0 @@
-use Rattle.std.proofs.Common.{length}
-use Rattle.eval_tables.proofs.openings.+in_arrays.Given as goal
-
-abbrev pub decreases-in_arrays : goal.decreases-in_arrays
-decreases-in_arrays l = length l.layers.now

@@ -1,7 +1,0 @@
-use Rattle.std.proofs.Common.{List, sym, subst}
-use Rattle.eval_tables.specs.declared.records.Record.{Record}
-use Rattle.eval_tables.specs.Listed.{HaveTypes}
-use Rattle.eval_tables.proofs.tables.CodeTables.opening.Goals as goal
-
-pub returns : goal.returns
-returns c = λ us t. c.opening.ensures us (subst (λ (l : List Record). HaveTypes us l) (sym c.deref.ensures.value) t.fields)
