@@ -158,8 +158,8 @@ fn checked_estimates(alloc: Global, checked: &Checked<'_>) -> Result<Vec<Estimat
 }
 
 /// The estimates of a checked program's sites, in the order of its texts (docs/RUNTIME.md, Choice of copies). It is asked that the program
-/// keeps within the limits, so that its numbers fit their types: `within_limits` of program_limits says so. The only error is want of memory.
-/// No clause says so, but each body is gone through once, and each round through its uses of objects alone.
+/// keeps within the limits, so that its numbers fit their types: `within_limits` of program_limits says so. The only error is want of
+/// memory. No clause says so, but each body is gone through once, and each round through its uses of objects alone.
 pub fn estimates(alloc: Global, checked: &Checked<'_>) -> Result<Vec<Estimate>, NoMemory>
     requires within { IsWithinLimits (sources checked.now) }
     ensures { IfOk result (λ v. v.items ≡ rules.estimates (sources checked.now)) }

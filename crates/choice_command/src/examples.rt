@@ -6,9 +6,9 @@ ghost use Rattle.estimate_rules.specs.Examples.{made_42, two_producers};
 ghost use Rattle.replica_choice.specs.Asking.{always_replicated, by_cost, by_list};
 ghost use Rattle.choice_command.specs.Lines.{choice_lines};
 
-/// What is printed, where what costs less is chosen, of the program that `make --source 42` prints, on three members and on five, and of two
-/// producers that fill a pool, on three; and of the first, where all is replicated, and where the one answer is that the first object has a
-/// single copy.
+/// What is printed, where what costs less is chosen, of the program that `make --source 42` prints, on three members and on five, and of
+/// two producers that fill a pool, on three; and of the first, where all is replicated, and where the one answer is that the first object
+/// has a single copy.
 pub fn line_examples()
     ensures three { choice_lines by_cost 3 [] made_42 ≡
         codes "OrcaMain T reads 101 writes 100 replicated" ++ 10 ∷ (codes "OrcaMain P reads 0 writes 20 single" ++ 10 ∷ []) }

@@ -33,9 +33,9 @@ fn asked_lines<P: Policy>(
     choice_text(alloc, sites, &choices)
 }
 
-/// What `choice` prints of a checked program (docs/FORMATS.md, Choices): a line for each site, with its estimate, and where the policy keeps
-/// its object among so many members. The policy is asked about each site once, in their order, and keeps its rule. The only error is want
-/// of memory: then it was asked about the first sites alone, if about any. The program keeps within the limits, as `within_limits` of
+/// What `choice` prints of a checked program (docs/FORMATS.md, Choices): a line for each site, with its estimate, and where the policy
+/// keeps its object among so many members. The policy is asked about each site once, in their order, and keeps its rule. The only error is
+/// want of memory: then it was asked about the first sites alone, if about any. The program keeps within the limits, as `within_limits` of
 /// program_limits says.
 pub fn choice_lines<P: Policy>(
     alloc: Global,

@@ -5,7 +5,8 @@
 //! and its answer alone; its rule says what it answers, and stays. A box of a policy is one, with the same rule. Of the three policies
 //! here each rule is known: `CostPolicy` answers by the costs (`by_cost` of specs/), `AlwaysReplicated` as it is named, `Fixed` by its
 //! list. The main clause is `choose_all`'s: each site is asked about once, in order, and the choices are the policy's rule's.
-//! `choose_by_cost` gives what costs less, by a box of a new `CostPolicy`, and `choice_text` has a line for each site. `choice_examples` computes both.
+//! `choose_by_cost` gives what costs less, by a box of a new `CostPolicy`, and `choice_text` has a line for each site. `choice_examples`
+//! computes both.
 //!
 //! It stands on `site_estimates`, and knows nothing of programs and members: where a single copy stands, and how it is called, isn't said.
 #![tactic(auto)]

@@ -1,5 +1,5 @@
--- In an idle stretch, behind a tick: of each process that asks the owner of an object elsewhere, its Ask or Answer is on its way or held, or its
--- call waits at the owner.
+-- In an idle stretch, behind a tick: of each process that asks the owner of an object elsewhere, its Ask or Answer is on its way or held,
+-- or its call waits at the owner.
 use Rattle.std.proofs.Common.{◌≡◌, ◌⊎◌, inl, inr, ⊎_elim, ℕ, Bool, true, false, cond, Some, List, [], ◌∷◌, ◌++◌, length, refl, sym, ap, ◌∙◌, arith, subst}
 use Rattle.std.specs.List.{find}
 use Rattle.net_rules.specs.declared.fate.Fate.{Fate}

@@ -1,10 +1,10 @@
 //! Idle stretches of a run, the world's half: after faults have ended, only so many ticks pass in a row without progress (docs/EVENTS.md).
 //!
-//! A fault is a crash, a suspicion, an exchange of the wire, or a packet whose fate is neither Pass nor a Hold for no ticks. Behind the last
-//! fault of a run, and behind the ticks for which packets are then still held, an idle stretch is a list of steps none of which changes
-//! the promised, installed, accepted or applied number of any member. How many stretches follow, so how long a run takes to end, isn't
-//! bounded. It is of lawful programs, with single objects and without. It has no code: its functions are laws, whose bodies are empty or
-//! call the laws below.
+//! A fault is a crash, a suspicion, an exchange of the wire, or a packet whose fate is neither Pass nor a Hold for no ticks. Behind the
+//! last fault of a run, and behind the ticks for which packets are then still held, an idle stretch is a list of steps none of which
+//! changes the promised, installed, accepted or applied number of any member. How many stretches follow, so how long a run takes to end,
+//! isn't bounded. It is of lawful programs, with single objects and without. It has no code: its functions are laws, whose bodies are empty
+//! or call the laws below.
 #![tactic(auto)]
 
 ghost use Rattle.world_idle.specs.Counting.{IdleTicksAreCounted};
@@ -39,9 +39,9 @@ pub fn stretches_are_short<P: Processor>(machine: &P)
     idle_stretches_are_short::<Message>();
 }
 
-/// The ticks that a world counts as idle are those at the end of the run that leads to it, since the last step in which a process computed, a
-/// member applied an entry or installed an incarnation, or an operation was performed beside the list of entries. A call of this function does
-/// nothing.
+/// The ticks that a world counts as idle are those at the end of the run that leads to it, since the last step in which a process computed,
+/// a member applied an entry or installed an incarnation, or an operation was performed beside the list of entries. A call of this function
+/// does nothing.
 pub fn idle_ticks_are_counted()
     ensures { IdleTicksAreCounted }
 {}

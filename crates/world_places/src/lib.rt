@@ -2,7 +2,8 @@
 //!
 //! Each line of a run's book was performed at a place: at an entry of the list, as a read on copies that had applied so many entries, or
 //! on a single copy whose owner had applied so many. `places` of `world_rules` gives them; here stands what is so of them in every run,
-//! how what is kept of a run tells them, and the text that `--explain` is to print. It has no code: its functions are laws, whose bodies are empty or call the laws below.
+//! how what is kept of a run tells them, and the text that `--explain` is to print. It has no code: its functions are laws, whose bodies
+//! are empty or call the laws below.
 #![tactic(auto)]
 
 ghost use Rattle.world_places.specs.Explained.{PlacesAreOne, PlacesNeverFall, RunsHavePlaces, StepsPerform};
