@@ -1,17 +1,16 @@
 -- Lengths of pieces, and of what is spelled.
-use Rattle.std.proofs.Common.{◌≡◌, ◌≤◌, Bool, true, false, ℕ, zero, suc, ◌+◌, List, [], ◌∷◌, ◌++◌, length, refl, ap, ◌∙◌, arith, length-append}
+use Rattle.std.proofs.Common.{◌≡◌, ◌≤◌, Bool, true, false, ℕ, suc, ◌+◌, List, [], ◌∷◌, ◌++◌, length, refl, ap, ◌∙◌, arith, length-append}
 use Rattle.orca_lexer.specs.declared.token.TokenKind.{TokenKind}
 use Rattle.orca_tree.specs.declared.tree.Mode.{Mode}
 use Rattle.orca_tree.specs.declared.tree.Mode.TheVariants as mode
 use Rattle.orca_tree.specs.declared.tree.Operator.{Operator}
-use Rattle.orca_tree.specs.declared.tree.Operator.TheVariants as op
 use Rattle.orca_grammar.specs.Forms.{End, spelled}
 use Rattle.orca_grammar.proofs.Placed.{spelled_append}
 use Rattle.orca_syntax.specs.Forest.{Forest, none, token, group, flat}
-use Rattle.code_rules.specs.Instructions.{Instr, Jump, Turn, Unless, Count, Upto, Guard, Apply}
+use Rattle.code_rules.specs.Instructions.{Jump, Unless, Upto, Guard, Apply}
 use Rattle.code_rules.specs.Pieces.{Piece, seq, link_piece, choice, guard_piece, while_piece, repeat_piece, loop_piece}
 use Rattle.code_rules.specs.Phrases.{by_mode}
-use Rattle.code_lengths.specs.Tokens.{tokens}
+use Rattle.code_lengths.proofs.Tokens.{tokens}
 
 -- the tokens of a forest are those that it spells
 pub tokens_are : (f : Forest) → length (spelled (flat f)) ≡ tokens f

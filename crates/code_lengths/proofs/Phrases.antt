@@ -1,9 +1,9 @@
 -- Code is no longer than its text: each phrase gets at most an instruction for each of its tokens.
-use Rattle.std.proofs.Common.{◌≡◌, ◌≤◌, ℕ, zero, suc, ◌+◌, List, [], ◌∷◌, ◌++◌, length, drop, Option, Some, None, refl, arith, length-append}
+use Rattle.std.proofs.Common.{◌≡◌, ◌≤◌, ℕ, suc, ◌+◌, List, ◌∷◌, ◌++◌, length, drop, Option, Some, None, arith, length-append}
 use Rattle.orca_tree.specs.declared.tree.Mode.{Mode}
 use Rattle.orca_tree.specs.declared.tree.Name.{Name}
-use Rattle.orca_syntax.specs.Forest.{Forest, none, token, group}
-use Rattle.orca_syntax.specs.Derivation.{operand, links, step, path, exprs, more_exprs, level, word, value, on_value, pair, if_any, stmt_inside, stmts, arms, more_arms, arm, arm_word}
+use Rattle.orca_syntax.specs.Forest.{Forest, none, group}
+use Rattle.orca_syntax.specs.Derivation.{operand, links, step, path, exprs, more_exprs, level, word, value, on_value, pair, if_any, stmt_inside, stmts, arms, more_arms, arm}
 use Rattle.orca_grammar.specs.Forms.{Chain as ChainOf}
 use Rattle.orca_lexer.specs.declared.token.Keyword.TheVariants.{KeyFi, KeyOd, KeyUntil}
 use Rattle.orca_lexer.specs.declared.token.Symbol.TheVariants.{Becomes, Closes}
@@ -19,7 +19,7 @@ use Rattle.code_rules.specs.Instructions.{Instr, Delete, Insert, Jump, Put, Unle
 use Rattle.code_rules.specs.Layouts.{Layout, free, inside}
 use Rattle.code_rules.specs.Pieces.{Piece, one, seq, is_short, link_piece, loop_piece}
 use Rattle.code_rules.specs.Phrases.{all_code, arms_code, at_slot, by_mode, count_all, expr_code, fork_code, links_code, marks, passed_code, path_code, return_code, step_code, stmt_code, stmts_code, target_code}
-use Rattle.code_lengths.specs.Tokens.{tokens}
+use Rattle.code_lengths.proofs.Tokens.{tokens}
 use Rattle.code_lengths.proofs.Counts.{link_long, loop_long, mode_short, repeat_long, seq_long, while_long}
 
 -- what stands behind statements

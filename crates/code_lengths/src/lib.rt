@@ -1,9 +1,10 @@
-//! Code is no longer than its text, as a law of the definitions: the code that code_rules has of a declaration has at most one instruction
-//! for each token of the declaration.
+//! Code is no longer than its text, as a law of the definitions: the code that code_rules has of a program has at most one instruction for
+//! each token of the program's texts.
 //!
-//! So a limit on the tokens of a program is one on its code. The crate that compiles (code_units) will need it to say that its addresses fit.
+//! So a limit on the tokens of a program is one on its code. The compiler (code_programs) says so of the code that it gives, and by it no
+//! body is too long to be packed.
 //!
-//! No code stands here. Its main clause is that of `length_law`.
+//! No code stands here. Its main clause is `programs` of `length_law`.
 #![tactic(auto)]
 
 mod law;

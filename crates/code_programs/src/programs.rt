@@ -1,12 +1,14 @@
 //! The code of a checked program.
 
-ghost use Rattle.std.specs.Prelude.{◌≡◌, IfOk};
+ghost use Rattle.std.specs.Prelude.{◌≡◌, ◌≤◌, IfOk};
+ghost use Rattle.std.specs.List.{sum_by};
 ghost use Rattle.orca_base.specs.Refusal.{IfBecause};
 ghost use Rattle.accepted_law.specs.Limits.{IsWithinLimits};
 ghost use Rattle.program_limits.specs.Passed.{Passes};
 ghost use Rattle.program_bodies.specs.Codes.{sources};
 ghost use Rattle.code_rules.specs.Correct.{Means};
 ghost use Rattle.code_rules.specs.Program.{program_code};
+ghost use Rattle.code_lengths.specs.Lengths.{program_length, tokens_in};
 ghost use Rattle.emitted_code.specs.Views.{program_seen};
 ghost use Rattle.stack_code.specs.Packed.{HasGreat};
 ghost use Rattle.stack_code.specs.Shown.{shown};
@@ -48,7 +50,7 @@ fn packed<'p>(alloc: Global, emitted: Emitted<'p>) -> Result<Code<'p>, NoMemory>
 }
 
 /// The code of a checked program (docs/LANGUAGE.md, Code). It is exactly that of the definitions, and so means the program's sources
-/// (`code_law`); it can't get stuck.
+/// (`code_law`); it can't get stuck. All of it together has at most one instruction for each token of the program's texts (`length_law`).
 ///
 /// # Errors
 /// The limit that the program passes, that of parameters first: a function, process or operation has more than 255, or else the units have
@@ -56,6 +58,7 @@ fn packed<'p>(alloc: Global, emitted: Emitted<'p>) -> Result<Code<'p>, NoMemory>
 pub fn compile<'p>(alloc: Global, checked: Checked<'p>) -> Result<Code<'p>, Refusal<PassedLimit>>
     ensures code { IfOk result (λ code. shown code ≡ program_code (sources checked.entry)) }
     ensures means { IfOk result (λ code. Means (sources checked.entry) (shown code)) }
+    ensures short { IfOk result (λ code. program_length (shown code) ≤ sum_by tokens_in (sources checked.entry)) }
     ensures within { IfOk result (λ _. IsWithinLimits (sources checked.entry)) }
 
     // The limit that is passed.
