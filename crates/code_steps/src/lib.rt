@@ -24,6 +24,8 @@ mod operands;
 mod operators;
 mod paths;
 mod stepping;
+#[cfg(test)]
+mod tests;
 mod variables;
 
 pub use config::{BodyNo, Caller, Config, Effect};
