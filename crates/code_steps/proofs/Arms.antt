@@ -1,0 +1,115 @@
+-- What each instruction does that stays in its body.
+use Rattle.std.proofs.Common.{◌≡◌, ◌+◌, ℕ, ℤ, List, [], ◌∷◌, Bool, true, false, Some, None, Ok, Err, length, map, refl, sym, ap, ◌∙◌}
+use Rattle.std.specs.Prelude.{Result, if◌then◌else◌, slice_set, int_le, int_lt, ◌+ℤ◌, pos}
+use Rattle.orca_base.specs.declared.fault.FaultKind.{FaultKind}
+use Rattle.orca_base.specs.declared.ids.KindNo.{KindNo}
+use Rattle.orca_base.specs.declared.ids.ObjectId.{ObjectId}
+use Rattle.orca_base.specs.declared.ids.ProcessNo.{ProcessNo}
+use Rattle.orca_tree.specs.declared.tree.Operator.{Operator}
+use Rattle.value_core.specs.Datum.{Datum, Data, data_of, list_of, data_of-list_of}
+use Rattle.value_core.specs.Datum as datum
+use Rattle.value_core.specs.declared.action.Action.{Action}
+use Rattle.value_core.specs.declared.action.Action.TheVariants as action
+use Rattle.value_paths.specs.declared.step.Step.{Step as ValueStep}
+use Rattle.value_paths.specs.Paths.{part_at}
+use Rattle.meaning_rules.specs.Operators.{applied, decides, fitting, fitting_all, integer_in, truth_in}
+use Rattle.meaning_rules.specs.Processes.{own_object}
+use Rattle.meaning_rules.specs.States.{State, Out, Goes, gives}
+use Rattle.meaning_rules.specs.Statements.{line_of}
+use Rattle.meaning_rules.specs.Variables.{Target, take}
+use Rattle.code_rules.specs.Instructions.{Mark}
+use Rattle.code_rules.specs.Instructions as rules
+use Rattle.code_rules.specs.Machine.{Code, Config, Effect, Asks, Fails, Steps, Stuck, Tests, act, at_state, goes_if, indices, into, next, on_out, on_result, on_top, on_two, pops, prefixed, pushes, read, short, steps_by, texts_by, to}
+use Rattle.code_steps.specs.declared.advance.Advance.{Advance}
+use Rattle.code_steps.specs.declared.advance.Advance.TheVariants as advance
+use Rattle.code_steps.specs.Moves.{Moves, effect_of, holding}
+use Rattle.code_steps.specs.Pops.{Pops, PopsPath}
+use Rattle.code_steps.proofs.Stopping.{goes_result}
+
+-- a value is pushed
+pub pushed : (home : Config) (x : Datum) (old new locals : List Datum) → new ≡ x ∷ old → next home (x ∷ old) locals ≡ effect_of home advance.Next new locals
+pushed home x old new locals is = ap (λ w. next home w locals) (sym is)
+
+-- what comes behind a path's steps
+module _ (marks : List Mark) (home : Config) (old st : List Datum) (path : List ValueStep) (p : PopsPath marks old true st path) where
+  pub behind : (go : List ValueStep → List Datum → Effect) (e : Effect) → go path st ≡ e → pops (indices marks) old [] (λ xs rest. go (steps_by marks xs) rest) ≡ e
+  behind go e h = p go ∙ h
+
+pub stuck_path : (marks : List Mark) (old st : List Datum) (path : List ValueStep) → PopsPath marks old false st path → (go : List ValueStep → List Datum → Effect) →
+    pops (indices marks) old [] (λ xs rest. go (steps_by marks xs) rest) ≡ Stuck
+stuck_path marks old st path p go = p go
+
+-- an operand on top, and two
+pub top : (old st : List Datum) (x : Datum) (go : Datum → List Datum → Effect) (e : Effect) → old ≡ x ∷ st → go x st ≡ e → on_top old go ≡ e
+top old st x go e is h = ap (λ w. on_top w go) is ∙ h
+
+pub no_top : (old : List Datum) (go : Datum → List Datum → Effect) → old ≡ [] → on_top old go ≡ Stuck
+no_top old go is = ap (λ w. on_top w go) is
+
+pub two : (old mid st : List Datum) (x y : Datum) (go : Datum → Datum → List Datum → Effect) (e : Effect) → old ≡ y ∷ mid → mid ≡ x ∷ st → go x y st ≡ e → on_two old go ≡ e
+two old mid st x y go e is below h = ap (λ w. on_two w go) (is ∙ ap (λ w. y ∷ w) below) ∙ h
+
+pub no_two : (old mid : List Datum) (y : Datum) (go : Datum → Datum → List Datum → Effect) → old ≡ y ∷ mid → mid ≡ [] → on_two old go ≡ Stuck
+no_two old mid y go is below = ap (λ w. on_two w go) (is ∙ ap (λ w. y ∷ w) below)
+
+pub none_of_two : (old : List Datum) (go : Datum → Datum → List Datum → Effect) → old ≡ [] → on_two old go ≡ Stuck
+none_of_two old go is = ap (λ w. on_two w go) is
+
+-- ---- what is done with variables
+
+module _ (home : Config) (old st locals : List Datum) (to : Target) (s1 s2 : State) (clear : s1 ≡ at_state locals) where
+  pub put_at : (by : Target → Datum → State → Out (Unit {0})) (x : Datum) → by to x s1 ≡ Goes tt s2 →
+      on_out (by to x (at_state locals)) (λ _ after. next (holding home old locals) st after) ≡ effect_of home advance.Next st s2.frame
+  put_at by x h = ap (λ s. on_out (by to x s) (λ _ after. next (holding home old locals) st after)) (sym clear) ∙ ap (λ o. on_out o (λ _ after. next (holding home old locals) st after)) h
+
+  pub took : (new : List Datum) (x : Datum) → take to s1 ≡ Goes x s2 → new ≡ x ∷ st →
+      on_out (take to (at_state locals)) (λ y after. pushes (holding home old locals) st y after) ≡ effect_of home advance.Next new s2.frame
+  took new x h is =
+      ap (λ s. on_out (take to s) (λ y after. pushes (holding home old locals) st y after)) (sym clear)
+      ∙ ap (λ o. on_out o (λ y after. pushes (holding home old locals) st y after)) h ∙ pushed home x st new s2.frame is
+
+-- ---- actions
+
+-- the arguments fit together
+pub asked : (home : Config) (args : Data) (values old st locals : List Datum) (ask : Data → Action) → values ≡ list_of args → ((s : State) → gives (fitting_all args) s ≡ Goes args s) →
+    on_result (fitting_all (data_of values)) (λ xs. Asks (ask xs) (record (holding home old locals) { pc = home.pc + 1; stack = st })) ≡ effect_of home (advance.Asks (ask args)) st locals
+asked home args values old st locals ask is fits =
+    let go : Data → Effect = λ xs. Asks (ask xs) (record (holding home old locals) { pc = home.pc + 1; stack = st }) in
+    ap (λ v. on_result (fitting_all (data_of v)) go) is ∙ ap (λ d. on_result (fitting_all d) go) (data_of-list_of args)
+    ∙ goes_result (fitting_all args) args (at_state locals) (at_state locals) go (fits (at_state locals))
+
+-- ---- ways on
+
+-- what a truth chooses
+pub chosen : (b t : Bool) (yes other : Effect) → b ≡ t → goes_if b yes other ≡ goes_if t yes other
+chosen b t yes other is = ap (λ x. goes_if x yes other) is
+
+module _ (code : Code) (home : Config) (slot address : ℕ) (old mid st locals : List Datum) (low high : Datum) (first : old ≡ high ∷ mid) (second : mid ≡ low ∷ st) where
+  pub counts : (new after : List Datum) → true ≡ int_le (integer_in low) (integer_in high) → new ≡ datum.int (integer_in high) ∷ (datum.int (integer_in low) ∷ st) →
+      after ≡ slice_set locals slot (datum.int (integer_in low)) → act code (Some (rules.Count slot address)) (holding home old locals) ≡ effect_of home advance.Next new after
+  counts new after most is set =
+      two old mid st low high _ _ first second
+      (ap (λ b. goes_if b (next home (datum.int (integer_in high) ∷ (datum.int (integer_in low) ∷ st)) (slice_set locals slot (datum.int (integer_in low))))
+      (Steps (record home { pc = address; stack = st; locals = locals }))) (sym most)
+      ∙ ap (λ w. next home w (slice_set locals slot (datum.int (integer_in low)))) (sym is) ∙ ap (λ w. next home new w) (sym set))
+
+  pub counts_none : false ≡ int_le (integer_in low) (integer_in high) → act code (Some (rules.Count slot address)) (holding home old locals) ≡ effect_of home (advance.To address) st locals
+  counts_none most =
+      two old mid st low high _ _ first second
+      (ap (λ b. goes_if b (next home (datum.int (integer_in high) ∷ (datum.int (integer_in low) ∷ st)) (slice_set locals slot (datum.int (integer_in low))))
+      (Steps (record home { pc = address; stack = st; locals = locals }))) (sym most))
+
+  pub counts_on : (new after : List Datum) → int_lt (integer_in low) (integer_in high) ≡ true → new ≡ high ∷ (datum.int (integer_in low +ℤ pos 1) ∷ st) →
+      after ≡ slice_set locals slot (datum.int (integer_in low +ℤ pos 1)) → act code (Some (rules.Upto slot address)) (holding home old locals) ≡ effect_of home (advance.To address) new after
+  counts_on new after less is set =
+      two old mid st low high _ _ first second
+      (ap (λ b. goes_if b (Steps (record home { pc = address; stack = high ∷ (datum.int (integer_in low +ℤ pos 1) ∷ st); locals = slice_set locals slot (datum.int (integer_in low +ℤ pos 1)) }))
+      (next home st locals)) less
+      ∙ ap (λ w. Steps (record home { pc = address; stack = w; locals = slice_set locals slot (datum.int (integer_in low +ℤ pos 1)) })) (sym is)
+      ∙ ap (λ w. Steps (record home { pc = address; stack = new; locals = w })) (sym set))
+
+  pub counts_off : int_lt (integer_in low) (integer_in high) ≡ false → act code (Some (rules.Upto slot address)) (holding home old locals) ≡ effect_of home advance.Next st locals
+  counts_off less =
+      two old mid st low high _ _ first second
+      (ap (λ b. goes_if b (Steps (record home { pc = address; stack = high ∷ (datum.int (integer_in low +ℤ pos 1) ∷ st); locals = slice_set locals slot (datum.int (integer_in low +ℤ pos 1)) }))
+      (next home st locals)) less)

@@ -1,0 +1,236 @@
+//! Calls of functions, and what leaves a body.
+
+ghost use Rattle.std.specs.Prelude.{◌≡◌, ◌+◌, ◌++◌, ◌<◌, ◌^◌, IfOk, List, OnOk, Some, map, option_map, pos, replicate};
+ghost use Rattle.value_core.specs.Datum as datum;
+ghost use Rattle.value_core.specs.Datum.{Datum, list_of};
+ghost use Rattle.value_core.specs.View.{datum_of};
+ghost use Rattle.meaning_rules.specs.Expressions.{result as given_result};
+ghost use Rattle.eval_variables.specs.Gives.{Gives, passed_of, state_of, target_of};
+ghost use Rattle.code_rules.specs.Instructions as rules;
+ghost use Rattle.code_rules.specs.Machine as machine;
+ghost use Rattle.emitted_code.specs.Views.{program_seen, shape_of};
+ghost use Rattle.code_steps.specs.Bodies.{config_of, effect_in};
+
+use crate::arguments::take_args;
+use crate::bodies::function_at;
+use crate::config::{BodyNo, Caller, Config, Effect, failed};
+use crate::operands::Operands;
+use crate::variables::clear_run;
+use emitted_code::{Emitted, Shape};
+use eval_variables::{Frame, Passed, Run, Stop, Target, exchange_frame, fitting, fitting_passed, store};
+use orca_base::{FaultKind, NoMemory};
+use std::alloc::Global;
+use std::mem;
+use value_core::{Parts, Value};
+
+// So many bodies may wait (docs/LANGUAGE.md, Faults).
+const MOST_WAITING: usize = 64;
+
+// Puts copies of values behind others.
+fn add_copies(alloc: Global, values: &[Value], all: &mut Parts) -> Result<(), NoMemory>
+    ensures { OnOk result (list_of all.new ≡ list_of all.old ++ map datum_of values.now) }
+{
+    'values: for value in values {
+        all.push(value.copy(alloc)?)?;
+    }
+    Ok(())
+}
+
+// Puts what the names of a called body hold behind other values: what was given is moved out.
+fn add_names(
+    alloc: Global,
+    opens: &[Value],
+    args: &mut [Passed],
+    all: &mut Parts,
+) -> Result<(), NoMemory>
+    ensures names { OnOk result (list_of all.new ≡ list_of all.old ++ machine.filled (map datum_of opens.now) (map passed_of args.old)) }
+    ensures places { OnOk result (map machine.lent (map passed_of args.new) ≡ map machine.lent (map passed_of args.old)) }
+{
+    match (opens, args) {
+        ([open, opens @ ..], [passed, args @ ..]) => {
+            match passed.take() {
+                Some(value) => all.push(value)?,
+                None => all.push(open.copy(alloc)?)?,
+            }
+            add_names(alloc, opens, args, all)
+        }
+        (opens, _) => add_copies(alloc, opens, all),
+    }
+}
+
+// Puts so many zeros behind values, for the slots of loops.
+fn add_spare(count: usize, all: &mut Parts) -> Result<(), NoMemory>
+    ensures { OnOk result (list_of all.new ≡ list_of all.old ++ replicate count (datum.int (pos 0))) }
+{
+    'spare: for _ in 0..count {
+        all.push(Value::Int(0))?;
+    }
+    Ok(())
+}
+
+// Where the arguments stand that were lent.
+fn lent_places(alloc: Global, args: Vec<Passed>) -> Result<Vec<Option<Target>>, NoMemory>
+    ensures { IfOk result (λ places. map (option_map target_of) places.items ≡ map machine.lent (map passed_of args.items)) }
+{
+    let mut places = Vec::new(alloc);
+    'args: for passed in args {
+        let place = match passed {
+            Passed::Lent { to } => Some(to),
+            Passed::Given { .. } => None,
+        };
+        places.push(place)?;
+    }
+    Ok(places)
+}
+
+// A function's body begins, with these arguments, where it is there and so many bodies may wait.
+fn enter(
+    alloc: Global,
+    code: &Emitted<'_>,
+    function: usize,
+    args: Vec<Passed>,
+    config: &mut Config<'_>,
+) -> Result<Effect, NoMemory>
+    requires { config.old.pc + 1 < 2 ^ 64 }
+    ensures { IfOk result (λ e. machine.enter (program_seen code.now) function (map passed_of args.items) (config_of config.old)
+        (config_of config.old).stack ≡ effect_in e (config_of config.new)) }
+{
+    if config.callers.len() >= MOST_WAITING {
+        return Ok(Effect::Fails {
+            fault: FaultKind::TooDeep,
+        });
+    }
+    let Some(part) = function_at(code, function) else {
+        return Ok(Effect::Fails {
+            fault: FaultKind::NoReturn,
+        });
+    };
+    let mut args = args;
+    let mut names = Parts::new(alloc);
+    add_names(alloc, &part.opens, &mut args, &mut names)?;
+    add_spare(part.spare, &mut names)?;
+    let given = lent_places(alloc, args)?;
+    let frame = exchange_frame(Frame::new(alloc, names)?, &mut config.run);
+    let stack = mem::replace(&mut config.stack, Operands::new(alloc));
+    config.callers.push(Caller {
+        body: config.body,
+        pc: config.pc + 1,
+        stack,
+        frame,
+        given,
+        names: part.opens.len(),
+    })?;
+    config.body = BodyNo::Function { number: function };
+    config.pc = 0;
+    Ok(Effect::Turns)
+}
+
+/// A call of a function.
+///
+/// # Errors
+/// Want of memory.
+pub fn call(
+    alloc: Global,
+    code: &Emitted<'_>,
+    function: usize,
+    shapes: &[Shape],
+    config: &mut Config<'_>,
+) -> Result<Effect, NoMemory>
+    requires { config.old.pc + 1 < 2 ^ 64 }
+    ensures { IfOk result (λ e. machine.act (program_seen code.now) (Some (rules.Call function (map shape_of shapes.now))) (config_of config.old) ≡
+        effect_in e (config_of config.new)) }
+{
+    let Some(args) = take_args(alloc, shapes, &mut config.stack)? else {
+        return Ok(Effect::Stuck);
+    };
+    match fitting_passed(&args) {
+        Ok(()) => enter(alloc, code, function, args, config),
+        Err(stop) => failed(stop),
+    }
+}
+
+// Stores what names hold at the places that were lent, one after the other; it is moved out of these values.
+fn put_back(
+    alloc: Global,
+    places: &[Option<Target>],
+    values: &mut [Value],
+    run: &mut Run<'_>,
+) -> Result<(), Stop>
+    ensures { Gives (λ u. u) result (state_of run.new)
+        (machine.put_back (map (option_map target_of) places.now) (map datum_of values.old) (state_of run.old)) }
+{
+    match (places, values) {
+        ([None, places @ ..], [_, values @ ..]) => put_back(alloc, places, values, run),
+        ([Some(to), places @ ..], [value, values @ ..]) => {
+            store(alloc, to, mem::replace(value, Value::Int(0)), run)?;
+            put_back(alloc, places, values, run)
+        }
+        _ => Ok(()),
+    }
+}
+
+// What a call gives, for its value: 0 where it gives nothing.
+fn value_of(given: Option<Value>) -> Value
+    ensures { datum_of result ≡ given_result (option_map datum_of given) }
+{
+    match given {
+        Some(value) => value,
+        None => Value::Int(0),
+    }
+}
+
+/// A body is left, with a value or none.
+///
+/// # Errors
+/// Want of memory.
+pub fn leave(
+    alloc: Global,
+    value: Option<Value>,
+    config: &mut Config<'_>,
+) -> Result<Effect, NoMemory>
+    ensures { IfOk result (λ e. machine.leave (config_of config.old).process (option_map datum_of value) (config_of config.old).locals
+        (config_of config.old).frames ≡ effect_in e (config_of config.new)) }
+{
+    let Some(caller) = config.callers.pop() else {
+        return Ok(Effect::Ends { value });
+    };
+    let Caller {
+        body,
+        pc,
+        stack,
+        frame,
+        given,
+        names,
+    } = caller;
+    let inner = exchange_frame(frame, &mut config.run);
+    let mut values = inner.into_values(alloc)?.into_vec();
+    values.truncate(names);
+    clear_run(&mut config.run);
+    match put_back(alloc, &given, &mut values, &mut config.run) {
+        Ok(()) => {
+            config.body = body;
+            config.pc = pc;
+            config.stack = stack;
+            config.stack.push(value_of(value))?;
+            Ok(Effect::Steps)
+        }
+        Err(stop) => failed(stop),
+    }
+}
+
+/// A body is left with the value on top.
+///
+/// # Errors
+/// Want of memory.
+pub fn give(alloc: Global, config: &mut Config<'_>) -> Result<Effect, NoMemory>
+    ensures { IfOk result (λ e. (code : machine.Code) → machine.act code (Some rules.Result) (config_of config.old) ≡
+        effect_in e (config_of config.new)) }
+{
+    let Some(value) = config.stack.pop() else {
+        return Ok(Effect::Stuck);
+    };
+    match fitting(&value) {
+        Ok(()) => leave(alloc, Some(value), config),
+        Err(stop) => failed(stop),
+    }
+}
