@@ -4,7 +4,7 @@ use crate::config::{BodyNo, Config, Effect};
 use crate::operands::Operands;
 use crate::stepping::step;
 use emitted_code::{Emitted, EmittedBody, Instr, Listing, Mark, Shape};
-use eval_variables::{Frame, Run};
+use eval_variables::{Frame, Run, integer_in};
 use orca_base::{NoMemory, ProcessNo, TextNo};
 use orca_tree::Operator;
 use std::alloc::Global;
@@ -71,9 +71,10 @@ fn beginning(alloc: Global, code: &Emitted<'_>) -> Result<Config<'static>, NoMem
 // Whether the array in the first slot holds 7 and 43: what was there, and 3 and 40.
 fn is_filled(config: &Config<'_>) -> bool {
     match config.run.frame.get(0) {
-        Some(Value::Array(parts)) => {
-            matches!(parts.as_parts().as_slice(), [Value::Int(7), Value::Int(43)])
-        }
+        Some(Value::Array(parts)) => match parts.as_parts().as_slice() {
+            [first, second] => integer_in(first) == 7 && integer_in(second) == 43,
+            _ => false,
+        },
         _ => false,
     }
 }
