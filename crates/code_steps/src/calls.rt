@@ -1,8 +1,7 @@
 //! Calls of functions, and what leaves a body.
 
-ghost use Rattle.std.specs.Prelude.{◌≡◌, ◌+◌, ◌++◌, ◌<◌, ◌^◌, IfOk, List, OnOk, Some, map, option_map, pos, replicate};
-ghost use Rattle.value_core.specs.Datum as datum;
-ghost use Rattle.value_core.specs.Datum.{Datum, list_of};
+ghost use Rattle.std.specs.Prelude.{◌≡◌, ◌+◌, ◌++◌, ◌<◌, ◌^◌, IfOk, OnOk, Some, map, option_map};
+ghost use Rattle.value_core.specs.Datum.{list_of};
 ghost use Rattle.value_core.specs.View.{datum_of};
 ghost use Rattle.meaning_rules.specs.Expressions.{result as given_result};
 ghost use Rattle.eval_variables.specs.Gives.{Gives, passed_of, state_of, target_of};
@@ -15,6 +14,7 @@ use crate::arguments::take_args;
 use crate::bodies::function_at;
 use crate::config::{BodyNo, Caller, Config, Effect, failed};
 use crate::operands::Operands;
+use crate::slots::{add_copies, add_spare};
 use crate::variables::clear_run;
 use emitted_code::{Emitted, Shape};
 use eval_variables::{Frame, Passed, Run, Stop, Target, exchange_frame, fitting, fitting_passed, store};
@@ -25,16 +25,6 @@ use value_core::{Parts, Value};
 
 // So many bodies may wait (docs/LANGUAGE.md, Faults).
 const MOST_WAITING: usize = 64;
-
-// Puts copies of values behind others.
-fn add_copies(alloc: Global, values: &[Value], all: &mut Parts) -> Result<(), NoMemory>
-    ensures { OnOk result (list_of all.new ≡ list_of all.old ++ map datum_of values.now) }
-{
-    'values: for value in values {
-        all.push(value.copy(alloc)?)?;
-    }
-    Ok(())
-}
 
 // Puts what the names of a called body hold behind other values: what was given is moved out.
 fn add_names(
@@ -56,16 +46,6 @@ fn add_names(
         }
         (opens, _) => add_copies(alloc, opens, all),
     }
-}
-
-// Puts so many zeros behind values, for the slots of loops.
-fn add_spare(count: usize, all: &mut Parts) -> Result<(), NoMemory>
-    ensures { OnOk result (list_of all.new ≡ list_of all.old ++ replicate count (datum.int (pos 0))) }
-{
-    'spare: for _ in 0..count {
-        all.push(Value::Int(0))?;
-    }
-    Ok(())
 }
 
 // Where the arguments stand that were lent.

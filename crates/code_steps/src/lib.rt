@@ -23,11 +23,14 @@ mod nodes;
 mod operands;
 mod operators;
 mod paths;
+mod slots;
 mod stepping;
 #[cfg(test)]
 mod tests;
 mod variables;
 
+pub use bodies::{body_at, operation_at};
 pub use config::{BodyNo, Caller, Config, Effect};
 pub use operands::Operands;
+pub use slots::{add_copies, add_spare};
 pub use stepping::step;
