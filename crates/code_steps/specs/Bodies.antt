@@ -2,7 +2,7 @@
 use Rattle.std.specs.Prelude.{List, map, reverse, Option, Some, None, option_map}
 use Rattle.value_core.specs.View.{datum_of}
 use Rattle.code_rules.specs.Machine as rules
-use Rattle.eval_variables.specs.Gives.{target_of}
+use Rattle.eval_variables.specs.Gives.{passed_of}
 use Rattle.eval_variables.specs.declared.stop.Stop.{Stop}
 use Rattle.eval_variables.specs.declared.stop.Stop.TheVariants as stop
 use Rattle.code_steps.specs.declared.config.BodyNo.{BodyNo}
@@ -24,7 +24,7 @@ caller_of w = record {
   pc = w.pc;
   stack = w.stack;
   locals = w.frame;
-  given = map (option_map target_of) w.given.items;
+  given = map rules.lent (map passed_of w.given.items);
   names = w.names;
 }
 

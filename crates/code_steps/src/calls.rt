@@ -1,23 +1,24 @@
 //! Calls of functions, and what leaves a body.
 
-ghost use Rattle.std.specs.Prelude.{◌≡◌, ◌+◌, ◌++◌, ◌<◌, ◌^◌, IfOk, OnOk, Some, map, option_map};
-ghost use Rattle.value_core.specs.Datum.{list_of};
+ghost use Rattle.std.specs.Prelude.{◌≡◌, ◌+◌, ◌++◌, ◌∷◌, ◌<◌, ◌^◌, IfOk, List, OnOk, Some, map, option_map};
+ghost use Rattle.value_core.specs.Datum.{Datum, list_of};
 ghost use Rattle.value_core.specs.View.{datum_of};
+ghost use Rattle.meaning_rules.specs.Calls.{Passed as RulePassed};
 ghost use Rattle.meaning_rules.specs.Expressions.{result as given_result};
-ghost use Rattle.eval_variables.specs.Gives.{Gives, passed_of, state_of, target_of};
+ghost use Rattle.eval_variables.specs.Gives.{Gives, passed_of, state_of};
 ghost use Rattle.code_rules.specs.Instructions as rules;
 ghost use Rattle.code_rules.specs.Machine as machine;
-ghost use Rattle.emitted_code.specs.Views.{program_seen, shape_of};
-ghost use Rattle.code_steps.specs.Bodies.{config_of, effect_in};
+ghost use Rattle.emitted_code.specs.Views.{body_seen, program_seen, shape_of};
+ghost use Rattle.code_steps.specs.Bodies.{caller_of, config_of, effect_in};
 
 use crate::arguments::take_args;
 use crate::bodies::function_at;
 use crate::config::{BodyNo, Caller, Config, Effect, failed};
 use crate::operands::Operands;
-use crate::slots::{add_copies, add_spare};
+use crate::slots::{add_copies, add_spare, first_values};
 use crate::variables::clear_run;
-use emitted_code::{Emitted, Shape};
-use eval_variables::{Frame, Passed, Run, Stop, Target, exchange_frame, fitting, fitting_passed, store};
+use emitted_code::{Emitted, EmittedBody, Shape};
+use eval_variables::{Frame, Passed, Run, Stop, exchange_frame, fitting, fitting_passed, store};
 use orca_base::{FaultKind, NoMemory};
 use std::alloc::Global;
 use std::mem;
@@ -25,6 +26,18 @@ use value_core::{Parts, Value};
 
 // So many bodies may wait (docs/LANGUAGE.md, Faults).
 const MOST_WAITING: usize = 64;
+
+// What a name of a called body holds: what was given is moved out, and what is lent opens as the body says.
+fn first_value(alloc: Global, open: &Value, passed: &mut Passed) -> Result<Value, NoMemory>
+    ensures value { IfOk result (λ v. (xs : List Datum) (ps : List RulePassed) →
+        machine.filled (datum_of open.now ∷ xs) (passed_of passed.old ∷ ps) ≡ datum_of v ∷ machine.filled xs ps) }
+    ensures place { machine.lent (passed_of passed.new) ≡ machine.lent (passed_of passed.old) }
+{
+    match passed.take() {
+        Some(value) => Ok(value),
+        None => open.copy(alloc),
+    }
+}
 
 // Puts what the names of a called body hold behind other values: what was given is moved out.
 fn add_names(
@@ -37,30 +50,58 @@ fn add_names(
     ensures places { OnOk result (map machine.lent (map passed_of args.new) ≡ map machine.lent (map passed_of args.old)) }
 {
     match (opens, args) {
+        ([], _) => Ok(()),
+        (opens, []) => add_copies(alloc, opens, all),
         ([open, opens @ ..], [passed, args @ ..]) => {
-            match passed.take() {
-                Some(value) => all.push(value)?,
-                None => all.push(open.copy(alloc)?)?,
-            }
+            all.push(first_value(alloc, open, passed)?)?;
             add_names(alloc, opens, args, all)
         }
-        (opens, _) => add_copies(alloc, opens, all),
     }
 }
 
-// Where the arguments stand that were lent.
-fn lent_places(alloc: Global, args: Vec<Passed>) -> Result<Vec<Option<Target>>, NoMemory>
-    ensures { IfOk result (λ places. map (option_map target_of) places.items ≡ map machine.lent (map passed_of args.items)) }
+// What the slots of a called body hold: the names, and behind them those of its loops. What was given is moved out of the arguments.
+fn slots_of(
+    alloc: Global,
+    part: &EmittedBody<'_>,
+    args: &mut Vec<Passed>,
+) -> Result<Parts, NoMemory>
+    ensures slots { IfOk result (λ p. list_of p ≡ machine.with_spare (body_seen part.now)
+        (machine.filled (body_seen part.now).opens (map passed_of args.old.items))) }
+    ensures places { IfOk result (λ _. map machine.lent (map passed_of args.new.items) ≡ map machine.lent (map passed_of args.old.items)) }
 {
-    let mut places = Vec::new(alloc);
-    'args: for passed in args {
-        let place = match passed {
-            Passed::Lent { to } => Some(to),
-            Passed::Given { .. } => None,
-        };
-        places.push(place)?;
-    }
-    Ok(places)
+    let mut slots = Parts::new(alloc);
+    add_names(alloc, &part.opens, args, &mut slots)?;
+    add_spare(part.spare, &mut slots)?;
+    Ok(slots)
+}
+
+// A function's body begins, with these arguments; who calls it waits.
+fn begin(
+    alloc: Global,
+    part: &EmittedBody<'_>,
+    function: usize,
+    args: Vec<Passed>,
+    config: &mut Config<'_>,
+) -> Result<Effect, NoMemory>
+    requires { config.old.pc + 1 < 2 ^ 64 }
+    ensures { IfOk result (λ e. machine.entered (Some (body_seen part.now)) function (map passed_of args.items) (config_of config.old)
+        (config_of config.old).stack ≡ effect_in e (config_of config.new)) }
+{
+    let mut args = args;
+    let slots = slots_of(alloc, part, &mut args)?;
+    let frame = exchange_frame(Frame::new(alloc, slots)?, &mut config.run);
+    let stack = mem::replace(&mut config.stack, Operands::new(alloc));
+    config.callers.push(Caller {
+        body: config.body,
+        pc: config.pc + 1,
+        stack,
+        frame,
+        given: args,
+        names: part.opens.len(),
+    })?;
+    config.body = BodyNo::Function { number: function };
+    config.pc = 0;
+    Ok(Effect::Turns)
 }
 
 // A function's body begins, with these arguments, where it is there and so many bodies may wait.
@@ -80,29 +121,12 @@ fn enter(
             fault: FaultKind::TooDeep,
         });
     }
-    let Some(part) = function_at(code, function) else {
-        return Ok(Effect::Fails {
+    match function_at(code, function) {
+        Some(part) => begin(alloc, part, function, args, config),
+        None => Ok(Effect::Fails {
             fault: FaultKind::NoReturn,
-        });
-    };
-    let mut args = args;
-    let mut names = Parts::new(alloc);
-    add_names(alloc, &part.opens, &mut args, &mut names)?;
-    add_spare(part.spare, &mut names)?;
-    let given = lent_places(alloc, args)?;
-    let frame = exchange_frame(Frame::new(alloc, names)?, &mut config.run);
-    let stack = mem::replace(&mut config.stack, Operands::new(alloc));
-    config.callers.push(Caller {
-        body: config.body,
-        pc: config.pc + 1,
-        stack,
-        frame,
-        given,
-        names: part.opens.len(),
-    })?;
-    config.body = BodyNo::Function { number: function };
-    config.pc = 0;
-    Ok(Effect::Turns)
+        }),
+    }
 }
 
 /// A call of a function.
@@ -132,18 +156,18 @@ pub fn call(
 // Stores what names hold at the places that were lent, one after the other; it is moved out of these values.
 fn put_back(
     alloc: Global,
-    places: &[Option<Target>],
+    given: &[Passed],
     values: &mut [Value],
     run: &mut Run<'_>,
 ) -> Result<(), Stop>
     ensures { Gives (λ u. u) result (state_of run.new)
-        (machine.put_back (map (option_map target_of) places.now) (map datum_of values.old) (state_of run.old)) }
+        (machine.put_back (map machine.lent (map passed_of given.now)) (map datum_of values.old) (state_of run.old)) }
 {
-    match (places, values) {
-        ([None, places @ ..], [_, values @ ..]) => put_back(alloc, places, values, run),
-        ([Some(to), places @ ..], [value, values @ ..]) => {
+    match (given, values) {
+        ([Passed::Given { .. }, given @ ..], [_, values @ ..]) => put_back(alloc, given, values, run),
+        ([Passed::Lent { to }, given @ ..], [value, values @ ..]) => {
             store(alloc, to, mem::replace(value, Value::Int(0)), run)?;
-            put_back(alloc, places, values, run)
+            put_back(alloc, given, values, run)
         }
         _ => Ok(()),
     }
@@ -159,6 +183,39 @@ fn value_of(given: Option<Value>) -> Value
     }
 }
 
+// The body that waited last goes on, with what the one that is left hands back to it, and with its value.
+fn return_to<'a>(
+    alloc: Global,
+    caller: Caller<'a>,
+    value: Option<Value>,
+    config: &mut Config<'a>,
+) -> Result<Effect, NoMemory>
+    ensures { IfOk result (λ e. machine.leave (config_of config.old).process (option_map datum_of value) (config_of config.old).locals
+        (caller_of caller ∷ (config_of config.old).frames) ≡ effect_in e (config_of config.new)) }
+{
+    let Caller {
+        body,
+        pc,
+        stack,
+        frame,
+        given,
+        names,
+    } = caller;
+    let inner = exchange_frame(frame, &mut config.run);
+    let mut values = first_values(alloc, inner, names)?;
+    clear_run(&mut config.run);
+    match put_back(alloc, &given, &mut values, &mut config.run) {
+        Ok(()) => {
+            config.body = body;
+            config.pc = pc;
+            config.stack = stack;
+            config.stack.push(value_of(value))?;
+            Ok(Effect::Steps)
+        }
+        Err(stop) => failed(stop),
+    }
+}
+
 /// A body is left, with a value or none.
 ///
 /// # Errors
@@ -171,30 +228,9 @@ pub fn leave(
     ensures { IfOk result (λ e. machine.leave (config_of config.old).process (option_map datum_of value) (config_of config.old).locals
         (config_of config.old).frames ≡ effect_in e (config_of config.new)) }
 {
-    let Some(caller) = config.callers.pop() else {
-        return Ok(Effect::Ends { value });
-    };
-    let Caller {
-        body,
-        pc,
-        stack,
-        frame,
-        given,
-        names,
-    } = caller;
-    let inner = exchange_frame(frame, &mut config.run);
-    let mut values = inner.into_values(alloc)?.into_vec();
-    values.truncate(names);
-    clear_run(&mut config.run);
-    match put_back(alloc, &given, &mut values, &mut config.run) {
-        Ok(()) => {
-            config.body = body;
-            config.pc = pc;
-            config.stack = stack;
-            config.stack.push(value_of(value))?;
-            Ok(Effect::Steps)
-        }
-        Err(stop) => failed(stop),
+    match config.callers.pop() {
+        Some(caller) => return_to(alloc, caller, value, config),
+        None => Ok(Effect::Ends { value }),
     }
 }
 

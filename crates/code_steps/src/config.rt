@@ -6,7 +6,7 @@ ghost use Rattle.code_steps.specs.Moves.{effect_of};
 
 use crate::advance::Advance;
 use crate::operands::Operands;
-use eval_variables::{Frame, Run, Stop, Target};
+use eval_variables::{Frame, Passed, Run, Stop};
 use orca_base::{FaultKind, NoMemory, ProcessNo};
 use value_core::{Action, Value};
 
@@ -20,14 +20,14 @@ pub enum BodyNo {
 }
 
 /// A body that waits for the return of one that it called: where it goes on, its operands and its variables; where each argument that it
-/// lent stands, and how many names the called body has.
+/// lent stands (of those that it gave nothing is kept), and how many names the called body has.
 #[derive(Drop)]
 pub struct Caller<'a> {
     pub body: BodyNo,
     pub pc: usize,
     pub stack: Operands,
     pub frame: Frame<'a>,
-    pub given: Vec<Option<Target>>,
+    pub given: Vec<Passed>,
     pub names: usize,
 }
 

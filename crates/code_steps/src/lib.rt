@@ -32,5 +32,5 @@ mod variables;
 pub use bodies::{body_at, operation_at};
 pub use config::{BodyNo, Caller, Config, Effect};
 pub use operands::Operands;
-pub use slots::{add_copies, add_spare};
+pub use slots::{add_copies, add_spare, first_values};
 pub use stepping::step;
