@@ -1,22 +1,35 @@
 -- What a called body begins with, and who waits.
-use Rattle.std.proofs.Common.{◌≡◌, ℕ, ◌+◌, List, [], ◌∷◌, ◌++◌, append_assoc, Option, Some, None, Ok, map, refl, sym, ap, ◌∙◌}
-use Rattle.std.specs.Prelude.{option_map, reverse, replicate}
-use Rattle.std.proofs.lemmas.List.{append-nil, map-append, reverse-append, replicate_more}
+use Rattle.std.proofs.Common.{◌≡◌, ℕ, ◌+◌, List, [], ◌∷◌, ◌++◌, append_assoc, Option, Some, None, Ok, length, map, refl, sym, ap, ◌∙◌}
+use Rattle.std.specs.Prelude.{option_map, reverse, nat_lt, pos, replicate}
+use Rattle.std.proofs.lemmas.List.{map-append, reverse-append}
+use Rattle.orca_base.specs.declared.ids.ProcessNo.{ProcessNo}
 use Rattle.value_core.specs.Datum.{Datum}
+use Rattle.value_core.specs.Datum as datum
 use Rattle.meaning_rules.specs.Calls.{Passed, Given, Lent}
+use Rattle.meaning_rules.specs.Variables.{Target}
 use Rattle.eval_variables.specs.Lent.{given_by, place_of}
 use Rattle.code_rules.specs.Machine as machine
-use Rattle.code_rules.specs.Machine.{filled, lent}
+use Rattle.code_rules.specs.Machine.{Body, BodyNo, Config, filled, lent, with_spare, entered}
 use Rattle.code_steps.specs.declared.config.Caller.{Caller}
 use Rattle.code_steps.specs.Bodies.{caller_of, callers_of}
 
-pub names_given : (x y : Datum) (p : Passed) (xs : List Datum) (ps : List Passed) → Some y ≡ given_by p → filled (x ∷ xs) (p ∷ ps) ≡ y ∷ filled xs ps
-names_given x y (Given z) xs ps is = let same : z ≡ y = cc in ap (λ w. w ∷ filled xs ps) same
-names_given x y (Lent to) xs ps is = absurd cc
+-- ---- names
 
-pub names_lent : (x : Datum) (p : Passed) (xs : List Datum) (ps : List Passed) → None ≡ given_by p → filled (x ∷ xs) (p ∷ ps) ≡ x ∷ filled xs ps
-names_lent x (Given z) xs ps is = absurd cc
-names_lent x (Lent to) xs ps is = refl
+pub first_given : (x y : Datum) (p : Passed) (xs : List Datum) (ps : List Passed) → Some y ≡ given_by p → filled (x ∷ xs) (p ∷ ps) ≡ y ∷ filled xs ps
+first_given x y (Given z) xs ps is = let same : z ≡ y = cc in ap (λ w. w ∷ filled xs ps) same
+first_given x y (Lent to) xs ps is = absurd cc
+
+pub first_lent : (x y : Datum) (p : Passed) (xs : List Datum) (ps : List Passed) → None ≡ given_by p → y ≡ x → filled (x ∷ xs) (p ∷ ps) ≡ y ∷ filled xs ps
+first_lent x y (Given z) xs ps is same = absurd cc
+first_lent x y (Lent to) xs ps is same = ap (λ w. w ∷ filled xs ps) (sym same)
+
+-- a place is lent as it is
+lent_place : (p : Passed) → lent p ≡ place_of p
+lent_place (Given x) = refl
+lent_place (Lent to) = refl
+
+pub lent_alike : (p q : Passed) → place_of p ≡ place_of q → lent p ≡ lent q
+lent_alike p q alike = lent_place p ∙ alike ∙ sym (lent_place q)
 
 -- one name more, and then the others
 pub names_more : (old new last : List Datum) (y : Datum) (zs all : List Datum) → new ≡ old ++ y ∷ [] → last ≡ new ++ zs → all ≡ y ∷ zs → last ≡ old ++ all
@@ -27,14 +40,46 @@ pub no_names : (xs : List Datum) → filled xs [] ≡ xs
 no_names [] = refl
 no_names (x ∷ xs) = refl
 
--- a place is lent as it is
-pub lent_place : (p : Passed) → lent p ≡ place_of p
-lent_place (Given x) = refl
-lent_place (Lent to) = refl
+-- the names, and behind them the slots of loops
+pub with_slots : (part : Body) (names none mid new : List Datum) → none ≡ [] → mid ≡ none ++ names → new ≡ mid ++ replicate part.spare (datum.int (pos 0)) → new ≡ with_spare part names
+with_slots part names none mid new empty first more = more ∙ ap (λ w. w ++ replicate part.spare (datum.int (pos 0))) (first ∙ ap (λ w. w ++ names) empty)
 
-pub lent_same : (p q : Passed) (ps qs : List Passed) → place_of p ≡ place_of q → map lent ps ≡ map lent qs → map lent (p ∷ ps) ≡ map lent (q ∷ qs)
-lent_same p q ps qs one others = ap (λ w. w ∷ map lent ps) (lent_place p ∙ one ∙ sym (lent_place q)) ∙ ap (λ ws. lent q ∷ ws) others
+-- ---- who waits
 
--- one more waits, and one less
+-- one more, and one less
 pub one_waits : (ws : List Caller) (w : Caller) → callers_of (ws ++ w ∷ []) ≡ caller_of w ∷ callers_of ws
 one_waits ws w = ap reverse (map-append caller_of ws (w ∷ [])) ∙ reverse-append (map caller_of ws) (caller_of w ∷ [])
+
+abbrev caller_with : BodyNo → ℕ → List Datum → List Datum → List (Option Target) → ℕ → machine.Caller
+caller_with body pc stack locals given names = record { body = body; pc = pc; stack = stack; locals = locals; given = given; names = names }
+
+pub same_caller : (body : BodyNo) (pc : ℕ) (s s' l l' : List Datum) (g g' : List (Option Target)) (n n' : ℕ) → s ≡ s' → l ≡ l' → g ≡ g' → n ≡ n' →
+    caller_with body pc s l g n ≡ caller_with body pc s' l' g' n'
+same_caller body pc s s' l l' g g' n n' es el eg en =
+    ap (λ x. caller_with body pc x l g n) es ∙ ap (λ x. caller_with body pc s' x g n) el ∙ ap (λ x. caller_with body pc s' l' x n) eg ∙ ap (λ x. caller_with body pc s' l' g' x) en
+
+abbrev config_with : ProcessNo → BodyNo → ℕ → List Datum → List Datum → List machine.Caller → Config
+config_with process body pc stack locals frames = record { process = process; body = body; pc = pc; stack = stack; locals = locals; frames = frames }
+
+pub same_config : (process : ProcessNo) (body : BodyNo) (pc : ℕ) (s s' l l' : List Datum) (f f' : List machine.Caller) → s ≡ s' → l ≡ l' → f ≡ f' →
+    config_with process body pc s l f ≡ config_with process body pc s' l' f'
+same_config process body pc s s' l l' f f' es el ef =
+    ap (λ x. config_with process body pc x l f) es ∙ ap (λ x. config_with process body pc s' x f) el ∙ ap (λ x. config_with process body pc s' l' x) ef
+
+-- a body that is there begins so: one more waits, with all that stood
+pub body_begun : (part : Body) (i : ℕ) (ps : List Passed) (c : Config) (old : List Datum) (ws : List Caller) (w : Caller) (stack slots frame : List Datum) (given : List Passed) (names : ℕ) →
+    caller_of w ≡ caller_with c.body (c.pc + 1) stack frame (map lent given) names →
+    c.frames ≡ callers_of ws → stack ≡ old → frame ≡ c.locals → map lent given ≡ map lent ps → names ≡ length part.opens → slots ≡ with_spare part (filled part.opens ps) →
+    entered (Some part) i ps c old ≡ machine.Turns (config_with c.process (machine.OfFunction i) 0 [] slots (callers_of (ws ++ w ∷ [])))
+body_begun part i ps c old ws w stack slots frame given names is others es el eg en eslots =
+    ap machine.Turns
+    (same_config c.process (machine.OfFunction i) 0 [] [] (with_spare part (filled part.opens ps)) slots
+    (caller_with c.body (c.pc + 1) old c.locals (map lent ps) (length part.opens) ∷ c.frames) (callers_of (ws ++ w ∷ [])) refl (sym eslots)
+    (ap (λ x. x ∷ c.frames) (same_caller c.body (c.pc + 1) old stack c.locals frame (map lent ps) (map lent given) (length part.opens) names (sym es) (sym el) (sym eg) (sym en) ∙ sym is)
+    ∙ ap (λ x. caller_of w ∷ x) others ∙ sym (one_waits ws w)))
+
+-- what is entered doesn't ask for the operands that stood
+pub entered_same : (o : Option Body) (i : ℕ) (ps : List Passed) (c : Config) (stack new : List Datum) →
+    entered o i ps (record c { stack = new }) stack ≡ entered o i ps c stack
+entered_same None i ps c stack new = refl
+entered_same (Some part) i ps c stack new = refl

@@ -2,6 +2,8 @@ mod Stopping
 mod Popping
 mod Arms
 mod Numbering
+mod Filling
 mod Entering
+mod Leaving
 mod Texts
 mod Taking
