@@ -7,3 +7,7 @@ mod Entering
 mod Leaving
 mod Texts
 mod Taking
+mod Indexing
+mod Stacking
+mod Pushing
+mod Taken

@@ -1,5 +1,7 @@
 -- What is passed, and where it comes from.
 use Rattle.std.specs.Prelude.{◌≡◌, ◌+◌, ℕ, Bool, true, false, List, [], ◌∷◌, Option, Some, None, option_map, Result, Ok, Err}
+use Rattle.std.specs.Borrow.{Bor}
+use Rattle.orca_base.specs.declared.fault.FaultKind.{FaultKind}
 use Rattle.orca_base.specs.declared.ids.KindNo.{KindNo}
 use Rattle.orca_base.specs.declared.ids.ProcessNo.{ProcessNo}
 use Rattle.orca_tree.specs.declared.tree.Operator.{Operator}
@@ -38,6 +40,21 @@ abbrev pub Makes : ProcessNo → KindNo → ℕ → ℕ → List Datum → List 
 Makes process kind count slot stack locals a locals' =
     (code : Code) (home : Config) → home.process ≡ process →
     act code (Some (Make kind count slot)) (holding home stack locals) ≡ effect_of home a stack locals'
+
+-- a change of variables went through, or it is why it stopped
+abbrev pub Changes : Result (Unit {0}) Stop → Advance → Type 0
+Changes (Ok u) a = a ≡ advance.Next
+Changes (Err why) a = told why ≡ Some a
+
+-- a value that was made is pushed, or it is why none was
+abbrev pub Pushes : Result Value Stop → List Datum → Advance → List Datum → Type 0
+Pushes (Ok value) old a new = (a ≡ advance.Next) × (new ≡ datum_of value ∷ old)
+Pushes (Err why) old a new = told why ≡ Some a
+
+-- a value that was found is, or it is the fault for which none was
+abbrev pub PushesFound : Result (Bor Value) FaultKind → List Datum → Advance → List Datum → Type 0
+PushesFound (Ok value) old a new = (a ≡ advance.Next) × (new ≡ datum_of value.now ∷ old)
+PushesFound (Err fault) old a new = a ≡ advance.Fails fault
 
 -- what a change of a graph gives is pushed, or it is why the change stopped
 abbrev pub PushesGiven : Result (Option Value) Stop → List Datum → Advance → List Datum → Type 0

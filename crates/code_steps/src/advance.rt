@@ -2,6 +2,7 @@
 
 ghost use Rattle.std.specs.Prelude.{◌≡◌, IfOk, Some};
 ghost use Rattle.code_steps.specs.Moves.{told};
+ghost use Rattle.code_steps.specs.Passing.{Changes};
 
 use eval_variables::Stop;
 use orca_base::{FaultKind, NoMemory};
@@ -39,5 +40,18 @@ pub fn stopped(stop: Stop) -> Result<Advance, NoMemory>
         Stop::Faults { fault } => Ok(Advance::Fails { fault }),
         Stop::Needs { .. } | Stop::Busy => Ok(Advance::Stuck),
         Stop::NoMemory => Err(NoMemory),
+    }
+}
+
+/// What a change of variables comes to: the body goes on behind the instruction, or it is why the change stopped.
+///
+/// # Errors
+/// Want of memory, where that is why it stopped.
+pub fn changed(change: Result<(), Stop>) -> Result<Advance, NoMemory>
+    ensures { IfOk result (λ a. Changes change a) }
+{
+    match change {
+        Ok(()) => Ok(Advance::Next),
+        Err(stop) => stopped(stop),
     }
 }

@@ -23,6 +23,7 @@ mod nodes;
 mod operands;
 mod operators;
 mod paths;
+mod pushing;
 mod slots;
 mod stepping;
 #[cfg(test)]

@@ -1,19 +1,22 @@
 //! A line of output.
 
-ghost use Rattle.std.specs.Prelude.{◌≡◌, ◌∷◌, [], IfOk, List, MatchResult, Ok, Err, length, map, slice_get, string_bytes, unwrap_or};
-ghost use Rattle.value_core.specs.Datum.{Datum, list_of};
+ghost use Rattle.std.specs.Prelude.{◌≡◌, [], IfOk, List, Ok, map, slice_get, string_bytes, unwrap_or};
+ghost use Rattle.value_core.specs.Datum as datum;
+ghost use Rattle.value_core.specs.Datum.{Datum};
 ghost use Rattle.value_core.specs.View.{datum_of};
 ghost use Rattle.value_ops.specs.Texts.{joined, text_of as rule_text_of};
+ghost use Rattle.meaning_rules.specs.Operators.{and_then};
 ghost use Rattle.meaning_rules.specs.States.{State, gives};
 ghost use Rattle.meaning_rules.specs.Statements.{line_of};
 ghost use Rattle.eval_variables.specs.Gives.{Gives};
 ghost use Rattle.code_rules.specs.Instructions as rules;
-ghost use Rattle.code_rules.specs.Machine.{count_of, texts_by};
+ghost use Rattle.code_rules.specs.Machine.{texts_by};
 ghost use Rattle.emitted_code.specs.Views.{texts_of};
 ghost use Rattle.code_steps.specs.Moves.{Moves};
 
-use crate::advance::{Advance, stopped};
+use crate::advance::Advance;
 use crate::operands::Operands;
+use crate::pushing::push_made;
 use eval_variables::Stop;
 use orca_base::{FaultKind, NoMemory, TEXT_LENGTH, Text};
 use orca_tree::Name;
@@ -74,6 +77,16 @@ fn add_texts(
     }
 }
 
+// The line that the texts of values are joined to, as a value.
+fn line_value(alloc: Global, names: &[&[Name]], values: &[Value]) -> Result<Value, Stop>
+    ensures { (s : State) → Gives datum_of result s
+        (gives (and_then (line_of [] (texts_by (texts_of names.now) (map datum_of values.now))) (λ line. Ok (datum.text line))) s) }
+{
+    let mut line = String::new(alloc);
+    add_texts(alloc, names, values, &mut line)?;
+    Ok(Value::Text(TextValue::new(alloc, Text::new(line))?))
+}
+
 /// The texts of values are joined to a line, which is pushed.
 pub fn join_line(
     alloc: Global,
@@ -85,12 +98,5 @@ pub fn join_line(
     let Some(values) = stack.pop_many(alloc, names.len())? else {
         return Ok(Advance::Stuck);
     };
-    let mut line = String::new(alloc);
-    match add_texts(alloc, names, values.as_slice(), &mut line) {
-        Ok(()) => {
-            stack.push(Value::Text(TextValue::new(alloc, Text::new(line))?))?;
-            Ok(Advance::Next)
-        }
-        Err(stop) => stopped(stop),
-    }
+    push_made(line_value(alloc, names, values.as_slice()), stack)
 }

@@ -1,8 +1,12 @@
 //! `addnode` and `deletenode`.
 
-ghost use Rattle.std.specs.Prelude.{◌≡◌, IfOk, map};
+ghost use Rattle.std.specs.Prelude.{IfOk, map, option_map, pos};
+ghost use Rattle.value_core.specs.Datum as datum;
 ghost use Rattle.value_core.specs.View.{datum_of};
+ghost use Rattle.meaning_rules.specs.Calls.{Adds, Deletes, invoked};
+ghost use Rattle.eval_variables.specs.Gives.{Gives, passed_of, state_of};
 ghost use Rattle.code_rules.specs.Instructions as rules;
+ghost use Rattle.code_rules.specs.Machine.{no_calls};
 ghost use Rattle.emitted_code.specs.Views.{shape_of};
 ghost use Rattle.code_steps.specs.Moves.{Moves};
 ghost use Rattle.code_steps.specs.Passing.{PushesGiven};
@@ -17,7 +21,7 @@ use orca_base::{FaultKind, NoMemory};
 use std::alloc::Global;
 use value_core::Value;
 
-// What a change of a graph gives, which is pushed.
+// What a change of a graph gives is pushed: 0 where it gives nothing.
 fn push_given(
     given: Result<Option<Value>, Stop>,
     stack: &mut Operands,
@@ -37,6 +41,32 @@ fn push_given(
     }
 }
 
+// The node that comes to a graph, where the arguments lend one.
+fn add_to(alloc: Global, args: &[Passed], fresh: Value, run: &mut Run<'_>) -> Result<Option<Value>, Stop>
+    ensures { Gives (option_map datum_of) result (state_of run.new)
+        (invoked no_calls Adds (datum_of fresh) (map passed_of args.now) (state_of run.old)) }
+{
+    match args {
+        [Passed::Lent { to }, ..] => add_node(alloc, to, fresh, run),
+        [] | [Passed::Given { .. }, ..] => Err(Stop::Faults {
+            fault: FaultKind::NoReturn,
+        }),
+    }
+}
+
+// The node of a name goes, where the arguments give one and lend a graph.
+fn delete_from(alloc: Global, args: &[Passed], run: &mut Run<'_>) -> Result<Option<Value>, Stop>
+    ensures { Gives (option_map datum_of) result (state_of run.new)
+        (invoked no_calls Deletes (datum.int (pos 0)) (map passed_of args.now) (state_of run.old)) }
+{
+    match args {
+        [Passed::Given { value }, Passed::Lent { to }, ..] => delete_node(alloc, to, value, run),
+        [] | [_] | [Passed::Lent { .. }, _, ..] | [Passed::Given { .. }, Passed::Given { .. }, ..] => Err(Stop::Faults {
+            fault: FaultKind::NoReturn,
+        }),
+    }
+}
+
 /// `addnode`: a new node opens so, in the graph that the argument lends.
 pub fn add(
     alloc: Global,
@@ -51,17 +81,9 @@ pub fn add(
     let Some(args) = take_args(alloc, shapes, stack)? else {
         return Ok(Advance::Stuck);
     };
-    match args.as_slice() {
-        [Passed::Lent { to }, ..] => {
-            let fresh = fresh.copy(alloc)?;
-            clear_run(run);
-            let given = add_node(alloc, to, fresh, run);
-            push_given(given, stack)
-        }
-        _ => Ok(Advance::Fails {
-            fault: FaultKind::NoReturn,
-        }),
-    }
+    let fresh = fresh.copy(alloc)?;
+    clear_run(run);
+    push_given(add_to(alloc, &args, fresh, run), stack)
 }
 
 /// `deletenode`: the node that the first argument names, in the graph that the second one lends.
@@ -76,14 +98,6 @@ pub fn delete(
     let Some(args) = take_args(alloc, shapes, stack)? else {
         return Ok(Advance::Stuck);
     };
-    match args.as_slice() {
-        [Passed::Given { value }, Passed::Lent { to }, ..] => {
-            clear_run(run);
-            let given = delete_node(alloc, to, value, run);
-            push_given(given, stack)
-        }
-        _ => Ok(Advance::Fails {
-            fault: FaultKind::NoReturn,
-        }),
-    }
+    clear_run(run);
+    push_given(delete_from(alloc, &args, run), stack)
 }

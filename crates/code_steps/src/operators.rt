@@ -1,28 +1,30 @@
 //! Operators, and the ways on that truths choose.
 
-ghost use Rattle.std.specs.Prelude.{◌≡◌, Err, IfOk, List, MatchResult, Ok};
+ghost use Rattle.std.specs.Prelude.{◌≡◌, IfOk, List};
 ghost use Rattle.value_core.specs.Datum.{Datum};
 ghost use Rattle.value_core.specs.View.{datum_of};
+ghost use Rattle.meaning_rules.specs.States.{State, gives};
+ghost use Rattle.eval_variables.specs.Gives.{Gives};
 ghost use Rattle.code_rules.specs.Instructions as rules;
 ghost use Rattle.code_rules.specs.Machine.{prefixed as rule_prefixed};
 ghost use Rattle.emitted_code.specs.Views.{prefix_of};
 ghost use Rattle.code_steps.specs.Moves.{Moves};
 ghost use Rattle.code_steps.specs.Passing.{Decides};
 
-use crate::advance::{Advance, stopped};
+use crate::advance::Advance;
 use crate::operands::Operands;
+use crate::pushing::push_made;
 use emitted_code::Prefix;
-use eval_variables::{applied, decides, integer_in, truth_in};
-use orca_base::{FaultKind, NoMemory};
+use eval_variables::{Stop, applied, decides, integer_in, truth_in};
+use orca_base::NoMemory;
 use orca_tree::Operator;
 use std::alloc::Global;
 use value_core::Value;
 use value_ops::{count, negate, ordinal};
 
 // What an operator before one operand gives.
-fn prefixed(prefix: Prefix, operand: &Value) -> Result<Value, FaultKind>
-    ensures { MatchResult result (λ value. rule_prefixed (prefix_of prefix) (datum_of operand.now) ≡ Ok (datum_of value))
-        (λ fault. rule_prefixed (prefix_of prefix) (datum_of operand.now) ≡ Err fault) }
+fn prefixed(prefix: Prefix, operand: &Value) -> Result<Value, Stop>
+    ensures { (s : State) → Gives datum_of result s (gives (rule_prefixed (prefix_of prefix) (datum_of operand.now)) s) }
 {
     match prefix {
         Prefix::Not => Ok(Value::Truth(!truth_in(operand))),
@@ -39,13 +41,7 @@ pub fn apply_before(prefix: Prefix, stack: &mut Operands) -> Result<Advance, NoM
     let Some(operand) = stack.pop() else {
         return Ok(Advance::Stuck);
     };
-    match prefixed(prefix, &operand) {
-        Ok(value) => {
-            stack.push(value)?;
-            Ok(Advance::Next)
-        }
-        Err(fault) => Ok(Advance::Fails { fault }),
-    }
+    push_made(prefixed(prefix, &operand), stack)
 }
 
 /// An operator between two operands.
@@ -62,13 +58,7 @@ pub fn apply(
     let Some(left) = stack.pop() else {
         return Ok(Advance::Stuck);
     };
-    match applied(alloc, operator, &left, right) {
-        Ok(value) => {
-            stack.push(value)?;
-            Ok(Advance::Next)
-        }
-        Err(stop) => stopped(stop),
-    }
+    push_made(applied(alloc, operator, &left, right), stack)
 }
 
 /// `and` and `or`: where the left operand decides it stays, and the run goes to an address; else it is popped.
@@ -93,16 +83,13 @@ pub fn decide(
 pub fn unless(address: usize, stack: &mut Operands) -> Advance
     ensures { (locals : List Datum) → Moves (rules.Unless address) stack.old locals result stack.new locals }
 {
-    match stack.pop() {
-        Some(truth) => {
-            if truth_in(&truth) {
-                Advance::Next
-            } else {
-                Advance::To { address }
-            }
-        }
-        None => Advance::Stuck,
+    let Some(truth) = stack.pop() else {
+        return Advance::Stuck;
+    };
+    if truth_in(&truth) {
+        return Advance::Next;
     }
+    Advance::To { address }
 }
 
 /// The operand on top goes.
@@ -119,11 +106,9 @@ pub fn pop(stack: &mut Operands) -> Advance
 pub fn guard(otherwise: usize, stack: &mut Operands) -> Advance
     ensures { (locals : List Datum) → Moves (rules.Guard otherwise) stack.old locals result stack.new locals }
 {
-    match stack.pop() {
-        Some(test) => {
-            let truth = truth_in(&test);
-            Advance::Tests { truth, otherwise }
-        }
-        None => Advance::Stuck,
-    }
+    let Some(test) = stack.pop() else {
+        return Advance::Stuck;
+    };
+    let truth = truth_in(&test);
+    Advance::Tests { truth, otherwise }
 }

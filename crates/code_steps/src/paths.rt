@@ -1,10 +1,10 @@
 //! Paths, whose indices stand on top of the operands.
 
-ghost use Rattle.std.specs.Prelude.{◌≡◌, ◌++◌, [], IfOk, List, MatchOption, OnOk, false, map, true};
+ghost use Rattle.std.specs.Prelude.{◌≡◌, ◌≤◌, ◌++◌, ◌∷◌, [], IfOk, List, MatchOption, OnOk, false, map, true};
 ghost use Rattle.value_core.specs.Datum.{Datum};
 ghost use Rattle.value_core.specs.View.{datum_of};
 ghost use Rattle.code_rules.specs.Machine.{indices, steps_by};
-ghost use Rattle.emitted_code.specs.Views.{marks_of};
+ghost use Rattle.emitted_code.specs.Views.{mark_of, marks_of};
 ghost use Rattle.eval_variables.specs.Gives.{path_of};
 ghost use Rattle.code_steps.specs.Pops.{PopsPath};
 
@@ -15,16 +15,25 @@ use orca_base::NoMemory;
 use std::alloc::Global;
 use value_core::Value;
 
+// How many indices a step takes from the operands.
+fn indices_of(mark: Mark) -> usize
+    ensures taken { result ≡ indices (mark_of mark ∷ []) }
+    ensures few { result ≤ 1 }
+{
+    match mark {
+        Mark::Field { .. } => 0,
+        Mark::ByIndex { .. } => 1,
+        Mark::ByName => 1,
+    }
+}
+
 // How many indices a path takes from the operands.
 fn index_count(marks: &[Mark]) -> usize
     ensures { result ≡ indices (marks_of marks.now) }
 {
     let mut count = 0;
     'marks: for mark in marks {
-        match mark {
-            Mark::Field { .. } => {}
-            Mark::ByIndex { .. } | Mark::ByName => count += 1,
-        }
+        count += indices_of(*mark);
     }
     count
 }

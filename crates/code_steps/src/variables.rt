@@ -7,9 +7,10 @@ ghost use Rattle.code_rules.specs.Machine.{at_state};
 ghost use Rattle.emitted_code.specs.Views.{marks_of};
 ghost use Rattle.code_steps.specs.Moves.{Moves};
 
-use crate::advance::{Advance, stopped};
+use crate::advance::{Advance, changed};
 use crate::operands::Operands;
 use crate::paths::pop_path;
+use crate::pushing::{push_found, push_made};
 use emitted_code::Mark;
 use eval_variables::{Run, Target, drop_element, find, put, store, take};
 use orca_base::NoMemory;
@@ -38,13 +39,7 @@ pub fn get(
         return Ok(Advance::Stuck);
     };
     let zero = Value::Int(0);
-    match find(slot, &path, run, &zero) {
-        Ok(found) => {
-            stack.push(found.copy(alloc)?)?;
-            Ok(Advance::Next)
-        }
-        Err(fault) => Ok(Advance::Fails { fault }),
-    }
+    push_found(alloc, find(slot, &path, run, &zero), stack)
 }
 
 /// An assignment: the value stands on top, and the path's indices beneath.
@@ -65,10 +60,7 @@ pub fn assign(
     };
     let to = Target { slot, path };
     clear_run(run);
-    match store(alloc, &to, value, run) {
-        Ok(()) => Ok(Advance::Next),
-        Err(stop) => stopped(stop),
-    }
+    changed(store(alloc, &to, value, run))
 }
 
 /// `insert`: the path's indices stand on top, and the element beneath.
@@ -89,10 +81,7 @@ pub fn insert(
     };
     let to = Target { slot, path };
     clear_run(run);
-    match put(alloc, &to, element, run) {
-        Ok(()) => Ok(Advance::Next),
-        Err(stop) => stopped(stop),
-    }
+    changed(put(alloc, &to, element, run))
 }
 
 /// `delete`, with the same operands.
@@ -113,10 +102,7 @@ pub fn delete(
     };
     let to = Target { slot, path };
     clear_run(run);
-    match drop_element(alloc, &to, &element, run) {
-        Ok(()) => Ok(Advance::Next),
-        Err(stop) => stopped(stop),
-    }
+    changed(drop_element(alloc, &to, &element, run))
 }
 
 /// `from`: the least element goes, and is pushed.
@@ -134,11 +120,5 @@ pub fn take_least(
     };
     let to = Target { slot, path };
     clear_run(run);
-    match take(alloc, &to, run) {
-        Ok(least) => {
-            stack.push(least)?;
-            Ok(Advance::Next)
-        }
-        Err(stop) => stopped(stop),
-    }
+    push_made(take(alloc, &to, run), stack)
 }
