@@ -7,3 +7,5 @@ mod Entering
 mod Leaving
 mod Texts
 mod Taking
+mod Acting
+mod Setting
