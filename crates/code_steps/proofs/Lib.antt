@@ -11,3 +11,5 @@ mod Indexing
 mod Stacking
 mod Pushing
 mod Taken
+mod Acting
+mod Setting

@@ -1,7 +1,9 @@
 //! Actions that are asked for.
 
-ghost use Rattle.std.specs.Prelude.{◌≡◌, ◌<◌, ◌^◌, IfOk, List, None, Some, pos};
+ghost use Rattle.std.specs.Prelude.{◌≡◌, ◌<◌, ◌^◌, IfOk, List, Ok};
 ghost use Rattle.value_core.specs.Datum.{Datum};
+ghost use Rattle.value_core.specs.View.{datum_of};
+ghost use Rattle.meaning_rules.specs.Calls.{id_in};
 ghost use Rattle.code_rules.specs.Instructions as rules;
 ghost use Rattle.code_rules.specs.Machine as machine;
 ghost use Rattle.code_rules.specs.Machine.{object_at};
@@ -40,6 +42,16 @@ pub fn make(
     Ok(Advance::Asks { action })
 }
 
+// The object that a value names, and the output object where it names none.
+fn object_of(value: &Value) -> ObjectId
+    ensures { result ≡ id_in (Ok (datum_of value.now)) }
+{
+    match value {
+        Value::Object(object) => *object,
+        _ => ObjectId::OUTPUT,
+    }
+}
+
 // The object that stands in a slot; of type 0 there is the output object alone.
 fn object_in(kind: KindNo, slot: usize, run: &Run<'_>) -> ObjectId
     ensures { result ≡ object_at kind.0 slot run.now.frame }
@@ -48,8 +60,8 @@ fn object_in(kind: KindNo, slot: usize, run: &Run<'_>) -> ObjectId
         return ObjectId::OUTPUT;
     }
     match run.frame.get(slot) {
-        Some(Value::Object(object)) => *object,
-        _ => ObjectId::OUTPUT,
+        Some(value) => object_of(value),
+        None => ObjectId::OUTPUT,
     }
 }
 
