@@ -9,7 +9,10 @@ mod Texts
 mod Taking
 mod Indexing
 mod Stacking
-mod Pushing
+mod Arriving
 mod Taken
+mod Choosing
+mod Walking
+mod Graphs
 mod Acting
 mod Setting

@@ -1,7 +1,12 @@
 -- What is taken from the operands.
-use Rattle.std.proofs.Common.{◌≡◌, ℕ, zero, suc, ◌+◌, ◌-◌, List, [], ◌∷◌, ◌++◌, Bool, true, false, length, map, refl, ap, sym, ◌∙◌, arith, subst}
-use Rattle.std.specs.Prelude.{◌≢◌}
-use Rattle.value_core.specs.Datum.{Datum}
+use Rattle.std.proofs.Common.{◌≡◌, Option, Some, None, Vec, ℕ, zero, suc, ◌+◌, ◌-◌, List, [], ◌∷◌, ◌++◌, Bool, true, false, length, map, refl, ap, sym, ◌∙◌, arith, subst}
+use Rattle.std.specs.Prelude.{◌≢◌, MatchOption}
+use Rattle.value_core.specs.Datum.{Datum, list_of}
+use Rattle.value_core.specs.View.{datum_of}
+use Rattle.value_core.specs.declared.value.Value.{Value}
+use Rattle.value_core.specs.declared.value.Parts.{Parts}
+use Rattle.eval_variables.specs.declared.steps.Step.{Step}
+use Rattle.eval_variables.specs.Gives.{path_of}
 use Rattle.value_paths.specs.declared.step.Step.{Step as ValueStep}
 use Rattle.code_rules.specs.Instructions.{Mark}
 use Rattle.code_rules.specs.Machine.{Effect, indices, pops, steps_by}
@@ -31,3 +36,18 @@ pub path_lacks : (marks : List Mark) (count : ℕ) (old new : List Datum) (path 
     Pops count old [] false new [] → PopsPath marks old false new path
 path_lacks marks count old new path long h = λ go.
     ap (λ k. pops k old [] (λ xs rest. go (steps_by marks xs) rest)) (sym long) ∙ h (λ xs rest. go (steps_by marks xs) rest)
+
+-- what no arm took
+pub none_popped : (found : Option Value) (old new : List Datum) → ((v : Value) → found ≡ Some v → ⊥) → MatchOption found (old ≡ []) (λ v. old ≡ datum_of v ∷ new) → old ≡ []
+none_popped None old new apart h = h
+none_popped (Some v) old new apart h = absurd (apart v refl)
+
+pub no_path : (found : Option (Vec Step)) (marks : List Mark) (old new : List Datum) → ((p : Vec Step) → found ≡ Some p → ⊥) →
+    MatchOption found (PopsPath marks old false new []) (λ p. PopsPath marks old true new (path_of p.items)) → PopsPath marks old false new []
+no_path None marks old new apart h = h
+no_path (Some p) marks old new apart h = absurd (apart p refl)
+
+pub no_values : (found : Option Parts) (count : ℕ) (old new : List Datum) → ((p : Parts) → found ≡ Some p → ⊥) →
+    MatchOption found (Pops count old [] false new []) (λ p. Pops count old [] true new (list_of p)) → Pops count old [] false new []
+no_values None count old new apart h = h
+no_values (Some p) count old new apart h = absurd (apart p refl)

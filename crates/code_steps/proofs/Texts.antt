@@ -1,18 +1,90 @@
 -- A line of output, one text further.
-use Rattle.std.proofs.Common.{◌≡◌, ℕ, suc, List, [], ◌∷◌, length, map, Result, Ok, Err, refl, sym, ap, ◌∙◌, subst}
+use Rattle.std.proofs.Common.{◌≡◌, ℕ, suc, List, [], ◌∷◌, Some, true, false, length, map, Result, Ok, Err, refl, sym, ap, ◌∙◌, subst}
 use Rattle.std.specs.Borrow.{Bor}
 use Rattle.orca_base.specs.declared.fault.FaultKind.{FaultKind}
 use Rattle.orca_tree.specs.declared.tree.Name.{Name}
-use Rattle.value_ops.specs.Texts.{joined}
+use Rattle.value_core.specs.Datum.{Datum}
+use Rattle.value_core.specs.Datum as datum
+use Rattle.value_core.specs.View.{datum_of}
+use Rattle.value_core.specs.declared.value.Value.{Value}
+use Rattle.value_core.specs.declared.value.Value.TheVariants as value
+use Rattle.value_ops.specs.Texts.{joined, text_of}
 use Rattle.meaning_rules.specs.States.{State, Goes, Stops, Faults, gives}
 use Rattle.meaning_rules.specs.Operators.{and_then}
 use Rattle.meaning_rules.specs.Statements.{line_of}
 use Rattle.eval_variables.specs.declared.stop.Stop.{Stop}
 use Rattle.eval_variables.specs.declared.stop.Stop.TheVariants as stop
 use Rattle.eval_variables.specs.Gives.{Fails, Gives}
-use Rattle.code_rules.specs.Machine.{count_of}
+use Rattle.code_rules.specs.Instructions as rules
+use Rattle.code_rules.specs.Machine.{Code, Config, Effect, Stuck, act, count_of, on_result, pops, pushes, texts_by}
 use Rattle.emitted_code.specs.Views.{texts_of}
+use Rattle.code_steps.specs.Moves.{holding}
+use Rattle.code_steps.specs.Pops.{Pops}
 
 pub counted : (ns : List (Bor (List Name))) → count_of (texts_of ns) ≡ length ns
 counted [] = refl
 counted (n ∷ ns) = ap suc (counted ns)
+
+-- names are asked for of a value of an enumeration alone
+pub text_alike : (names : List (List ℕ)) (v : Value) → ((n : ℕ) → v ≡ value.Enum n → ⊥) → text_of [] (datum_of v) ≡ text_of names (datum_of v)
+text_alike names (value.Int n) apart = refl
+text_alike names (value.Truth b) apart = refl
+text_alike names (value.Char n) apart = refl
+text_alike names (value.Enum n) apart = absurd (apart n refl)
+text_alike names (value.Text t) apart = refl
+text_alike names (value.Array p) apart = refl
+text_alike names (value.Fields p) apart = refl
+text_alike names (value.Set p) apart = refl
+text_alike names (value.Bag p) apart = refl
+text_alike names (value.Object o) apart = refl
+
+-- ---- faults of what comes first
+
+goes_not : {X Y : Type 0} (why : Stop) (x : X) (y : Result Y FaultKind) (s : State) → Fails why (Goes x s) → Fails why (gives y s)
+goes_not stop.NoMemory x y s h = tt
+goes_not (stop.Needs action) x y s h = absurd cc
+goes_not (stop.Faults fault) x y s h = absurd cc
+goes_not stop.Busy x y s h = absurd cc
+
+same_fault : (X Y : Type 0) (why : Stop) (fault : FaultKind) → Fails {Y = X} why (Stops (Faults fault)) → Fails {Y = Y} why (Stops (Faults fault))
+same_fault X Y stop.NoMemory fault h = tt
+same_fault X Y (stop.Needs action) fault h = absurd cc
+same_fault X Y (stop.Faults other) fault h = let same : fault ≡ other = cc in ap (λ f. Stops (Faults f)) same
+same_fault X Y stop.Busy fault h = absurd cc
+
+pub fails_first : {A B : Type 0} (why : Stop) (q : Result A FaultKind) (next : A → Result B FaultKind) (s : State) → Fails why (gives q s) → Fails why (gives (and_then q next) s)
+fails_first {A} {B} why (Ok x) next s h = goes_not why x (next x) s h
+fails_first {A} {B} why (Err fault) next s h = same_fault A B why fault h
+
+gives_ok : {X : Type 0} (q : Result X FaultKind) (s : State) (x : X) → gives q s ≡ Goes x s → q ≡ Ok x
+gives_ok (Ok y) s x h = let same : y ≡ x = cc in ap Ok same
+gives_ok (Err fault) s x h = absurd cc
+
+-- ---- a line
+
+-- one text came to it, and others come
+pub line_more : (done : Result (Unit {0}) Stop) (front mid last t : List ℕ) (ts : List (List ℕ)) (s : State) → gives (joined front t) s ≡ Goes mid s →
+    Gives (λ _. last) done s (gives (line_of mid ts) s) → Gives (λ _. last) done s (gives (line_of front (t ∷ ts)) s)
+line_more done front mid last t ts s one h =
+    subst (λ q. Gives (λ _. last) done s (gives (and_then q (λ w. line_of w ts)) s)) (sym (gives_ok (joined front t) s mid one)) h
+
+-- it is a value
+pub line_text : (line : List ℕ) (q : Result (List ℕ) FaultKind) (s : State) → gives q s ≡ Goes line s →
+    gives (and_then q (λ w. Ok (datum.text w))) s ≡ Goes (datum.text line) s
+line_text line q s h = ap (λ r. gives (and_then r (λ w. Ok (datum.text w))) s) (gives_ok q s line h)
+
+as_text : (q : Result (List ℕ) FaultKind) (go : Datum → Effect) → on_result q (λ w. go (datum.text w)) ≡ on_result (and_then q (λ w. Ok (datum.text w))) go
+as_text (Ok w) go = refl
+as_text (Err fault) go = refl
+
+module _ (code : Code) (home : Config) (names : List (List (List ℕ))) (count : ℕ) (old st locals values : List Datum) where
+  pub lines : count ≡ count_of names → Pops count old [] true st values → act code (Some (rules.Line names)) (holding home old locals) ≡
+      on_result (and_then (line_of [] (texts_by names values)) (λ w. Ok (datum.text w))) (λ x. pushes (holding home old locals) st x locals)
+  lines long p =
+      let go : List Datum → List Datum → Effect = λ xs stack. on_result (line_of [] (texts_by names xs)) (λ line. pushes (holding home old locals) stack (datum.text line) locals) in
+      ap (λ k. pops k old [] go) (sym long) ∙ p go ∙ as_text (line_of [] (texts_by names values)) (λ x. pushes (holding home old locals) st x locals)
+
+  pub lines_not : count ≡ count_of names → Pops count old [] false st [] → act code (Some (rules.Line names)) (holding home old locals) ≡ Stuck
+  lines_not long p =
+      let go : List Datum → List Datum → Effect = λ xs stack. on_result (line_of [] (texts_by names xs)) (λ line. pushes (holding home old locals) stack (datum.text line) locals) in
+      ap (λ k. pops k old [] go) (sym long) ∙ p go

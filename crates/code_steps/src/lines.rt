@@ -73,7 +73,8 @@ fn add_texts(
             append(line, text.as_str())?;
             add_texts(alloc, names, values, line)
         }
-        _ => Ok(()),
+        ([], _) => Ok(()),
+        ([_, ..], []) => Ok(()),
     }
 }
 

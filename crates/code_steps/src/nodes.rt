@@ -1,9 +1,11 @@
 //! `addnode` and `deletenode`.
 
-ghost use Rattle.std.specs.Prelude.{IfOk, map, option_map, pos};
+ghost use Rattle.std.specs.Prelude.{◌≡◌, IfOk, map, option_map, pos};
+ghost use Rattle.orca_base.specs.declared.fault.FaultKind.TheVariants.{NoReturn};
 ghost use Rattle.value_core.specs.Datum as datum;
 ghost use Rattle.value_core.specs.View.{datum_of};
 ghost use Rattle.meaning_rules.specs.Calls.{Adds, Deletes, invoked};
+ghost use Rattle.eval_variables.specs.declared.stop.Stop.TheVariants.{Faults};
 ghost use Rattle.eval_variables.specs.Gives.{Gives, passed_of, state_of};
 ghost use Rattle.code_rules.specs.Instructions as rules;
 ghost use Rattle.code_rules.specs.Machine.{no_calls};
@@ -41,6 +43,15 @@ fn push_given(
     }
 }
 
+// What a change of a graph stops with where its arguments aren't what it asks for, which no typed program has.
+fn no_return() -> Stop
+    ensures { result ≡ Faults NoReturn }
+{
+    Stop::Faults {
+        fault: FaultKind::NoReturn,
+    }
+}
+
 // The node that comes to a graph, where the arguments lend one.
 fn add_to(alloc: Global, args: &[Passed], fresh: Value, run: &mut Run<'_>) -> Result<Option<Value>, Stop>
     ensures { Gives (option_map datum_of) result (state_of run.new)
@@ -48,9 +59,8 @@ fn add_to(alloc: Global, args: &[Passed], fresh: Value, run: &mut Run<'_>) -> Re
 {
     match args {
         [Passed::Lent { to }, ..] => add_node(alloc, to, fresh, run),
-        [] | [Passed::Given { .. }, ..] => Err(Stop::Faults {
-            fault: FaultKind::NoReturn,
-        }),
+        [Passed::Given { .. }, ..] => Err(no_return()),
+        [] => Err(no_return()),
     }
 }
 
@@ -61,9 +71,10 @@ fn delete_from(alloc: Global, args: &[Passed], run: &mut Run<'_>) -> Result<Opti
 {
     match args {
         [Passed::Given { value }, Passed::Lent { to }, ..] => delete_node(alloc, to, value, run),
-        [] | [_] | [Passed::Lent { .. }, _, ..] | [Passed::Given { .. }, Passed::Given { .. }, ..] => Err(Stop::Faults {
-            fault: FaultKind::NoReturn,
-        }),
+        [Passed::Given { .. }, Passed::Given { .. }, ..] => Err(no_return()),
+        [Passed::Given { .. }] => Err(no_return()),
+        [Passed::Lent { .. }, ..] => Err(no_return()),
+        [] => Err(no_return()),
     }
 }
 

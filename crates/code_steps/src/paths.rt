@@ -57,7 +57,9 @@ fn add_steps(marks: &[Mark], indices: &[Value], path: &mut Vec<Step>) -> Result<
             path.push(Step::Node { name })?;
             add_steps(marks, indices, path)
         }
-        _ => Ok(()),
+        ([], _) => Ok(()),
+        ([Mark::ByIndex { .. }, ..], []) => Ok(()),
+        ([Mark::ByName, ..], []) => Ok(()),
     }
 }
 
