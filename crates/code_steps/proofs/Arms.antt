@@ -81,8 +81,8 @@ asked home args values old st locals ask is fits =
 -- ---- ways on
 
 -- what a truth chooses
-pub chosen : (b t : Bool) (yes other : Effect) → b ≡ t → goes_if b yes other ≡ goes_if t yes other
-chosen b t yes other is = ap (λ x. goes_if x yes other) is
+pub chosen : (b t : Bool) (one other : Effect) → b ≡ t → goes_if b one other ≡ goes_if t one other
+chosen b t one other is = ap (λ x. goes_if x one other) is
 
 module _ (code : Code) (home : Config) (slot address : ℕ) (old mid st locals : List Datum) (low high : Datum) (first : old ≡ high ∷ mid) (second : mid ≡ low ∷ st) where
   pub counts : (new after : List Datum) → true ≡ int_le (integer_in low) (integer_in high) → new ≡ datum.int (integer_in high) ∷ (datum.int (integer_in low) ∷ st) →

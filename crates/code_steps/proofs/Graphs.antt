@@ -1,5 +1,5 @@
 -- `addnode` and `deletenode`, as far as their arguments are taken.
-use Rattle.std.proofs.Common.{◌≡◌, List, [], Option, Some, None, Vec, true, false, map, pos, refl}
+use Rattle.std.proofs.Common.{◌≡◌, List, [], Option, Some, None, Vec, Global, true, false, map, pos, refl, subst}
 use Rattle.std.specs.Prelude.{MatchOption}
 use Rattle.value_core.specs.Datum.{Datum}
 use Rattle.value_core.specs.Datum as datum
@@ -21,7 +21,10 @@ module _ (home : Config) (callee : Callee) (fresh : Datum) (shapes : List Shape)
   pub changes_not : Takes shapes old false st args → nodes callee fresh shapes (holding home old locals) ≡ Stuck
   changes_not t = t (λ ps stack. on_out (invoked no_calls callee fresh ps (at_state locals)) (λ x after. pushes (holding home old locals) stack (result x) after))
 
-pub no_args : (found : Option (Vec Passed)) (shapes : List Shape) (old new : List Datum) → ((p : Vec Passed) → found ≡ Some p → ⊥) →
-    MatchOption found (Takes shapes old false new []) (λ p. Takes shapes old true new (map passed_of p.items)) → Takes shapes old false new []
-no_args None shapes old new apart h = h
-no_args (Some p) shapes old new apart h = absurd (apart p refl)
+module _ (found : Option (Vec Passed Global)) (shapes : List Shape) (old new : List Datum)
+    (h : MatchOption found (Takes shapes old false new []) (λ q. Takes shapes old true new (map passed_of q.items))) where
+  pub no_args : found ≡ None → Takes shapes old false new []
+  no_args is = subst (λ o. MatchOption o (Takes shapes old false new []) (λ q. Takes shapes old true new (map passed_of q.items))) is h
+
+  pub has_args : (p : Vec Passed Global) → found ≡ Some p → Takes shapes old true new (map passed_of p.items)
+  has_args p is = subst (λ o. MatchOption o (Takes shapes old false new []) (λ q. Takes shapes old true new (map passed_of q.items))) is h

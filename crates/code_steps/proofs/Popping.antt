@@ -1,5 +1,5 @@
 -- What is taken from the operands.
-use Rattle.std.proofs.Common.{◌≡◌, Option, Some, None, Vec, ℕ, zero, suc, ◌+◌, ◌-◌, List, [], ◌∷◌, ◌++◌, Bool, true, false, length, map, refl, ap, sym, ◌∙◌, arith, subst}
+use Rattle.std.proofs.Common.{◌≡◌, Option, Some, None, Vec, Global, ℕ, zero, suc, ◌+◌, ◌-◌, List, [], ◌∷◌, ◌++◌, Bool, true, false, length, map, refl, ap, sym, ◌∙◌, arith, subst}
 use Rattle.std.specs.Prelude.{◌≢◌, MatchOption}
 use Rattle.value_core.specs.Datum.{Datum, list_of}
 use Rattle.value_core.specs.View.{datum_of}
@@ -37,17 +37,19 @@ pub path_lacks : (marks : List Mark) (count : ℕ) (old new : List Datum) (path 
 path_lacks marks count old new path long h = λ go.
     ap (λ k. pops k old [] (λ xs rest. go (steps_by marks xs) rest)) (sym long) ∙ h (λ xs rest. go (steps_by marks xs) rest)
 
--- what no arm took
-pub none_popped : (found : Option Value) (old new : List Datum) → ((v : Value) → found ≡ Some v → ⊥) → MatchOption found (old ≡ []) (λ v. old ≡ datum_of v ∷ new) → old ≡ []
-none_popped None old new apart h = h
-none_popped (Some v) old new apart h = absurd (apart v refl)
+-- what is found after `?`
+module _ (found : Option (Vec Step Global)) (marks : List Mark) (old new : List Datum)
+    (h : MatchOption found (PopsPath marks old false new []) (λ q. PopsPath marks old true new (path_of q.items))) where
+  pub no_path : found ≡ None → PopsPath marks old false new []
+  no_path is = subst (λ o. MatchOption o (PopsPath marks old false new []) (λ q. PopsPath marks old true new (path_of q.items))) is h
 
-pub no_path : (found : Option (Vec Step)) (marks : List Mark) (old new : List Datum) → ((p : Vec Step) → found ≡ Some p → ⊥) →
-    MatchOption found (PopsPath marks old false new []) (λ p. PopsPath marks old true new (path_of p.items)) → PopsPath marks old false new []
-no_path None marks old new apart h = h
-no_path (Some p) marks old new apart h = absurd (apart p refl)
+  pub has_path : (p : Vec Step Global) → found ≡ Some p → PopsPath marks old true new (path_of p.items)
+  has_path p is = subst (λ o. MatchOption o (PopsPath marks old false new []) (λ q. PopsPath marks old true new (path_of q.items))) is h
 
-pub no_values : (found : Option Parts) (count : ℕ) (old new : List Datum) → ((p : Parts) → found ≡ Some p → ⊥) →
-    MatchOption found (Pops count old [] false new []) (λ p. Pops count old [] true new (list_of p)) → Pops count old [] false new []
-no_values None count old new apart h = h
-no_values (Some p) count old new apart h = absurd (apart p refl)
+module _ (found : Option Parts) (count : ℕ) (old new : List Datum)
+    (h : MatchOption found (Pops count old [] false new []) (λ q. Pops count old [] true new (list_of q))) where
+  pub no_values : found ≡ None → Pops count old [] false new []
+  no_values is = subst (λ o. MatchOption o (Pops count old [] false new []) (λ q. Pops count old [] true new (list_of q))) is h
+
+  pub has_values : (p : Parts) → found ≡ Some p → Pops count old [] true new (list_of p)
+  has_values p is = subst (λ o. MatchOption o (Pops count old [] false new []) (λ q. Pops count old [] true new (list_of q))) is h

@@ -9,7 +9,7 @@ use Rattle.meaning_rules.specs.Statements.{line_of}
 use Rattle.eval_variables.specs.Gives.{Gives}
 use Rattle.code_rules.specs.Machine.{texts_by}
 use Rattle.emitted_code.specs.Views.{texts_of}
-use Rattle.code_steps.proofs.Popping.{no_values}
+use Rattle.code_steps.proofs.Popping.{has_values, no_values}
 use Rattle.code_steps.proofs.Arriving.{made}
 use Rattle.code_steps.proofs.Texts.{counted, lines, lines_not}
 use Rattle.code_steps.proofs.lines.join_line.Goals as goal
@@ -20,7 +20,7 @@ returns-in_default c = λ locals code home.
     let names = c.args.names.now in
     let st = c.pop_many.new.self in
     lines_not code home (texts_of names) c.len.result old st locals [] (c.len.ensures ∙ sym (counted names))
-    (no_values c.in_ok-pop_many.field-0 c.len.result old st c.in_default.not-Some (c.in_ok-pop_many.ensures {u = tt}))
+    (no_values c.in_ok-values.field-0 c.len.result old st (c.in_ok-values.ensures {u = tt}) c.in_default.is)
 
 pub returns : goal.returns
 returns c =
@@ -31,7 +31,7 @@ returns c =
     let line = c.line_value.result in
     let make : (xs : List Datum) → Type 0 = λ xs. (s : State) → Gives datum_of line s (gives (and_then (line_of [] (texts_by (texts_of names) xs)) (λ w. Ok (datum.text w))) s) in
     IfOk-weaker c.push_made.result _ _
-    (λ a p locals code home. lines code home (texts_of names) c.len.result old st locals values (c.len.ensures ∙ sym (counted names)) (c.in-Some.ensures {u = tt})
+    (λ a p locals code home. lines code home (texts_of names) c.len.result old st locals values (c.len.ensures ∙ sym (counted names)) (has_values c.in_ok-values.field-0 c.len.result old st (c.in_ok-values.ensures {u = tt}) c.in-Some.values c.in-Some.is)
     ∙ made home old st c.push_made.new.stack locals a line (and_then (line_of [] (texts_by (texts_of names) values)) (λ w. Ok (datum.text w)))
     (subst make c.as_slice.ensures c.line_value.ensures) p)
     c.push_made.ensures

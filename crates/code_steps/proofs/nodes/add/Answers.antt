@@ -10,7 +10,7 @@ use Rattle.eval_variables.specs.declared.steps.Passed.{Passed}
 use Rattle.eval_variables.specs.Gives.{passed_of, state_of}
 use Rattle.code_steps.specs.Moves.{holding}
 use Rattle.code_steps.specs.Passing.{Takes}
-use Rattle.code_steps.proofs.Graphs.{changes, changes_not, no_args}
+use Rattle.code_steps.proofs.Graphs.{changes, changes_not, has_args, no_args}
 use Rattle.code_steps.proofs.Arriving.{given}
 use Rattle.code_steps.proofs.nodes.add.Goals as goal
 
@@ -20,7 +20,7 @@ returns-in_default c = λ code home.
     let shapes = map shape_of c.args.shapes.now in
     let st = c.take_args.new.stack in
     changes_not home Adds (datum_of c.args.fresh.now) shapes old st c.args.run.now.frame []
-    (no_args c.in_ok-take_args.field-0 shapes old st c.in_default.not-Some (c.in_ok-take_args.ensures {u = tt}))
+    (no_args c.in_ok-args.field-0 shapes old st (c.in_ok-args.ensures {u = tt}) c.in_default.is)
 
 pub returns : goal.returns
 returns c =
@@ -32,7 +32,7 @@ returns c =
     let fresh = datum_of c.in_ok-fresh.fresh in
     let s1 = state_of c.clear_run.new.run in
     let s2 = state_of c.add_to.new.run in
-    let taken = subst (λ (ps : List Passed). Takes shapes old true st (map passed_of ps)) (sym c.deref.ensures.value) (c.in-Some.ensures {u = tt}) in
+    let taken = subst (λ (ps : List Passed). Takes shapes old true st (map passed_of ps)) (sym c.deref.ensures.value) (has_args c.in_ok-args.field-0 shapes old st (c.in_ok-args.ensures {u = tt}) c.in-Some.args c.in-Some.is) in
     IfOk-weaker c.push_given.result _ _
     (λ a p code home. ap (λ v. act code (Some (rules.AddNode (datum_of v) shapes)) (holding home old locals)) (sym (c.in_ok-fresh.ensures {u = tt}))
     ∙ changes home Adds fresh shapes old st locals args taken

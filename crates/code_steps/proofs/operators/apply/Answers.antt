@@ -4,7 +4,6 @@ use Rattle.value_core.specs.Datum as datum
 use Rattle.value_core.specs.View.{datum_of}
 use Rattle.meaning_rules.specs.Operators.{applied}
 use Rattle.code_steps.proofs.Choosing.{applies, applies_none, applies_one}
-use Rattle.code_steps.proofs.Popping.{none_popped}
 use Rattle.code_steps.proofs.Arriving.{made}
 use Rattle.code_steps.proofs.operators.apply.Goals as goal
 
@@ -12,23 +11,23 @@ pub returns-in_default : goal.returns-in_default
 returns-in_default c = λ locals code home.
     let old = c.args.stack.now in
     applies_none code home old old old locals (datum.int (pos 0)) c.args.operator
-    (none_popped c.pop.result old c.pop.new.self c.in_default.not-Some c.pop.ensures)
+    (c.in_default.ensures {u = tt})
 
-pub returns-in_default-pop-2 : goal.returns-in_default-pop-2
-returns-in_default-pop-2 c = λ locals code home.
+pub returns-in_default-2 : goal.returns-in_default-2
+returns-in_default-2 c = λ locals code home.
     let old = c.args.stack.now in
     let mid = c.pop.new.self in
     applies_one code home old mid mid locals (datum_of c.in-Some.right) c.args.operator (c.in-Some.ensures {u = tt})
-    (none_popped c.pop-2.result mid c.pop-2.new.self c.in_default-pop-2.not-Some c.pop-2.ensures)
+    (c.in_default-2.ensures {u = tt})
 
 pub returns : goal.returns
 returns c =
     let old = c.args.stack.now in
     let mid = c.pop.new.self in
     let st = c.pop-2.new.self in
-    let x = datum_of c.in-Some-pop-2.left in
+    let x = datum_of c.in-Some-2.left in
     let y = datum_of c.in-Some.right in
     IfOk-weaker c.push_made.result _ _
-    (λ a h locals code home. applies code home old mid st locals x c.args.operator y (c.in-Some.ensures {u = tt}) (c.in-Some-pop-2.ensures {u = tt})
+    (λ a h locals code home. applies code home old mid st locals x c.args.operator y (c.in-Some.ensures {u = tt}) (c.in-Some-2.ensures {u = tt})
     ∙ made home old st c.push_made.new.stack locals a c.applied.result (applied c.args.operator x y) c.applied.ensures h)
     c.push_made.ensures

@@ -5,7 +5,6 @@ use Rattle.value_core.specs.View.{datum_of}
 use Rattle.code_rules.specs.Machine.{prefixed}
 use Rattle.emitted_code.specs.Views.{prefix_of}
 use Rattle.code_steps.proofs.Choosing.{prefixes, prefixes_none}
-use Rattle.code_steps.proofs.Popping.{none_popped}
 use Rattle.code_steps.proofs.Arriving.{made}
 use Rattle.code_steps.proofs.operators.apply_before.Goals as goal
 
@@ -13,7 +12,7 @@ pub returns-in_default : goal.returns-in_default
 returns-in_default c = λ locals code home.
     let old = c.args.stack.now in
     prefixes_none code home old old old locals (datum.int (pos 0)) (prefix_of c.args.prefix)
-    (none_popped c.pop.result old c.pop.new.self c.in_default.not-Some c.pop.ensures)
+    (c.in_default.ensures {u = tt})
 
 pub returns : goal.returns
 returns c =

@@ -2,14 +2,13 @@ use Rattle.std.proofs.Common.{pos, sym, ◌∙◌}
 use Rattle.value_core.specs.Datum as datum
 use Rattle.value_core.specs.View.{datum_of}
 use Rattle.code_steps.proofs.Choosing.{decides_none, goes, stays}
-use Rattle.code_steps.proofs.Popping.{none_popped}
 use Rattle.code_steps.proofs.operators.decide.Goals as goal
 
 pub returns-in_default : goal.returns-in_default
 returns-in_default c = λ locals home.
     let old = c.args.stack.now in
     decides_none home c.args.operator c.args.address old old old locals (datum.int (pos 0))
-    (none_popped c.pop.result old c.pop.new.self c.in_default.not-Some c.pop.ensures)
+    (c.in_default.ensures {u = tt})
 
 pub returns-then-decides : goal.returns-then-decides
 returns-then-decides c = λ locals home.
