@@ -1,16 +1,15 @@
 -- Slots that get a small value.
-use Rattle.std.proofs.Common.{◌≡◌, ◌≤◌, ℕ, zero, suc, List, [], ◌∷◌, Option, Some, None, Ok, Err, refl, sym, ap, ◌∙◌, subst}
-use Rattle.std.specs.Prelude.{if◌then◌else◌, nat_le, ok_or, option_map, slice_get, slice_set}
+use Rattle.std.proofs.Common.{◌≡◌, ℕ, ℤ, zero, suc, Bool, true, false, List, [], ◌∷◌, MatchBool, MatchOption, Option, Some, None, Ok, Err, refl, sym, ap, ◌∙◌}
+use Rattle.std.specs.Prelude.{if◌then◌else◌, nat_le, ok_or, slice_get, slice_set}
 use Rattle.orca_base.specs.declared.fault.FaultKind.TheVariants.{IndexOutside, TooLarge}
 use Rattle.orca_base.specs.declared.limits.TheConstants.{VALUE_SIZE}
 use Rattle.value_core.specs.Datum.{Datum}
+use Rattle.value_core.specs.Datum as datum
 use Rattle.value_core.specs.Size.{size_of}
-use Rattle.meaning_rules.specs.Operators.{and_then, fitting}
+use Rattle.meaning_rules.specs.Operators.{and_then, fitting, integer_in}
 use Rattle.meaning_rules.specs.States.{State, Out, Goes, Stops, after, gives}
 use Rattle.meaning_rules.specs.Variables.{Target, changed_at, store, stored}
-use Rattle.eval_variables.specs.declared.stop.Stop.{Stop}
-use Rattle.eval_variables.specs.declared.stop.Stop.TheVariants as stop
-use Rattle.eval_variables.specs.Gives.{Fails}
+use Rattle.value_paths.specs.declared.step.Step.{Step as ValueStep}
 use Rattle.code_rules.specs.Machine.{at_state}
 
 -- where there is no such slot nothing is set
@@ -29,9 +28,37 @@ slot_stored slot v x s there one =
     ap (λ (o : Option Datum). after (gives (and_then (and_then (ok_or o IndexOutside) (changed_at [] (λ old. Ok v))) fitting) s) (λ whole s1. Goes tt (stored slot whole s1))) there
     ∙ ap (λ r. after (gives r s) (λ whole s1. Goes tt (stored slot whole s1))) (one_fits v one)
 
--- what can be stored lacks nothing but memory where it stops
-pub lacks : (why : Stop) (u : Unit {0}) (s : State) → Fails why (Goes u s) → why ≡ stop.NoMemory
-lacks stop.NoMemory u s h = refl
-lacks (stop.Needs action) u s h = absurd cc
-lacks (stop.Faults fault) u s h = absurd cc
-lacks stop.Busy u s h = absurd cc
+frame_in : Out (Unit {0}) → List Datum → List Datum
+frame_in (Goes u s) other = s.frame
+frame_in (Stops why) other = other
+
+-- what was stored in it stands there
+pub slot_set : (slot : ℕ) (path : List ValueStep) (v : Datum) (s1 s2 : State) (old : List Datum) → path ≡ [] → s1 ≡ at_state old → (x : Datum) × (slice_get old slot ≡ Some x) → size_of v ≡ 1 →
+    store (record { slot = slot; path = path }) v s1 ≡ Goes tt s2 → s2.frame ≡ slice_set old slot v
+unfolding frame_in
+slot_set slot path v s1 s2 old bare clear there one h =
+    let here : slice_get s1.frame slot ≡ Some there.0 = ap (λ (s : State). slice_get s.frame slot) clear ∙ there.1 in
+    let out = ap (λ (p : List ValueStep). store (record { slot = slot; path = p }) v s1) (sym bare) ∙ h in
+    ap (λ o. frame_in o old) (sym out ∙ slot_stored slot v there.0 s1 here one) ∙ ap (λ (s : State). slice_set s.frame slot v) clear
+
+-- whether there is such a slot
+pub there : (b : Bool) (slot : ℕ) (xs : List Datum) → b ≡ true → MatchBool b ((x : Datum) × (slice_get xs slot ≡ Some x)) (slice_get xs slot ≡ None) → (x : Datum) × (slice_get xs slot ≡ Some x)
+there true slot xs is h = h
+there false slot xs is h = absurd cc
+
+pub not_there : (b : Bool) (slot : ℕ) (xs : List Datum) → b ≡ false → MatchBool b ((x : Datum) × (slice_get xs slot ≡ Some x)) (slice_get xs slot ≡ None) → slice_get xs slot ≡ None
+not_there true slot xs is h = absurd cc
+not_there false slot xs is h = h
+
+-- ---- loops
+
+-- what no arm took
+pub none_of : {A : Type 0} (found : Option A) (P : Type 0) (Q : A → Type 0) → ((x : A) → found ≡ Some x → ⊥) → MatchOption found P Q → P
+none_of None P Q apart h = h
+none_of (Some x) P Q apart h = absurd (apart x refl)
+
+pub pushed_two : (new mid st : List Datum) (x y x' y' : Datum) → mid ≡ x ∷ st → new ≡ y ∷ mid → x ≡ x' → y ≡ y' → new ≡ y' ∷ (x' ∷ st)
+pushed_two new mid st x y x' y' one two ex ey = two ∙ ap (λ w. y ∷ w) one ∙ ap (λ w. y ∷ (w ∷ st)) ex ∙ ap (λ w. w ∷ (x' ∷ st)) ey
+
+pub same_integer : (x y : Datum) (z : ℤ) → y ≡ datum.int (integer_in x) → x ≡ datum.int z → y ≡ datum.int z
+same_integer x y z is same = is ∙ ap (λ w. datum.int (integer_in w)) same

@@ -1,6 +1,7 @@
 //! Actions that are asked for.
 
-ghost use Rattle.std.specs.Prelude.{◌≡◌, ◌<◌, ◌^◌, IfOk, List, Ok};
+ghost use Rattle.std.specs.Prelude.{◌≡◌, ◌<◌, ◌^◌, IfOk, List, Ok, ok_or, slice_get};
+ghost use Rattle.orca_base.specs.declared.fault.FaultKind.TheVariants.{IndexOutside};
 ghost use Rattle.value_core.specs.Datum.{Datum};
 ghost use Rattle.value_core.specs.View.{datum_of};
 ghost use Rattle.meaning_rules.specs.Calls.{id_in};
@@ -52,17 +53,24 @@ fn object_of(value: &Value) -> ObjectId
     }
 }
 
-// The object that stands in a slot; of type 0 there is the output object alone.
+// The object that stands in a slot.
+fn object_there(slot: usize, run: &Run<'_>) -> ObjectId
+    ensures { result ≡ id_in (ok_or (slice_get run.now.frame slot) IndexOutside) }
+{
+    match run.frame.get(slot) {
+        Some(value) => object_of(value),
+        None => ObjectId::OUTPUT,
+    }
+}
+
+// The same for an object type; of type 0 there is the output object alone.
 fn object_in(kind: KindNo, slot: usize, run: &Run<'_>) -> ObjectId
     ensures { result ≡ object_at kind.0 slot run.now.frame }
 {
     if kind.0 == 0 {
         return ObjectId::OUTPUT;
     }
-    match run.frame.get(slot) {
-        Some(value) => object_of(value),
-        None => ObjectId::OUTPUT,
-    }
+    object_there(slot, run)
 }
 
 /// A call of an operation, of the object in a slot.

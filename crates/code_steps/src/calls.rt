@@ -191,7 +191,7 @@ fn return_to<'a>(
     config: &mut Config<'a>,
 ) -> Result<Effect, NoMemory>
     ensures { IfOk result (λ e. machine.leave (config_of config.old).process (option_map datum_of value) (config_of config.old).locals
-        (caller_of caller ∷ (config_of config.old).frames) ≡ effect_in e (config_of config.new)) }
+        (caller_of caller.entry ∷ (config_of config.old).frames) ≡ effect_in e (config_of config.new)) }
 {
     let Caller {
         body,

@@ -1,7 +1,8 @@
 //! Counted loops, and slots that get a small value.
 
-ghost use Rattle.std.specs.Prelude.{◌≡◌, ◌+ℤ◌, IfOk, MatchOption, OnOk, false, int_le, int_lt, pos, slice_set, true};
+ghost use Rattle.std.specs.Prelude.{◌≡◌, ◌+ℤ◌, IfOk, MatchBool, MatchOption, None, OnOk, Some, false, int_le, int_lt, pos, slice_get, slice_set, true};
 ghost use Rattle.value_core.specs.Datum as datum;
+ghost use Rattle.value_core.specs.Datum.{Datum};
 ghost use Rattle.value_core.specs.Size.{size_of};
 ghost use Rattle.value_core.specs.View.{datum_of};
 ghost use Rattle.meaning_rules.specs.Operators.{integer_in as rule_integer};
@@ -11,7 +12,7 @@ ghost use Rattle.code_steps.specs.Moves.{Moves};
 use crate::advance::Advance;
 use crate::operands::Operands;
 use crate::variables::clear_run;
-use eval_variables::{Run, Stop, Target, integer_in, store};
+use eval_variables::{Run, Target, integer_in, store};
 use orca_base::NoMemory;
 use std::alloc::Global;
 use value_core::Value;
@@ -44,6 +45,16 @@ fn next_up(number: &Value, high: &Value) -> Option<Value>
     }
 }
 
+// Whether there is a slot of this number.
+fn has_slot(slot: usize, run: &Run<'_>) -> bool
+    ensures { MatchBool result ((x : Datum) × (slice_get run.now.frame slot ≡ Some x)) (slice_get run.now.frame slot ≡ None) }
+{
+    match run.frame.get(slot) {
+        Some(_) => true,
+        None => false,
+    }
+}
+
 /// A slot gets a value, where there is one of this number.
 ///
 /// # Errors
@@ -57,7 +68,7 @@ pub fn set_slot(
     requires { size_of (datum_of value) ≡ 1 }
     ensures { OnOk result (run.new.frame ≡ slice_set run.old.frame slot (datum_of value)) }
 {
-    if run.frame.get(slot).is_none() {
+    if !has_slot(slot, run) {
         return Ok(());
     }
     let to = Target {
@@ -67,8 +78,8 @@ pub fn set_slot(
     clear_run(run);
     match store(alloc, &to, value, run) {
         Ok(()) => Ok(()),
-        Err(Stop::NoMemory) => Err(NoMemory),
-        Err(_) => unreachable!(),
+        // Nothing but memory can lack, since the slot is there and a value of one part fits.
+        Err(_) => Err(NoMemory),
     }
 }
 
