@@ -1,5 +1,5 @@
 -- What a called body begins with, and who waits.
-use Rattle.std.proofs.Common.{◌≡◌, ℕ, ◌+◌, List, [], ◌∷◌, ◌++◌, append_assoc, Option, Some, None, Ok, length, map, refl, sym, ap, ◌∙◌}
+use Rattle.std.proofs.Common.{◌≡◌, ℕ, ◌+◌, List, [], ◌∷◌, ◌++◌, append_assoc, Option, Some, None, Ok, length, map, refl, sym, ap, ◌∙◌, arith}
 use Rattle.std.specs.Prelude.{option_map, reverse, nat_lt, pos, replicate}
 use Rattle.std.proofs.lemmas.List.{map-append, reverse-append}
 use Rattle.orca_base.specs.declared.ids.ProcessNo.{ProcessNo}
@@ -83,3 +83,7 @@ pub entered_same : (o : Option Body) (i : ℕ) (ps : List Passed) (c : Config) (
     entered o i ps (record c { stack = new }) stack ≡ entered o i ps c stack
 entered_same None i ps c stack new = refl
 entered_same (Some part) i ps c stack new = refl
+
+pub none_wait : (ws : List Caller) → length ws ≡ 0 → callers_of ws ≡ []
+none_wait [] none = refl
+none_wait (w ∷ ws) none = absurd (omega (arith, none))

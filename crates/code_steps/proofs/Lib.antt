@@ -5,6 +5,7 @@ mod Numbering
 mod Filling
 mod Entering
 mod Leaving
+mod Calling
 mod Texts
 mod Taking
 mod Indexing

@@ -1,5 +1,5 @@
 -- Slots that get a small value.
-use Rattle.std.proofs.Common.{◌≡◌, ℕ, ℤ, zero, suc, Bool, true, false, List, [], ◌∷◌, MatchBool, MatchOption, Option, Some, None, Ok, Err, refl, sym, ap, ◌∙◌}
+use Rattle.std.proofs.Common.{◌≡◌, ℕ, ℤ, zero, suc, Bool, true, false, List, [], ◌∷◌, MatchBool, Option, Some, None, Ok, Err, refl, sym, ap, ◌∙◌}
 use Rattle.std.specs.Prelude.{if◌then◌else◌, nat_le, ok_or, slice_get, slice_set}
 use Rattle.orca_base.specs.declared.fault.FaultKind.TheVariants.{IndexOutside, TooLarge}
 use Rattle.orca_base.specs.declared.limits.TheConstants.{VALUE_SIZE}
@@ -51,11 +51,6 @@ not_there true slot xs is h = absurd cc
 not_there false slot xs is h = h
 
 -- ---- loops
-
--- what no arm took
-pub none_of : {A : Type 0} (found : Option A) (P : Type 0) (Q : A → Type 0) → ((x : A) → found ≡ Some x → ⊥) → MatchOption found P Q → P
-none_of None P Q apart h = h
-none_of (Some x) P Q apart h = absurd (apart x refl)
 
 pub pushed_two : (new mid st : List Datum) (x y x' y' : Datum) → mid ≡ x ∷ st → new ≡ y ∷ mid → x ≡ x' → y ≡ y' → new ≡ y' ∷ (x' ∷ st)
 pushed_two new mid st x y x' y' one two ex ey = two ∙ ap (λ w. y ∷ w) one ∙ ap (λ w. y ∷ (w ∷ st)) ex ∙ ap (λ w. w ∷ (x' ∷ st)) ey

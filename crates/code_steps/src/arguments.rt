@@ -1,16 +1,43 @@
 //! Arguments, which stand on the operands, the last one on top.
 
 ghost use Rattle.std.specs.Prelude.{◌≡◌, ◌∷◌, IfOk, List, MatchOption, [], false, map, true};
-ghost use Rattle.emitted_code.specs.Views.{shape_of};
+ghost use Rattle.code_rules.specs.Instructions.{Gives, Lends};
+ghost use Rattle.emitted_code.specs.Views.{marks_of, shape_of};
 ghost use Rattle.eval_variables.specs.Gives.{passed_of};
 ghost use Rattle.code_steps.specs.Passing.{Takes, TakesOne};
 
 use crate::operands::Operands;
 use crate::paths::pop_path;
-use emitted_code::Shape;
+use emitted_code::{Mark, Shape};
 use eval_variables::{Passed, Target};
 use orca_base::NoMemory;
 use std::alloc::Global;
+
+// Takes an argument that gives a value.
+fn take_given(stack: &mut Operands) -> Option<Passed>
+    ensures { TakesOne Gives stack.old result stack.new }
+{
+    match stack.pop() {
+        Some(value) => Some(Passed::Given { value }),
+        None => None,
+    }
+}
+
+// Takes an argument that lends a place, by the indices of its path.
+fn take_lent(
+    alloc: Global,
+    slot: usize,
+    marks: &[Mark],
+    stack: &mut Operands,
+) -> Result<Option<Passed>, NoMemory>
+    ensures { IfOk result (λ found. TakesOne (Lends slot (marks_of marks.now)) stack.old found stack.new) }
+{
+    let Some(path) = pop_path(alloc, marks, stack)? else {
+        return Ok(None);
+    };
+    let to = Target { slot, path };
+    Ok(Some(Passed::Lent { to }))
+}
 
 // Takes one argument, where its operands are there.
 fn take_one(
@@ -21,16 +48,8 @@ fn take_one(
     ensures { IfOk result (λ found. TakesOne (shape_of shape.now) stack.old found stack.new) }
 {
     match shape {
-        Shape::Gives => match stack.pop() {
-            Some(value) => Ok(Some(Passed::Given { value })),
-            None => Ok(None),
-        },
-        Shape::Lends { slot, path } => match pop_path(alloc, path, stack)? {
-            Some(path) => Ok(Some(Passed::Lent {
-                to: Target { slot: *slot, path },
-            })),
-            None => Ok(None),
-        },
+        Shape::Gives => Ok(take_given(stack)),
+        Shape::Lends { slot, path } => take_lent(alloc, *slot, path, stack),
     }
 }
 
@@ -47,16 +66,15 @@ fn take_before(
     match shapes {
         [] => Ok(true),
         [shape, shapes @ ..] => {
-            if !take_before(alloc, shapes, stack, args)? {
+            let others = take_before(alloc, shapes, stack, args)?;
+            if !others {
                 return Ok(false);
             }
-            match take_one(alloc, shape, stack)? {
-                Some(passed) => {
-                    args.insert(0, passed)?;
-                    Ok(true)
-                }
-                None => Ok(false),
-            }
+            let Some(passed) = take_one(alloc, shape, stack)? else {
+                return Ok(false);
+            };
+            args.insert(0, passed)?;
+            Ok(true)
         }
     }
 }

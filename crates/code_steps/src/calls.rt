@@ -28,14 +28,14 @@ use value_core::{Parts, Value};
 const MOST_WAITING: usize = 64;
 
 // What a name of a called body holds: what was given is moved out, and what is lent opens as the body says.
-fn first_value(alloc: Global, open: &Value, passed: &mut Passed) -> Result<Value, NoMemory>
+fn first_value(alloc: Global, opening: &Value, passed: &mut Passed) -> Result<Value, NoMemory>
     ensures value { IfOk result (λ v. (xs : List Datum) (ps : List RulePassed) →
-        machine.filled (datum_of open.now ∷ xs) (passed_of passed.old ∷ ps) ≡ datum_of v ∷ machine.filled xs ps) }
+        machine.filled (datum_of opening.now ∷ xs) (passed_of passed.old ∷ ps) ≡ datum_of v ∷ machine.filled xs ps) }
     ensures place { machine.lent (passed_of passed.new) ≡ machine.lent (passed_of passed.old) }
 {
     match passed.take() {
         Some(value) => Ok(value),
-        None => open.copy(alloc),
+        None => opening.copy(alloc),
     }
 }
 
@@ -52,8 +52,8 @@ fn add_names(
     match (opens, args) {
         ([], _) => Ok(()),
         (opens, []) => add_copies(alloc, opens, all),
-        ([open, opens @ ..], [passed, args @ ..]) => {
-            all.push(first_value(alloc, open, passed)?)?;
+        ([opening, opens @ ..], [passed, args @ ..]) => {
+            all.push(first_value(alloc, opening, passed)?)?;
             add_names(alloc, opens, args, all)
         }
     }
