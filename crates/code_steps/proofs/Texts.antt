@@ -1,5 +1,5 @@
 -- A line of output, one text further.
-use Rattle.std.proofs.Common.{◌≡◌, ℕ, suc, List, [], ◌∷◌, Some, true, false, length, map, Result, Ok, Err, refl, sym, ap, ◌∙◌, subst}
+use Rattle.std.proofs.Common.{◌≡◌, ◌≤◌, ℕ, suc, drop, get_or, arith, List, [], ◌∷◌, Some, true, false, length, map, Result, Ok, Err, refl, sym, ap, ◌∙◌, subst}
 use Rattle.std.specs.Borrow.{Bor}
 use Rattle.orca_base.specs.declared.fault.FaultKind.{FaultKind}
 use Rattle.orca_tree.specs.declared.tree.Name.{Name}
@@ -67,6 +67,35 @@ pub line_more : (done : Result (Unit {0}) Stop) (front mid last t : List ℕ) (t
     Gives (λ _. last) done s (gives (line_of mid ts) s) → Gives (λ _. last) done s (gives (line_of front (t ∷ ts)) s)
 line_more done front mid last t ts s one h =
     subst (λ q. Gives (λ _. last) done s (gives (and_then q (λ w. line_of w ts)) s)) (sym (gives_ok (joined front t) s mid one)) h
+
+-- the texts of values begin with the first one's
+pub texts_more : (done : Result (Unit {0}) Stop) (names : List (Bor (List Name))) (values : List Value) (n : Bor (List Name)) (v : Value) (front mid last t : List ℕ) (s : State) →
+    1 ≤ length names → 1 ≤ length values → n ≡ get_or names 0 n → v ≡ get_or values 0 v → t ≡ text_of (map (λ m. m.text) n.now) (datum_of v) →
+    gives (joined front t) s ≡ Goes mid s → Gives (λ _. last) done s (gives (line_of mid (texts_by (texts_of (drop 1 names)) (map datum_of (drop 1 values)))) s) →
+    Gives (λ _. last) done s (gives (line_of front (texts_by (texts_of names) (map datum_of values))) s)
+texts_more done [] values n v front mid last t s low high is here text one h = absurd (omega (arith, low))
+texts_more done (m ∷ names) [] n v front mid last t s low high is here text one h = absurd (omega (arith, high))
+texts_more done (m ∷ names) (w ∷ values) n v front mid last t s low high is here text one h =
+    let same : t ≡ text_of (map (λ k. k.text) m.now) (datum_of w) =
+    text ∙ ap (λ (b : Bor (List Name)). text_of (map (λ k. k.text) b.now) (datum_of v)) is ∙ ap (λ u. text_of (map (λ k. k.text) m.now) (datum_of u)) here in
+    line_more done front mid last (text_of (map (λ k. k.text) m.now) (datum_of w)) (texts_by (texts_of names) (map datum_of values)) s
+    (subst (λ x. gives (joined front x) s ≡ Goes mid s) same one) h
+
+pub texts_stop : (why : Stop) (names : List (Bor (List Name))) (values : List Value) (n : Bor (List Name)) (v : Value) (front t : List ℕ) (s : State) →
+    1 ≤ length names → 1 ≤ length values → n ≡ get_or names 0 n → v ≡ get_or values 0 v → t ≡ text_of (map (λ m. m.text) n.now) (datum_of v) →
+    Fails why (gives (joined front t) s) → Fails why (gives (line_of front (texts_by (texts_of names) (map datum_of values))) s)
+texts_stop why [] values n v front t s low high is here text h = absurd (omega (arith, low))
+texts_stop why (m ∷ names) [] n v front t s low high is here text h = absurd (omega (arith, high))
+texts_stop why (m ∷ names) (w ∷ values) n v front t s low high is here text h =
+    let same : t ≡ text_of (map (λ k. k.text) m.now) (datum_of w) =
+    text ∙ ap (λ (b : Bor (List Name)). text_of (map (λ k. k.text) b.now) (datum_of v)) is ∙ ap (λ u. text_of (map (λ k. k.text) m.now) (datum_of u)) here in
+    fails_first why (joined front (text_of (map (λ k. k.text) m.now) (datum_of w))) (λ x. line_of x (texts_by (texts_of names) (map datum_of values))) s
+    (subst (λ x. Fails why (gives (joined front x) s)) same h)
+
+pub texts_none : (names : List (Bor (List Name))) (values : List Value) → length values ≡ 0 → texts_by (texts_of names) (map datum_of values) ≡ []
+texts_none [] values is = refl
+texts_none (n ∷ names) [] is = refl
+texts_none (n ∷ names) (v ∷ values) is = absurd (omega (arith, is))
 
 -- it is a value
 pub line_text : (line : List ℕ) (q : Result (List ℕ) FaultKind) (s : State) → gives q s ≡ Goes line s →

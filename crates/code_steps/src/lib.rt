@@ -1,7 +1,7 @@
 //! One instruction of compiled code, done on values: every instruction that there is.
 //!
 //! `step` does the instruction at which a configuration stands, as `step` of `code_rules` says, for every code and configuration: it goes
-//! on, begins a turn, asks for an action, faults, ends, tests a guard, or is stuck (`step`, its only clause; `Effect`). It asks for nothing
+//! on, begins a turn, asks for an action, faults, ends, tests a guard, or is stuck (`step`, its main clause; `Effect`). It asks for nothing
 //! but numbers of objects that fit their 32 bits, and leaves open want of memory alone.
 //!
 //! It is the slow, whole machine's inside: values stand where they are read and written, and nothing is compiled further. What variables

@@ -13,21 +13,21 @@ returns-in_default c = λ locals code home.
     applies_none code home old old old locals (datum.int (pos 0)) c.args.operator
     (c.in_default.ensures {u = tt})
 
-pub returns-in_default-2 : goal.returns-in_default-2
-returns-in_default-2 c = λ locals code home.
+pub returns-in_default-pop : goal.returns-in_default-pop
+returns-in_default-pop c = λ locals code home.
     let old = c.args.stack.now in
     let mid = c.pop.new.self in
     applies_one code home old mid mid locals (datum_of c.in-Some.right) c.args.operator (c.in-Some.ensures {u = tt})
-    (c.in_default-2.ensures {u = tt})
+    (c.in_default-pop.ensures {u = tt})
 
 pub returns : goal.returns
 returns c =
     let old = c.args.stack.now in
     let mid = c.pop.new.self in
     let st = c.pop-2.new.self in
-    let x = datum_of c.in-Some-2.left in
+    let x = datum_of c.in-Some-pop.left in
     let y = datum_of c.in-Some.right in
     IfOk-weaker c.push_made.result _ _
-    (λ a h locals code home. applies code home old mid st locals x c.args.operator y (c.in-Some.ensures {u = tt}) (c.in-Some-2.ensures {u = tt})
+    (λ a h locals code home. applies code home old mid st locals x c.args.operator y (c.in-Some.ensures {u = tt}) (c.in-Some-pop.ensures {u = tt})
     ∙ made home old st c.push_made.new.stack locals a c.applied.result (applied c.args.operator x y) c.applied.ensures h)
     c.push_made.ensures
