@@ -5,9 +5,10 @@ use Rattle.std.proofs.lemmas.List.{map-append, reverse-append}
 use Rattle.orca_base.specs.declared.ids.ProcessNo.{ProcessNo}
 use Rattle.value_core.specs.Datum.{Datum}
 use Rattle.value_core.specs.Datum as datum
-use Rattle.meaning_rules.specs.Calls.{Passed, Given, Lent}
+use Rattle.meaning_rules.specs.Calls.{Passed as RulePassed}
+use Rattle.eval_variables.specs.declared.steps.Passed.{Passed}
 use Rattle.meaning_rules.specs.Variables.{Target}
-use Rattle.eval_variables.specs.Lent.{given_by, place_of}
+use Rattle.eval_variables.specs.Gives.{passed_of}
 use Rattle.code_rules.specs.Machine as machine
 use Rattle.code_rules.specs.Machine.{Body, BodyNo, Config, filled, lent, with_spare, entered}
 use Rattle.code_steps.specs.declared.config.Caller.{Caller}
@@ -15,30 +16,11 @@ use Rattle.code_steps.specs.Bodies.{caller_of, callers_of}
 
 -- ---- names
 
-pub first_given : (x y : Datum) (p : Passed) (xs : List Datum) (ps : List Passed) → Some y ≡ given_by p → filled (x ∷ xs) (p ∷ ps) ≡ y ∷ filled xs ps
-first_given x y (Given z) xs ps is = let same : z ≡ y = cc in ap (λ w. w ∷ filled xs ps) same
-first_given x y (Lent to) xs ps is = absurd cc
-
-pub first_lent : (x y : Datum) (p : Passed) (xs : List Datum) (ps : List Passed) → None ≡ given_by p → y ≡ x → filled (x ∷ xs) (p ∷ ps) ≡ y ∷ filled xs ps
-first_lent x y (Given z) xs ps is same = absurd cc
-first_lent x y (Lent to) xs ps is same = ap (λ w. w ∷ filled xs ps) (sym same)
-
--- a place is lent as it is
-lent_place : (p : Passed) → lent p ≡ place_of p
-lent_place (Given x) = refl
-lent_place (Lent to) = refl
-
-pub lent_alike : (p q : Passed) → place_of p ≡ place_of q → lent p ≡ lent q
-lent_alike p q alike = lent_place p ∙ alike ∙ sym (lent_place q)
-
--- one name more, and then the others
-pub names_more : (old new last : List Datum) (y : Datum) (zs all : List Datum) → new ≡ old ++ y ∷ [] → last ≡ new ++ zs → all ≡ y ∷ zs → last ≡ old ++ all
-names_more old new last y zs all one others is =
-    others ∙ ap (λ w. w ++ zs) one ∙ append_assoc old (y ∷ []) zs ∙ ap (λ w. old ++ w) (sym is)
-
-pub no_names : (xs : List Datum) → filled xs [] ≡ xs
-no_names [] = refl
-no_names (x ∷ xs) = refl
+-- where nothing is passed they hold what the body opens with
+pub names_all : (xs : List Datum) (args : List Passed) → length args ≡ 0 → xs ≡ filled xs (map passed_of args)
+names_all [] [] none = refl
+names_all (x ∷ xs) [] none = refl
+names_all xs (p ∷ ps) none = absurd (omega (arith, none))
 
 -- the names, and behind them the slots of loops
 pub with_slots : (part : Body) (names none mid new : List Datum) → none ≡ [] → mid ≡ none ++ names → new ≡ mid ++ replicate part.spare (datum.int (pos 0)) → new ≡ with_spare part names
@@ -67,7 +49,7 @@ same_config process body pc s s' l l' f f' es el ef =
     ap (λ x. config_with process body pc x l f) es ∙ ap (λ x. config_with process body pc s' x f) el ∙ ap (λ x. config_with process body pc s' l' x) ef
 
 -- a body that is there begins so: one more waits, with all that stood
-pub body_begun : (part : Body) (i : ℕ) (ps : List Passed) (c : Config) (old : List Datum) (ws : List Caller) (w : Caller) (stack slots frame : List Datum) (given : List Passed) (names : ℕ) →
+pub body_begun : (part : Body) (i : ℕ) (ps : List RulePassed) (c : Config) (old : List Datum) (ws : List Caller) (w : Caller) (stack slots frame : List Datum) (given : List RulePassed) (names : ℕ) →
     caller_of w ≡ caller_with c.body (c.pc + 1) stack frame (map lent given) names →
     c.frames ≡ callers_of ws → stack ≡ old → frame ≡ c.locals → map lent given ≡ map lent ps → names ≡ length part.opens → slots ≡ with_spare part (filled part.opens ps) →
     entered (Some part) i ps c old ≡ machine.Turns (config_with c.process (machine.OfFunction i) 0 [] slots (callers_of (ws ++ w ∷ [])))
@@ -79,7 +61,7 @@ body_begun part i ps c old ws w stack slots frame given names is others es el eg
     ∙ ap (λ x. caller_of w ∷ x) others ∙ sym (one_waits ws w)))
 
 -- what is entered doesn't ask for the operands that stood
-pub entered_same : (o : Option Body) (i : ℕ) (ps : List Passed) (c : Config) (stack new : List Datum) →
+pub entered_same : (o : Option Body) (i : ℕ) (ps : List RulePassed) (c : Config) (stack new : List Datum) →
     entered o i ps (record c { stack = new }) stack ≡ entered o i ps c stack
 entered_same None i ps c stack new = refl
 entered_same (Some part) i ps c stack new = refl

@@ -6,6 +6,7 @@ mod Filling
 mod Entering
 mod Leaving
 mod Calling
+mod Transferring
 mod Texts
 mod Taking
 mod Indexing

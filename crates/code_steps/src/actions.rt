@@ -1,10 +1,11 @@
 //! Actions that are asked for.
 
-ghost use Rattle.std.specs.Prelude.{◌≡◌, ◌<◌, ◌^◌, IfOk, List, Ok, ok_or, slice_get};
+ghost use Rattle.std.specs.Prelude.{◌≡◌, ◌<◌, ◌^◌, IfOk, List, Ok, Some, ok_or, slice_get};
 ghost use Rattle.orca_base.specs.declared.fault.FaultKind.TheVariants.{IndexOutside};
 ghost use Rattle.value_core.specs.Datum.{Datum};
 ghost use Rattle.value_core.specs.View.{datum_of};
 ghost use Rattle.meaning_rules.specs.Calls.{id_in};
+ghost use Rattle.meaning_rules.specs.Operators.{integer_in as rule_integer};
 ghost use Rattle.code_rules.specs.Instructions as rules;
 ghost use Rattle.code_rules.specs.Machine as machine;
 ghost use Rattle.code_rules.specs.Machine.{object_at};
@@ -128,6 +129,13 @@ pub fn fork(
     }
 }
 
+// The member that an operand names.
+fn named_by(member: &Value) -> Option<i64>
+    ensures { result ≡ Some (rule_integer (datum_of member.now)) }
+{
+    Some(integer_in(member))
+}
+
 /// A fork, on the member that the operand on top names.
 pub fn fork_on(
     alloc: Global,
@@ -140,6 +148,7 @@ pub fn fork_on(
     let Some(member) = stack.pop() else {
         return Ok(Advance::Stuck);
     };
+    let place_on = named_by(&member);
     let Some(args) = stack.pop_many(alloc, count)? else {
         return Ok(Advance::Stuck);
     };
@@ -148,7 +157,7 @@ pub fn fork_on(
             let action = Action::Fork {
                 process,
                 args,
-                place_on: Some(integer_in(&member)),
+                place_on,
             };
             Ok(Advance::Asks { action })
         }

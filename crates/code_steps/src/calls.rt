@@ -1,9 +1,8 @@
 //! Calls of functions, and what leaves a body.
 
-ghost use Rattle.std.specs.Prelude.{◌≡◌, ◌+◌, ◌++◌, ◌∷◌, ◌<◌, ◌^◌, IfOk, List, OnOk, Some, map, option_map};
-ghost use Rattle.value_core.specs.Datum.{Datum, list_of};
+ghost use Rattle.std.specs.Prelude.{◌≡◌, ◌+◌, ◌++◌, ◌∷◌, ◌<◌, ◌^◌, IfOk, OnOk, Some, map, option_map};
+ghost use Rattle.value_core.specs.Datum.{list_of};
 ghost use Rattle.value_core.specs.View.{datum_of};
-ghost use Rattle.meaning_rules.specs.Calls.{Passed as RulePassed};
 ghost use Rattle.meaning_rules.specs.Expressions.{result as given_result};
 ghost use Rattle.eval_variables.specs.Gives.{Gives, passed_of, state_of};
 ghost use Rattle.code_rules.specs.Instructions as rules;
@@ -27,47 +26,37 @@ use value_core::{Parts, Value};
 // So many bodies may wait (docs/LANGUAGE.md, Faults).
 const MOST_WAITING: usize = 64;
 
-// What a name of a called body holds: what was given is moved out, and what is lent opens as the body says.
-fn first_value(alloc: Global, opening: &Value, passed: &mut Passed) -> Result<Value, NoMemory>
-    ensures value { IfOk result (λ v. (xs : List Datum) (ps : List RulePassed) →
-        machine.filled (datum_of opening.now ∷ xs) (passed_of passed.old ∷ ps) ≡ datum_of v ∷ machine.filled xs ps) }
-    ensures place { machine.lent (passed_of passed.new) ≡ machine.lent (passed_of passed.old) }
-{
-    match passed.take() {
-        Some(value) => Ok(value),
-        None => opening.copy(alloc),
-    }
-}
-
-// Puts what the names of a called body hold behind other values: what was given is moved out.
+// Puts what the names of a called body hold behind other values: what was given, and of what is lent what the body opens with.
 fn add_names(
     alloc: Global,
     opens: &[Value],
-    args: &mut [Passed],
+    args: &[Passed],
     all: &mut Parts,
 ) -> Result<(), NoMemory>
-    ensures names { OnOk result (list_of all.new ≡ list_of all.old ++ machine.filled (map datum_of opens.now) (map passed_of args.old)) }
-    ensures places { OnOk result (map machine.lent (map passed_of args.new) ≡ map machine.lent (map passed_of args.old)) }
+    ensures { OnOk result (list_of all.new ≡ list_of all.old ++ machine.filled (map datum_of opens.now) (map passed_of args.now)) }
 {
     match (opens, args) {
-        ([], _) => Ok(()),
-        (opens, []) => add_copies(alloc, opens, all),
-        ([opening, opens @ ..], [passed, args @ ..]) => {
-            all.push(first_value(alloc, opening, passed)?)?;
+        ([_, opens @ ..], [Passed::Given { value }, args @ ..]) => {
+            all.push(value.copy(alloc)?)?;
             add_names(alloc, opens, args, all)
         }
+        ([opening, opens @ ..], [Passed::Lent { .. }, args @ ..]) => {
+            all.push(opening.copy(alloc)?)?;
+            add_names(alloc, opens, args, all)
+        }
+        ([_, ..], []) => add_copies(alloc, opens, all),
+        ([], _) => Ok(()),
     }
 }
 
-// What the slots of a called body hold: the names, and behind them those of its loops. What was given is moved out of the arguments.
+// What the slots of a called body hold: the names, and behind them those of its loops.
 fn slots_of(
     alloc: Global,
     part: &EmittedBody<'_>,
-    args: &mut Vec<Passed>,
+    args: &[Passed],
 ) -> Result<Parts, NoMemory>
-    ensures slots { IfOk result (λ p. list_of p ≡ machine.with_spare (body_seen part.now)
-        (machine.filled (body_seen part.now).opens (map passed_of args.old.items))) }
-    ensures places { IfOk result (λ _. map machine.lent (map passed_of args.new.items) ≡ map machine.lent (map passed_of args.old.items)) }
+    ensures { IfOk result (λ p. list_of p ≡ machine.with_spare (body_seen part.now)
+        (machine.filled (body_seen part.now).opens (map passed_of args.now))) }
 {
     let mut slots = Parts::new(alloc);
     add_names(alloc, &part.opens, args, &mut slots)?;
@@ -87,8 +76,7 @@ fn begin(
     ensures { IfOk result (λ e. machine.entered (Some (body_seen part.now)) function (map passed_of args.items) (config_of config.old)
         (config_of config.old).stack ≡ effect_in e (config_of config.new)) }
 {
-    let mut args = args;
-    let slots = slots_of(alloc, part, &mut args)?;
+    let slots = slots_of(alloc, part, &args)?;
     let frame = exchange_frame(Frame::new(alloc, slots)?, &mut config.run);
     let stack = mem::replace(&mut config.stack, Operands::new(alloc));
     config.callers.push(Caller {

@@ -20,7 +20,7 @@ pub enum BodyNo {
 }
 
 /// A body that waits for the return of one that it called: where it goes on, its operands and its variables; where each argument that it
-/// lent stands (of those that it gave nothing is kept), and how many names the called body has.
+/// lent stands (of what it gave nothing is read again), and how many names the called body has.
 #[derive(Drop)]
 pub struct Caller<'a> {
     pub body: BodyNo,

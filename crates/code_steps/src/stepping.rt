@@ -40,7 +40,8 @@ fn transfer(
     match instr {
         Instr::Call { function, shapes } => call(alloc, code, *function, shapes, config),
         Instr::Result => give(alloc, config),
-        Instr::Return | Instr::End => leave(alloc, None, config),
+        Instr::Return => leave(alloc, None, config),
+        Instr::End => leave(alloc, None, config),
         _ => unreachable!(),
     }
 }

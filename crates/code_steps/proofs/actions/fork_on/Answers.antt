@@ -1,4 +1,4 @@
-use Rattle.std.proofs.Common.{[], false, true, ℤ, pos, Some, ap, sym, ◌∙◌}
+use Rattle.std.proofs.Common.{[], false, true, ℤ, pos, Option, Some, ap, sym, ◌∙◌}
 use Rattle.std.proofs.lemmas.Result.{IfOk-weaker}
 use Rattle.value_core.specs.Datum as datum
 use Rattle.value_core.specs.Datum.{list_of}
@@ -34,10 +34,10 @@ returns-in-Ok c = λ locals code home.
     let args = c.in-Some-2.args in
     forks_on code home c.args.count old mid st locals x c.args.process true (list_of args) (c.in-Some.ensures {u = tt}) (has_values c.in_ok-args.field-0 c.args.count mid st (c.in_ok-args.ensures {u = tt}) args c.in-Some-2.is)
     ∙ asks home old st locals args (λ xs. action.Fork c.args.process xs (Some (integer_in x))) c.in-Ok.ensures
-    ∙ ap (λ (z : ℤ). effect_of home (advance.Asks (action.Fork c.args.process args (Some z))) st locals) (sym c.integer_in.ensures)
+    ∙ ap (λ (z : Option ℤ). effect_of home (advance.Asks (action.Fork c.args.process args z)) st locals) (sym c.named_by-place_on.ensures)
 
-pub returns-in-Err : goal.returns-in-Err
-returns-in-Err c =
+pub returns : goal.returns
+returns c =
     let old = c.args.stack.now in
     let mid = c.pop.new.self in
     let st = c.pop_many.new.self in

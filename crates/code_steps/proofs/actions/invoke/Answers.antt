@@ -27,7 +27,7 @@ returns-in-Ok c = λ code home.
     let args = c.in-Some.args in
     invokes code home c.args.count old old st locals (datum.int (pos 0)) c.args.kind c.args.op c.args.slot true (list_of args) (has_values c.in_ok-args.field-0 c.args.count old st (c.in_ok-args.ensures {u = tt}) args c.in-Some.is)
     ∙ asks home old st locals args (λ xs. action.Call c.args.kind c.args.op (object_at c.args.kind.0 c.args.slot locals) xs) c.in-Ok.ensures
-    ∙ ap (λ (o : ObjectId). effect_of home (advance.Asks (action.Call c.args.kind c.args.op o args)) st locals) (sym c.object_in.ensures)
+    ∙ ap (λ (o : ObjectId). effect_of home (advance.Asks (action.Call c.args.kind c.args.op o args)) st locals) (sym c.object_in-object.ensures)
 
 pub returns-in-Err : goal.returns-in-Err
 returns-in-Err c =

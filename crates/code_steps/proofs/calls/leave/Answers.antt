@@ -19,4 +19,4 @@ pub returns-in-None : goal.returns-in-None
 returns-in-None c =
     let old = config_of c.args.config.now in
     ap (leave old.process (option_map datum_of c.args.value) old.locals)
-    (none_wait c.args.config.now.callers.items (omega (arith, (c.in-None.ensures.cases {u = tt}).0, c.args.config.now.callers.ok.0)))
+    (none_wait c.args.config.now.callers.items (omega (arith, c.in-None.ensures.cases.0, c.args.config.now.callers.ok.0)))
