@@ -1,5 +1,6 @@
 -- A line of output, one text further.
-use Rattle.std.proofs.Common.{◌≡◌, ◌≤◌, ℕ, suc, drop, get_or, arith, List, [], ◌∷◌, Some, true, false, length, map, Result, Ok, Err, refl, sym, ap, ◌∙◌, subst}
+use Rattle.std.proofs.Common.{◌≡◌, ◌≤◌, ◌-◌, take, ℕ, suc, drop, get_or, arith, List, [], ◌∷◌, Some, true, false, length, map, Result, Ok, Err, refl, sym, ap, ◌∙◌, subst}
+use Rattle.std.proofs.lemmas.List.{take_all}
 use Rattle.std.specs.Borrow.{Bor}
 use Rattle.orca_base.specs.declared.fault.FaultKind.{FaultKind}
 use Rattle.orca_tree.specs.declared.tree.Name.{Name}
@@ -71,7 +72,7 @@ line_more done front mid last t ts s one h =
 -- the texts of values begin with the first one's
 pub texts_more : (done : Result (Unit {0}) Stop) (names : List (Bor (List Name))) (values : List Value) (n : Bor (List Name)) (v : Value) (front mid last t : List ℕ) (s : State) →
     1 ≤ length names → 1 ≤ length values → n ≡ get_or names 0 n → v ≡ get_or values 0 v → t ≡ text_of (map (λ m. m.text) n.now) (datum_of v) →
-    gives (joined front t) s ≡ Goes mid s → Gives (λ _. last) done s (gives (line_of mid (texts_by (texts_of (drop 1 names)) (map datum_of (drop 1 values)))) s) →
+    gives (joined front t) s ≡ Goes mid s → Gives (λ _. last) done s (gives (line_of mid (texts_by (texts_of (take (length names - 1) (drop 1 names))) (map datum_of (take (length values - 1) (drop 1 values))))) s) →
     Gives (λ _. last) done s (gives (line_of front (texts_by (texts_of names) (map datum_of values))) s)
 texts_more done [] values n v front mid last t s low high is here text one h = absurd (omega (arith, low))
 texts_more done (m ∷ names) [] n v front mid last t s low high is here text one h = absurd (omega (arith, high))
@@ -79,7 +80,10 @@ texts_more done (m ∷ names) (w ∷ values) n v front mid last t s low high is 
     let same : t ≡ text_of (map (λ k. k.text) m.now) (datum_of w) =
     text ∙ ap (λ (b : Bor (List Name)). text_of (map (λ k. k.text) b.now) (datum_of v)) is ∙ ap (λ u. text_of (map (λ k. k.text) m.now) (datum_of u)) here in
     line_more done front mid last (text_of (map (λ k. k.text) m.now) (datum_of w)) (texts_by (texts_of names) (map datum_of values)) s
-    (subst (λ x. gives (joined front x) s ≡ Goes mid s) same one) h
+    (subst (λ x. gives (joined front x) s ≡ Goes mid s) same one)
+    (subst (λ vs. Gives (λ _. last) done s (gives (line_of mid (texts_by (texts_of names) (map datum_of vs))) s)) (take_all (length (w ∷ values) - 1) values (omega arith))
+    (subst (λ ns. Gives (λ _. last) done s (gives (line_of mid (texts_by (texts_of ns) (map datum_of (take (length (w ∷ values) - 1) values)))) s))
+    (take_all (length (m ∷ names) - 1) names (omega arith)) h))
 
 pub texts_stop : (why : Stop) (names : List (Bor (List Name))) (values : List Value) (n : Bor (List Name)) (v : Value) (front t : List ℕ) (s : State) →
     1 ≤ length names → 1 ≤ length values → n ≡ get_or names 0 n → v ≡ get_or values 0 v → t ≡ text_of (map (λ m. m.text) n.now) (datum_of v) →
