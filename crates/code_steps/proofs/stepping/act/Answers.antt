@@ -6,4 +6,4 @@ use Rattle.code_steps.proofs.stepping.act.Goals as goal
 pub returns : goal.returns
 returns c = λ room.
     let config = record c.args.config.now { stack = c.advance.new.stack; run = c.advance.new.run } in
-    c.in_ok-done.ensures room {u = tt} (program_seen c.args.code.now) (config_of config) refl ∙ sym c.follow.ensures
+    c.in_ok-done.ensures room (program_seen c.args.code.now) (config_of config) refl ∙ sym c.follow.ensures
