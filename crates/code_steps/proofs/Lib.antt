@@ -4,9 +4,7 @@ mod Arms
 mod Numbering
 mod Filling
 mod Entering
-mod Leaving
 mod Calling
-mod Transferring
 mod Texts
 mod Taking
 mod Indexing
