@@ -1,6 +1,6 @@
 -- Actions that are asked for.
-use Rattle.std.proofs.Common.{◌≡◌, ◌+◌, ℕ, zero, suc, Bool, List, [], ◌∷◌, Option, Some, None, Ok, refl, sym, ap, ◌∙◌}
-use Rattle.std.specs.Prelude.{◌≢◌, option_map, ok_or, slice_get, slice_set}
+use Rattle.std.proofs.Common.{◌≡◌, ◌+◌, ℕ, zero, suc, Bool, List, [], ◌∷◌, Some, None, Ok, refl, sym, ap, ◌∙◌}
+use Rattle.std.specs.Prelude.{◌≢◌, ok_or, slice_get, slice_set}
 use Rattle.orca_base.specs.declared.fault.FaultKind.TheVariants.{IndexOutside}
 use Rattle.orca_base.specs.declared.ids.KindNo.{KindNo}
 use Rattle.orca_base.specs.declared.ids.ObjectId.{ObjectId}

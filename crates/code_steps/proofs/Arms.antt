@@ -1,29 +1,19 @@
 -- What each instruction does that stays in its body.
-use Rattle.std.proofs.Common.{◌≡◌, ◌+◌, ℕ, ℤ, List, [], ◌∷◌, Bool, true, false, Some, None, Ok, Err, length, map, refl, sym, ap, ◌∙◌}
-use Rattle.std.specs.Prelude.{Result, if◌then◌else◌, slice_set, int_le, int_lt, ◌+ℤ◌, pos}
-use Rattle.orca_base.specs.declared.fault.FaultKind.{FaultKind}
-use Rattle.orca_base.specs.declared.ids.KindNo.{KindNo}
-use Rattle.orca_base.specs.declared.ids.ObjectId.{ObjectId}
-use Rattle.orca_base.specs.declared.ids.ProcessNo.{ProcessNo}
-use Rattle.orca_tree.specs.declared.tree.Operator.{Operator}
+use Rattle.std.proofs.Common.{◌≡◌, ◌+◌, ℕ, List, [], ◌∷◌, Bool, true, false, Some, sym, ap, ◌∙◌}
+use Rattle.std.specs.Prelude.{slice_set, int_le, int_lt, ◌+ℤ◌, pos}
 use Rattle.value_core.specs.Datum.{Datum, Data, data_of, list_of, data_of-list_of}
 use Rattle.value_core.specs.Datum as datum
 use Rattle.value_core.specs.declared.action.Action.{Action}
-use Rattle.value_core.specs.declared.action.Action.TheVariants as action
 use Rattle.value_paths.specs.declared.step.Step.{Step as ValueStep}
-use Rattle.value_paths.specs.Paths.{part_at}
-use Rattle.meaning_rules.specs.Operators.{applied, decides, fitting, fitting_all, integer_in, truth_in}
-use Rattle.meaning_rules.specs.Processes.{own_object}
+use Rattle.meaning_rules.specs.Operators.{fitting_all, integer_in}
 use Rattle.meaning_rules.specs.States.{State, Out, Goes, gives}
-use Rattle.meaning_rules.specs.Statements.{line_of}
 use Rattle.meaning_rules.specs.Variables.{Target, take}
 use Rattle.code_rules.specs.Instructions.{Mark}
 use Rattle.code_rules.specs.Instructions as rules
-use Rattle.code_rules.specs.Machine.{Code, Config, Effect, Asks, Fails, Steps, Stuck, Tests, act, at_state, goes_if, indices, into, next, on_out, on_result, on_top, on_two, pops, prefixed, pushes, read, short, steps_by, texts_by, to}
-use Rattle.code_steps.specs.declared.advance.Advance.{Advance}
+use Rattle.code_rules.specs.Machine.{Code, Config, Effect, Asks, Steps, Stuck, act, at_state, goes_if, indices, next, on_out, on_result, on_top, on_two, pops, pushes, steps_by}
 use Rattle.code_steps.specs.declared.advance.Advance.TheVariants as advance
-use Rattle.code_steps.specs.Moves.{Moves, effect_of, holding}
-use Rattle.code_steps.specs.Pops.{Pops, PopsPath}
+use Rattle.code_steps.specs.Moves.{effect_of, holding}
+use Rattle.code_steps.specs.Pops.{PopsPath}
 use Rattle.code_steps.proofs.Stopping.{goes_result}
 
 -- a value is pushed

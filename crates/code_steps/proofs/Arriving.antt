@@ -1,5 +1,5 @@
 -- What is pushed, or changed, and what it comes to.
-use Rattle.std.proofs.Common.{◌≡◌, ◌+◌, List, ◌∷◌, Some, Ok, Err, Option, Result, refl, sym, ap, ◌∙◌, subst}
+use Rattle.std.proofs.Common.{◌≡◌, ◌+◌, List, ◌∷◌, Ok, Err, Option, Result, sym, ap, ◌∙◌, subst}
 use Rattle.std.specs.Prelude.{MatchResult, option_map}
 use Rattle.std.specs.Borrow.{Bor}
 use Rattle.orca_base.specs.declared.fault.FaultKind.{FaultKind}
@@ -7,14 +7,14 @@ use Rattle.value_core.specs.Datum.{Datum}
 use Rattle.value_core.specs.View.{datum_of}
 use Rattle.value_core.specs.declared.value.Value.{Value}
 use Rattle.meaning_rules.specs.Expressions.{result}
-use Rattle.meaning_rules.specs.States.{State, Out, Goes, gives}
+use Rattle.meaning_rules.specs.States.{State, Out, gives}
 use Rattle.eval_variables.specs.declared.stop.Stop.{Stop}
 use Rattle.eval_variables.specs.Gives.{Fails, Gives}
 use Rattle.code_rules.specs.Machine.{Config, Effect, at_state, next, on_out, on_result, pushes}
 use Rattle.code_rules.specs.Machine as machine
 use Rattle.code_steps.specs.declared.advance.Advance.{Advance}
 use Rattle.code_steps.specs.declared.advance.Advance.TheVariants as advance
-use Rattle.code_steps.specs.Moves.{effect_of, holding, told}
+use Rattle.code_steps.specs.Moves.{effect_of, holding}
 use Rattle.code_steps.specs.Passing.{Changes, Pushes, PushesFound, PushesGiven}
 use Rattle.code_steps.proofs.Stopping.{goes_result, stops_out, stops_result}
 

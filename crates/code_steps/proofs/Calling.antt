@@ -1,10 +1,9 @@
 -- Calls of functions, as far as their arguments are taken, and what leaves a body with a value.
-use Rattle.std.proofs.Common.{◌≡◌, ◌<◌, ◌≤◌, ℕ, Bool, true, false, List, [], ◌∷◌, Option, Some, None, Ok, Err, length, map, refl, sym, ap, ◌∙◌, arith, ltb-false, ltb-true}
-use Rattle.std.specs.Prelude.{nat_lt, option_map, reverse}
+use Rattle.std.proofs.Common.{◌≡◌, ◌<◌, ◌≤◌, ℕ, Bool, true, false, List, [], ◌∷◌, Option, Some, length, map, refl, sym, ap, ◌∙◌, arith, ltb-false, ltb-true}
+use Rattle.std.specs.Prelude.{nat_lt}
 use Rattle.std.proofs.lemmas.List.{length-map, length-reverse}
-use Rattle.orca_base.specs.declared.fault.FaultKind.TheVariants.{NoReturn, TooDeep}
-use Rattle.orca_base.specs.declared.fault.FaultKind.{FaultKind}
-use Rattle.value_core.specs.Datum.{Data, Datum, data_of}
+use Rattle.orca_base.specs.declared.fault.FaultKind.TheVariants.{TooDeep}
+use Rattle.value_core.specs.Datum.{Datum, data_of}
 use Rattle.meaning_rules.specs.Calls.{Passed, values_in}
 use Rattle.meaning_rules.specs.Operators.{fitting, fitting_all}
 use Rattle.meaning_rules.specs.States.{State, Goes, gives}
@@ -18,7 +17,6 @@ use Rattle.code_steps.specs.declared.config.Caller.{Caller}
 use Rattle.code_steps.specs.declared.config.Effect.{Effect as Done}
 use Rattle.code_steps.specs.Bodies.{caller_of, callers_of, effect_in, told_effect}
 use Rattle.code_steps.specs.Passing.{Takes}
-use Rattle.code_steps.specs.Pops.{goes_on}
 use Rattle.code_steps.proofs.Entering.{entered_same}
 use Rattle.code_steps.proofs.Stopping.{goes_result, stops_result_effect}
 

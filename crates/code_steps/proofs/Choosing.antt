@@ -1,13 +1,12 @@
 -- Operators, and the ways on that truths choose, as far as their operands are taken.
-use Rattle.std.proofs.Common.{◌≡◌, ◌+◌, ℕ, List, [], ◌∷◌, Some, Bool, true, false, refl, sym, ap, ◌∙◌}
+use Rattle.std.proofs.Common.{◌≡◌, ◌+◌, ℕ, List, [], ◌∷◌, Some, Bool, true, false, sym, ap, ◌∙◌}
 use Rattle.std.specs.Prelude.{if◌then◌else◌}
 use Rattle.orca_tree.specs.declared.tree.Operator.{Operator}
 use Rattle.value_core.specs.Datum.{Datum}
 use Rattle.meaning_rules.specs.Operators.{applied, decides, truth_in}
 use Rattle.code_rules.specs.Instructions.{Prefix}
 use Rattle.code_rules.specs.Instructions as rules
-use Rattle.code_rules.specs.Machine.{Code, Config, Effect, Steps, Stuck, Tests, act, goes_if, next, on_result, on_top, on_two, prefixed, pushes, short}
-use Rattle.code_steps.specs.declared.advance.Advance.{Advance}
+use Rattle.code_rules.specs.Machine.{Code, Config, Steps, Stuck, Tests, act, goes_if, next, on_result, on_top, on_two, prefixed, pushes, short}
 use Rattle.code_steps.specs.declared.advance.Advance.TheVariants as advance
 use Rattle.code_steps.specs.Moves.{effect_of, holding}
 

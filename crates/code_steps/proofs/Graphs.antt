@@ -1,15 +1,14 @@
 -- `addnode` and `deletenode`, as far as their arguments are taken.
-use Rattle.std.proofs.Common.{◌≡◌, List, [], Option, Some, None, Vec, Global, true, false, map, pos, refl, subst}
+use Rattle.std.proofs.Common.{◌≡◌, List, [], Option, Some, None, Vec, Global, true, false, map, subst}
 use Rattle.std.specs.Prelude.{MatchOption}
 use Rattle.value_core.specs.Datum.{Datum}
-use Rattle.value_core.specs.Datum as datum
-use Rattle.meaning_rules.specs.Calls.{Adds, Callee, Deletes, invoked}
+use Rattle.meaning_rules.specs.Calls.{Callee, invoked}
 use Rattle.meaning_rules.specs.Calls.{Passed as RulePassed}
 use Rattle.meaning_rules.specs.Expressions.{result}
 use Rattle.eval_variables.specs.declared.steps.Passed.{Passed}
 use Rattle.eval_variables.specs.Gives.{passed_of}
 use Rattle.code_rules.specs.Instructions.{Shape}
-use Rattle.code_rules.specs.Machine.{Code, Config, Effect, Stuck, at_state, no_calls, nodes, on_out, pushes}
+use Rattle.code_rules.specs.Machine.{Config, Stuck, at_state, no_calls, nodes, on_out, pushes}
 use Rattle.code_steps.specs.Moves.{holding}
 use Rattle.code_steps.specs.Passing.{Takes}
 

@@ -1,16 +1,14 @@
 -- What is taken from the operands.
-use Rattle.std.proofs.Common.{◌≡◌, Option, Some, None, Vec, Global, ℕ, zero, suc, ◌+◌, ◌-◌, List, [], ◌∷◌, ◌++◌, Bool, true, false, length, map, refl, ap, sym, ◌∙◌, arith, subst}
+use Rattle.std.proofs.Common.{◌≡◌, Option, Some, None, Vec, Global, ℕ, zero, suc, ◌-◌, List, [], ◌∷◌, Bool, true, false, refl, ap, sym, ◌∙◌, arith, subst}
 use Rattle.std.specs.Prelude.{◌≢◌, MatchOption}
 use Rattle.value_core.specs.Datum.{Datum, list_of}
-use Rattle.value_core.specs.View.{datum_of}
-use Rattle.value_core.specs.declared.value.Value.{Value}
 use Rattle.value_core.specs.declared.value.Parts.{Parts}
 use Rattle.eval_variables.specs.declared.steps.Step.{Step}
 use Rattle.eval_variables.specs.Gives.{path_of}
 use Rattle.value_paths.specs.declared.step.Step.{Step as ValueStep}
 use Rattle.code_rules.specs.Instructions.{Mark}
-use Rattle.code_rules.specs.Machine.{Effect, indices, pops, steps_by}
-use Rattle.code_steps.specs.Pops.{Pops, PopsPath, goes_on}
+use Rattle.code_rules.specs.Machine.{indices, pops, steps_by}
+use Rattle.code_steps.specs.Pops.{Pops, PopsPath}
 
 pub pops_none : (count : ℕ) (old front : List Datum) → count ≡ 0 → Pops count old front true old front
 pops_none count old front is = λ go. ap (λ k. pops k old front go) is

@@ -8,7 +8,7 @@ use Rattle.value_core.specs.Datum as datum
 use Rattle.value_core.specs.Size.{size_of}
 use Rattle.meaning_rules.specs.Operators.{and_then, fitting, integer_in}
 use Rattle.meaning_rules.specs.States.{State, Out, Goes, Stops, after, gives}
-use Rattle.meaning_rules.specs.Variables.{Target, changed_at, store, stored}
+use Rattle.meaning_rules.specs.Variables.{changed_at, store, stored}
 use Rattle.value_paths.specs.declared.step.Step.{Step as ValueStep}
 use Rattle.code_rules.specs.Machine.{at_state}
 

@@ -1,8 +1,8 @@
 -- What stops, and what goes on.
-use Rattle.std.proofs.Common.{◌≡◌, List, Ok, Err, Some, refl, ap, sym, ◌∙◌, Result}
+use Rattle.std.proofs.Common.{◌≡◌, List, Ok, Err, Some, refl, ap, ◌∙◌, Result}
 use Rattle.orca_base.specs.declared.fault.FaultKind.{FaultKind}
 use Rattle.value_core.specs.Datum.{Datum}
-use Rattle.meaning_rules.specs.States.{State, Out, Goes, Stops, gives}
+use Rattle.meaning_rules.specs.States.{State, Out, Goes, gives}
 use Rattle.eval_variables.specs.declared.stop.Stop.{Stop}
 use Rattle.eval_variables.specs.declared.stop.Stop.TheVariants as stop
 use Rattle.eval_variables.specs.Gives.{Fails}

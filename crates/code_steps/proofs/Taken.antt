@@ -1,15 +1,14 @@
 -- Instructions of variables, as far as their operands are taken.
-use Rattle.std.proofs.Common.{◌≡◌, ℕ, List, [], ◌∷◌, Some, true, false, refl, ap, ◌∙◌}
+use Rattle.std.proofs.Common.{◌≡◌, ℕ, List, [], ◌∷◌, Some, true, false, ap, ◌∙◌}
 use Rattle.value_core.specs.Datum.{Datum}
 use Rattle.value_paths.specs.declared.step.Step.{Step as ValueStep}
 use Rattle.value_paths.specs.Paths.{part_at}
 use Rattle.meaning_rules.specs.Variables.{drop_element, put, store, take}
 use Rattle.code_rules.specs.Instructions.{Mark}
 use Rattle.code_rules.specs.Instructions as rules
-use Rattle.code_rules.specs.Machine.{Code, Config, Effect, Stuck, act, at_state, indices, into, next, on_out, on_result, on_top, pops, pushes, read, steps_by, to}
+use Rattle.code_rules.specs.Machine.{Code, Config, Stuck, act, at_state, indices, into, next, on_out, on_result, on_top, pops, pushes, read, steps_by, to}
 use Rattle.code_steps.specs.Moves.{holding}
 use Rattle.code_steps.specs.Pops.{PopsPath}
-use Rattle.code_steps.proofs.Arms.{no_top, top}
 
 module _ (code : Code) (home : Config) (slot : ℕ) (marks : List Mark) (old mid st locals : List Datum) (path : List ValueStep) (x : Datum) where
   -- a value from a path

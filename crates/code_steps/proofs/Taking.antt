@@ -12,7 +12,7 @@ use Rattle.meaning_rules.specs.Calls.{Passed as RulePassed}
 use Rattle.meaning_rules.specs.Calls as calls
 use Rattle.code_rules.specs.Instructions as rules
 use Rattle.code_rules.specs.Instructions.{Mark, Shape}
-use Rattle.code_rules.specs.Machine.{Effect, on_top, take_args, take_one}
+use Rattle.code_rules.specs.Machine.{on_top, take_args, take_one}
 use Rattle.code_steps.specs.Passing.{Takes, TakesOne}
 use Rattle.code_steps.specs.Pops.{PopsPath}
 

@@ -1,5 +1,5 @@
 -- The steps of a path, put behind others.
-use Rattle.std.proofs.Common.{◌≡◌, List, [], ◌∷◌, ◌++◌, append_assoc, map, ap, ◌∙◌}
+use Rattle.std.proofs.Common.{◌≡◌, List, [], ◌∷◌, ◌++◌, append_assoc, ap, ◌∙◌}
 use Rattle.std.proofs.lemmas.List.{map-append}
 use Rattle.value_core.specs.Datum.{Datum}
 use Rattle.value_paths.specs.declared.step.Step.{Step as ValueStep}

@@ -1,5 +1,5 @@
 -- What is passed, and where it comes from.
-use Rattle.std.specs.Prelude.{◌≡◌, ◌+◌, ℕ, Bool, true, false, List, [], ◌∷◌, Option, Some, None, option_map, Result, Ok, Err}
+use Rattle.std.specs.Prelude.{◌≡◌, ℕ, Bool, List, ◌∷◌, Option, Some, None, option_map, Result, Ok, Err}
 use Rattle.std.specs.Borrow.{Bor}
 use Rattle.orca_base.specs.declared.fault.FaultKind.{FaultKind}
 use Rattle.orca_base.specs.declared.ids.KindNo.{KindNo}
@@ -14,7 +14,6 @@ use Rattle.eval_variables.specs.declared.stop.Stop.{Stop}
 use Rattle.eval_variables.specs.declared.steps.Passed.{Passed}
 use Rattle.eval_variables.specs.Gives.{passed_of}
 use Rattle.code_rules.specs.Instructions.{Instr, Shape, Make}
-use Rattle.code_rules.specs.Machine as machine
 use Rattle.code_rules.specs.Machine.{Code, Config, Effect, Stuck, act, short, take_args, take_one}
 use Rattle.code_steps.specs.declared.advance.Advance.{Advance}
 use Rattle.code_steps.specs.declared.advance.Advance.TheVariants as advance

@@ -1,4 +1,4 @@
-use Rattle.std.proofs.Common.{◌≤◌, ◌<◌, None, Some, arith, length, map, refl, ◌∙◌}
+use Rattle.std.proofs.Common.{◌<◌, None, Some, arith, length, map, refl, ◌∙◌}
 use Rattle.std.proofs.lemmas.Result.{IfOk-weaker}
 use Rattle.emitted_code.specs.Views.{body_seen, program_seen}
 use Rattle.eval_variables.specs.Gives.{passed_of}

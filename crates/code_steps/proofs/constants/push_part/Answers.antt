@@ -1,4 +1,4 @@
-use Rattle.std.proofs.Common.{List, [], true, pos, sym, subst, ◌∙◌}
+use Rattle.std.proofs.Common.{List, [], true, sym, subst, ◌∙◌}
 use Rattle.std.proofs.lemmas.Result.{IfOk-weaker}
 use Rattle.value_core.specs.View.{datum_of}
 use Rattle.value_paths.specs.Paths.{part_at}

@@ -1,4 +1,4 @@
-use Rattle.std.proofs.Common.{List, [], length, map, sym, ap, subst, ◌∙◌, Ok}
+use Rattle.std.proofs.Common.{List, [], length, sym, subst, ◌∙◌, Ok}
 use Rattle.std.proofs.lemmas.Result.{IfOk-weaker}
 use Rattle.value_core.specs.Datum.{Datum, list_of}
 use Rattle.value_core.specs.Datum as datum

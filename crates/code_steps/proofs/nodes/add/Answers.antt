@@ -1,6 +1,5 @@
-use Rattle.std.proofs.Common.{List, [], Some, true, map, pos, sym, ap, subst, ◌∙◌}
+use Rattle.std.proofs.Common.{List, [], Some, true, map, sym, ap, subst, ◌∙◌}
 use Rattle.std.proofs.lemmas.Result.{IfOk-weaker}
-use Rattle.value_core.specs.Datum as datum
 use Rattle.value_core.specs.View.{datum_of}
 use Rattle.meaning_rules.specs.Calls.{Adds, invoked}
 use Rattle.code_rules.specs.Instructions as rules

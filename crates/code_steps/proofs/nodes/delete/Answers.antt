@@ -1,7 +1,6 @@
-use Rattle.std.proofs.Common.{List, [], Some, true, map, pos, sym, ap, subst, ◌∙◌}
+use Rattle.std.proofs.Common.{List, [], true, map, pos, sym, subst, ◌∙◌}
 use Rattle.std.proofs.lemmas.Result.{IfOk-weaker}
 use Rattle.value_core.specs.Datum as datum
-use Rattle.value_core.specs.View.{datum_of}
 use Rattle.meaning_rules.specs.Calls.{Deletes, invoked}
 use Rattle.code_rules.specs.Machine.{no_calls}
 use Rattle.emitted_code.specs.Views.{shape_of}
