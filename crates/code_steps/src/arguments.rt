@@ -40,11 +40,7 @@ fn take_lent(
 }
 
 // Takes one argument, where its operands are there.
-fn take_one(
-    alloc: Global,
-    shape: &Shape,
-    stack: &mut Operands,
-) -> Result<Option<Passed>, NoMemory>
+fn take_one(alloc: Global, shape: &Shape, stack: &mut Operands) -> Result<Option<Passed>, NoMemory>
     ensures { IfOk result (λ found. TakesOne (shape_of shape.now) stack.old found stack.new) }
 {
     match shape {

@@ -50,11 +50,7 @@ fn add_names(
 }
 
 // What the slots of a called body hold: the names, and behind them those of its loops.
-fn slots_of(
-    alloc: Global,
-    part: &EmittedBody<'_>,
-    args: &[Passed],
-) -> Result<Parts, NoMemory>
+fn slots_of(alloc: Global, part: &EmittedBody<'_>, args: &[Passed]) -> Result<Parts, NoMemory>
     ensures { IfOk result (λ p. list_of p ≡ machine.with_spare (body_seen part.now)
         (machine.filled (body_seen part.now).opens (map passed_of args.now))) }
 {
@@ -152,7 +148,9 @@ fn put_back(
         (machine.put_back (map machine.lent (map passed_of given.now)) (map datum_of values.old) (state_of run.old)) }
 {
     match (given, values) {
-        ([Passed::Given { .. }, given @ ..], [_, values @ ..]) => put_back(alloc, given, values, run),
+        ([Passed::Given { .. }, given @ ..], [_, values @ ..]) => put_back(
+            alloc, given, values, run,
+        ),
         ([Passed::Lent { to }, given @ ..], [value, values @ ..]) => {
             store(alloc, to, mem::replace(value, Value::Int(0)), run)?;
             put_back(alloc, given, values, run)

@@ -59,12 +59,7 @@ fn has_slot(slot: usize, run: &Run<'_>) -> bool
 ///
 /// # Errors
 /// Want of memory.
-pub fn set_slot(
-    alloc: Global,
-    slot: usize,
-    value: Value,
-    run: &mut Run<'_>,
-) -> Result<(), NoMemory>
+pub fn set_slot(alloc: Global, slot: usize, value: Value, run: &mut Run<'_>) -> Result<(), NoMemory>
     requires { size_of (datum_of value) ≡ 1 }
     ensures { OnOk result (run.new.frame ≡ slice_set run.old.frame slot (datum_of value)) }
 {

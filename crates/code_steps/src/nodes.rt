@@ -24,10 +24,7 @@ use std::alloc::Global;
 use value_core::Value;
 
 // What a change of a graph gives is pushed: 0 where it gives nothing.
-fn push_given(
-    given: Result<Option<Value>, Stop>,
-    stack: &mut Operands,
-) -> Result<Advance, NoMemory>
+fn push_given(given: Result<Option<Value>, Stop>, stack: &mut Operands) -> Result<Advance, NoMemory>
     ensures { IfOk result (λ a. PushesGiven given stack.old a stack.new) }
 {
     match given {
@@ -53,7 +50,12 @@ fn no_return() -> Stop
 }
 
 // The node that comes to a graph, where the arguments lend one.
-fn add_to(alloc: Global, args: &[Passed], fresh: Value, run: &mut Run<'_>) -> Result<Option<Value>, Stop>
+fn add_to(
+    alloc: Global,
+    args: &[Passed],
+    fresh: Value,
+    run: &mut Run<'_>,
+) -> Result<Option<Value>, Stop>
     ensures { Gives (option_map datum_of) result (state_of run.new)
         (invoked no_calls Adds (datum_of fresh) (map passed_of args.now) (state_of run.old)) }
 {

@@ -45,11 +45,7 @@ pub fn apply_before(prefix: Prefix, stack: &mut Operands) -> Result<Advance, NoM
 }
 
 /// An operator between two operands.
-pub fn apply(
-    alloc: Global,
-    operator: Operator,
-    stack: &mut Operands,
-) -> Result<Advance, NoMemory>
+pub fn apply(alloc: Global, operator: Operator, stack: &mut Operands) -> Result<Advance, NoMemory>
     ensures { IfOk result (λ a. (locals : List Datum) → Moves (rules.Apply operator) stack.old locals a stack.new locals) }
 {
     let Some(right) = stack.pop() else {
@@ -62,11 +58,7 @@ pub fn apply(
 }
 
 /// `and` and `or`: where the left operand decides it stays, and the run goes to an address; else it is popped.
-pub fn decide(
-    operator: Operator,
-    address: usize,
-    stack: &mut Operands,
-) -> Result<Advance, NoMemory>
+pub fn decide(operator: Operator, address: usize, stack: &mut Operands) -> Result<Advance, NoMemory>
     ensures { IfOk result (λ a. (locals : List Datum) → Decides operator address stack.old locals a stack.new) }
 {
     let Some(left) = stack.pop() else {

@@ -40,11 +40,7 @@ pub fn add_spare(count: usize, all: &mut Parts) -> Result<(), NoMemory>
 ///
 /// # Errors
 /// Want of memory.
-pub fn first_values(
-    alloc: Global,
-    frame: Frame<'_>,
-    count: usize,
-) -> Result<Vec<Value>, NoMemory>
+pub fn first_values(alloc: Global, frame: Frame<'_>, count: usize) -> Result<Vec<Value>, NoMemory>
     ensures { IfOk result (λ v. map datum_of v.items ≡ take count frame.entry) }
 {
     let mut values = frame.into_values(alloc)?.into_vec();

@@ -75,11 +75,7 @@ fn act(
 ///
 /// # Errors
 /// Want of memory.
-pub fn step(
-    alloc: Global,
-    code: &Emitted<'_>,
-    config: &mut Config<'_>,
-) -> Result<Effect, NoMemory>
+pub fn step(alloc: Global, code: &Emitted<'_>, config: &mut Config<'_>) -> Result<Effect, NoMemory>
     ensures { HasSmallNumbers (program_seen code.now) → IfOk result (λ e.
         machine.step (program_seen code.now) (config_of config.old) ≡ effect_in e (config_of config.new)) }
 {

@@ -12,7 +12,14 @@ use value_core::{BoxedParts, Parts, Value};
 
 // A body with one slot for a loop.
 fn body<'p>(alloc: Global, instrs: Vec<Instr<'p>>, opens: Vec<Value>) -> EmittedBody<'p> {
-    EmittedBody { code: Listing { instrs, spots: Vec::new(alloc) }, opens, spare: 1 }
+    EmittedBody {
+        code: Listing {
+            instrs,
+            spots: Vec::new(alloc),
+        },
+        opens,
+        spare: 1,
+    }
 }
 
 // OrcaMain calls a function, whose second parameter is `out`, with 3 and the second element of an array, and counts from 1 to 3. The
@@ -21,30 +28,73 @@ fn program(alloc: Global) -> Result<Emitted<'static>, NoMemory> {
     let mut arr = Parts::new(alloc);
     arr.push(Value::Int(7))?;
     arr.push(Value::Int(9))?;
-    let main = body(alloc, vec![in alloc;
-        Instr::Push { value: Value::Int(3) },
-        Instr::Push { value: Value::Int(2) },
-        Instr::Call { function: 1, shapes: vec![in alloc; Shape::Gives, Shape::Lends { slot: 0, path: vec![in alloc; Mark::ByIndex { low: 1 }]? }]? },
-        Instr::Pop,
-        Instr::Push { value: Value::Int(1) },
-        Instr::Push { value: Value::Int(3) },
-        Instr::Count { slot: 1, to: 11 },
-        Instr::Turn,
-        Instr::Get { slot: 1, path: Vec::new(alloc) },
-        Instr::Pop,
-        Instr::Upto { slot: 1, to: 7 },
-        Instr::End
-    ]?, vec![in alloc; Value::Array(BoxedParts::new(alloc, arr)?)]?);
-    let f = body(alloc, vec![in alloc;
-        Instr::Get { slot: 0, path: Vec::new(alloc) },
-        Instr::Push { value: Value::Int(40) },
-        Instr::Apply { operator: Operator::Add },
-        Instr::Put { slot: 1, path: Vec::new(alloc) },
-        Instr::Return
-    ]?, vec![in alloc; Value::Int(0), Value::Int(5)]?);
+    let main = body(
+        alloc,
+        vec![in alloc;
+            Instr::Push {
+                value: Value::Int(3)
+            },
+            Instr::Push {
+                value: Value::Int(2)
+            },
+            Instr::Call {
+                function: 1,
+                shapes: vec![in alloc;
+                    Shape::Gives,
+                    Shape::Lends {
+                        slot: 0,
+                        path: vec![in alloc; Mark::ByIndex { low: 1 }]?
+                    }
+                ]?
+            },
+            Instr::Pop,
+            Instr::Push {
+                value: Value::Int(1)
+            },
+            Instr::Push {
+                value: Value::Int(3)
+            },
+            Instr::Count { slot: 1, to: 11 },
+            Instr::Turn,
+            Instr::Get {
+                slot: 1,
+                path: Vec::new(alloc)
+            },
+            Instr::Pop,
+            Instr::Upto { slot: 1, to: 7 },
+            Instr::End,
+        ]?,
+        vec![in alloc; Value::Array(BoxedParts::new(alloc, arr)?)]?,
+    );
+    let f = body(
+        alloc,
+        vec![in alloc;
+            Instr::Get {
+                slot: 0,
+                path: Vec::new(alloc)
+            },
+            Instr::Push {
+                value: Value::Int(40)
+            },
+            Instr::Apply {
+                operator: Operator::Add
+            },
+            Instr::Put {
+                slot: 1,
+                path: Vec::new(alloc)
+            },
+            Instr::Return,
+        ]?,
+        vec![in alloc; Value::Int(0), Value::Int(5)]?,
+    );
     let functions = vec![in alloc; None, Some(f)]?;
     let texts = vec![in alloc; main]?;
-    Ok(Emitted { functions, texts, main: TextNo(0), types: Vec::new(alloc) })
+    Ok(Emitted {
+        functions,
+        texts,
+        main: TextNo(0),
+        types: Vec::new(alloc),
+    })
 }
 
 // Where OrcaMain begins.
