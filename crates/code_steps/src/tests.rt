@@ -2,6 +2,7 @@
 
 use crate::config::{BodyNo, Config, Effect};
 use crate::operands::Operands;
+use crate::slots::{add_copies, add_spare};
 use crate::stepping::step;
 use emitted_code::{Emitted, EmittedBody, Instr, Listing, Mark, Shape};
 use eval_variables::{Frame, Run, integer_in};
@@ -100,10 +101,10 @@ fn program(alloc: Global) -> Result<Emitted<'static>, NoMemory> {
 // Where OrcaMain begins.
 fn beginning(alloc: Global, code: &Emitted<'_>) -> Result<Config<'static>, NoMemory> {
     let mut slots = Parts::new(alloc);
-    for value in &code.texts[0].opens {
-        slots.push(value.copy(alloc)?)?;
+    if let Some(part) = code.texts.first() {
+        add_copies(alloc, &part.opens, &mut slots)?;
+        add_spare(part.spare, &mut slots)?;
     }
-    slots.push(Value::Int(0))?;
     Ok(Config {
         process: ProcessNo(0),
         body: BodyNo::Process { text: 0 },
