@@ -16,19 +16,6 @@ use Rattle.code_steps.specs.Moves.{effect_of, holding}
 use Rattle.code_steps.specs.Pops.{PopsPath}
 use Rattle.code_steps.proofs.Stopping.{goes_result}
 
--- a value is pushed
-pub pushed : (home : Config) (x : Datum) (old new locals : List Datum) → new ≡ x ∷ old → next home (x ∷ old) locals ≡ effect_of home advance.Next new locals
-pushed home x old new locals is = ap (λ w. next home w locals) (sym is)
-
--- what comes behind a path's steps
-module _ (marks : List Mark) (home : Config) (old st : List Datum) (path : List ValueStep) (p : PopsPath marks old true st path) where
-  pub behind : (go : List ValueStep → List Datum → Effect) (e : Effect) → go path st ≡ e → pops (indices marks) old [] (λ xs rest. go (steps_by marks xs) rest) ≡ e
-  behind go e h = p go ∙ h
-
-pub stuck_path : (marks : List Mark) (old st : List Datum) (path : List ValueStep) → PopsPath marks old false st path → (go : List ValueStep → List Datum → Effect) →
-    pops (indices marks) old [] (λ xs rest. go (steps_by marks xs) rest) ≡ Stuck
-stuck_path marks old st path p go = p go
-
 -- an operand on top, and two
 pub top : (old st : List Datum) (x : Datum) (go : Datum → List Datum → Effect) (e : Effect) → old ≡ x ∷ st → go x st ≡ e → on_top old go ≡ e
 top old st x go e is h = ap (λ w. on_top w go) is ∙ h
@@ -45,19 +32,6 @@ no_two old mid y go is below = ap (λ w. on_two w go) (is ∙ ap (λ w. y ∷ w)
 pub none_of_two : (old : List Datum) (go : Datum → Datum → List Datum → Effect) → old ≡ [] → on_two old go ≡ Stuck
 none_of_two old go is = ap (λ w. on_two w go) is
 
--- ---- what is done with variables
-
-module _ (home : Config) (old st locals : List Datum) (to : Target) (s1 s2 : State) (clear : s1 ≡ at_state locals) where
-  pub put_at : (by : Target → Datum → State → Out (Unit {0})) (x : Datum) → by to x s1 ≡ Goes tt s2 →
-      on_out (by to x (at_state locals)) (λ _ after. next (holding home old locals) st after) ≡ effect_of home advance.Next st s2.frame
-  put_at by x h = ap (λ s. on_out (by to x s) (λ _ after. next (holding home old locals) st after)) (sym clear) ∙ ap (λ o. on_out o (λ _ after. next (holding home old locals) st after)) h
-
-  pub took : (new : List Datum) (x : Datum) → take to s1 ≡ Goes x s2 → new ≡ x ∷ st →
-      on_out (take to (at_state locals)) (λ y after. pushes (holding home old locals) st y after) ≡ effect_of home advance.Next new s2.frame
-  took new x h is =
-      ap (λ s. on_out (take to s) (λ y after. pushes (holding home old locals) st y after)) (sym clear)
-      ∙ ap (λ o. on_out o (λ y after. pushes (holding home old locals) st y after)) h ∙ pushed home x st new s2.frame is
-
 -- ---- actions
 
 -- the arguments fit together
@@ -69,10 +43,6 @@ asked home args values old st locals ask is fits =
     ∙ goes_result (fitting_all args) args (at_state locals) (at_state locals) go (fits (at_state locals))
 
 -- ---- ways on
-
--- what a truth chooses
-pub chosen : (b t : Bool) (one other : Effect) → b ≡ t → goes_if b one other ≡ goes_if t one other
-chosen b t one other is = ap (λ x. goes_if x one other) is
 
 module _ (code : Code) (home : Config) (slot address : ℕ) (old mid st locals : List Datum) (low high : Datum) (first : old ≡ high ∷ mid) (second : mid ≡ low ∷ st) where
   pub counts : (new after : List Datum) → true ≡ int_le (integer_in low) (integer_in high) → new ≡ datum.int (integer_in high) ∷ (datum.int (integer_in low) ∷ st) →

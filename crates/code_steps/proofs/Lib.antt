@@ -1,14 +1,11 @@
 mod Stopping
 mod Popping
 mod Arms
-mod Numbering
 mod Filling
 mod Entering
 mod Calling
 mod Texts
 mod Taking
-mod Indexing
-mod Stacking
 mod Arriving
 mod Taken
 mod Choosing

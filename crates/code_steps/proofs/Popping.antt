@@ -10,19 +10,12 @@ use Rattle.code_rules.specs.Instructions.{Mark}
 use Rattle.code_rules.specs.Machine.{indices, pops, steps_by}
 use Rattle.code_steps.specs.Pops.{Pops, PopsPath}
 
-pub pops_none : (count : ℕ) (old front : List Datum) → count ≡ 0 → Pops count old front true old front
-pops_none count old front is = λ go. ap (λ k. pops k old front go) is
-
 pub pops_more : (count : ℕ) (x : Datum) (old rest front new values : List Datum) (done : Bool) → count ≢ 0 → old ≡ x ∷ rest →
     Pops (count - 1) rest (x ∷ front) done new values → Pops count old front done new values
 pops_more zero x old rest front new values done some is h = absurd (some refl)
 pops_more (suc n) x old rest front new values done some is h = λ go.
     let less : n ≡ suc n - 1 = omega arith in
     ap (λ o. pops (suc n) o front go) is ∙ ap (λ k. pops k rest (x ∷ front) go) less ∙ h go
-
-pub pops_short : (count : ℕ) (old front new values : List Datum) → count ≢ 0 → old ≡ [] → Pops count old front false new values
-pops_short zero old front new values some is = absurd (some refl)
-pops_short (suc n) old front new values some is = λ go. ap (λ o. pops (suc n) o front go) is
 
 -- where so many were there, the path's steps are by them
 pub path_taken : (marks : List Mark) (count : ℕ) (old new values : List Datum) (path : List ValueStep) → count ≡ indices marks →
