@@ -1,0 +1,15 @@
+mod Stopping
+mod Popping
+mod Arms
+mod Filling
+mod Entering
+mod Calling
+mod Texts
+mod Taking
+mod Arriving
+mod Taken
+mod Choosing
+mod Walking
+mod Graphs
+mod Acting
+mod Setting

@@ -1,0 +1,4 @@
+pub mod Pops
+pub mod Moves
+pub mod Bodies
+pub mod Passing
