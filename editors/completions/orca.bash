@@ -21,13 +21,14 @@ _orca() {
     local word=${COMP_WORDS[COMP_CWORD]} before=${COMP_WORDS[COMP_CWORD - 1]} options= before_files=0 only_files= arguments=0 i
     COMPREPLY=()
     if ((COMP_CWORD == 1)); then
-        _orca_words 'check run code replay -h --help -V --version'
+        _orca_words 'check run code choice replay -h --help -V --version'
         return
     fi
     case ${COMP_WORDS[1]} in
         check) options=' -h --help ' before_files=0 ;;
         run) options=' --nodes --resilience --turns --events --script --history --explain -h --help ' before_files=0 ;;
         code) options=' --source -h --help ' before_files=0 ;;
+        choice) options=' --nodes -h --help ' before_files=0 ;;
         replay) options=' -h --help ' before_files=1 ;;
         *) return ;;
     esac

@@ -3,6 +3,7 @@
 use orca_base::{CallNo, KindNo, ObjectId, OpNo, ProcessNo};
 use orca_cli::{Ended, Kept, ProcessStanding, orca_main};
 use orca_io::{MemoryShelf, MemorySink, Shelf, Sink, SureShelf, SureSink};
+use replica_choice::{CostPolicy, Policy};
 use std::alloc::{AllocError, Global};
 use std::test::Fail;
 use value_core::{Action, Line, Parts, Reply, TextValue, Value};
@@ -72,7 +73,8 @@ fn called<F: Shelf, K: Sink>(
     if wires.len() != 1 {
         return Err(AllocError);
     }
-    let ended = orca_main(alloc, words, shelf, out, &mut wires);
+    let mut policy: Box<dyn Policy + Send> = Box::new(alloc, CostPolicy::new(alloc))?;
+    let ended = orca_main(alloc, words, shelf, out, &mut wires, &mut policy);
     Ok(seen(&ended, wanted))
 }
 

@@ -16,7 +16,7 @@ usage: orca COMMAND
   check FILE...               says ok, or the first mistake in the program
   run [OPTIONS] FILE...       runs the program
   code [--source] FILE...     prints the code that the program is compiled to
-  choice [--nodes N] FILE...  prints which objects are replicated
+  choice [--nodes N] FILE...  prints which objects cost less as one copy
   replay HISTORY FILE...      says whether a history is one of the program
   make [OPTIONS] NUMBER       makes a program from a number, and runs it
   join [OPTIONS] FILE...      runs the program with a member that joins late
@@ -24,7 +24,7 @@ usage: orca COMMAND
   -h, --help                  prints this; behind a command's name, more about it
   -V, --version               prints the version
 
-So far `check`, `run`, `code` and `replay` are built.
+So far `check`, `run`, `code`, `choice` and `replay` are built.
 ";
 
 /// The command `check`.
@@ -60,13 +60,13 @@ usage: orca code [OPTIONS] FILE...
 
 /// The command `choice`.
 pub const CHOICE_HELP: &str =
-    "Prints which objects of the program in the files are replicated, and which have one copy.
+    "Prints which objects of the program in the files cost less where they are replicated, and which as one copy.
 
 usage: orca choice [OPTIONS] FILE...
 
   --nodes N  members of the group, 1 to 16 (3)
 
-Not built yet.
+So far a run replicates all of them.
 ";
 
 /// The command `replay`.

@@ -1,9 +1,10 @@
 -- What was printed, one put on; and how the program ends where it runs nothing.
-use Rattle.std.proofs.Common.{◌≡◌, ◌≢◌, ℕ, suc, ◌+◌, ◌<◌, List, [], ◌∷◌, ◌++◌, length, get_or, drop, add-one, drop-cons, Option, Some, None, refl, sym, ap, ◌∙◌, subst, inl, inr}
+use Rattle.std.proofs.Common.{◌⊎◌, ◌≡◌, ◌≢◌, ℕ, suc, ◌+◌, ◌<◌, List, [], ◌∷◌, ◌++◌, length, get_or, drop, add-one, drop-cons, Option, Some, None, refl, sym, ap, ◌∙◌, subst, inl, inr}
 use Rattle.std.specs.Prelude.{Bool, Result, Ok, Err, IfNone, IfOk, IfSome, MatchOption, OnErr, OnOk, option_and_then, option_map}
 use Rattle.command_line.specs.declared.request.RunOptions.{RunOptions}
 use Rattle.net_rules.specs.declared.line.ScriptLine.{ScriptLine}
 use Rattle.link_rules.specs.Units.{Source}
+use Rattle.replica_choice.specs.declared.policy.Asked.{Asked}
 use Rattle.accepted_law.specs.Limits.{IsWithinLimits}
 use Rattle.program_bodies.specs.Codes.{sources as sources_of}
 use Rattle.eval_machine.specs.declared.machine.TreeMachine.{TreeMachine}
@@ -11,6 +12,9 @@ use Rattle.type_decls.specs.declared.checked.Checked.{Checked}
 use Rattle.orca_front.specs.declared.fault.FrontFault.{FrontFault}
 use Rattle.orca_front.specs.declared.fault.FrontFault.TheVariants as fronts
 use Rattle.orca_front.specs.Sources.{IsAccepted, IsFault, IsLinkFault}
+use Rattle.orca_base.specs.declared.refusal.Refusal.{Refusal}
+use Rattle.orca_base.specs.declared.refusal.Refusal.TheVariants as refusals
+use Rattle.orca_base.specs.Refusal.{IfBecause}
 use Rattle.orca_io.specs.declared.sink.SinkFault.{SinkFault}
 use Rattle.orca_io.specs.Files.{File}
 use Rattle.orca_io.specs.Reading.{FileRead, HasAsked, ReadSince}
@@ -23,11 +27,16 @@ use Rattle.orca_cli.specs.declared.program.ProgramFault.{ProgramFault}
 use Rattle.orca_cli.specs.declared.program.ProgramFault.TheVariants.{Limited, Refused}
 use Rattle.orca_cli.specs.declared.script.ScriptFault.{ScriptFault}
 use Rattle.orca_cli.specs.declared.script.ScriptFault.TheVariants as scripts
-use Rattle.command_output.specs.declared.statuses.TheConstants.{NO_MEMORY, READ_FAULT, WRITE_FAULT}
+use Rattle.command_output.specs.declared.statuses.TheConstants.{FINISHED, NO_MEMORY, READ_FAULT, WRITE_FAULT}
 use Rattle.orca_cli.specs.Endings as because
+use Rattle.orca_cli.specs.Choosing.{Chooser, WasAsked, WasAskedFirst}
+use Rattle.orca_cli.specs.Choosing as policies
 use Rattle.orca_cli.specs.Endings.{IsAnswer, IsEnding}
+use Rattle.command_files.specs.declared.load_fault.LoadFault.{LoadFault}
+use Rattle.command_files.specs.declared.load_fault.LoadFault.TheVariants as loads
+use Rattle.command_files.specs.Loaded.{front_status, load_status}
 use Rattle.command_files.specs.Sources.{Word}
-use Rattle.orca_cli.specs.Job.{Deed, IsDeedWithin, checks, deed_in, deed_of, files_in, files_of, lists, named_in, names_by, names_of, replays, runs, script_in, script_of}
+use Rattle.orca_cli.specs.Job.{Deed, IsDeedWithin, checks, chooses, deed_in, deed_of, files_in, files_of, lists, named_in, names_by, names_of, replays, runs, script_in, script_of}
 use Rattle.command_output.proofs.Putting.{GrewUpTo, grew_fault, grew_put}
 use Rattle.command_output.specs.Printed.{Grew, WroteOf, Ends, EndsAs}
 use Rattle.orca_cli.specs.Scripts.{HasScript, IsScriptFault, IsScriptOf, IsScriptSince, IsUnreadable, script_status}
@@ -64,10 +73,32 @@ grew_line_fault first old new book i line piece fault less is says told puts =
 -- ---- how the program ends where it runs nothing
 
 -- a refusal's line was printed, or there was no memory for it
-pub answer_of : {L E : Type 0} (bytes : L → List ℕ) (line : Result L E) (words : List Word) (told : Option (List File)) (failed : Word → Type 0) (old new : Option (List ℕ)) (wanted status : ℕ) (text : List ℕ) →
-    IfOk line (λ l. bytes l ≡ text) → IfOk line (λ l. Grew old new (Ends wanted status (bytes l))) → OnErr line ((status ≡ NO_MEMORY) × (new ≡ old)) → EndsAs wanted status → IsEnding words told failed wanted text → IsAnswer words told failed old new status
-answer_of bytes (Ok l) words told failed old new wanted status text is grew silent ends refusal = inl (wanted, text, refusal, ends, subst (λ (t : List ℕ). Grew old new (Ends wanted status t)) is grew)
-answer_of bytes (Err e) words told failed old new wanted status text is grew silent ends refusal = inr silent
+pub answer_of : {L E : Type 0} (bytes : L → List ℕ) (line : Result L E) (policy : Chooser) (words : List Word) (told : Option (List File)) (failed : Word → Type 0) (old new : Option (List ℕ)) (wanted status : ℕ) (text : List ℕ) →
+    IfOk line (λ l. bytes l ≡ text) → IfOk line (λ l. Grew old new (Ends wanted status (bytes l))) → OnErr line ((status ≡ NO_MEMORY) × (new ≡ old)) → EndsAs wanted status → IsEnding policy words told failed wanted text → IsAnswer policy words told failed old new status
+answer_of bytes (Ok l) policy words told failed old new wanted status text is grew silent ends refusal = inl (wanted, text, refusal, ends, subst (λ (t : List ℕ). Grew old new (Ends wanted status t)) is grew)
+answer_of bytes (Err e) policy words told failed old new wanted status text is grew silent ends refusal = inr silent
+
+-- a refusal isn't the end of what is wanted
+pub ends_unfinished : (wanted status : ℕ) → wanted ≢ FINISHED → EndsAs wanted status → status ≢ FINISHED
+ends_unfinished wanted status apart (inl is) h = apart (sym is ∙ h)
+ends_unfinished wanted status apart (inr (inl failed)) h = absurd (cc (failed, h))
+ends_unfinished wanted status apart (inr (inr lacked)) h = absurd (cc (lacked, h))
+
+pub unread_unfinished : (fault : LoadFault) → load_status fault ≢ FINISHED
+unread_unfinished loads.TooMany h = absurd cc
+unread_unfinished (loads.Absent file) h = absurd cc
+unread_unfinished (loads.TooLong file) h = absurd cc
+unread_unfinished (loads.Failed file) h = absurd cc
+
+front_unfinished : (fault : FrontFault) → front_status fault ≢ FINISHED
+front_unfinished (fronts.Faulty file at said) h = absurd cc
+front_unfinished fronts.TooNested h = absurd cc
+front_unfinished (fronts.Unlinked error) h = absurd cc
+front_unfinished (fronts.Mistyped error) h = absurd cc
+
+pub program_unfinished : (fault : ProgramFault) → program_status fault ≢ FINISHED
+program_unfinished (Refused fault) h = front_unfinished fault h
+program_unfinished (Limited passed) h = absurd cc
 
 pub if_none : {T : Type 0} (o : Option T) (P : Type 0) → P → IfNone o P
 if_none None P p = p
@@ -80,6 +111,10 @@ on_any (Err e) P p = tt
 pub if_any : {T E : Type 0} (r : Result T E) (P : Type 0) → P → IfOk r (λ _. P)
 if_any (Ok x) P p = p
 if_any (Err e) P p = tt
+
+pub if_two : {T E A : Type 0} {C D : T → Type 0} (r : Result T E) → ((x : T) → A → C x → D x) → IfOk r (λ _. A) → IfOk r C → IfOk r D
+if_two (Ok x) so a c = so x a c
+if_two (Err e) so a c = tt
 
 pub if_three : {T E A B : Type 0} {C D : T → Type 0} (r : Result T E) → ((x : T) → A → B → C x → D x) → IfOk r (λ _. A) → IfOk r (λ _. B) → IfOk r C → IfOk r D
 if_three (Ok x) so a b c = so x a b c
@@ -114,6 +149,9 @@ script_run words files options script asked = ap (option_and_then script_of) ask
 pub script_checked : (words files : List Word) → deed_in words ≡ Some (checks files) → script_in words ≡ None
 script_checked words files asked = ap (option_and_then script_of) asked
 
+pub files_chosen : (words files : List Word) (nodes : ℕ) → deed_in words ≡ Some (chooses nodes files) → files_in words ≡ Some files
+files_chosen words files nodes asked = ap (option_and_then files_of) asked
+
 -- the files that are read are those of what is done
 pub asked_words : (may_fail : Bool) (words : List Word) (deed : Deed) (old new : List FileRead) → deed_in words ≡ Some deed → HasAsked may_fail (names_of deed) old new → HasAsked may_fail (named_in words) old new
 asked_words may_fail words deed old new is asked = subst (λ (l : List Word). HasAsked may_fail l old new) (sym (ap names_by is)) asked
@@ -127,6 +165,9 @@ has_none words told files asked = ([], subst (λ (o : Option Word). IsScriptOf t
 
 pub lists_none : (words : List Word) (told : Option (List File)) (files : List Word) (what : Listed) → deed_in words ≡ Some (lists what files) → HasScript told words
 lists_none words told files what asked = ([], subst (λ (o : Option Word). IsScriptOf told o []) (sym (script_listed words files what asked)) refl)
+
+pub chooses_none : (words : List Word) (told : Option (List File)) (files : List Word) (nodes : ℕ) → deed_in words ≡ Some (chooses nodes files) → HasScript told words
+chooses_none words told files nodes asked = ([], subst (λ (o : Option Word). IsScriptOf told o []) (sym (ap (option_and_then script_of) asked)) refl)
 
 pub has_script : (words : List Word) (told : Option (List File)) (files : List Word) (options : RunOptions) (script : Option Word) (lines : List ScriptLine) → deed_in words ≡ Some (runs options script files) → IsScriptOf told script lines → HasScript told words
 has_script words told files options script lines asked is = (lines, subst (λ (o : Option Word). IsScriptOf told o lines) (sym (script_run words files options script asked)) is)
@@ -191,7 +232,63 @@ machine_units (Err e) checked units are of = tt
 -- ---- what is said of a history
 
 -- an ending of `replay` is one of the program
-pub replayed_so : (words : List Word) (told : Option (List File)) (failed : Word → Type 0) (old new : Option (List ℕ)) (status : ℕ) (history : Word) (files : List Word) → deed_in words ≡ Some (replays history files) → IsReplayAnswer told failed history files old new status
-    → IsAnswer words told failed old new status
-replayed_so words told failed old new status history files asked (inl (wanted, line, ending, ends, grew)) = inl (wanted, line, because.replayed history files wanted line asked ending, ends, grew)
-replayed_so words told failed old new status history files asked (inr silent) = inr silent
+pub replayed_so : (policy : Chooser) (words : List Word) (told : Option (List File)) (failed : Word → Type 0) (old new : Option (List ℕ)) (status : ℕ) (history : Word) (files : List Word) → deed_in words ≡ Some (replays history files) → IsReplayAnswer told failed history files old new status
+    → IsAnswer policy words told failed old new status
+replayed_so policy words told failed old new status history files asked (inl (wanted, line, ending, ends, grew)) = inl (wanted, line, because.replayed history files wanted line asked ending, ends, grew)
+replayed_so policy words told failed old new status history files asked (inr silent) = inr silent
+
+-- ---- what a policy was asked
+
+abbrev pub chosen_deed : Option Deed → Type 0
+chosen_deed (Some (chooses nodes files)) = Unit {0}
+chosen_deed other = ⊥
+
+-- nothing, where the words ask for no choices
+pub unasked_by : (words : List Word) (deed : Option Deed) (files : Option (List File)) (policy : Chooser) (status : ℕ) → deed_in words ≡ deed → (chosen_deed deed → ⊥) → WasAsked words files policy status policy.told
+unasked_by words deed files policy status is other = policies.nothing (λ nodes names asked done. other (subst chosen_deed (sym asked ∙ is) tt)) refl
+
+-- nor where they were not told
+pub unasked_end : (words : List Word) (files : Option (List File)) (policy : Chooser) (status : ℕ) (new : List Asked) → status ≢ FINISHED → new ≡ policy.told → WasAsked words files policy status new
+unasked_end words files policy status new apart same = policies.nothing (λ nodes names asked done. apart done) same
+
+-- the first sites, where memory lacked
+pub first_asked : (words : List Word) (told : Option (List File)) (policy : Chooser) (nodes : ℕ) (files : List Word) (sources : List File) (status : ℕ) (new : List Asked) → deed_in words ≡ Some (chooses nodes files) → AreRead told files sources → status ≡ NO_MEMORY
+    → (new ≡ policy.told) ⊎ ((units : List Source) × IsAccepted sources units × IsWithinLimits units × WasAskedFirst policy nodes units new) → WasAsked words told policy status new
+first_asked words told policy nodes files sources status new asked read lacked (inl same) = unasked_end words told policy status new (λ done. absurd (cc (lacked, done))) same
+first_asked words told policy nodes files sources status new asked read lacked (inr some) = policies.first nodes files some.0 asked (is_program told files sources some.0 read some.1 some.2) some.3 lacked
+
+-- what is so of each refusal is so of its cause
+pub begun_none : (T : Type 0) {E : Type 0} (e : Refusal E) (P : Type 0) → P → IfBecause {T = T} (Err e) (λ _. P)
+begun_none T (refusals.Because c) P p = p
+begun_none T refusals.NoMemory P p = tt
+
+module _ {T E : Type 0} (r : Result T E) (policy : Chooser) (nodes : ℕ) where
+  -- of the units that a program has
+  pub begun_linked : (one us : List Source) (new : List Asked) (sources : List File) → one ≡ us → IsAccepted sources us
+      → OnErr r ((new ≡ policy.told) ⊎ (IsWithinLimits one × WasAskedFirst policy nodes one new)) → OnErr r ((new ≡ policy.told) ⊎ (IsAccepted sources us × IsWithinLimits us × WasAskedFirst policy nodes us new))
+  begun_linked one us new sources same accepted = by r
+    where
+      begun : (new ≡ policy.told) ⊎ (IsWithinLimits one × WasAskedFirst policy nodes one new) → (new ≡ policy.told) ⊎ (IsAccepted sources us × IsWithinLimits us × WasAskedFirst policy nodes us new)
+      begun (inl kept) = inl kept
+      begun (inr some) = inr (accepted, subst IsWithinLimits same some.0, subst (λ (vs : List Source). WasAskedFirst policy nodes vs new) same some.1)
+
+      by : (r : Result T E) → OnErr r ((new ≡ policy.told) ⊎ (IsWithinLimits one × WasAskedFirst policy nodes one new)) → OnErr r ((new ≡ policy.told) ⊎ (IsAccepted sources us × IsWithinLimits us × WasAskedFirst policy nodes us new))
+      by (Ok x) h = tt
+      by (Err e) h = begun h
+
+  pub begun_program : (us : List Source) (new : List Asked) (sources : List File) → OnErr r ((new ≡ policy.told) ⊎ (IsAccepted sources us × IsWithinLimits us × WasAskedFirst policy nodes us new))
+      → OnErr r ((new ≡ policy.told) ⊎ ((units : List Source) × IsAccepted sources units × IsWithinLimits units × WasAskedFirst policy nodes units new))
+  begun_program us new sources = by r
+    where
+      some : (new ≡ policy.told) ⊎ (IsAccepted sources us × IsWithinLimits us × WasAskedFirst policy nodes us new) → (new ≡ policy.told) ⊎ ((units : List Source) × IsAccepted sources units × IsWithinLimits units × WasAskedFirst policy nodes units new)
+      some (inl kept) = inl kept
+      some (inr h) = inr (us, h.0, h.1, h.2)
+
+      by : (r : Result T E) → OnErr r ((new ≡ policy.told) ⊎ (IsAccepted sources us × IsWithinLimits us × WasAskedFirst policy nodes us new))
+          → OnErr r ((new ≡ policy.told) ⊎ ((units : List Source) × IsAccepted sources units × IsWithinLimits units × WasAskedFirst policy nodes units new))
+      by (Ok x) h = tt
+      by (Err e) h = some h
+
+-- a text that is the line of an ending is said by that
+pub said_as : {A : Type 0} (policy : Chooser) (words : List Word) (told : Option (List File)) (failed : Word → Type 0) (text line : List ℕ) → text ≡ line → IsEnding policy words told failed FINISHED line → (IsEnding policy words told failed FINISHED text → A) → A
+said_as policy words told failed text line is ending so = so (subst (IsEnding policy words told failed FINISHED) (sym is) ending)

@@ -15,10 +15,12 @@ use Rattle.command_output.specs.declared.statuses.TheConstants.{FINISHED, USAGE}
 use Rattle.replay_command.specs.Endings.{IsReplayEnding}
 use Rattle.stack_code.specs.Text.{code_text}
 use Rattle.code_command.specs.Listings.{IsListing}
+use Rattle.choice_command.specs.Lines.{choice_lines}
+use Rattle.orca_cli.specs.Choosing.{Chooser}
 use Rattle.orca_cli.specs.Endings as because
 use Rattle.orca_cli.specs.Endings.{IsEnding}
 use Rattle.orca_cli.specs.Headline.{IsNamed}
-use Rattle.orca_cli.specs.Job.{Deed, checks, deed_in, files_of, lists, replays, runs, says, script_of}
+use Rattle.orca_cli.specs.Job.{Deed, checks, chooses, deed_in, files_of, lists, replays, runs, says, script_of}
 use Rattle.orca_cli.specs.Listings.{IsListed, IsSameText}
 use Rattle.orca_cli.specs.Lines.{ok_line, usage_line}
 use Rattle.orca_cli.specs.Programs.{IsProgram, IsProgramFault, program_line, program_status}
@@ -50,6 +52,7 @@ is_check None = ⊥
 is_check (Some (says text)) = ⊥
 is_check (Some (checks files)) = Unit {0}
 is_check (Some (lists what files)) = ⊥
+is_check (Some (chooses nodes files)) = ⊥
 is_check (Some (runs options script files)) = ⊥
 is_check (Some (replays history files)) = ⊥
 
@@ -62,13 +65,19 @@ IsSameBy deed one other =
 abbrev IsListedAt : List File → Listed → List Word → ℕ → List ℕ → Type 0
 IsListedAt shelf what files one a = (units : List Source) × IsProgram (Some shelf) files units × (one ≡ FINISHED) × IsListed what units a
 
-abbrev EndsBy : List File → Option Deed → ℕ → List ℕ → Type 0
-EndsBy shelf None one a = (one ≡ USAGE) × (a ≡ usage_line)
-EndsBy shelf (Some (says text)) one a = (one ≡ FINISHED) × (a ≡ text)
-EndsBy shelf (Some (checks files)) one a = ProgramEnds shelf files None (Unit {0}) one a
-EndsBy shelf (Some (lists what files)) one a = ProgramEnds shelf files None ⊥ one a ⊎ IsListedAt shelf what files one a
-EndsBy shelf (Some (runs options script files)) one a = ProgramEnds shelf files script ⊥ one a
-EndsBy shelf (Some (replays history files)) one a = IsReplayEnding (Some shelf) Never history files one a
+-- how what is chosen for a program's sites ends
+abbrev IsChosenAt : Chooser → List File → ℕ → List Word → ℕ → List ℕ → Type 0
+IsChosenAt policy shelf nodes files one a =
+    (units : List Source) × IsProgram (Some shelf) files units × (one ≡ FINISHED) × (a ≡ choice_lines policy.rule nodes policy.told units)
+
+abbrev EndsBy : Chooser → List File → Option Deed → ℕ → List ℕ → Type 0
+EndsBy policy shelf None one a = (one ≡ USAGE) × (a ≡ usage_line)
+EndsBy policy shelf (Some (says text)) one a = (one ≡ FINISHED) × (a ≡ text)
+EndsBy policy shelf (Some (checks files)) one a = ProgramEnds shelf files None (Unit {0}) one a
+EndsBy policy shelf (Some (lists what files)) one a = ProgramEnds shelf files None ⊥ one a ⊎ IsListedAt shelf what files one a
+EndsBy policy shelf (Some (chooses nodes files)) one a = ProgramEnds shelf files None ⊥ one a ⊎ IsChosenAt policy shelf nodes files one a
+EndsBy policy shelf (Some (runs options script files)) one a = ProgramEnds shelf files script ⊥ one a
+EndsBy policy shelf (Some (replays history files)) one a = IsReplayEnding (Some shelf) Never history files one a
 
 abbrev files_by : Option Deed → Option (List Word)
 files_by deed = option_and_then files_of deed
@@ -76,28 +85,31 @@ files_by deed = option_and_then files_of deed
 abbrev script_by : Option Deed → Option Word
 script_by deed = option_and_then script_of deed
 
-by_files : (shelf : List File) (deed : Option Deed) (files : List Word) (one : ℕ) (a : List ℕ) → files_by deed ≡ Some files → ProgramEnds shelf files (script_by deed) (is_check deed) one a → EndsBy shelf deed one a
-by_files shelf None files one a has ends = absurd (some_apart files (sym has))
-by_files shelf (Some (says text)) files one a has ends = absurd (some_apart files (sym has))
-by_files shelf (Some (checks others)) files one a has ends = subst (λ (fs : List Word). ProgramEnds shelf fs None (Unit {0}) one a) (sym (some_same others files has)) ends
-by_files shelf (Some (lists what others)) files one a has ends = inl (subst (λ (fs : List Word). ProgramEnds shelf fs None ⊥ one a) (sym (some_same others files has)) ends)
-by_files shelf (Some (runs options script others)) files one a has ends = subst (λ (fs : List Word). ProgramEnds shelf fs script ⊥ one a) (sym (some_same others files has)) ends
-by_files shelf (Some (replays history others)) files one a has ends = absurd (some_apart files (sym has))
+by_files : (policy : Chooser) (shelf : List File) (deed : Option Deed) (files : List Word) (one : ℕ) (a : List ℕ) → files_by deed ≡ Some files → ProgramEnds shelf files (script_by deed) (is_check deed) one a → EndsBy policy shelf deed one a
+by_files policy shelf None files one a has ends = absurd (some_apart files (sym has))
+by_files policy shelf (Some (says text)) files one a has ends = absurd (some_apart files (sym has))
+by_files policy shelf (Some (checks others)) files one a has ends = subst (λ (fs : List Word). ProgramEnds shelf fs None (Unit {0}) one a) (sym (some_same others files has)) ends
+by_files policy shelf (Some (lists what others)) files one a has ends = inl (subst (λ (fs : List Word). ProgramEnds shelf fs None ⊥ one a) (sym (some_same others files has)) ends)
+by_files policy shelf (Some (chooses nodes others)) files one a has ends = inl (subst (λ (fs : List Word). ProgramEnds shelf fs None ⊥ one a) (sym (some_same others files has)) ends)
+by_files policy shelf (Some (runs options script others)) files one a has ends = subst (λ (fs : List Word). ProgramEnds shelf fs script ⊥ one a) (sym (some_same others files has)) ends
+by_files policy shelf (Some (replays history others)) files one a has ends = absurd (some_apart files (sym has))
 
-by_deed : (words : List Word) (shelf : List File) (deed : Option Deed) (one : ℕ) (a : List ℕ) → deed_in words ≡ deed → IsEnding words (Some shelf) Never one a → EndsBy shelf deed one a
-by_deed words shelf deed one a is (because.said text asked) = subst (λ (d : Option Deed). EndsBy shelf d FINISHED text) (sym asked ∙ is) (refl, refl)
-by_deed words shelf deed one a is (because.usage asked) = subst (λ (d : Option Deed). EndsBy shelf d USAGE usage_line) (sym asked ∙ is) (refl, refl)
-by_deed words shelf deed one a is (because.unread files fault has h) =
-    by_files shelf deed files (load_status fault) (load_line fault) (ap files_by (sym is) ∙ has) (unread fault h)
-by_deed words shelf deed one a is (because.unscripted files sources script fault has read named h) =
-    by_files shelf deed files (script_status fault) (script_fault_line fault) (ap files_by (sym is) ∙ has) (unscripted sources script fault read (ap script_by (sym is) ∙ named) h)
-by_deed words shelf deed one a is (because.refused files sources fault has read script h) =
-    by_files shelf deed files (program_status fault) (program_line fault) (ap files_by (sym is) ∙ has)
+by_deed : (policy : Chooser) (words : List Word) (shelf : List File) (deed : Option Deed) (one : ℕ) (a : List ℕ) → deed_in words ≡ deed → IsEnding policy words (Some shelf) Never one a → EndsBy policy shelf deed one a
+by_deed policy words shelf deed one a is (because.said text asked) = subst (λ (d : Option Deed). EndsBy policy shelf d FINISHED text) (sym asked ∙ is) (refl, refl)
+by_deed policy words shelf deed one a is (because.usage asked) = subst (λ (d : Option Deed). EndsBy policy shelf d USAGE usage_line) (sym asked ∙ is) (refl, refl)
+by_deed policy words shelf deed one a is (because.unread files fault has h) =
+    by_files policy shelf deed files (load_status fault) (load_line fault) (ap files_by (sym is) ∙ has) (unread fault h)
+by_deed policy words shelf deed one a is (because.unscripted files sources script fault has read named h) =
+    by_files policy shelf deed files (script_status fault) (script_fault_line fault) (ap files_by (sym is) ∙ has) (unscripted sources script fault read (ap script_by (sym is) ∙ named) h)
+by_deed policy words shelf deed one a is (because.refused files sources fault has read script h) =
+    by_files policy shelf deed files (program_status fault) (program_line fault) (ap files_by (sym is) ∙ has)
     (refused sources script.0 fault read (subst (λ (o : Option Word). IsScriptOf (Some shelf) o script.0) (ap script_by is) script.1) h)
-by_deed words shelf deed one a is (because.accepted files units asked h) = subst (λ (d : Option Deed). EndsBy shelf d FINISHED ok_line) (sym asked ∙ is) (accepted units tt refl h)
-by_deed words shelf deed one a is (because.listed what files units text asked h listing) =
-    subst (λ (d : Option Deed). EndsBy shelf d FINISHED text) (sym asked ∙ is) (inr (units, h, refl, listing))
-by_deed words shelf deed one a is (because.replayed history files wanted line asked h) = subst (λ (d : Option Deed). EndsBy shelf d wanted line) (sym asked ∙ is) h
+by_deed policy words shelf deed one a is (because.accepted files units asked h) = subst (λ (d : Option Deed). EndsBy policy shelf d FINISHED ok_line) (sym asked ∙ is) (accepted units tt refl h)
+by_deed policy words shelf deed one a is (because.listed what files units text asked h listing) =
+    subst (λ (d : Option Deed). EndsBy policy shelf d FINISHED text) (sym asked ∙ is) (inr (units, h, refl, listing))
+by_deed policy words shelf deed one a is (because.chosen nodes files units asked h) =
+    subst (λ (d : Option Deed). EndsBy policy shelf d FINISHED (choice_lines policy.rule nodes policy.told units)) (sym asked ∙ is) (inr (units, h, refl, refl))
+by_deed policy words shelf deed one a is (because.replayed history files wanted line asked h) = subst (λ (d : Option Deed). EndsBy policy shelf d wanted line) (sym asked ∙ is) h
 
 -- ---- one ending of a check, or of a run that isn't begun
 
@@ -161,27 +173,37 @@ module _ (shelf : List File) (files : List Word) where
   lists_once what one two a b (inr h) (inl k) = absurd (run_apart None h.0 [] two b h.1 refl k)
   lists_once what one two a b (inr h) (inr k) = (h.2 ∙ sym k.2, listing_once what h.0 k.0 a b (loaded_once h.0 k.0 h.1 k.1) h.3 k.3)
 
+  -- and so are choices, by one policy
+  chooses_once : (policy : Chooser) (nodes : ℕ) (one two : ℕ) (a b : List ℕ) → ProgramEnds shelf files None ⊥ one a ⊎ IsChosenAt policy shelf nodes files one a → ProgramEnds shelf files None ⊥ two b ⊎ IsChosenAt policy shelf nodes files two b →
+      SameEnd one a two b
+  chooses_once policy nodes one two a b (inl h) (inl k) = program_ends_once None ⊥ one two a b h k
+  chooses_once policy nodes one two a b (inl h) (inr k) = absurd (run_apart None k.0 [] one a k.1 refl h)
+  chooses_once policy nodes one two a b (inr h) (inl k) = absurd (run_apart None h.0 [] two b h.1 refl k)
+  chooses_once policy nodes one two a b (inr h) (inr k) =
+      (h.2 ∙ sym k.2, h.3 ∙ ap (λ (us : List Source). choice_lines policy.rule nodes policy.told us) (loaded_once h.0 k.0 h.1 k.1) ∙ sym k.3)
+
 -- ---- one ending
 
 whole : (deed : Option Deed) (one two : ℕ) (a b : List ℕ) → SameEnd one a two b → (one ≡ two) × IsSameBy deed a b
 whole deed one two a b same = (same.0, inl same.1)
 
-ends_once : GiveTables → (shelf : List File) (deed : Option Deed) (one two : ℕ) (a b : List ℕ) → EndsBy shelf deed one a → EndsBy shelf deed two b → (one ≡ two) × IsSameBy deed a b
-ends_once tables shelf None one two a b h k = (h.0 ∙ sym k.0, inl (h.1 ∙ sym k.1))
-ends_once tables shelf (Some (says text)) one two a b h k = (h.0 ∙ sym k.0, inl (h.1 ∙ sym k.1))
-ends_once tables shelf (Some (checks files)) one two a b h k = whole (Some (checks files)) one two a b (program_ends_once shelf files None (Unit {0}) one two a b h k)
-ends_once tables shelf (Some (lists what files)) one two a b h k = lists_once shelf files what one two a b h k
-ends_once tables shelf (Some (runs options script files)) one two a b h k =
+ends_once : GiveTables → (policy : Chooser) (shelf : List File) (deed : Option Deed) (one two : ℕ) (a b : List ℕ) → EndsBy policy shelf deed one a → EndsBy policy shelf deed two b → (one ≡ two) × IsSameBy deed a b
+ends_once tables policy shelf None one two a b h k = (h.0 ∙ sym k.0, inl (h.1 ∙ sym k.1))
+ends_once tables policy shelf (Some (says text)) one two a b h k = (h.0 ∙ sym k.0, inl (h.1 ∙ sym k.1))
+ends_once tables policy shelf (Some (checks files)) one two a b h k = whole (Some (checks files)) one two a b (program_ends_once shelf files None (Unit {0}) one two a b h k)
+ends_once tables policy shelf (Some (lists what files)) one two a b h k = lists_once shelf files what one two a b h k
+ends_once tables policy shelf (Some (chooses nodes files)) one two a b h k = whole (Some (chooses nodes files)) one two a b (chooses_once shelf files policy nodes one two a b h k)
+ends_once tables policy shelf (Some (runs options script files)) one two a b h k =
     whole (Some (runs options script files)) one two a b (program_ends_once shelf files script ⊥ one two a b h k)
-ends_once tables shelf (Some (replays history files)) one two a b h k = whole (Some (replays history files)) one two a b (replay_once tables shelf history files one two a b h k)
+ends_once tables policy shelf (Some (replays history files)) one two a b h k = whole (Some (replays history files)) one two a b (replay_once tables shelf history files one two a b h k)
 
-pub ending_once : GiveTables → (words : List Word) (shelf : List File) (one two : ℕ) (a b : List ℕ) → IsEnding words (Some shelf) Never one a → IsEnding words (Some shelf) Never two b → (one ≡ two) × IsSameText words a b
-ending_once tables words shelf one two a b h k =
-    ends_once tables shelf (deed_in words) one two a b (by_deed words shelf (deed_in words) one a refl h) (by_deed words shelf (deed_in words) two b refl k)
+pub ending_once : GiveTables → (policy : Chooser) (words : List Word) (shelf : List File) (one two : ℕ) (a b : List ℕ) → IsEnding policy words (Some shelf) Never one a → IsEnding policy words (Some shelf) Never two b → (one ≡ two) × IsSameText words a b
+ending_once tables policy words shelf one two a b h k =
+    ends_once tables policy shelf (deed_in words) one two a b (by_deed policy words shelf (deed_in words) one a refl h) (by_deed policy words shelf (deed_in words) two b refl k)
 
-pub ending_apart : (words : List Word) (shelf : List File) (old new : List FileRead) (us : List Source) (lines : List ScriptLine) (one : ℕ) (a : List ℕ) → IsEnding words (Some shelf) Never one a → IsNamed words (Some shelf) old new us lines → ⊥
-ending_apart words shelf old new us lines one a h named =
-    run_apart shelf named.files named.script us lines one a named.program named.script_has (by_deed words shelf (Some (runs named.options named.script named.files)) one a named.asked h)
+pub ending_apart : (policy : Chooser) (words : List Word) (shelf : List File) (old new : List FileRead) (us : List Source) (lines : List ScriptLine) (one : ℕ) (a : List ℕ) → IsEnding policy words (Some shelf) Never one a → IsNamed words (Some shelf) old new us lines → ⊥
+ending_apart policy words shelf old new us lines one a h named =
+    run_apart shelf named.files named.script us lines one a named.program named.script_has (by_deed policy words shelf (Some (runs named.options named.script named.files)) one a named.asked h)
 
 -- ---- one run
 
@@ -211,14 +233,15 @@ read_once words told other old new us vs lines more n m =
 
 -- ---- where no read failed
 
-pub ending_quiet : (words : List Word) (told : Option (List File)) (failed : Word → Type 0) (never : (file : Word) → failed file → ⊥) (one : ℕ) (a : List ℕ) → IsEnding words told failed one a → IsEnding words told Never one a
-ending_quiet words told failed never one a (because.said text asked) = because.said text asked
-ending_quiet words told failed never one a (because.usage asked) = because.usage asked
-ending_quiet words told failed never one a (because.unread files fault has h) = because.unread files fault has (load_quiet told failed never files fault h)
-ending_quiet words told failed never one a (because.unscripted files sources script fault has read named h) =
+pub ending_quiet : (policy : Chooser) (words : List Word) (told : Option (List File)) (failed : Word → Type 0) (never : (file : Word) → failed file → ⊥) (one : ℕ) (a : List ℕ) → IsEnding policy words told failed one a → IsEnding policy words told Never one a
+ending_quiet policy words told failed never one a (because.said text asked) = because.said text asked
+ending_quiet policy words told failed never one a (because.usage asked) = because.usage asked
+ending_quiet policy words told failed never one a (because.unread files fault has h) = because.unread files fault has (load_quiet told failed never files fault h)
+ending_quiet policy words told failed never one a (because.unscripted files sources script fault has read named h) =
     because.unscripted files sources script fault has read named (script_quiet told failed never script fault h)
-ending_quiet words told failed never one a (because.refused files sources fault has read script h) = because.refused files sources fault has read script h
-ending_quiet words told failed never one a (because.accepted files units asked h) = because.accepted files units asked h
-ending_quiet words told failed never one a (because.replayed history files wanted line asked h) =
+ending_quiet policy words told failed never one a (because.refused files sources fault has read script h) = because.refused files sources fault has read script h
+ending_quiet policy words told failed never one a (because.accepted files units asked h) = because.accepted files units asked h
+ending_quiet policy words told failed never one a (because.replayed history files wanted line asked h) =
     because.replayed history files wanted line asked (replay_quiet told failed never history files wanted line h)
-ending_quiet words told failed never one a (because.listed what files units text asked h listing) = because.listed what files units text asked h listing
+ending_quiet policy words told failed never one a (because.listed what files units text asked h listing) = because.listed what files units text asked h listing
+ending_quiet policy words told failed never one a (because.chosen nodes files units asked h) = because.chosen nodes files units asked h

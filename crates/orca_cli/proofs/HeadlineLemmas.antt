@@ -26,7 +26,6 @@ use Rattle.world_rules.specs.declared.standing.Standing.{Standing}
 use Rattle.world_rules.specs.declared.standing.Standing.TheVariants.{Going}
 use Rattle.world_rules.specs.Frame.{AreSettings, Frame}
 use Rattle.world_rules.specs.Standings as rules
-use Rattle.world_rules.specs.Worlds.{World}
 use Rattle.world_facts.specs.Replicated.{AllReplicated}
 use Rattle.run_ends.specs.declared.ends.RunEnd.{RunEnd}
 use Rattle.run_loop.specs.Asked.{HaveToldOn, WereAskedIn, WereUsedSo, asked_since}
@@ -75,12 +74,12 @@ abbrev pub kept_of : RunEnd → Kept
 kept_of end = record { book = end.book; places = end.places; events = end.steps; nodes = end.nodes; processes = end.processes }
 
 -- what was printed, by how the run stands
-pub record IsTold (name : Action → List ℕ) (says : World → Kept → List ℕ → List ℕ) (turns : ℕ) (end : RunEnd) (standing : Standing) (status : ℕ) (old new : Option (List ℕ)) : Type 0 where
+pub record IsTold (name : Action → List ℕ) (says : Kept → List ℕ → List ℕ) (turns : ℕ) (end : RunEnd) (standing : Standing) (status : ℕ) (old new : Option (List ℕ)) : Type 0 where
   pub ends : EndsAs (standing_status standing) status
   pub lacked : standing ≡ Going → status ≡ NO_MEMORY
-  pub printed : (w : World) → Grew old new (Ends (standing_status standing) status (says w (kept_of end) (ending_line name turns standing end.processes.items)))
+  pub printed : Grew old new (Ends (standing_status standing) status (says (kept_of end) (ending_line name turns standing end.processes.items)))
 
-pub is_run : (f : Frame) (name : Action → List ℕ) (says : World → Kept → List ℕ → List ℕ) (end : RunEnd) (standing : Standing) (status : ℕ) (old new : Option (List ℕ)) (before after : List (List Asked))
+pub is_run : (f : Frame) (name : Action → List ℕ) (says : Kept → List ℕ → List ℕ) (end : RunEnd) (standing : Standing) (status : ℕ) (old new : Option (List ℕ)) (before after : List (List Asked))
     → RunLaws f.performs f.computes → AreSettings f.settings → AllReplicated f → HasRun f standing before after end → HaveToldOn before after → IsTold name says f.settings.turns end standing status old new
     → IsRun f name says (kept_of end) status old new before after
 is_run f name says end standing status old new before after laws settings none h told printed =
@@ -111,7 +110,7 @@ is_run f name says end standing status old new before after laws settings none h
       lacked = said.lacked;
       line = ending_line name f.settings.turns (rules.standing f w) k.processes.items;
       line_is = ending_is f w k name (rules.standing f w) row;
-      printed = said.printed w;
+      printed = said.printed;
       told = told;
       used = subst (λ (s : Standing). WereUsedSo s f end.steps.items w (asked_since before after)) left.stands h.used;
       unused = h.unused;
@@ -119,7 +118,7 @@ is_run f name says end standing status old new before after laws settings none h
     }
 
 -- by the settings of the words
-pub is_run_by : (p : Performs) (q : Computes) (options : RunOptions) (wires : ℕ) (settings : Settings) (name : Action → List ℕ) (says : World → Kept → List ℕ → List ℕ) (end : RunEnd) (standing : Standing) (status : ℕ) (old new : Option (List ℕ)) (before after : List (List Asked))
+pub is_run_by : (p : Performs) (q : Computes) (options : RunOptions) (wires : ℕ) (settings : Settings) (name : Action → List ℕ) (says : Kept → List ℕ → List ℕ) (end : RunEnd) (standing : Standing) (status : ℕ) (old new : Option (List ℕ)) (before after : List (List Asked))
     → RunLaws p q → settings ≡ settings_of options wires → AreSettings settings → HasRun (run_of p q settings) standing before after end → HaveToldOn before after → IsTold name says options.turns end standing status old new
     → IsRun (run_of p q (settings_of options wires)) name says (kept_of end) status old new before after
 is_run_by p q options wires settings name says end standing status old new before after laws is ranges h told printed =
@@ -145,7 +144,7 @@ module _ (p : Performs) (q : Computes) (settings : Settings) (names : Names) (st
 
 -- by the program's names
 pub program_run : (units : List Source) (options : RunOptions) (wires : ℕ) (names : Names) (o : Option Kept) (status : ℕ) (old new : Option (List ℕ)) (before after : List (List Asked)) → AreNamesOf units names → CallsNamed units names
-    → IfSome o (λ k. IsRun (run_of (performs_of units) (computes_of units) (settings_of options wires)) (awaited_name names) (λ w. run_said options names) k status old new before after)
+    → IfSome o (λ k. IsRun (run_of (performs_of units) (computes_of units) (settings_of options wires)) (awaited_name names) (run_said options names) k status old new before after)
     → IfSome o (λ k. ReadsBack (performs_of units) (computes_of units) names k.book.items) → IfSome o (λ k. IsProgramRun units options wires k status old new before after)
 program_run units options wires names None status old new before after are calls run back = tt
 program_run units options wires names (Some k) status old new before after are calls run back = record { names = names; are = are; calls = calls; run = run; back = back }

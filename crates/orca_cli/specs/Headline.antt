@@ -94,7 +94,7 @@ pub record HaveObeyed (wires : Wires) : Type 0 where
       slice_get wires.told wire ≡ Some told → HasObeyed rule since told
 
 -- a run of the program with these units was begun, by these options: the first wire was loaded with these lines, and the wires were asked
--- what some steps of that run ask
+-- what some steps of that run ask, and maybe once more about an act
 pub record WasBegun (units : List Source) (options : RunOptions) (lines : List ScriptLine) (old new : Wires) : Type 0 where
   pub loaded : AreLoaded lines old new
   pub told : HaveToldOn old.told new.told
@@ -120,7 +120,7 @@ AreUntouched words files earlier later status old new = (new ≡ old) ⊎ HasLac
 -- is kept, with the line of the standing, was printed; where a write failed or memory lacked, a front of it was. And the wires, which told
 -- `before` and tell `after`, were used in the run; one that was never in use was asked nothing; and each question about an act was put to
 -- the wire in use, in the world before the event of its number, or before the one that would come next
-pub record IsRun (f : Frame) (name : Action → List ℕ) (says : World → Kept → List ℕ → List ℕ) (k : Kept) (status : ℕ)
+pub record IsRun (f : Frame) (name : Action → List ℕ) (says : Kept → List ℕ → List ℕ) (k : Kept) (status : ℕ)
     (old new : Option (List ℕ)) (before after : List (List Asked)) : Type 0 where
   pub world : World
   pub end : IsEndOf f world k
@@ -143,7 +143,7 @@ pub record IsRun (f : Frame) (name : Action → List ℕ) (says : World → Kept
   pub lacked : standing f world ≡ Going → status ≡ NO_MEMORY
   pub line : List ℕ
   pub line_is : IsEndingLine name f.settings.turns (standing f world) k.processes.items line
-  pub printed : Grew old new (Ends (standing_status (standing f world)) status (says world k line))
+  pub printed : Grew old new (Ends (standing_status (standing f world)) status (says k line))
   pub told : HaveToldOn before after
   pub used : WereUsedSo (standing f world) f k.events.items world (asked_since before after)
   pub unused : NoneAskedBehind world.swaps (asked_since before after)
@@ -159,7 +159,7 @@ pub record IsProgramRun (units : List Source) (options : RunOptions) (wires : �
   pub are : AreNamesOf units names
   pub calls : CallsNamed units names
   pub run : IsRun (run_of (performs_of units) (computes_of units) (settings_of options wires)) (awaited_name names)
-      (λ w. run_said options names) k status old new before after
+      (run_said options names) k status old new before after
   pub back : ReadsBack (performs_of units) (computes_of units) names k.book.items
 
 -- it is the run that the words ask for, of the accepted program whose texts were read

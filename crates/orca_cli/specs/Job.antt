@@ -11,12 +11,13 @@ use Rattle.orca_cli.specs.declared.job.Job.TheVariants as jobs
 use Rattle.orca_cli.specs.declared.listing.Listed.{Listed}
 use Rattle.orca_cli.specs.declared.listing.Listed.TheVariants.{Code}
 
--- it says a text, checks the program in files, lists this of it, runs it, with these options and this file of a script, or says whether the
--- history in a file is one of it
+-- it says a text, checks the program in files, lists this of it, says what is chosen for its sites among so many members, runs it, with
+-- these options and this file of a script, or says whether the history in a file is one of it
 pub data Deed : Type 0 where
   says : List ℕ → Deed
   checks : List Word → Deed
   lists : Listed → List Word → Deed
+  chooses : ℕ → List Word → Deed
   runs : RunOptions → Option Word → List Word → Deed
   replays : Word → List Word → Deed
 
@@ -24,14 +25,16 @@ abbrev pub deed_of : Job → Deed
 deed_of (jobs.Says text) = says text.now
 deed_of (jobs.Checks files) = checks (map (λ s. s.now) files.items)
 deed_of (jobs.Lists what files) = lists what (map (λ s. s.now) files.items)
+deed_of (jobs.Chooses nodes files) = chooses nodes (map (λ s. s.now) files.items)
 deed_of (jobs.Runs options script files) = runs options (option_map (λ s. s.now) script) (map (λ s. s.now) files.items)
 deed_of (jobs.Replays history files) = replays history.now (map (λ s. s.now) files.items)
 
--- the files with the texts of its program, in order, where it checks, lists or runs one
+-- the files with the texts of its program, in order, where it checks, lists or runs one, or chooses for its sites
 abbrev pub files_of : Deed → Option (List Word)
 files_of (says text) = None
 files_of (checks files) = Some files
 files_of (lists what files) = Some files
+files_of (chooses nodes files) = Some files
 files_of (runs options script files) = Some files
 files_of (replays history files) = None
 
@@ -40,6 +43,7 @@ abbrev pub script_of : Deed → Option Word
 script_of (says text) = None
 script_of (checks files) = None
 script_of (lists what files) = None
+script_of (chooses nodes files) = None
 script_of (runs options script files) = script
 script_of (replays history files) = None
 
@@ -48,6 +52,7 @@ abbrev pub IsDeedWithin : Deed → Type 0
 IsDeedWithin (says text) = Unit {0}
 IsDeedWithin (checks files) = Unit {0}
 IsDeedWithin (lists what files) = Unit {0}
+IsDeedWithin (chooses nodes files) = Unit {0}
 IsDeedWithin (runs options script files) = IsRunWithin options
 IsDeedWithin (replays history files) = Unit {0}
 
@@ -67,6 +72,7 @@ built (ask.help of) = Some (says (help_of of))
 built ask.version = Some (says version_line)
 built (ask.check files) = Some (checks files)
 built (ask.code source files) = Some (lists (Code source) files)
+built (ask.choice nodes files) = Some (chooses nodes files)
 built (ask.run options script files) = run_built options script files
 built (ask.replay history files) = Some (replays history files)
 built _ = None
@@ -94,6 +100,7 @@ abbrev pub names_of : Deed → List Word
 names_of (says text) = []
 names_of (checks files) = files
 names_of (lists what files) = files
+names_of (chooses nodes files) = files
 names_of (runs options script files) = files ++ script_names script
 names_of (replays history files) = files ++ history ∷ []
 

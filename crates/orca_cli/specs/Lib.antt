@@ -3,6 +3,7 @@ pub mod Lines
 pub mod Programs
 pub mod Scripts
 pub mod Listings
+pub mod Choosing
 pub mod Endings
 pub mod Standings
 pub mod Said

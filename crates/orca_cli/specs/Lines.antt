@@ -8,7 +8,6 @@ use Rattle.orca_base.specs.declared.what.What.{What}
 use Rattle.orca_base.specs.declared.what.What.TheVariants as what
 use Rattle.history_text.specs.Spelling.{fault_name}
 use Rattle.value_core.specs.Datum.{Data}
-use Rattle.value_core.specs.declared.action.Line.{Line}
 use Rattle.value_core.specs.History.{string_first}
 
 abbrev pub usage_line : List ℕ
@@ -22,10 +21,6 @@ ok_line = codes "ok" ++ 10 ∷ []
 -- the string that is the first argument, and a line feed
 abbrev pub line_with : Data → List ℕ
 line_with args = string_first args ++ 10 ∷ []
-
--- the line of a history's line, by its process, its number there, and what is said of its place
-abbrev pub place_said : Line → List ℕ → ℕ → List ℕ
-place_said line said number = decimal line.process.0 ++ 32 ∷ (decimal line.call.0 ++ 32 ∷ ((said ++ decimal number) ++ 10 ∷ []))
 
 -- ---- where a script is none
 

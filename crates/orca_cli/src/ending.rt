@@ -7,6 +7,7 @@ ghost use Rattle.orca_io.specs.Reading.{FailedAt, FileRead};
 ghost use Rattle.command_files.specs.Loaded.{IsFailed, IsLoadFault};
 ghost use Rattle.command_files.specs.Sources.{AreRead, Word};
 ghost use Rattle.command_output.specs.Printed.{Grew, Ends, EndsAs, HasStopped};
+ghost use Rattle.orca_cli.specs.Choosing.{Chooser};
 ghost use Rattle.orca_cli.specs.Endings.{IsAnswer};
 ghost use Rattle.orca_cli.specs.Job.{files_in};
 ghost use Rattle.orca_cli.specs.Programs.{IsProgramFault};
@@ -15,7 +16,7 @@ ghost use Rattle.orca_cli.specs.Scripts.{HasScript};
 use crate::kept::Ended;
 use crate::program::ProgramFault;
 use command_files::LoadFault;
-use command_output::{NO_MEMORY, READ_FAULT, WRITE_FAULT, print_ending};
+use command_output::{FINISHED, NO_MEMORY, READ_FAULT, WRITE_FAULT, print_ending};
 use orca_base::NoMemory;
 use orca_io::Sink;
 use std::alloc::Global;
@@ -40,10 +41,11 @@ pub fn said<K: Sink>(out: &mut K, line: Result<Vec<u8>, NoMemory>, status: u8) -
 /// Prints why files weren't read.
 pub fn said_unread<K: Sink>(alloc: Global, out: &mut K, fault: LoadFault<'_>) -> Ended
     ensures none { result.kept ≡ None }
-    ensures said { (words : List Word) (told : Option (List File)) (before now : ℕ) (old new : List FileRead)
+    ensures said { (policy : Chooser) (words : List Word) (told : Option (List File)) (before now : ℕ) (old new : List FileRead)
         (files : List Word) → files_in words ≡ Some files →
         IsLoadFault told (FailedAt before now old new) files fault.entry →
-        IsAnswer words told (FailedAt before now old new) (K.told out.old) (K.told out.new) result.status }
+        IsAnswer policy words told (FailedAt before now old new) (K.told out.old) (K.told out.new) result.status }
+    ensures unfinished { result.status ≢ FINISHED }
     ensures status { IsFailed fault.entry → (result.status ≡ READ_FAULT) ⊎ HasStopped result.status }
     ensures later { K.faults out.old ≤ K.faults out.new }
     ensures failed { result.status ≡ WRITE_FAULT → Rose (K.faults out.old) (K.faults out.new) }
@@ -55,10 +57,11 @@ pub fn said_unread<K: Sink>(alloc: Global, out: &mut K, fault: LoadFault<'_>) ->
 /// Prints why texts are no accepted program.
 pub fn said_refused<K: Sink>(alloc: Global, out: &mut K, fault: &ProgramFault) -> Ended
     ensures none { result.kept ≡ None }
-    ensures said { (words : List Word) (told : Option (List File)) (before now : ℕ) (old new : List FileRead)
+    ensures said { (policy : Chooser) (words : List Word) (told : Option (List File)) (before now : ℕ) (old new : List FileRead)
         (files : List Word) (sources : List File) →
         files_in words ≡ Some files → AreRead told files sources → HasScript told words → IsProgramFault sources fault.now →
-        IsAnswer words told (FailedAt before now old new) (K.told out.old) (K.told out.new) result.status }
+        IsAnswer policy words told (FailedAt before now old new) (K.told out.old) (K.told out.new) result.status }
+    ensures unfinished { result.status ≢ FINISHED }
     ensures later { K.faults out.old ≤ K.faults out.new }
     ensures failed { result.status ≡ WRITE_FAULT → Rose (K.faults out.old) (K.faults out.new) }
     ensures stopped { K.faults out.old < K.faults out.new → HasStopped result.status }
@@ -66,7 +69,7 @@ pub fn said_refused<K: Sink>(alloc: Global, out: &mut K, fault: &ProgramFault) -
     said(out, fault.line(alloc), fault.status())
 }
 
-/// The end for want of memory before anything was run.
+/// The end for want of memory where nothing is kept.
 pub fn nothing() -> Ended
     ensures kept { result.kept ≡ None }
     ensures status { result.status ≡ NO_MEMORY }

@@ -25,6 +25,11 @@ pub enum Job<'a> {
         what: Listed,
         files: Vec<&'a str>,
     },
+    /// It says what is chosen for the sites of the program in these files, among so many members.
+    Chooses {
+        nodes: u8,
+        files: Vec<&'a str>,
+    },
     /// It runs the program in these files, with these options, over the wire that this script tells.
     Runs {
         options: RunOptions,
@@ -66,6 +71,7 @@ fn job_built<'a>(request: Request<'a>) -> Option<Job<'a>>
             },
             files,
         }),
+        Request::Choice { nodes, files } => Some(Job::Chooses { nodes, files }),
         Request::Run {
             options,
             script,

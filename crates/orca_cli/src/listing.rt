@@ -13,6 +13,7 @@ ghost use Rattle.code_rules.specs.Program.{program_code};
 ghost use Rattle.code_command.specs.Listings.{IsListing};
 ghost use Rattle.command_files.specs.Sources.{Word};
 ghost use Rattle.command_output.specs.Printed.{HasStopped};
+ghost use Rattle.orca_cli.specs.Choosing.{Chooser};
 ghost use Rattle.orca_cli.specs.Endings.{IsAnswer};
 ghost use Rattle.orca_cli.specs.Job.{deed_in, lists};
 ghost use Rattle.orca_cli.specs.Listings.{IsListed};
@@ -116,8 +117,8 @@ pub fn list_program<F: Shelf, K: Sink>(
     out: &mut K,
 ) -> Ended
     ensures none { result.kept ≡ None }
-    ensures said { (words : List Word) → deed_in words ≡ Some (lists what (map (λ f. f.now) files.now)) →
-        IsAnswer words (F.told shelf.old)
+    ensures said { (policy : Chooser) (words : List Word) → deed_in words ≡ Some (lists what (map (λ f. f.now) files.now)) →
+        IsAnswer policy words (F.told shelf.old)
         (FailedAt (F.faults shelf.old) (F.faults shelf.new) (F.reads shelf.old) (F.reads shelf.new))
         (K.told out.old) (K.told out.new) result.status }
     ensures same { F.told shelf.new ≡ F.told shelf.old }

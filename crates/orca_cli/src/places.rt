@@ -1,11 +1,10 @@
 //! The places of a history's lines.
 
-ghost use Rattle.std.specs.Prelude.{◌≡◌, ◌<◌, ◌≤◌, IfOk, IsErrOf, OnOk, Some, length, slice_get};
+ghost use Rattle.std.specs.Prelude.{◌≡◌, ◌<◌, ◌≤◌, IfOk, IsErrOf, OnOk, Some, length, slice_get, string_bytes};
 ghost use Rattle.orca_io.specs.Causes.{Rose};
 ghost use Rattle.command_output.specs.Printed.{Grew, WroteOf};
-ghost use Rattle.world_places.specs.Text.{placed_text, places_text};
+ghost use Rattle.world_places.specs.Text.{place_text, placed_text, places_text};
 ghost use Rattle.orca_cli.specs.Standings.{places_said};
-ghost use Rattle.orca_cli.specs.Lines.{place_said};
 
 use orca_base::NoMemory;
 use orca_io::{Sink, SinkFault};
@@ -65,19 +64,21 @@ fn note_at(notes: &[PlaceNote], at: usize) -> PlaceNote
 fn place_line(alloc: Global, line: &Line, note: PlaceNote) -> Result<Vec<u8>, NoMemory>
     ensures { IfOk result (λ text. text.items ≡ placed_text line.now note) }
 {
-    match note {
-        PlaceNote::Entry { number } => place_said(alloc, line, "entry ", number),
-        PlaceNote::Read { number } => place_said(alloc, line, "read at ", number),
-        PlaceNote::Single { number } => place_said(alloc, line, "single at ", number),
-    }
-}
-
-// What is said of it.
-fn place_said(alloc: Global, line: &Line, said: &str, number: u64) -> Result<Vec<u8>, NoMemory>
-    ensures { IfOk result (λ text. text.items ≡ place_said line.now said.now number) }
-{
     let process = line.process.0;
     let call = line.call.0;
-    let text = format!(in alloc; "{process} {call} {said}{number}\n")?;
+    let place = place_text(alloc, note)?;
+    let said = place.as_str();
+    let text = format!(in alloc; "{process} {call} {said}\n")?;
     Ok(text.into_bytes())
+}
+
+// What is said of a place.
+fn place_text(alloc: Global, note: PlaceNote) -> Result<String, NoMemory>
+    ensures { IfOk result (λ text. string_bytes text ≡ place_text note) }
+{
+    match note {
+        PlaceNote::Entry { number } => Ok(format!(in alloc; "entry {number}")?),
+        PlaceNote::Read { number } => Ok(format!(in alloc; "read at {number}")?),
+        PlaceNote::Single { number } => Ok(format!(in alloc; "single at {number}")?),
+    }
 }

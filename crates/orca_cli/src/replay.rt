@@ -8,6 +8,7 @@ ghost use Rattle.command_files.specs.Replays.{HasRead};
 ghost use Rattle.command_files.specs.Sources.{Word};
 ghost use Rattle.command_output.specs.Printed.{HasStopped};
 ghost use Rattle.replay_command.specs.Endings.{IsReplayAnswer};
+ghost use Rattle.orca_cli.specs.Choosing.{Chooser};
 ghost use Rattle.orca_cli.specs.Endings.{IsAnswer};
 ghost use Rattle.orca_cli.specs.Job.{deed_in, replays};
 ghost use Rattle.orca_cli.specs.Programs.{IsProgramFault};
@@ -84,8 +85,8 @@ pub fn replay<F: Shelf, K: Sink>(
     out: &mut K,
 ) -> Ended
     ensures none { result.kept ≡ None }
-    ensures said { (words : List Word) → deed_in words ≡ Some (replays history.now (map (λ f. f.now) files.now)) →
-        IsAnswer words (F.told shelf.old)
+    ensures said { (policy : Chooser) (words : List Word) → deed_in words ≡ Some (replays history.now (map (λ f. f.now) files.now)) →
+        IsAnswer policy words (F.told shelf.old)
         (FailedAt (F.faults shelf.old) (F.faults shelf.new) (F.reads shelf.old) (F.reads shelf.new))
         (K.told out.old) (K.told out.new) result.status }
     ensures same { F.told shelf.new ≡ F.told shelf.old }

@@ -16,6 +16,7 @@ ghost use Rattle.history_commands.specs.ReadBack.{ReadsBack};
 ghost use Rattle.history_text.specs.Sound.{AreTables};
 ghost use Rattle.run_loop.specs.Asked.{HaveToldOn, WereAskedIn};
 ghost use Rattle.run_loop.specs.Left.{run_of};
+ghost use Rattle.orca_cli.specs.Choosing.{Chooser, WasAsked, chooser_of};
 ghost use Rattle.orca_cli.specs.Endings.{IsAnswer};
 ghost use Rattle.orca_cli.specs.Headline.{AreLoaded, AreUntouched, HaveObeyed, IsProgramRun, IsRun, IsRunOf, WasBegun, settings_of, wires_of};
 ghost use Rattle.command_files.specs.Sources.{Word};
@@ -27,6 +28,7 @@ ghost use Rattle.orca_cli.specs.Programs.{IsProgramFault, units_of};
 ghost use Rattle.orca_cli.specs.Standings.{awaited_name, run_said};
 ghost use Rattle.command_files.specs.Sources.{AreRead};
 
+use crate::choice::choose_files;
 use crate::ending::{nothing, said, said_refused, said_unread};
 use crate::job::{Job, job_of};
 use crate::kept::{Ended, Kept};
@@ -46,6 +48,7 @@ use orca_base::{Items, NoMemory, Refusal};
 use orca_front::SourceFile;
 use orca_io::{Shelf, Sink};
 use program_names::names;
+use replica_choice::Policy;
 use run_law::run_law;
 use run_loop::{Ran, Settings, run};
 use std::alloc::Global;
@@ -74,7 +77,8 @@ fn check_files<F: Shelf, K: Sink>(
     out: &mut K,
 ) -> Ended
     ensures none { result.kept ≡ None }
-    ensures said { (words : List Word) → deed_in words ≡ Some (checks (map (λ f. f.now) files.now)) → IsAnswer words (F.told shelf.old)
+    ensures said { (policy : Chooser) (words : List Word) → deed_in words ≡ Some (checks (map (λ f. f.now) files.now)) →
+        IsAnswer policy words (F.told shelf.old)
         (FailedAt (F.faults shelf.old) (F.faults shelf.new) (F.reads shelf.old) (F.reads shelf.new))
         (K.told out.old) (K.told out.new) result.status }
     ensures same { F.told shelf.new ≡ F.told shelf.old }
@@ -101,11 +105,11 @@ fn check_files<F: Shelf, K: Sink>(
 // Prints why the script of a run wasn't had.
 fn said_unscripted<K: Sink>(alloc: Global, out: &mut K, fault: ScriptFault<'_>) -> Ended
     ensures none { result.kept ≡ None }
-    ensures said { (words : List Word) (told : Option (List File)) (before now : ℕ) (old new : List FileRead)
+    ensures said { (policy : Chooser) (words : List Word) (told : Option (List File)) (before now : ℕ) (old new : List FileRead)
         (files : List Word) (sources : List File) (script : Word) →
         files_in words ≡ Some files → AreRead told files sources → script_in words ≡ Some script →
         IsScriptFault told (FailedAt before now old new) script fault.entry →
-        IsAnswer words told (FailedAt before now old new) (K.told out.old) (K.told out.new) result.status }
+        IsAnswer policy words told (FailedAt before now old new) (K.told out.old) (K.told out.new) result.status }
     ensures status { IsUnreadable fault.entry → (result.status ≡ READ_FAULT) ⊎ HasStopped result.status }
     ensures later { K.faults out.old ≤ K.faults out.new }
     ensures failed { result.status ≡ WRITE_FAULT → Rose (K.faults out.old) (K.faults out.new) }
@@ -174,7 +178,7 @@ fn run_loaded<K: Sink, W: Wire>(
     ensures none { IfNone result.kept ((result.status ≡ NO_MEMORY) × (K.told out.new ≡ K.told out.old)) }
     ensures kept { IfSome result.kept (λ k. IsRun
         (run_of (performs_of (units_of machine.now)) (computes_of (units_of machine.now)) (settings_of options (length wires.old)))
-        (awaited_name names.now) (λ w. run_said options names.now) k result.status (K.told out.old) (K.told out.new)
+        (awaited_name names.now) (run_said options names.now) k result.status (K.told out.old) (K.told out.new)
         (map W.told wires.old) (map W.told wires.new)) }
     ensures back { IfSome result.kept (λ k.
         ReadsBack (performs_of (units_of machine.now)) (computes_of (units_of machine.now)) names.now k.book.items) }
@@ -280,9 +284,9 @@ fn run_files<F: Shelf, K: Sink, W: Wire>(
 ) -> Ended
     requires options { IsRunWithin options }
     requires wires { (1 ≤ length wires.old) × (length wires.old ≤ 1000) }
-    ensures refused { (words : List Word) →
+    ensures refused { (policy : Chooser) (words : List Word) →
         deed_in words ≡ Some (runs options (option_map (λ f. f.now) script.entry) (map (λ f. f.now) files.now)) →
-        IfNone result.kept (IsAnswer words (F.told shelf.old)
+        IfNone result.kept (IsAnswer policy words (F.told shelf.old)
         (FailedAt (F.faults shelf.old) (F.faults shelf.new) (F.reads shelf.old) (F.reads shelf.new))
         (K.told out.old) (K.told out.new) result.status) }
     ensures kept { (words : List Word) →
@@ -334,16 +338,17 @@ fn obeyed<W: Wire>(wires: &[W])
     have_obeyed(wires);
 }
 
-/// What `orca_main` does, over wires of one kind, of which its owner may know how they answer.
-pub fn orca_main_over<F: Shelf, K: Sink, W: Wire>(
+/// What `orca_main` does, over wires of one kind, of which its owner may know how they answer, and any policy.
+pub fn orca_main_over<F: Shelf, K: Sink, W: Wire, P: Policy>(
     alloc: Global,
     words: &[String],
     shelf: &mut F,
     out: &mut K,
     wires: &mut [W],
+    policy: &mut P,
 ) -> Ended
     requires wires { (1 ≤ length wires.old) × (length wires.old ≤ 1000) }
-    ensures refused { IfNone result.kept (IsAnswer (map string_bytes words.now) (F.told shelf.old)
+    ensures refused { IfNone result.kept (IsAnswer (chooser_of P.rule P.told policy.old) (map string_bytes words.now) (F.told shelf.old)
         (FailedAt (F.faults shelf.old) (F.faults shelf.new) (F.reads shelf.old) (F.reads shelf.new))
         (K.told out.old) (K.told out.new) result.status) }
     ensures untouched { IfNone result.kept (AreUntouched (map string_bytes words.now) (F.told shelf.old)
@@ -360,11 +365,17 @@ pub fn orca_main_over<F: Shelf, K: Sink, W: Wire>(
     ensures asked { HasAsked (F.may_fail shelf.old) (named_in (map string_bytes words.now)) (F.reads shelf.old) (F.reads shelf.new) }
     ensures may { F.may_fail shelf.new ≡ F.may_fail shelf.old }
     ensures written { K.faults out.old ≤ K.faults out.new }
+    ensures chosen { WasAsked (map string_bytes words.now) (F.told shelf.old)
+        (chooser_of P.rule P.told policy.old) result.status (P.told policy.new) }
+    ensures same_rule { P.rule policy.new ≡ P.rule policy.old }
 {
     match job_of(alloc, words) {
         Ok(Some(Job::Says { text })) => said(out, whole(alloc, text), FINISHED),
         Ok(Some(Job::Checks { files })) => check_files(alloc, &files, shelf, out),
         Ok(Some(Job::Lists { what, files })) => list_program(alloc, what, &files, shelf, out),
+        Ok(Some(Job::Chooses { nodes, files })) => choose_files(
+            alloc, nodes, &files, shelf, out, policy,
+        ),
         Ok(
             Some(
                 Job::Runs {
@@ -381,26 +392,30 @@ pub fn orca_main_over<F: Shelf, K: Sink, W: Wire>(
 }
 
 /// Does what the words ask for: `run` runs the accepted program in the files on as many members as they say, over the wires; `check` says
-/// whether the program in the files is accepted; `code` lists its code, with the source's lines or not; `replay` says whether the history
-/// in a file is one of the accepted program in the others; `--help` and `--version` say what they name.
+/// whether the program in the files is accepted; `code` lists its code, with the source's lines or not; `choice` says how often each of its
+/// objects is estimated to be read and written, and where the policy would keep it among as many members; `replay` says whether the history
+/// in a file is one of the accepted program in the others; `--help` and `--version` say what they name. So far no run asks the policy.
 ///
 /// `words` leaves out the program's name; of the wires, from 1 to 1,000, the first is in use at the beginning, and is loaded with the
-/// script of the words, or with the empty one. The status is that of docs/FORMATS.md. Nothing is kept where nothing was run: the words ask
-/// for no run, a file wasn't read, the script is none, the texts are no accepted program, or memory lacked before the run, or for what is
-/// kept. Each refusal prints its line; a run prints what its history writes, once it is over, behind that the history and the places of its
-/// lines, where the words ask for these, and the line of how it ended.
+/// script of the words, or with the empty one. The status is that of docs/FORMATS.md. Nothing is kept where the words ask for no run, a
+/// file wasn't read, the script is none, or the texts are no accepted program; nor, maybe, where memory lacked. Each refusal prints its
+/// line; a run prints what its history writes, behind that the history and the places of its lines, where the words ask for these, and the
+/// line of how it ended.
 pub fn orca_main<F: Shelf, K: Sink>(
     alloc: Global,
     words: &[String],
     shelf: &mut F,
     out: &mut K,
     wires: &mut Vec<Box<dyn Wire + Send>>,
+    policy: &mut Box<dyn Policy + Send>,
 ) -> Ended
     requires wires { (1 ≤ length wires.old.items) × (length wires.old.items ≤ 1000) }
 
     // Nothing is kept: an ending by its cause, with its line, or want of memory. What the wires tell, their scripts, and when these were
     // loaded, are as before, unless memory lacked for the run that the words name: then that was begun.
-    ensures refused { IfNone result.kept (IsAnswer (map string_bytes words.now) (F.told shelf.old)
+    ensures refused { IfNone result.kept (IsAnswer
+        (chooser_of (λ b. (Policy-box b).rule b.value) (λ b. (Policy-box b).told b.value) policy.old)
+        (map string_bytes words.now) (F.told shelf.old)
         (FailedAt (F.faults shelf.old) (F.faults shelf.new) (F.reads shelf.old) (F.reads shelf.new))
         (K.told out.old) (K.told out.new) result.status) }
     ensures untouched { IfNone result.kept (AreUntouched (map string_bytes words.now) (F.told shelf.old)
@@ -441,8 +456,15 @@ pub fn orca_main<F: Shelf, K: Sink>(
     ensures obeyed { HaveObeyed
         (wires_of (λ b. (Wire-box b).told b.value) (λ b. (Wire-box b).rule b.value) (λ b. (Wire-box b).loaded b.value)
         wires.new.items) }
+
+    // The policy is asked about each site of the program whose choices the words ask for, in order, or about so many from the front where
+    // memory lacks, and else nothing; and it keeps its rule.
+    ensures chosen { WasAsked (map string_bytes words.now) (F.told shelf.old)
+        (chooser_of (λ b. (Policy-box b).rule b.value) (λ b. (Policy-box b).told b.value) policy.old)
+        result.status ((Policy-box policy.new).told policy.new.value) }
+    ensures same_rule { (Policy-box policy.new).rule policy.new.value ≡ (Policy-box policy.old).rule policy.old.value }
 {
-    let ended = orca_main_over(alloc, words, shelf, out, wires);
+    let ended = orca_main_over(alloc, words, shelf, out, wires, policy);
     obeyed(wires);
     ended
 }

@@ -8,6 +8,7 @@ use Rattle.orca_io.specs.Files.{File}
 use Rattle.orca_io.specs.Reading.{FileRead}
 use Rattle.command_files.specs.Sources.{Word}
 use Rattle.orca_cli.specs.declared.kept.Kept.{Kept}
+use Rattle.orca_cli.specs.Choosing.{Chooser}
 use Rattle.orca_cli.specs.Endings.{IsAnswer}
 use Rattle.orca_cli.specs.Headline.{AreUntouched, IsRunOf, Wires, wires_of}
 use Rattle.wires.specs.Wired.{Wired, by_script, plain, scripted}
@@ -37,9 +38,9 @@ pub record HaveAnswered (wires : Wires) : Type 0 where
 -- Nothing is kept: an ending by its cause with its line, or want of memory, over wires that are as they were made, unless memory lacked for
 -- the run that the words name. Or a run was kept, and is the one that the words ask for, of the program whose texts were read. Either way
 -- the wires answered so; where a run was begun, the lines of the first are those that the words name (`AreLoaded` of orca_cli)
-pub data IsServed (words : List Word) (files : Option (List File)) (earlier later : List FileRead) (failed : Word → Type 0)
-    (old new : Option (List ℕ)) (status : ℕ) : Type 0 where
-  ended : (after : Wires) → HaveAnswered after → IsAnswer words files failed old new status →
-      AreUntouched words files earlier later status fresh after → IsServed words files earlier later failed old new status
+pub data IsServed (policy : Chooser) (words : List Word) (files : Option (List File)) (earlier later : List FileRead)
+    (failed : Word → Type 0) (old new : Option (List ℕ)) (status : ℕ) : Type 0 where
+  ended : (after : Wires) → HaveAnswered after → IsAnswer policy words files failed old new status →
+      AreUntouched words files earlier later status fresh after → IsServed policy words files earlier later failed old new status
   ran : (k : Kept) (after : Wires) → HaveAnswered after → IsRunOf words files earlier later k status old new fresh after →
-      IsServed words files earlier later failed old new status
+      IsServed policy words files earlier later failed old new status

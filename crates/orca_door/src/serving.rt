@@ -4,6 +4,7 @@ ghost use Rattle.std.specs.Prelude.{◌≡◌, ◌⊎◌, ◌<◌, ◌≤◌, If
 ghost use Rattle.command_output.specs.Printed.{HasStopped};
 ghost use Rattle.orca_io.specs.Causes.{Rose};
 ghost use Rattle.orca_io.specs.Reading.{FailedAt, HasAsked};
+ghost use Rattle.orca_cli.specs.Choosing.{WasAsked, chooser_of};
 ghost use Rattle.orca_cli.specs.Job.{named_in};
 ghost use Rattle.orca_door.specs.Obeying.{AreTwo};
 ghost use Rattle.orca_door.specs.Served.{IsServed, fresh, wired};
@@ -11,6 +12,7 @@ ghost use Rattle.orca_door.specs.Served.{IsServed, fresh, wired};
 use orca_base::NoMemory;
 use orca_cli::{NO_MEMORY, READ_FAULT, WRITE_FAULT, orca_main_over};
 use orca_io::{Shelf, Sink};
+use replica_choice::Policy;
 use std::alloc::Global;
 use wires::ScriptWire;
 
@@ -34,15 +36,17 @@ fn answered(wires: &[ScriptWire])
 }
 
 // Does what the words ask for over two wires that were just made.
-fn served<F: Shelf, K: Sink>(
+fn served<F: Shelf, K: Sink, P: Policy>(
     alloc: Global,
     words: &[String],
     shelf: &mut F,
     out: &mut K,
     wires: &mut [ScriptWire],
+    policy: &mut P,
 ) -> u8
     requires { wired wires.old ≡ fresh }
-    ensures served { IsServed (map string_bytes words.now) (F.told shelf.old) (F.reads shelf.old) (F.reads shelf.new)
+    ensures served { IsServed (chooser_of P.rule P.told policy.old) (map string_bytes words.now) (F.told shelf.old)
+        (F.reads shelf.old) (F.reads shelf.new)
         (FailedAt (F.faults shelf.old) (F.faults shelf.new) (F.reads shelf.old) (F.reads shelf.new))
         (K.told out.old) (K.told out.new) result }
     ensures write_fault { result ≡ WRITE_FAULT → Rose (K.faults out.old) (K.faults out.new) }
@@ -53,8 +57,11 @@ fn served<F: Shelf, K: Sink>(
     ensures written { K.faults out.old ≤ K.faults out.new }
     ensures asked { HasAsked (F.may_fail shelf.old) (named_in (map string_bytes words.now)) (F.reads shelf.old) (F.reads shelf.new) }
     ensures may { F.may_fail shelf.new ≡ F.may_fail shelf.old }
+    ensures chosen { WasAsked (map string_bytes words.now) (F.told shelf.old)
+        (chooser_of P.rule P.told policy.old) result (P.told policy.new) }
+    ensures same_rule { P.rule policy.new ≡ P.rule policy.old }
 {
-    let ended = orca_main_over(alloc, words, shelf, out, wires);
+    let ended = orca_main_over(alloc, words, shelf, out, wires, policy);
     answered(wires);
     ended.status
 }
@@ -62,10 +69,18 @@ fn served<F: Shelf, K: Sink>(
 /// Does what the words ask for, over a network that the script of the words tells, and gives the status of docs/FORMATS.md.
 ///
 /// `words` leaves out the program's name. There are two wires: the first does what that script says, or lets all pass where the words name
-/// none; the second, to which the script may swap, lets all pass. Where memory lacks for the wires, the status says so.
-pub fn serve<F: Shelf, K: Sink>(alloc: Global, words: &[String], shelf: &mut F, out: &mut K) -> u8
+/// none; the second, to which the script may swap, lets all pass. The policy chooses what `choice` prints. Where memory lacks for the wires,
+/// the status says so.
+pub fn serve<F: Shelf, K: Sink, P: Policy>(
+    alloc: Global,
+    words: &[String],
+    shelf: &mut F,
+    out: &mut K,
+    policy: &mut P,
+) -> u8
     // An ending by its cause, with its line, or want of memory; or the run that the words ask for, whose network answered by their script.
-    ensures served { IsServed (map string_bytes words.now) (F.told shelf.old) (F.reads shelf.old) (F.reads shelf.new)
+    ensures served { IsServed (chooser_of P.rule P.told policy.old) (map string_bytes words.now) (F.told shelf.old)
+        (F.reads shelf.old) (F.reads shelf.new)
         (FailedAt (F.faults shelf.old) (F.faults shelf.new) (F.reads shelf.old) (F.reads shelf.new))
         (K.told out.old) (K.told out.new) result }
 
@@ -84,9 +99,15 @@ pub fn serve<F: Shelf, K: Sink>(alloc: Global, words: &[String], shelf: &mut F, 
     // The shelf is asked for the files that the words name and for no other, in their order, up to the first that isn't read.
     ensures asked { HasAsked (F.may_fail shelf.old) (named_in (map string_bytes words.now)) (F.reads shelf.old) (F.reads shelf.new) }
     ensures may { F.may_fail shelf.new ≡ F.may_fail shelf.old }
+
+    // The policy is asked about each site of the program whose choices the words ask for, in order, or about so many from the front where
+    // memory lacks, and else nothing; and it keeps its rule.
+    ensures chosen { WasAsked (map string_bytes words.now) (F.told shelf.old)
+        (chooser_of P.rule P.told policy.old) result (P.told policy.new) }
+    ensures same_rule { P.rule policy.new ≡ P.rule policy.old }
 {
     match two_wires(alloc) {
-        Ok(mut wires) => served(alloc, words, shelf, out, &mut wires),
+        Ok(mut wires) => served(alloc, words, shelf, out, &mut wires, policy),
         Err(_) => NO_MEMORY,
     }
 }

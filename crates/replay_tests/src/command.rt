@@ -2,6 +2,7 @@
 
 use orca_cli::{NO_MEMORY, orca_main};
 use orca_io::{MemoryShelf, MemorySink};
+use replica_choice::{CostPolicy, Policy};
 use std::alloc::{AllocError, Global};
 use std::test::Fail;
 use wires::{PlainWire, Wire};
@@ -69,7 +70,8 @@ fn status_of(
     if wires.len() != 1 {
         return Err(Fail::from("no wire"));
     }
-    match orca_main(alloc, words, shelf, out, &mut wires).status {
+    let mut policy: Box<dyn Policy + Send> = Box::new(alloc, CostPolicy::new(alloc))?;
+    match orca_main(alloc, words, shelf, out, &mut wires, &mut policy).status {
         NO_MEMORY => Err(Fail::from("no memory")),
         status => Ok(status),
     }

@@ -5,6 +5,7 @@ use crate::told::told;
 use orca_base::NoMemory;
 use orca_cli::{Ended, orca_main};
 use orca_io::{MemoryShelf, MemorySink};
+use replica_choice::{CostPolicy, Policy};
 use std::alloc::Global;
 use wires::{PlainWire, ScriptWire, Wire};
 
@@ -45,7 +46,11 @@ fn ended(
     if wires == Wires::Two {
         boxed.push(Box::new(alloc, PlainWire::new(alloc))?)?;
     }
-    Ok(Box::new(alloc, orca_main(alloc, words, shelf, out, &mut boxed))?)
+    let mut policy: Box<dyn Policy + Send> = Box::new(alloc, CostPolicy::new(alloc))?;
+    Ok(Box::new(
+        alloc,
+        orca_main(alloc, words, shelf, out, &mut boxed, &mut policy),
+    )?)
 }
 
 // The words of a command line.

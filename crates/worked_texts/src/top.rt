@@ -2,6 +2,7 @@
 
 use orca_cli::{Ended, orca_main};
 use orca_io::{MemorySink, Shelf};
+use replica_choice::{CostPolicy, Policy};
 use std::alloc::{AllocError, Global};
 use wires::{ScriptWire, Wire};
 
@@ -28,6 +29,10 @@ pub fn call<F: Shelf>(
     if wires.len() != 1 {
         return Err(AllocError);
     }
-    let ended = Box::new(alloc, orca_main(alloc, words, shelf, &mut out, &mut wires))?;
+    let mut policy: Box<dyn Policy + Send> = Box::new(alloc, CostPolicy::new(alloc))?;
+    let ended = Box::new(
+        alloc,
+        orca_main(alloc, words, shelf, &mut out, &mut wires, &mut policy),
+    )?;
     Ok((ended, Vec::from_slice(alloc, out.bytes())?))
 }

@@ -6,18 +6,18 @@ use Rattle.orca_cli.proofs.CliLemmas.{answer_of, files_listed, is_program, lists
 use Rattle.orca_cli.proofs.listing.list_program.Goals as goal
 
 pub returns-in-Err-Because-clause-said : goal.returns-in-Err-Because-clause-said
-returns-in-Err-Because-clause-said g c = λ words asked.
-    c.said_unread.ensures.said words _ _ _ _ _ _ (files_listed words _ _ asked)
+returns-in-Err-Because-clause-said g c = λ policy words asked.
+    c.said_unread.ensures.said policy words _ _ _ _ _ _ (files_listed words _ _ asked)
     (rw c.in-Err-Because.field-0-is (rw c.in-Err-Because.field-0-is at c.in-Err-Because.ensures.refused))
 
 pub returns-in-Err-Because-program_listing-clause-said : goal.returns-in-Err-Because-program_listing-clause-said
-returns-in-Err-Because-program_listing-clause-said g c = λ words asked.
-    c.said_refused.ensures.said words _ _ _ _ _ _ (map file_of c.in-Ok.sources.items) (files_listed words _ _ asked) c.in-Ok.ensures.read (lists_none words _ _ _ asked)
+returns-in-Err-Because-program_listing-clause-said g c = λ policy words asked.
+    c.said_refused.ensures.said policy words _ _ _ _ _ _ (map file_of c.in-Ok.sources.items) (files_listed words _ _ asked) c.in-Ok.ensures.read (lists_none words _ _ _ asked)
     (rw (c.deref.ensures.value, c.in-Err-Because-program_listing.field-0-is) at c.in-Err-Because-program_listing.ensures.refused)
 
 pub returns-in-Ok-program_listing-clause-said : goal.returns-in-Ok-program_listing-clause-said
-returns-in-Ok-program_listing-clause-said g c = λ words asked.
+returns-in-Ok-program_listing-clause-said g c = λ policy words asked.
     let listed = rw c.deref.ensures.value at c.in-Ok-program_listing.ensures.listed in
     let text = c.in-Ok-program_listing.text.items in
-    answer_of {E = NoMemory} (λ l. l.items) (Ok c.in-Ok-program_listing.text) words _ _ _ _ 0 _ text refl c.said.ensures.printed c.said.ensures.silent c.said.ensures.status
+    answer_of {E = NoMemory} (λ l. l.items) (Ok c.in-Ok-program_listing.text) policy words _ _ _ _ 0 _ text refl c.said.ensures.printed c.said.ensures.silent c.said.ensures.status
     (because.listed _ _ listed.0 text asked (is_program _ _ (map file_of c.in-Ok.sources.items) listed.0 c.in-Ok.ensures.read listed.1 listed.2) listed.3)

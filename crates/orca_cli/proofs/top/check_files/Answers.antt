@@ -6,15 +6,15 @@ use Rattle.orca_cli.proofs.CliLemmas.{answer_of, files_checked, has_none, is_pro
 use Rattle.orca_cli.proofs.top.check_files.Goals as goal
 
 pub returns-in-Err-Because-clause-said : goal.returns-in-Err-Because-clause-said
-returns-in-Err-Because-clause-said g c = λ words asked.
-    c.said_unread.ensures.said words _ _ _ _ _ _ (files_checked words _ asked) (rw c.in-Err-Because.field-0-is at c.in-Err-Because.ensures.refused)
+returns-in-Err-Because-clause-said g c = λ policy words asked.
+    c.said_unread.ensures.said policy words _ _ _ _ _ _ (files_checked words _ asked) (rw c.in-Err-Because.field-0-is at c.in-Err-Because.ensures.refused)
 
 pub returns-in-Ok-judged_sources-clause-said : goal.returns-in-Ok-judged_sources-clause-said
-returns-in-Ok-judged_sources-clause-said g c = λ words asked.
+returns-in-Ok-judged_sources-clause-said g c = λ policy words asked.
     let accepted = rw c.deref.ensures.value at c.in-Ok-judged_sources.ensures.accepted in
-    answer_of (λ l. l.items) c.ok_line.result words _ _ _ _ 0 _ lines.ok_line c.ok_line.ensures c.said.ensures.printed c.said.ensures.silent c.said.ensures.status
+    answer_of (λ l. l.items) c.ok_line.result policy words _ _ _ _ 0 _ lines.ok_line c.ok_line.ensures c.said.ensures.printed c.said.ensures.silent c.said.ensures.status
     (because.accepted _ accepted.0 asked (is_program _ _ (map file_of c.in-Ok.sources.items) accepted.0 c.in-Ok.ensures.read accepted.1 accepted.2))
 
 pub returns-in-Err-Because-judged_sources-clause-said : goal.returns-in-Err-Because-judged_sources-clause-said
-returns-in-Err-Because-judged_sources-clause-said g c = λ words asked.
-    c.said_refused.ensures.said words _ _ _ _ _ _ (map file_of c.in-Ok.sources.items) (files_checked words _ asked) c.in-Ok.ensures.read (has_none words _ _ asked) (rw (c.deref.ensures.value, c.in-Err-Because-judged_sources.field-0-is) at c.in-Err-Because-judged_sources.ensures.refused)
+returns-in-Err-Because-judged_sources-clause-said g c = λ policy words asked.
+    c.said_refused.ensures.said policy words _ _ _ _ _ _ (map file_of c.in-Ok.sources.items) (files_checked words _ asked) c.in-Ok.ensures.read (has_none words _ _ asked) (rw (c.deref.ensures.value, c.in-Err-Because-judged_sources.field-0-is) at c.in-Err-Because-judged_sources.ensures.refused)

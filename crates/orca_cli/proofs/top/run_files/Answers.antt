@@ -10,13 +10,13 @@ use Rattle.orca_cli.proofs.HeadlineLemmas.{none_as, run_of_words, untouched_run}
 use Rattle.orca_cli.proofs.top.run_files.Goals as goal
 
 pub returns-in-Err-Because-clause-refused : goal.returns-in-Err-Because-clause-refused
-returns-in-Err-Because-clause-refused g c = λ words asked.
+returns-in-Err-Because-clause-refused g c = λ policy words asked.
     if_none _ _
-    (c.said_unread.ensures.said words (g.F.Shelf.told c.args.shelf.now) (g.F.Shelf.faults c.args.shelf.now) (g.F.Shelf.faults c.sources.new.shelf) (g.F.Shelf.reads c.args.shelf.now) (g.F.Shelf.reads c.sources.new.shelf) (map (λ f. f.now) c.args.files.now)
+    (c.said_unread.ensures.said policy words (g.F.Shelf.told c.args.shelf.now) (g.F.Shelf.faults c.args.shelf.now) (g.F.Shelf.faults c.sources.new.shelf) (g.F.Shelf.reads c.args.shelf.now) (g.F.Shelf.reads c.sources.new.shelf) (map (λ f. f.now) c.args.files.now)
     (files_run words _ c.args.options _ asked) (rw c.in-Err-Because.field-0-is (rw c.in-Err-Because.field-0-is at c.in-Err-Because.ensures.refused)))
 
 pub returns-in-Err-Because-script_of-clause-refused : goal.returns-in-Err-Because-script_of-clause-refused
-returns-in-Err-Because-script_of-clause-refused g c = λ words asked.
+returns-in-Err-Because-script_of-clause-refused g c = λ policy words asked.
     let told = g.F.Shelf.told c.args.shelf.now in
     let before = g.F.Shelf.faults c.args.shelf.now in
     let mid = g.F.Shelf.faults c.sources.new.shelf in
@@ -28,7 +28,7 @@ returns-in-Err-Because-script_of-clause-refused g c = λ words asked.
     if_none _ _
     (unscripted_run words _ c.args.options _ told (FailedAt mid now between new) c.in-Err-Because-script_of.cause _ asked
     (rw (c.sources.ensures.same, c.in-Err-Because-script_of.field-0-is) at c.in-Err-Because-script_of.ensures.refused)
-    (λ name named fault. c.said_unscripted.ensures.said words told before now old new (map (λ f. f.now) c.args.files.now) (map file_of c.in-Ok.sources.items) name (files_run words _ c.args.options _ asked) c.in-Ok.ensures.read named
+    (λ name named fault. c.said_unscripted.ensures.said policy words told before now old new (map (λ f. f.now) c.args.files.now) (map file_of c.in-Ok.sources.items) name (files_run words _ c.args.options _ asked) c.in-Ok.ensures.read named
     (rw c.in-Err-Because-script_of.field-0-is (script_map told (FailedAt mid now between new) (FailedAt before now old new) name c.in-Err-Because-script_of.cause (failed_since before mid now old between new _ name quiet c.in-Ok.ensures.had) fault))))
 
 pub returns-in-Err-Because-script_of-clause-read_fault : goal.returns-in-Err-Because-script_of-clause-read_fault
@@ -40,23 +40,23 @@ returns-in-Err-Because-script_of-clause-read_fault g c = λ rose.
     (rw c.in-Err-Because-script_of.field-0-is at c.in-Err-Because-script_of.ensures.quiet)
 
 pub returns-in-Err-Because-linked_program-clause-refused : goal.returns-in-Err-Because-linked_program-clause-refused
-returns-in-Err-Because-linked_program-clause-refused g c = λ words asked.
+returns-in-Err-Because-linked_program-clause-refused g c = λ policy words asked.
     let told = g.F.Shelf.told c.args.shelf.now in
     if_none _ _
-    (c.said_refused.ensures.said words told (g.F.Shelf.faults c.args.shelf.now) (g.F.Shelf.faults c.script_of.new.shelf) (g.F.Shelf.reads c.args.shelf.now) (g.F.Shelf.reads c.script_of.new.shelf) (map (λ f. f.now) c.args.files.now) (map file_of c.in-Ok.sources.items)
+    (c.said_refused.ensures.said policy words told (g.F.Shelf.faults c.args.shelf.now) (g.F.Shelf.faults c.script_of.new.shelf) (g.F.Shelf.reads c.args.shelf.now) (g.F.Shelf.reads c.script_of.new.shelf) (map (λ f. f.now) c.args.files.now) (map file_of c.in-Ok.sources.items)
     (files_run words _ c.args.options _ asked) c.in-Ok.ensures.read (has_script words _ _ c.args.options _ c.in-Ok-script_of.script asked (rw c.sources.ensures.same at c.in-Ok-script_of.ensures.script))
     (rw c.in-Err-Because-linked_program.field-0-is (rw (c.deref.ensures.value, c.in-Err-Because-linked_program.field-0-is) at c.in-Err-Because-linked_program.ensures.refused)))
 
 pub returns-in-Err-Because-machine_of-clause-refused : goal.returns-in-Err-Because-machine_of-clause-refused
-returns-in-Err-Because-machine_of-clause-refused g c = λ words asked.
+returns-in-Err-Because-machine_of-clause-refused g c = λ policy words asked.
     let told = g.F.Shelf.told c.args.shelf.now in
     if_none _ _
-    (c.said_refused-in-Err-Because-machine_of.ensures.said words told (g.F.Shelf.faults c.args.shelf.now) (g.F.Shelf.faults c.script_of.new.shelf) (g.F.Shelf.reads c.args.shelf.now) (g.F.Shelf.reads c.script_of.new.shelf) (map (λ f. f.now) c.args.files.now) (map file_of c.in-Ok.sources.items)
+    (c.said_refused-in-Err-Because-machine_of.ensures.said policy words told (g.F.Shelf.faults c.args.shelf.now) (g.F.Shelf.faults c.script_of.new.shelf) (g.F.Shelf.reads c.args.shelf.now) (g.F.Shelf.reads c.script_of.new.shelf) (map (λ f. f.now) c.args.files.now) (map file_of c.in-Ok.sources.items)
     (files_run words _ c.args.options _ asked) c.in-Ok.ensures.read (has_script words _ _ c.args.options _ c.in-Ok-script_of.script asked (rw c.sources.ensures.same at c.in-Ok-script_of.ensures.script))
     (rw c.in-Err-Because-machine_of.field-0-is (rw c.in-Err-Because-machine_of.field-0-is at c.in-Err-Because-machine_of.ensures.refused (map file_of c.in-Ok.sources.items) (rw c.deref.ensures.value at c.in-Ok-linked_program.ensures.program))))
 
 pub returns-clause-refused : goal.returns-clause-refused
-returns-clause-refused g c = λ words asked. none_as c.run_program.result.kept (λ lacked. inr lacked) c.run_program.ensures.none
+returns-clause-refused g c = λ policy words asked. none_as c.run_program.result.kept (λ lacked. inr lacked) c.run_program.ensures.none
 
 pub returns-clause-kept : goal.returns-clause-kept
 returns-clause-kept g c = λ words asked.

@@ -58,10 +58,10 @@ returns-clause-kept g c =
     let before = map g.W.Wire.told c.args.wires.now in
     let after = map g.W.Wire.told c.run-ran.new.wires in
     let says = c.report-status.ensures in
-    is_run_by (performs_of units) (computes_of units) c.args.options (length c.args.wires.now) c.settings_of-settings.result (awaited_name c.args.names.now) (λ w. run_said c.args.options c.args.names.now) c.in-Some.end c.run-ran.result.standing c.report-status.result
+    is_run_by (performs_of units) (computes_of units) c.args.options (length c.args.wires.now) c.settings_of-settings.result (awaited_name c.args.names.now) (run_said c.args.options c.args.names.now) c.in-Some.end c.run-ran.result.standing c.report-status.result
     (g.K.Sink.told c.args.out.now) (g.K.Sink.told c.report-status.new.out) before after
     c.laws_of_runs.ensures c.settings_of-settings.ensures
     (ranges_as c.args.options (length c.args.wires.now) c.settings_of-settings.result c.settings_of-settings.ensures c.requires.options c.requires.wires)
     (some_is c.run-ran.result.end c.in-Some.end (HasRun (run_of (performs_of units) (computes_of units) c.settings_of-settings.result) c.run-ran.result.standing before after) c.in-Some.is
     c.run-ran.ensures.run) c.run-ran.ensures.told
-    (record { ends = says.ends; lacked = says.lacked; printed = λ w. says.printed })
+    (record { ends = says.ends; lacked = says.lacked; printed = says.printed })
