@@ -1,0 +1,2 @@
+pub mod ValuesCross
+pub mod CopiesCross
