@@ -24,7 +24,7 @@ use Rattle.world_rules.specs.Worlds.{Told, World, opening_world}
 use Rattle.world_enough.specs.Faultless.{IsFirst, LeadsFirst}
 use Rattle.world_facts.specs.Counted.{AllCounted, count_swaps, is_swap}
 use Rattle.world_facts.specs.Rows.{AllRead}
-use Rattle.world_parts.specs.Seen.{Seen, tasks_out}
+use Rattle.world_parts.specs.Seen.{Of, Seen, tasks_out}
 use Rattle.world_core.specs.Stepping.{HasComputed, IsRefused, Stepped, told_so}
 use Rattle.run_loop.specs.Asked.{AreBelow, AreInTime, HaveToldOn, NoneAskedBehind, WereUsedSo, WereUsedUpTo, asked_since}
 use Rattle.run_loop.specs.Driven.{ComesFirst, HasAnswered, HasStopped, IsDriven, IsDrivenTo, IsDue, IsGoing, MayGoOn, WentOn, told_more}
@@ -226,6 +226,7 @@ pub record Does {S : Type 0} (f : Frame) (s after : Seen S) (in_use : ℕ) (new 
   pub wires : Each (λ (one : Told). one.wire ≡ in_use) more
   pub tells : told ≡ told_more in_use (map told_so more) new
   pub idle : tasks_out after ≡ 0
+  pub leads : Of f s (λ u. (v : World) × Next f u step v)
 
 module _ {S : Type 0} (f : Frame) (s after : Seen S) (in_use next_use : ℕ) (old new told : List (List Asked)) (step : Step) (count : AllCounted)
     (w : World) (replays : Replays f s.steps w) (swaps : in_use ≡ w.swaps) (within : in_use < length new) (wires : length new ≡ f.settings.wires) (tells : HaveToldOn old new)
@@ -283,6 +284,9 @@ module _ {S : Type 0} (f : Frame) (s after : Seen S) (in_use next_use : ℕ) (ol
       settings = settings;
     };
     one = ap length does_it.steps ∙ one_longer s.steps step;
+    step = step;
+    steps = does_it.steps;
+    next = does_it.leads;
   }
 
 -- ---- which wire was told
@@ -366,6 +370,7 @@ stepped_is f s after in_use new told what prior now w count replays use_is first
       wires = own_wire f s.steps w led.world st.step led.more in_use count replays led.next led.told led.wire use_is (subst (λ (e : Event). (swaps_by e ≡ 0) ⊎ (e ≡ event.Swap)) (sym st.event_is) kind);
       tells = told_so_more in_use new told prior now (map told_so led.more) same led.asked put;
       idle = idle;
+      leads = λ u replayed. let on = st.leads u replayed in (on.world, on.next);
     }
 
 -- what was due was done
@@ -441,6 +446,7 @@ burst_done f s after in_use old new process count on in_it tasks =
       wires = tt;
       tells = no_more_told in_use new;
       idle = tasks ∙ d.idle;
+      leads = λ u replayed. let on = in_it.leads u replayed in (on.0, on.1);
     })
     d.first
     (λ plain. (on.answer, on.asked))
@@ -470,6 +476,17 @@ ended_so NoGroup f steps w asked over used = used
 ended_so Faulted f steps w asked over used = used
 ended_so Blocked f steps w asked over used = used
 ended_so Finished f steps w asked over used = used
+
+-- between two events, however it stands
+pub used_between : (stands : Standing) (f : Frame) (steps : List Step) (w : World) (asked : ℕ → List Asked) → WereUsed f steps w asked → WereUsedSo stands f steps w asked
+used_between Going f steps w asked used = all_used f steps w asked used
+used_between (Limit what number) f steps w asked used = used
+used_between OutOfTurns f steps w asked used = used
+used_between OutOfEvents f steps w asked used = used
+used_between NoGroup f steps w asked used = used
+used_between Faulted f steps w asked used = used
+used_between Blocked f steps w asked used = used
+used_between Finished f steps w asked used = used
 
 pub used_up_to : (stands : Standing) (f : Frame) (steps : List Step) (w : World) (asked : ℕ → List Asked) → WereUsedSo stands f steps w asked → WereUsedUpTo f steps w asked
 used_up_to Going f steps w asked used = used

@@ -1,5 +1,5 @@
 -- A run from its opening to what is kept of it.
-use Rattle.std.proofs.Common.{◌≡◌, ◌∙◌, ◌≢◌, ℕ, List, [], length, IfSome, Result, Ok, Err, IfOk, OnErr, OnOk, ap, sym, subst, refl}
+use Rattle.std.proofs.Common.{◌≡◌, ◌∙◌, ◌≢◌, inl, inr, ℕ, List, [], length, IfSome, Result, Ok, Err, IfOk, OnErr, OnOk, ap, sym, subst, refl}
 use Rattle.std.specs.Result.{result_ok}
 use Rattle.net_rules.specs.declared.asked.Asked.{Asked}
 use Rattle.orca_base.specs.declared.refusal.NoMemory.{NoMemory}
@@ -19,9 +19,9 @@ use Rattle.world_places.specs.Explained.{AreItsPlaces}
 use Rattle.run_ends.specs.Telling.{AreNodeEnds, AreProcessEnds, EndsMean}
 use Rattle.run_ends.specs.declared.ends.RunEnd.{RunEnd}
 use Rattle.run_loop.specs.Asked.{AreInTime, HaveToldOn, NoneAskedBehind, WereAskedIn, WereUsedSo, asked_since}
-use Rattle.run_loop.specs.Driven.{HasStopped, IsDriven}
+use Rattle.run_loop.specs.Driven.{HasCome, HasStopped, IsDriven, Stepping}
 use Rattle.run_loop.specs.Left.{HasRun}
-use Rattle.run_loop.proofs.Driving.{all_used, opens, opens_used, used_over, used_stopped, used_up_to}
+use Rattle.run_loop.proofs.Driving.{all_used, opens, opens_used, used_between, used_over, used_stopped, used_up_to}
 use Rattle.run_loop.proofs.Telling.{none_since}
 use Rattle.run_loop.proofs.Using.{in_time_none}
 
@@ -62,6 +62,27 @@ gone f s in_use st old new (Err e) driven over h stands = record {
   replays = h.replays;
   first = h.first;
   used = used_stopped f s old new st h (stands h.world h.replays);
+  unused = h.unused;
+  in_time = h.in_time;
+  told = h.told;
+}
+
+-- stepped through so far
+pub gone_by : {S : Type 0} (f : Frame) (s : Stepping S) (st : Standing) (old new : List (List Asked)) → HasCome f s old new → Of f s.world (λ w. st ≡ rules.standing f w) → HasGone f s.world st old new
+gone_by f s st old new (inl d) stands = record {
+  world = d.world;
+  replays = d.replays;
+  first = d.first;
+  used = used_between st f s.world.steps d.world (asked_since old new) d.used;
+  unused = subst (λ (k : ℕ). NoneAskedBehind k (asked_since old new)) d.swaps d.unused;
+  in_time = d.in_time;
+  told = d.told;
+}
+gone_by f s st old new (inr h) stands = record {
+  world = h.world;
+  replays = h.replays;
+  first = h.first;
+  used = used_stopped f s.world old new st h (stands h.world h.replays);
   unused = h.unused;
   in_time = h.in_time;
   told = h.told;
@@ -112,3 +133,7 @@ ran f s st old new (Ok end) h stands stuck steps book notes its longest nodes pr
   unused = h.unused;
   in_time = subst (λ (l : List Step). AreInTime f l (asked_since old new)) (sym steps) h.in_time;
 }
+
+pub kept_steps : (r : Result RunEnd NoMemory) (steps : List Step) → IfOk r (λ end. end.steps.items ≡ steps) → IfSome (result_ok r) (λ end. end.steps.items ≡ steps)
+kept_steps (Err e) steps so = tt
+kept_steps (Ok end) steps so = so

@@ -1,16 +1,18 @@
--- How a run stands while it is driven: what the functions of drive.rt say to each other.
-use Rattle.std.specs.Prelude.{◌≡◌, ◌<◌, ◌++◌, ℕ, suc, List, [], ◌∷◌, length, Option, slice_index_or, slice_set}
+-- How a run stands while it is driven: what the functions of drive.rt say to each other, and those of stepper.rt to whoever steps
+-- through a run.
+use Rattle.std.specs.Prelude.{◌≡◌, ◌⊎◌, ◌<◌, ◌++◌, ℕ, suc, List, [], ◌∷◌, length, Option, slice_index_or, slice_set}
 use Rattle.group_rules.specs.Sets.{In}
 use Rattle.net_rules.specs.declared.asked.Asked.{Asked}
 use Rattle.net_rules.specs.declared.asked.Asked.TheVariants.{Act}
 use Rattle.net_rules.specs.declared.fate.WireAct.{WireAct}
 use Rattle.world_rules.specs.declared.event.Event.{Event}
 use Rattle.world_rules.specs.declared.event.Event.TheVariants as event
+use Rattle.world_rules.specs.declared.event.Step.{Step}
 use Rattle.world_rules.specs.declared.standing.Standing.TheVariants.{Going}
 use Rattle.world_rules.specs.Acts.{WereUsed, acts_in}
 use Rattle.world_rules.specs.Frame.{AreSettings, Frame}
 use Rattle.world_rules.specs.Standings.{standing}
-use Rattle.world_rules.specs.Steps.{Replays}
+use Rattle.world_rules.specs.Steps.{Next, Replays}
 use Rattle.world_rules.specs.Worlds.{World, opening_world}
 use Rattle.world_enough.specs.Faultless.{IsFirst, LeadsFirst}
 use Rattle.world_facts.specs.Possible.{MayStep}
@@ -85,10 +87,13 @@ pub record MayGoOn {S : Type 0} (f : Frame) (s : Seen S) (in_use : ℕ) (old new
 
 -- ---- after an event
 
--- the run went on by one step
+-- the run went on by one step, which leads on from where it was; the steps before stay
 pub record WentOn {S : Type 0} (f : Frame) (before after : Seen S) (in_use : ℕ) (old new : List (List Asked)) : Type 0 where
   pub driven : IsDriven f after in_use old new
   pub one : length after.steps ≡ suc (length before.steps)
+  pub step : Step
+  pub steps : after.steps ≡ before.steps ++ step ∷ []
+  pub next : Of f before (λ w. (v : World) × Next f w step v)
 
 -- memory lacked: the steps lead to a world that is going, each packet that came was the first of those that were ready, and the wires were
 -- used but for a last question; those behind the one in use were asked nothing; each question about an act was in time
@@ -101,3 +106,14 @@ pub record HasStopped {S : Type 0} (f : Frame) (s : Seen S) (old new : List (Lis
   pub used : WereUsedUpTo f s.steps world (asked_since old new)
   pub unused : NoneAskedBehind world.swaps (asked_since old new)
   pub in_time : AreInTime f s.steps (asked_since old new)
+
+-- ---- step by step
+
+-- what contracts see of a run that is stepped through: its world, and the number of the wire in use
+pub record Stepping (S : Type 0) : Type 0 where
+  pub world : Seen S
+  pub in_use : ℕ
+
+-- it stands between two events, or memory lacked for the next one
+abbrev pub HasCome : {S : Type 0} → Frame → Stepping S → List (List Asked) → List (List Asked) → Type 0
+HasCome f s old new = IsDriven f s.world s.in_use old new ⊎ HasStopped f s.world old new

@@ -21,7 +21,7 @@ use world_facts::{standings_mean, worlds_count};
 #[derive(Drop)]
 pub(crate) struct Driver<P: OneRun> {
     pub(crate) world: World<P>,
-    in_use: usize,
+    pub(crate) in_use: usize,
     bursts: Bursts,
 }
 
@@ -62,12 +62,19 @@ impl<P: OneRun> Driver<P> {
         Ok(())
     }
 
-    // Does the next event: what the wire in use gives, or what is due, where that gives nothing or what it gives is passed over.
-    fn next<W: Wire>(&mut self, alloc: Global, machine: &P, wires: &mut [W]) -> Result<(), NoMemory>
+    /// Does the next event: what the wire in use gives, or what is due, where that gives nothing or what it gives is passed over. Where
+    /// there is no memory, the world is as it was.
+    pub(crate) fn next<W: Wire>(
+        &mut self,
+        alloc: Global,
+        machine: &P,
+        wires: &mut [W],
+    ) -> Result<(), NoMemory>
         requires driven { IsDriven P.run.frame self.old.world self.old.in_use P.run.told (map W.told wires.old) }
         requires going { IsGoing P.run.frame self.old.world }
         ensures went { OnOk result (WentOn P.run.frame self.old.world self.new.world self.new.in_use P.run.told (map W.told wires.new)) }
         ensures stopped { OnErr result (HasStopped P.run.frame self.new.world P.run.told (map W.told wires.new)) }
+        ensures err { OnErr result (self.new.world ≡ self.old.world) }
         ensures scripts { map W.rule wires.new ≡ map W.rule wires.old }
         ensures loaded { map W.loaded wires.new ≡ map W.loaded wires.old }
     {
@@ -94,6 +101,7 @@ impl<P: OneRun> Driver<P> {
         ensures passed { result ≡ Ok false → MayGoOn P.run.frame self.new.world self.new.in_use P.run.told (map W.told wires.new) }
         ensures same { result ≡ Ok false → self.new.world ≡ self.old.world }
         ensures stopped { OnErr result (HasStopped P.run.frame self.new.world P.run.told (map W.told wires.new)) }
+        ensures err { OnErr result (self.new.world ≡ self.old.world) }
         ensures scripts { map W.rule wires.new ≡ map W.rule wires.old }
         ensures loaded { map W.loaded wires.new ≡ map W.loaded wires.old }
     {
@@ -121,6 +129,7 @@ impl<P: OneRun> Driver<P> {
         requires going { IsGoing P.run.frame self.old.world }
         ensures went { OnOk result (WentOn P.run.frame self.old.world self.new.world self.new.in_use P.run.told (map W.told wires.new)) }
         ensures stopped { OnErr result (HasStopped P.run.frame self.new.world P.run.told (map W.told wires.new)) }
+        ensures err { OnErr result (self.new.world ≡ self.old.world) }
         ensures scripts { map W.rule wires.new ≡ map W.rule wires.old }
         ensures loaded { map W.loaded wires.new ≡ map W.loaded wires.old }
     {
@@ -154,6 +163,7 @@ impl<P: OneRun> Driver<P> {
         requires plain { IsDue event }
         ensures went { OnOk result (WentOn P.run.frame self.old.world self.new.world self.new.in_use P.run.told (map W.told wires.new)) }
         ensures stopped { OnErr result (HasStopped P.run.frame self.new.world P.run.told (map W.told wires.new)) }
+        ensures err { OnErr result (self.new.world ≡ self.old.world) }
         ensures scripts { map W.rule wires.new ≡ map W.rule wires.old }
         ensures loaded { map W.loaded wires.new ≡ map W.loaded wires.old }
     {

@@ -1,0 +1,99 @@
+//! A run that stops behind each event.
+
+ghost use Rattle.std.specs.Prelude.{◌≡◌, [], IfOk, IfSome, List, OnErr, OnOk, length, map};
+ghost use Rattle.net_rules.specs.declared.asked.Asked.{Asked};
+ghost use Rattle.world_rules.specs.Frame.{AreSettings};
+ghost use Rattle.world_rules.specs.Standings as rules;
+ghost use Rattle.world_parts.specs.Seen.{Of};
+ghost use Rattle.run_loop.specs.Asked.{HaveToldOn, WereAskedIn};
+ghost use Rattle.run_loop.specs.Driven.{HasCome, HasStopped, IsDriven, IsGoing, WentOn};
+ghost use Rattle.run_loop.specs.Left.{HasRun};
+
+use crate::drive::Driver;
+use crate::ran::Ran;
+use node_parts::OneRun;
+use orca_base::NoMemory;
+use std::alloc::Global;
+use std::marker::Model;
+use wires::Wire;
+use world_core::{Settings, World};
+
+/// A run that stops behind each event, for what is done with its world between events, and when it is over: it begins, does the next
+/// event as long as it is going, and ends. It does the same events as `run`.
+#[derive(Drop)]
+pub struct Stepper<P: OneRun> {
+    driver: Driver<P>,
+}
+
+impl<P: OneRun> Model for Stepper<P> {
+    ghost use Rattle.std.specs.Coded.{codes};
+    ghost use Rattle.value_core.specs.Code.{data_code};
+    ghost use Rattle.run_loop.specs.Driven.{Stepping};
+
+    ghost Value = { Stepping P.State };
+
+    ghost coded = { Prim.hlevel (codes, data_code, P.State.code) };
+
+    ghost view = { λ s. record { world = s.driver.world; in_use = s.driver.in_use } };
+}
+
+impl<P: OneRun> Stepper<P> {
+    /// Before the first event, by the run's settings, over as many wires as these say; the first is in use. No wire was asked, also where
+    /// there is no memory to begin.
+    pub fn begin(alloc: Global, machine: &P, settings: Settings) -> Result<Stepper<P>, NoMemory>
+        requires settings { settings ≡ P.run.frame.settings }
+        requires ranges { AreSettings settings }
+        requires wires { settings.wires ≡ length P.run.told }
+        ensures driven { IfOk result (λ s. IsDriven P.run.frame s.world s.in_use P.run.told P.run.told) }
+        ensures none { IfOk result (λ s. s.world.steps ≡ []) }
+        ensures asked { WereAskedIn P.run.frame P.run.told P.run.told }
+        ensures told { HaveToldOn P.run.told P.run.told }
+    {
+        Ok(Stepper {
+            driver: Driver::new(alloc, machine, settings)?,
+        })
+    }
+
+    /// The world to which its steps lead.
+    pub fn world(&self) -> &World<P>
+        ensures { result.now ≡ self.now.world }
+    {
+        &self.driver.world
+    }
+
+    /// Does the next event of a run that is going: one step more, and the steps before stay. The wire in use is asked about an act first,
+    /// as in `run`. Where there is no memory, the world is as it was.
+    pub fn next_event<W: Wire>(
+        &mut self,
+        alloc: Global,
+        machine: &P,
+        wires: &mut [W],
+    ) -> Result<(), NoMemory>
+        requires driven { IsDriven P.run.frame self.old.world self.old.in_use P.run.told (map W.told wires.old) }
+        requires going { IsGoing P.run.frame self.old.world }
+        ensures went { OnOk result (WentOn P.run.frame self.old.world self.new.world self.new.in_use P.run.told (map W.told wires.new)) }
+        ensures stopped { OnErr result (HasStopped P.run.frame self.new.world P.run.told (map W.told wires.new)) }
+        ensures err { OnErr result (self.new.world ≡ self.old.world) }
+        ensures scripts { map W.rule wires.new ≡ map W.rule wires.old }
+        ensures loaded { map W.loaded wires.new ≡ map W.loaded wires.old }
+    {
+        self.driver.next(alloc, machine, wires)
+    }
+
+    /// What it leaves, as `run` tells it, whether it is over or is given up: whatever its wires told, where it stands between two events,
+    /// or memory lacked for the next one.
+    pub fn into_ran(self, alloc: Global) -> Ran
+        ensures stands { Of P.run.frame self.world (λ w. result.standing ≡ rules.standing P.run.frame w) }
+        ensures steps { IfSome result.end (λ end. end.steps.items ≡ self.world.steps) }
+        ensures run { (told : List (List Asked)) → HasCome P.run.frame self P.run.told told →
+            IfSome result.end (HasRun P.run.frame result.standing P.run.told told) }
+        ensures asked { (told : List (List Asked)) → HasCome P.run.frame self P.run.told told → WereAskedIn P.run.frame P.run.told told }
+        ensures told { (told : List (List Asked)) → HasCome P.run.frame self P.run.told told → HaveToldOn P.run.told told }
+    {
+        let Stepper { driver } = self;
+        Ran {
+            standing: driver.world.standing(),
+            end: driver.world.into_end(alloc).ok(),
+        }
+    }
+}
