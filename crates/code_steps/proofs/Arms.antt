@@ -1,19 +1,16 @@
 -- What each instruction does that stays in its body.
-use Rattle.std.proofs.Common.{◌≡◌, ◌+◌, ℕ, List, [], ◌∷◌, Bool, true, false, Some, sym, ap, ◌∙◌}
+use Rattle.std.proofs.Common.{◌≡◌, ◌+◌, ℕ, List, [], ◌∷◌, true, false, Some, sym, ap, ◌∙◌}
 use Rattle.std.specs.Prelude.{slice_set, int_le, int_lt, ◌+ℤ◌, pos}
 use Rattle.value_core.specs.Datum.{Datum, Data, data_of, list_of, data_of-list_of}
 use Rattle.value_core.specs.Datum as datum
 use Rattle.value_core.specs.declared.action.Action.{Action}
-use Rattle.value_paths.specs.declared.step.Step.{Step as ValueStep}
 use Rattle.meaning_rules.specs.Operators.{fitting_all, integer_in}
-use Rattle.meaning_rules.specs.States.{State, Out, Goes, gives}
-use Rattle.meaning_rules.specs.Variables.{Target, take}
+use Rattle.meaning_rules.specs.States.{State, Goes, gives}
 use Rattle.code_rules.specs.Instructions.{Mark}
 use Rattle.code_rules.specs.Instructions as rules
-use Rattle.code_rules.specs.Machine.{Code, Config, Effect, Asks, Steps, Stuck, act, at_state, goes_if, indices, next, on_out, on_result, on_top, on_two, pops, pushes, steps_by}
+use Rattle.code_rules.specs.Machine.{Code, Config, Effect, Asks, Steps, Stuck, act, at_state, goes_if, next, on_result, on_top, on_two}
 use Rattle.code_steps.specs.declared.advance.Advance.TheVariants as advance
 use Rattle.code_steps.specs.Moves.{effect_of, holding}
-use Rattle.code_steps.specs.Pops.{PopsPath}
 use Rattle.code_steps.proofs.Stopping.{goes_result}
 
 -- an operand on top, and two

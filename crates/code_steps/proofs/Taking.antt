@@ -1,19 +1,18 @@
 -- Arguments, taken one after the other.
-use Rattle.std.proofs.Common.{◌≡◌, ◌≤◌, ℕ, List, [], ◌∷◌, true, false, Some, None, drop, get_or, length, refl, ap, sym, ◌∙◌, arith}
+use Rattle.std.proofs.Common.{◌≡◌, ℕ, List, [], ◌∷◌, true, false, Some, None, ap, sym, ◌∙◌}
 use Rattle.value_core.specs.Datum.{Datum}
 use Rattle.value_core.specs.View.{datum_of}
 use Rattle.value_core.specs.declared.value.Value.{Value}
 use Rattle.value_paths.specs.declared.step.Step.{Step as ValueStep}
-use Rattle.eval_variables.specs.declared.steps.Passed.{Passed}
 use Rattle.eval_variables.specs.declared.steps.Passed.TheVariants as passed
 use Rattle.eval_variables.specs.declared.steps.Target.{Target}
-use Rattle.eval_variables.specs.Gives.{passed_of, target_of}
+use Rattle.eval_variables.specs.Gives.{target_of}
 use Rattle.meaning_rules.specs.Calls.{Passed as RulePassed}
 use Rattle.meaning_rules.specs.Calls as calls
 use Rattle.code_rules.specs.Instructions as rules
 use Rattle.code_rules.specs.Instructions.{Mark, Shape}
-use Rattle.code_rules.specs.Machine.{on_top, take_args, take_one}
-use Rattle.code_steps.specs.Passing.{Takes, TakesOne}
+use Rattle.code_rules.specs.Machine.{on_top}
+use Rattle.code_steps.specs.Passing.{TakesOne}
 use Rattle.code_steps.specs.Pops.{PopsPath}
 
 -- ---- one argument
