@@ -1,5 +1,5 @@
 -- What stands behind lines of a text.
-use Rattle.std.proofs.Common.{◌≡◌, ℕ, suc, ◌+◌, List, arith, refl, ap, ◌∙◌}
+use Rattle.std.proofs.Common.{◌≡◌, ℕ, suc, ◌+◌, List, arith, ap}
 use Rattle.refusal_notes.specs.Excerpts.{behind_line, behind_lines}
 
 -- behind one line more

@@ -1,5 +1,5 @@
 -- Which text of the table (src/texts.rt) a cause has.
-use Rattle.std.specs.Prelude.{ℕ, ◌-◌, List, [], ◌∷◌, map, slice_index_or}
+use Rattle.std.specs.Prelude.{ℕ, ◌-◌, List, [], map, slice_index_or}
 use Rattle.orca_base.specs.declared.fault.FaultKind.{FaultKind}
 use Rattle.orca_base.specs.declared.fault.FaultKind.TheVariants as fault
 use Rattle.orca_base.specs.declared.what.What.{What}
