@@ -1,0 +1,3 @@
+pub mod Excerpts
+pub mod Texts
+pub mod Notes
