@@ -132,9 +132,9 @@ pub const TWO_MAINS: &str =
 
 /// The lines of scripts, in the order of `ScriptRule`.
 pub const SCRIPTS: [&str; 2] = [
-    "A word of this line is unknown, is missing or is one too many, or the line is a second one of `seed`. A line is `drop KIND \
-     N`, `twice KIND N`, `hold KIND N TICKS`, `cut KIND N BYTES`, `crash MEMBER KIND N`, `suspect MEMBER KIND N`, `swap KIND N` \
-     or `seed NUMBER PERCENT`.",
+    "A word of this line is unknown, is missing or is one too many, the line isn't UTF-8, or it is a second one of `seed`. A line \
+     is `drop KIND N`, `twice KIND N`, `hold KIND N TICKS`, `cut KIND N BYTES`, where N may be `all`, `crash MEMBER KIND N`, \
+     `suspect MEMBER KIND N`, `swap KIND N` or `seed NUMBER PERCENT`.",
     "A number is missing in this line, isn't written in 1 to 19 digits, or is out of its range: packets count from 1, members go \
      from 0 to 15, and PERCENT from 0 to 100.",
 ];
@@ -163,12 +163,13 @@ pub const UNREADABLE: &str =
 
 /// The faults, in the order of their numbers.
 pub const FAULTS: [&str; 8] = [
-    "Overflow: the result of `+`, `-`, `*`, `/` or `%` doesn't fit 64 bits, or a graph has no name left for a node. The process \
-     ended there.",
+    "Overflow: the result of `+`, `-`, `*` or `/`, or the quotient of `%`, doesn't fit 64 bits, or a graph has no name left for a \
+     node. The process ended there.",
     "DivideByZero: the right side of `/` or `%` was 0. The process ended there.",
     "IndexOutside: the index of an array was outside of its bounds, or a graph has no node of the name. The process ended there.",
     "FromEmpty: `from` was asked for an element of an empty set or bag. The process ended there. `size` tells whether one is empty.",
-    "TooLarge: a value would have been larger than 10,000, or a string longer than 9,999 characters. The process ended there.",
+    "TooLarge: a value, or the arguments of one call or fork together, would have been larger than 10,000, or a string longer than \
+     9,999 characters. The process ended there.",
     "TooLong: a guard, an operation or the `begin` part of an object took more than 10,000 turns. The process that called it ended there.",
     "TooDeep: 65 calls of functions would have been open within one another. The process ended there.",
     "NoReturn: a body with a result came to its end without `return`. The process ended there.",
