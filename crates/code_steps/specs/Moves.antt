@@ -50,6 +50,6 @@ abbrev pub HasRoom : Instr → Type 0
 HasRoom (Make kind count slot) = count < 2 ^ 32
 HasRoom _ = Unit {0}
 
--- and in all code the numbers of objects have
-abbrev pub HasSmallNumbers : Code → Type 0
-HasSmallNumbers code = (body : machine.BodyNo) (pc : ℕ) (i : Instr) → slice_get (machine.body_at code body) pc ≡ Some i → HasRoom i
+-- so it has in the instruction at which a run stands, where there is one
+abbrev pub HasRoomAt : Code → Config → Type 0
+HasRoomAt code c = (i : Instr) → slice_get (machine.body_at code c.body) c.pc ≡ Some i → HasRoom i

@@ -36,7 +36,8 @@ pub fn make(
     slot: usize,
     run: &mut Run<'_>,
 ) -> Result<Advance, NoMemory>
-    ensures { count < 2 ^ 32 → IfOk result (λ a. (stack : List Datum) → Makes process kind count slot stack run.old.frame a run.new.frame) }
+    ensures { count < 2 ^ 32 → IfOk result (λ a. (stack : List Datum) →
+        Makes process kind count slot stack run.old.frame a run.new.frame) }
 {
     let object = ObjectId::of(process, object_number(count));
     set_slot(alloc, slot, Value::Object(object), run)?;

@@ -125,7 +125,8 @@ pub fn call(
     config: &mut Config<'_>,
 ) -> Result<Effect, NoMemory>
     requires { config.old.pc + 1 < 2 ^ 64 }
-    ensures { IfOk result (λ e. machine.act (program_seen code.now) (Some (rules.Call function (map shape_of shapes.now))) (config_of config.old) ≡
+    ensures { IfOk result (λ e.
+        machine.act (program_seen code.now) (Some (rules.Call function (map shape_of shapes.now))) (config_of config.old) ≡
         effect_in e (config_of config.new)) }
 {
     let Some(args) = take_args(alloc, shapes, &mut config.stack)? else {

@@ -32,7 +32,8 @@ pub struct Caller<'a> {
 }
 
 /// Where a run stands: the process whose number its objects get; the body that runs, the address of its next instruction, its operands, and
-/// its slots; and who waits for it, the last one at the end. Of `run` the variables alone are used.
+/// its slots; and who waits for it, the last one at the end. Of `run` the variables alone are used: its replies
+/// and the turns that are left are lost where a body is called or left.
 #[derive(Drop)]
 pub struct Config<'a> {
     pub process: ProcessNo,

@@ -1,12 +1,12 @@
 //! One instruction of compiled code, done on values: every instruction that there is.
 //!
 //! `step` does the instruction at which a configuration stands, as `step` of `code_rules` says, for every code and configuration: it goes
-//! on, begins a turn, asks for an action, faults, ends, tests a guard, or is stuck (`step`, its main clause; `Effect`). It asks for nothing
-//! but numbers of objects that fit their 32 bits, and leaves open want of memory alone.
+//! on, begins a turn, asks for an action, faults, ends, tests a guard, finds all of them false, or is stuck (`step`, its main clause;
+//! `Effect`). It asks for nothing but that an object which this instruction makes has a number of 32 bits, and leaves open want of memory.
 //!
 //! It is the slow, whole machine's inside: values stand where they are read and written, and nothing is compiled further. What variables
-//! hold is done by `eval_variables`, of any values. Not in it: loops over instructions, and whose meaning the code has (`code_machine`); the
-//! fast path (`stack_machine`).
+//! hold is done by `eval_variables`, of any values. Not in it: loops over instructions, and whose meaning the code has
+//! (`code_machine`); the fast path (`stack_machine`).
 #![tactic(auto)]
 
 mod actions;

@@ -1,6 +1,7 @@
 //! Counted loops, and slots that get a small value.
 
-ghost use Rattle.std.specs.Prelude.{◌≡◌, ◌+ℤ◌, IfOk, MatchBool, MatchOption, None, OnOk, Some, false, int_le, int_lt, pos, slice_get, slice_set, true};
+ghost use Rattle.std.specs.Prelude.{◌≡◌, ◌+ℤ◌, IfOk, MatchBool, MatchOption, None, OnOk, Some, false, true};
+ghost use Rattle.std.specs.Prelude.{int_le, int_lt, pos, slice_get, slice_set};
 ghost use Rattle.value_core.specs.Datum as datum;
 ghost use Rattle.value_core.specs.Datum.{Datum};
 ghost use Rattle.value_core.specs.Size.{size_of};

@@ -5,7 +5,7 @@ ghost use Rattle.code_rules.specs.Instructions as rules;
 ghost use Rattle.code_rules.specs.Machine as machine;
 ghost use Rattle.emitted_code.specs.Views.{instr_of, program_seen};
 ghost use Rattle.code_steps.specs.Bodies.{config_of, effect_in};
-ghost use Rattle.code_steps.specs.Moves.{HasRoom, HasSmallNumbers, leaves_body};
+ghost use Rattle.code_steps.specs.Moves.{HasRoom, HasRoomAt, leaves_body};
 
 use crate::bodies::instr_at;
 use crate::calls::{call, give, leave};
@@ -71,12 +71,13 @@ fn act(
 }
 
 /// Does the instruction at which a run stands. What it does, and where the run then stands, is what `step` of code_rules says
-/// (docs/LANGUAGE.md, Code); after a fault or where it is stuck nothing is said of where it stands.
+/// (docs/LANGUAGE.md, Code). After a fault, after the test of a guard, where no guard is left and where it is stuck nothing is said of
+/// where it stands, and after the end of its variables alone.
 ///
 /// # Errors
 /// Want of memory.
 pub fn step(alloc: Global, code: &Emitted<'_>, config: &mut Config<'_>) -> Result<Effect, NoMemory>
-    ensures { HasSmallNumbers (program_seen code.now) → IfOk result (λ e.
+    ensures { HasRoomAt (program_seen code.now) (config_of config.old) → IfOk result (λ e.
         machine.step (program_seen code.now) (config_of config.old) ≡ effect_in e (config_of config.new)) }
 {
     match instr_at(code, config.body, config.pc) {

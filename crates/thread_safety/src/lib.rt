@@ -29,6 +29,8 @@ pub fn values() {
     may_be_sent::<Instance>();
     may_be_shared::<Value>();
     may_be_shared::<Parts>();
+    may_be_shared::<Action>();
+    may_be_shared::<Reply>();
     may_be_shared::<Line>();
     may_be_shared::<Message>();
     may_be_shared::<Instance>();

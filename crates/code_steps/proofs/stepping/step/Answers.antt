@@ -12,7 +12,7 @@ returns-in-Some c = λ small.
     let there = c.in-Some.ensures.there in
     IfOk-weaker c.act.result _ _
     (λ e h. ap (λ o. machine.act code o (config_of old)) there ∙ h)
-    (c.act.ensures (small (number_of old.body) old.pc (instr_of c.in-Some.instr.now) there))
+    (c.act.ensures (small (instr_of c.in-Some.instr.now) there))
 
 pub returns-in-None : goal.returns-in-None
 returns-in-None c = λ small. ap (λ o. machine.act (program_seen c.args.code.now) o (config_of c.args.config.now)) c.in-None.ensures.there
