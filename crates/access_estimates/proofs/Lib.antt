@@ -9,3 +9,4 @@ pub mod Listing
 pub mod Listed
 pub mod Once
 pub mod Coded
+pub mod Settled

@@ -1,6 +1,6 @@
 //! Rounds: what each function and process does with each of its locals, by what those do that it calls and forks.
 
-ghost use Rattle.std.specs.Prelude.{◌≡◌, List, IfOk, map};
+ghost use Rattle.std.specs.Prelude.{◌≡◌, IsTrue, List, IfOk, map};
 ghost use Rattle.link_rules.specs.Units.{Source};
 ghost use Rattle.estimate_rules.specs.Estimates as estimates;
 ghost use Rattle.access_estimates.specs.Summaries.{AreRoutines, IsNext, by_table};
@@ -42,7 +42,15 @@ fn round(
     Ok(all)
 }
 
-/// The summaries after so many rounds, which start at zero.
+// Whether two tables have the same counts.
+fn same_tables(one: &[Vec<Counts>], other: &[Vec<Counts>]) -> bool
+    ensures { IsTrue result → map (λ l. l.items) one.now ≡ map (λ l. l.items) other.now }
+{
+    one == other
+}
+
+/// The summaries after so many rounds, which start at zero. The first round that changes nothing is the last, since all behind it would
+/// change nothing either; no clause says so.
 pub fn rounds(
     alloc: Global,
     routines: &[Option<Routine<'_>>],
@@ -53,7 +61,11 @@ pub fn rounds(
 {
     let mut table = Vec::new(alloc);
     'rounds: for done in 0..count {
-        table = round(alloc, routines, &table)?;
+        let next = round(alloc, routines, &table)?;
+        if same_tables(&next, &table) {
+            return Ok(next);
+        }
+        table = next;
     }
     Ok(table)
 }

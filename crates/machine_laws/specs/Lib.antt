@@ -1,0 +1,4 @@
+pub mod ValueLaws
+pub mod LawsOnce
+pub mod MachineLaws
+pub mod ReadsKept
