@@ -1,5 +1,5 @@
 -- A process makes an object for each of its variables of an object type, numbered from 1; other bodies make none.
-use Rattle.std.proofs.Common.{◌≡◌, ℕ, suc, ◌+◌, ◌<◌, ◌≤◌, Bool, true, false, List, [], ◌∷◌, length, drop, Option, Some, None, arith, length-drop}
+use Rattle.std.proofs.Common.{ℕ, ◌+◌, ◌<◌, ◌≤◌, Bool, true, false, List, [], ◌∷◌, length, drop, Option, Some, None, arith, length-drop}
 use Rattle.std.specs.Prelude.{is_some}
 use Rattle.orca_syntax.specs.Syntax as syn
 use Rattle.orca_syntax.specs.Syntax.{Stmts, Guard, Kind, Parameter, Operation, Block}
@@ -9,7 +9,6 @@ use Rattle.meaning_rules.specs.Processes.{object_type_of}
 use Rattle.meaning_rules.specs.Programs.{ObjectType, begin_scope, function_scope, operation_scope, process_scope}
 use Rattle.code_rules.specs.Instructions.{Instr, End}
 use Rattle.code_rules.specs.Layouts.{layout_of}
-use Rattle.code_rules.specs.Pieces.{Piece, one, seq}
 use Rattle.code_rules.specs.Phrases.{depth_all, expr_code, stmts_code}
 use Rattle.code_rules.specs.Bodies.{alternatives_piece, begin_stmts, body_depth, body_piece, function_code, guards_piece, last_instr, making_code, operation_code, process_code, variable_code, variables_code}
 use Rattle.code_numbers.proofs.Below.{IsBelow, AreBelow, PieceBelow, append_below, guard_below}
@@ -27,11 +26,13 @@ body_below n v spare ss last h pc =
 
 variables_below : (n : ℕ) (us : List Source) (ls : List Local) (slot count : ℕ) → count + length ls ≤ n → PieceBelow n (variables_code us ls slot count)
 variables_below n us [] slot count few pc = tt
-variables_below n us (l ∷ ls) slot count few pc = by_type (object_type_of l)
+variables_below n us (l ∷ ls) slot count few pc =
+    by_type (object_type_of l) (λ k le q. variables_below n us ls (slot + 1) k le q)
   where
-    by_type : (o : Option ℕ) → AreBelow n (variable_code us count slot o (variables_code us ls (slot + 1)) pc)
-    by_type None = variables_below n us ls (slot + 1) count (omega (arith, few)) pc
-    by_type (Some i) = (omega (arith, few), (tt, variables_below n us ls (slot + 1) (count + 1) (omega (arith, few)) _))
+    by_type : (o : Option ℕ) → ((k : ℕ) → k + length ls ≤ n → PieceBelow n (variables_code us ls (slot + 1) k)) →
+        AreBelow n (variable_code us count slot o (variables_code us ls (slot + 1)) pc)
+    by_type None h = h count (omega (arith, few)) pc
+    by_type (Some i) h = (omega (arith, few), (tt, h (count + 1) (omega (arith, few)) _))
 
 pub process_below : (n : ℕ) (us : List Source) (home : List ℕ) (ps : List Parameter) (b : Block) → length (process_scope us home ps b).locals < n →
     AreBelow n (process_code us home ps b).code

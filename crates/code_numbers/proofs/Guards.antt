@@ -1,25 +1,23 @@
 -- The guard that decides a try is one of the operation's, which are numbered from 1; a body without guards counts as guard 0.
-use Rattle.std.proofs.Common.{◌≡◌, ℕ, suc, ◌+◌, ◌<◌, ◌≤◌, ◌^◌, ◌==◌, Bool, true, false, List, [], ◌∷◌, length, Option, Some, None, refl, sym, ap, arith, subst}
+use Rattle.std.proofs.Common.{◌≡◌, ℕ, ◌+◌, ◌<◌, ◌≤◌, ◌^◌, ◌==◌, Bool, true, false, List, [], ◌∷◌, length, Option, Some, None, refl, arith}
 use Rattle.std.specs.Prelude.{is_some, slice_get, if◌then◌else◌}
-use Rattle.orca_base.specs.declared.fault.FaultKind.{FaultKind}
 use Rattle.orca_base.specs.declared.ids.KindNo.{KindNo}
 use Rattle.orca_base.specs.declared.ids.OpNo.{OpNo}
 use Rattle.orca_syntax.specs.Syntax as syn
 use Rattle.orca_syntax.specs.Syntax.{Body, Expr, Guard, Operation, Stmts}
 use Rattle.link_rules.specs.Units.{Source}
 use Rattle.value_core.specs.Datum.{Datum, Data}
-use Rattle.value_core.specs.declared.action.Reply.{Reply}
 use Rattle.value_core.specs.declared.action.Reply.TheVariants as reply
 use Rattle.value_core.specs.declared.meaning.Tried.{Tried}
 use Rattle.value_core.specs.declared.meaning.Tried.TheVariants as tried
 use Rattle.meaning_rules.specs.Operators.{truth_in}
 use Rattle.meaning_rules.specs.Programs.{ObjectType, object_type, operation_scope}
-use Rattle.meaning_rules.specs.States.{State, Out, Goes, Stops}
+use Rattle.meaning_rules.specs.States.{Out, Goes, Stops}
 use Rattle.meaning_rules.specs.Expressions.{eval}
 use Rattle.meaning_rules.specs.Loops.{Flow, On, Back}
 use Rattle.meaning_rules.specs.Statements.{run_all}
 use Rattle.meaning_rules.specs.Functions.{all_calls}
-use Rattle.meaning_rules.specs.Operations.{alternatives, alternatives_tried, body_tried, chosen, guard_tried, guards_tried, operation_start, operation_tried, own_count, tries_of, type_tried}
+use Rattle.meaning_rules.specs.Operations.{alternatives_tried, body_tried, chosen, guard_tried, guards_tried, operation_start, operation_tried, own_count, tries_of, type_tried}
 use Rattle.accepted_law.specs.Numbers.{AreNumbers, guards_in}
 
 -- a try whose guard has a number below this

@@ -12,9 +12,9 @@ use Rattle.meaning_rules.specs.Designators.{outer_value, root_type}
 use Rattle.type_rules.specs.TopLevel.{stands_for}
 use Rattle.code_rules.specs.Instructions.{Mark, Shape}
 use Rattle.code_rules.specs.Layouts.{Layout, free, inside}
-use Rattle.code_rules.specs.Pieces.{Piece, one, seq, is_short, loop_piece}
+use Rattle.code_rules.specs.Pieces.{is_short}
 use Rattle.code_rules.specs.Phrases.{all_code, arms_code, calling, call_of, constant, count_all, expr_code, fork_code, links_code, marks, passed_code, path_code, read_as, reading, return_code, shapes_of, step_code, stmt_code, stmts_code, target_code}
-use Rattle.code_numbers.proofs.Below.{IsBelow, AreBelow, PieceBelow, append_below, seq_below, link_below, mode_below, choice_below, while_below, repeat_below, loop_below}
+use Rattle.code_numbers.proofs.Below.{IsBelow, PieceBelow, append_below, link_below, mode_below, choice_below, while_below, repeat_below, loop_below}
 
 -- ---- one instruction
 

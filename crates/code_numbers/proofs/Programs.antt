@@ -1,5 +1,5 @@
 -- The objects of a program's code.
-use Rattle.std.proofs.Common.{◌≡◌, ℕ, zero, suc, ◌<◌, ◌^◌, List, [], map, length, Option, Some, None, refl, sym, ap, ◌∙◌, subst}
+use Rattle.std.proofs.Common.{◌≡◌, ℕ, zero, suc, ◌<◌, ◌^◌, List, length, Option, Some, None, refl, sym, subst}
 use Rattle.std.specs.Prelude.{option_and_then, option_map, slice_get}
 use Rattle.std.proofs.lemmas.Option.{slice_get-map}
 use Rattle.orca_base.specs.declared.ids.KindNo.{KindNo}
@@ -10,7 +10,7 @@ use Rattle.type_rules.specs.TopLevel.{What, TopName, top_names}
 use Rattle.meaning_rules.specs.Programs.{ObjectType, process_scope, process_texts, specifications, specified}
 use Rattle.accepted_law.specs.Numbers.{AreNumbers}
 use Rattle.code_rules.specs.Instructions.{Make}
-use Rattle.code_rules.specs.Machine.{Body, BodyNo, OfFunction, OfProcess, OfMaking, OfOperation, OperationCode, TypeCode, body_at, body_of, flat, instrs_in, operation_in, type_of}
+use Rattle.code_rules.specs.Machine.{Body, BodyNo, OfFunction, OfProcess, OfMaking, OfOperation, OperationCode, TypeCode, body_at, flat, instrs_in, operation_in, type_of}
 use Rattle.code_rules.specs.Program.{function_at, function_in, process_at, process_in, program_code, type_at, type_code}
 use Rattle.code_rules.specs.Bodies.{operation_code}
 use Rattle.code_numbers.proofs.Below.{AreBelow, made_below}
