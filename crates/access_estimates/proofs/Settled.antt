@@ -9,7 +9,7 @@ use Rattle.estimate_rules.specs.Estimates as estimates
 
 -- ---- tables that compare alike are the same
 
-same_counts : Counts → Counts → Bool
+abbrev pub same_counts : Counts → Counts → Bool
 same_counts a b = (a.reads == b.reads) && (a.writes == b.writes)
 
 first : (s t : Bool) → (s && t) ≡ true → s ≡ true
@@ -46,8 +46,10 @@ alike_tables xs ys e =
 -- ---- rounds behind one that changes nothing
 
 so_on : (us : List Source) (n k : ℕ) → estimates.rounds us (suc n) ≡ estimates.rounds us n → estimates.rounds us (k + n) ≡ estimates.rounds us n
-so_on us n zero e = refl
-so_on us n (suc k) e = ap (estimates.round us) (so_on us n k e) ∙ e
+so_on us n zero e = ap (estimates.rounds us) (omega arith)
+so_on us n (suc k) e =
+    let next : suc k + n ≡ suc (k + n) = omega arith in
+    ap (estimates.rounds us) next ∙ ap (estimates.round us) (so_on us n k e) ∙ e
 
 pub settled : (us : List Source) (n m : ℕ) → n ≤ m → estimates.rounds us (suc n) ≡ estimates.rounds us n → estimates.rounds us m ≡ estimates.rounds us n
 settled us n m le e = ap (estimates.rounds us) (omega (arith, le)) ∙ so_on us n (m - n) e
