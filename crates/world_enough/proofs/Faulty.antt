@@ -1,5 +1,5 @@
 -- Steps are faultless, or some are faulty; so what is so of every run in which of the packets that are ready the first comes.
-use Rattle.std.proofs.Common.{◌≡◌, ◌≤◌, ◌<◌, ◌⊎◌, ◌+◌, inl, inr, ⊎_elim, Bool, true, false, List, [], ◌∷◌, length, refl, ap, subst, arith}
+use Rattle.std.proofs.Common.{◌≡◌, ◌≤◌, ◌<◌, ◌⊎◌, ◌+◌, ℕ, inl, inr, ⊎_elim, Bool, true, false, List, [], ◌∷◌, length, refl, ap, subst, arith}
 use Rattle.std.proofs.lemmas.Bool.{cases_lt}
 use Rattle.net_rules.specs.declared.fate.Fate.{Fate}
 use Rattle.world_rules.specs.declared.event.Event as world
@@ -11,7 +11,7 @@ use Rattle.world_rules.specs.Frame.{Frame}
 use Rattle.world_rules.specs.Standings.{standing}
 use Rattle.world_rules.specs.Worlds.{World, opening_world}
 use Rattle.world_facts.specs.Rows.{ReadsStanding}
-use Rattle.world_enough.specs.Bound.{Ends, GoesWell, IsEnough, OutOfEventsRow, bound}
+use Rattle.world_enough.specs.Bound.{Ends, GoesWellWithin, IsEnoughWithin, OutOfEventsWithin}
 use Rattle.world_facts.specs.Passing.{AllPass, always_passes}
 use Rattle.world_enough.specs.Faultless.{IsFaulty, IsPlain, LeadsFaultless, LeadsFirst}
 
@@ -51,23 +51,23 @@ steps_few f w v (step ∷ steps) reads le h =
     let r = steps_few f h.0 v steps reads (omega (arith, e, less)) h.3 in
     (omega (arith, e, r.0), r.1)
 
-row_stands : (f : Frame) (w : World) (steps : List Step) → ((w : World) → ReadsStanding f w) → LeadsFirst f (opening_world f) steps w
-    → (LeadsFaultless f (opening_world f) steps w → GoesWell f w steps) → standing f w ≡ OutOfEvents → OutOfEventsRow f w steps
-row_stands f w steps reads h well stands =
+row_stands : (f : Frame) (w : World) (steps : List Step) (most : ℕ) → ((w : World) → ReadsStanding f w) → LeadsFirst f (opening_world f) steps w
+    → (LeadsFaultless f (opening_world f) steps w → GoesWellWithin most f w steps) → standing f w ≡ OutOfEvents → OutOfEventsWithin most f w steps
+row_stands f w steps most reads h well stands =
     let r = steps_few f (opening_world f) w steps reads (omega arith) h in
     let row = ((reads w).says OutOfEvents stands).2 in
     record {
       all = let a = r.0 in let b = r.1 in omega (arith, a, b, row);
       cause = ⊎_elim (λ (o : IsFaulty steps). inl o)
           (λ (o : LeadsFaultless f (opening_world f) steps w). ⊎_elim
-          (λ (l : bound f w < f.settings.events). absurd (subst (λ (s : Standing). Ends s) stands ((well o).ends l)))
-          (λ (l : f.settings.events ≤ bound f w). inr l) (cases_lt (bound f w) f.settings.events))
+          (λ (l : most < f.settings.events). absurd (subst (λ (s : Standing). Ends s) stands ((well o).ends l)))
+          (λ (l : f.settings.events ≤ most). inr l) (cases_lt most f.settings.events))
           (faulty_or f (opening_world f) w steps h);
     }
 
-pub enough : (f : Frame) (w : World) (steps : List Step) → ((w : World) → ReadsStanding f w) → LeadsFirst f (opening_world f) steps w
-    → (LeadsFaultless f (opening_world f) steps w → GoesWell f w steps) → IsEnough f w steps
-enough f w steps reads h well = record {
+pub enough : (f : Frame) (w : World) (steps : List Step) (most : ℕ) → ((w : World) → ReadsStanding f w) → LeadsFirst f (opening_world f) steps w
+    → (LeadsFaultless f (opening_world f) steps w → GoesWellWithin most f w steps) → IsEnoughWithin most f w steps
+enough f w steps most reads h well = record {
   well = λ fine. well (⊎_elim (λ (o : IsFaulty steps). absurd (fine o)) (λ (o : LeadsFaultless f (opening_world f) steps w). o) (faulty_or f (opening_world f) w steps h));
-  row = row_stands f w steps reads h well;
+  row = row_stands f w steps most reads h well;
 }

@@ -12,11 +12,11 @@ use Rattle.world_rules.specs.Worlds.{World, opening_world}
 use Rattle.world_enough.specs.Faultless.{IsFaultless, LeadsFaultless}
 
 -- each step is faultless in the world before it
-abbrev AllFaultless : Frame → World → List Scene → Type 0
+abbrev pub AllFaultless : Frame → World → List Scene → Type 0
 AllFaultless f w [] = Unit {0}
 AllFaultless f w (scene ∷ more) = IsFaultless w scene.step × AllFaultless f (after_step f w scene.step scene.given) more
 
-leads : (f : Frame) (w : World) (all : List Scene) → Unfolds f w all → AllFaultless f w all → LeadsFaultless f w (steps_of all) (world_after f w all)
+pub leads : (f : Frame) (w : World) (all : List Scene) → Unfolds f w all → AllFaultless f w all → LeadsFaultless f w (steps_of all) (world_after f w all)
 leads f w [] h k = refl
 leads f w (scene ∷ more) h k =
     let u : World = after_step f w scene.step scene.given in

@@ -49,7 +49,7 @@ pub record Facts (f : Frame) (w : World) : Type 0 where
 
 -- ---- while a run is going nobody is spent
 
-split_at : {A : Type 0} (n : ℕ) (ys : List A) → ys ≡ take n ys ++ drop n ys
+pub split_at : {A : Type 0} (n : ℕ) (ys : List A) → ys ≡ take n ys ++ drop n ys
 split_at zero ys = refl
 split_at (suc n) [] = refl
 split_at (suc n) (y ∷ ys) = ap (λ z. y ∷ z) (split_at n ys)
@@ -93,7 +93,7 @@ paid_going f w n lore facts going (inr h) =
 
 -- ---- a member's part
 
-fresh_at : (f : Frame) (w : World) (m : ℕ) → ProcessesStand f w → Fresh (w.nodes m)
+pub fresh_at : (f : Frame) (w : World) (m : ℕ) → ProcessesStand f w → Fresh (w.nodes m)
 fresh_at f w m stands i late = by ((w.nodes m).played i) refl
   where
     by : (o : Option Played) → (w.nodes m).played i ≡ o → (w.nodes m).played i ≡ None
@@ -115,7 +115,7 @@ part_over f w m d node low h = sum_over f.settings.nodes m d (λ k. node_weight 
 
 -- ---- events
 
-performed_node : (place : ℕ) (lines : List Line) (v : NodeWork) → (performs_all place lines v).node ≡ v.node
+pub performed_node : (place : ℕ) (lines : List Line) (v : NodeWork) → (performs_all place lines v).node ≡ v.node
 performed_node place [] v = refl
 performed_node place (line ∷ lines) v = performed_node place lines _
 
@@ -127,11 +127,11 @@ acting_as (Reading act) e = absurd (cc e)
 acting_as (Asking act) e = absurd (cc e)
 acting_as (Over act) e = absurd (cc e)
 
-acting_of : (o : Option Played) → may_act_as o ≡ true → (r : Played) × (act : Action) × (o ≡ Some r) × (r.stage ≡ Acting act)
+pub acting_of : (o : Option Played) → may_act_as o ≡ true → (r : Played) × (act : Action) × (o ≡ Some r) × (r.stage ≡ Acting act)
 acting_of None e = absurd (cc e)
 acting_of (Some r) e = let a = acting_as r.stage e in (r, a.0, refl, a.1)
 
-is_true : (b : Bool) → IsTrue b → b ≡ true
+pub is_true : (b : Bool) → IsTrue b → b ≡ true
 is_true true h = refl
 is_true false h = absurd (cc h)
 
@@ -245,7 +245,7 @@ paid_step f w v step n lore facts next less none paid =
     subst (λ (z : World). IsPaid f z (works_by step.event + n)) (sym next.after)
     (paid_as f u.world _ (works_by step.event + n) (posted_nodes f u.world u.mails step.fates) h)
 
-one_more : (f : Frame) (w u v : World) (steps : List Step) (step : Step) → Leads f w steps u → Next f u step v → Leads f w (steps ++ step ∷ []) v
+pub one_more : (f : Frame) (w u v : World) (steps : List Step) (step : Step) → Leads f w steps u → Next f u step v → Leads f w (steps ++ step ∷ []) v
 one_more f w u v [] step e next = (v, subst (λ (z : World). Next f z step v) e next, refl)
 one_more f w u v (first ∷ steps) step h next = (h.0, h.1, one_more f h.0 u v steps step h.2 next)
 

@@ -15,13 +15,13 @@ use Rattle.world_rules.specs.Nodes.{Deed, mails_of}
 use Rattle.world_rules.specs.Nodes.Deed.{Submits, Acts, Mails, Applies, Performs}
 use Rattle.world_rules.specs.Steps.{posts, posts_all}
 use Rattle.world_rules.specs.Worlds.{World}
-use Rattle.world_enough.proofs.Letters.{AreLetters, IsLetter, letters_in}
+use Rattle.world_enough.proofs.Costs.{flights_cost, flights_push, mail_cost, mails_cost}
+use Rattle.world_enough.proofs.Letters.{letters_in}
 use Rattle.world_facts.proofs.Passing.{flies_as_passed}
 use Rattle.world_facts.specs.Passing.{AllPass, always_passes}
 use Rattle.world_enough.specs.Tie.{AreCalm, IsCalm, letters_of, with_letter}
 use Rattle.world_law.specs.Moments.{sent_letters}
 use Rattle.world_law.proofs.AtWork.{if_true}
-use Rattle.world_enough.proofs.Plain.{AllLetters}
 
 -- ---- letters of lists
 
@@ -75,17 +75,7 @@ pub record Posts (f : Frame) (w v : World) (mails : List Mail) : Type 0 where
   pub past : v.past ≡ w.past
   pub letters : letters_of v.flights ≡ letters_of w.flights ++ letters_in mails
   pub calm : AreCalm v.sent v.flights
-  pub count : length v.flights + w.sent ≡ length w.flights + v.sent
-  pub aside : v.aside ≡ w.aside
-  pub fly : AreLetters w.flights → AllLetters mails → AreLetters v.flights
-
-fly_push : (flights : List (Flight Carried)) (flight : Flight Carried) → AreLetters flights → IsLetter flight.packet.mail → AreLetters (flights ++ flight ∷ [])
-fly_push [] flight h k = (k, tt)
-fly_push (one ∷ flights) flight h k = (h.0, fly_push flights flight h.1 k)
-
-length_push : {A : Type 0} (xs : List A) (x : A) → length (xs ++ x ∷ []) ≡ suc (length xs)
-length_push [] x = refl
-length_push (y ∷ xs) x = ap suc (length_push xs x)
+  pub cost : flights_cost v.flights ≡ flights_cost w.flights + mails_cost mails
 
 posts_one : (f : Frame) (w : World) (mail : Mail) (one : Fate) → always_passes one ≡ true → AreCalm w.sent w.flights → Posts f w (posts f w mail one) (mail ∷ [])
 posts_one f w mail one e calm = passed
@@ -104,9 +94,7 @@ posts_one f w mail one e calm = passed
       letters = ap letters_of is ∙ of_push w.flights new;
       calm = subst (λ z. AreCalm (suc w.sent) z) (sym is) (calm_push (suc w.sent) w.flights new (calm_more w.sent w.flights calm)
           (record { ready = refl; whole = refl; known = omega arith }));
-      count = omega (arith, ap length is, length_push w.flights new);
-      aside = refl;
-      fly = λ h k. subst AreLetters (sym is) (fly_push w.flights new h k.0);
+      cost = let e = ap flights_cost is in let p : flights_cost (w.flights ++ new ∷ []) ≡ flights_cost w.flights + mail_cost mail = flights_push w.flights new in omega (arith, e, p);
     }
 
 with_in : (mail : Mail) (mails : List Mail) (q : List (Letter Message)) → (q ++ with_letter mail []) ++ letters_in mails ≡ q ++ with_letter mail (letters_in mails)
@@ -121,9 +109,7 @@ posts_each f w [] fates pass few calm = record {
   past = refl;
   letters = sym (append-nil (letters_of w.flights));
   calm = calm;
-  count = refl;
-  aside = refl;
-  fly = λ h k. h;
+  cost = omega arith;
 }
 posts_each f w (mail ∷ mails) [] pass few calm = absurd (omega (arith, few))
 posts_each f w (mail ∷ mails) (one ∷ fates) pass few calm =
@@ -135,9 +121,7 @@ posts_each f w (mail ∷ mails) (one ∷ fates) pass few calm =
       past = r.past ∙ p.past;
       letters = r.letters ∙ ap (λ z. z ++ letters_in mails) p.letters ∙ with_in mail mails (letters_of w.flights);
       calm = r.calm;
-      count = omega (arith, r.count, p.count);
-      aside = r.aside ∙ p.aside;
-      fly = λ h k. r.fly (p.fly h (k.0, tt)) k.1;
+      cost = omega (arith, r.cost, p.cost);
     }
 
 -- ---- the first is ready, and its delivery takes it out

@@ -12,7 +12,7 @@ use Rattle.world_rules.specs.Standings.{process_count, stands}
 use Rattle.world_rules.specs.Worlds.{Book, World, home_of, played_in}
 use Rattle.world_facts.specs.Ends.{turns_in}
 use Rattle.world_enough.specs.Bound.{calls_of, is_at_action, all_turns}
-use Rattle.world_enough.specs.Paid.{stage_weight, sum, weight_in, weight_of}
+use Rattle.world_enough.specs.Paid.{calls_by, calls_in, is_asking, stage_weight, sum, weight_in, weight_of}
 use Rattle.world_enough.proofs.Weighing.{sum_up}
 
 -- ---- sums
@@ -137,6 +137,46 @@ weight_most f w well =
     whole : (x x1 x2 x3 l a t p lines acts : ℕ) → x ≡ x1 → x1 ≤ x2 → x2 ≤ x3 → x3 ≤ BURST_TURNS * (2 * (l + a) + p) + t → l ≤ lines → a ≡ acts →
         x ≤ BURST_TURNS * (2 * (lines + acts) + p) + t
     whole x x1 x2 x3 l a t p lines acts e1 e2 e3 e4 e5 e6 = omega (arith, e1, e2, e3, e4, e5, e6)
+
+-- ---- the calls that Asks and Answers may be of are no more than all calls
+
+asking_at : (s : Stage) → is_asking s ≤ (if is_at_action s then 1 else 0)
+asking_at Computing = omega arith
+asking_at (Acting act) = omega arith
+asking_at (Submitted act) = omega arith
+asking_at (Reading act) = omega arith
+asking_at (Asking act) = omega arith
+asking_at (Over act) = omega arith
+
+calls_at : (f : Frame) (w : World) (i : ℕ) (o : Option Played) → ((r : Played) → o ≡ Some r → length r.replies ≤ length (lines_by i (Book f w))) →
+    calls_by o ≤ length (lines_by i (Book f w)) + (if stands is_at_action o then 1 else 0)
+calls_at f w i None h = omega arith
+calls_at f w i (Some r) h = let n = h r refl in let s = asking_at r.stage in omega (arith, n, s)
+
+no_calls : (o : Option Played) → ((r : Played) → o ≡ Some r → ⊥) → calls_by o ≡ 0
+no_calls None h = refl
+no_calls (Some r) h = absurd (h r refl)
+
+pub calls_most : (f : Frame) (w : World) → IsPlayedWell f w → calls_in f w ≤ calls_of f w
+calls_most f w well =
+    let p : ℕ = process_count f w in
+    let y : ℕ → ℕ = λ i. calls_by (played_in f w i) in
+    let l : ℕ → ℕ = λ i. length (lines_by i (Book f w)) in
+    let t : ℕ → ℕ = λ i. if stands is_at_action (played_in f w i) then 1 else 0 in
+    let a = swapped f.settings.nodes PROCESSES (λ m i. calls_by ((w.nodes m).played i)) in
+    let b = sum_up PROCESSES (λ i. sum f.settings.nodes (λ m. calls_by ((w.nodes m).played i))) y
+    (λ i low. sum_one f.settings.nodes (home_of f w i) (λ m. calls_by ((w.nodes m).played i))
+    (λ m no. no_calls ((w.nodes m).played i) (λ r here. no (sym (well.home m i r here))))) in
+    let c = sum_cut PROCESSES p y (λ i late. no_calls (played_in f w i) (λ r here. too_late i p (well.exists i r here) late)) in
+    let d = sum_up p y (λ i. l i + t i) (λ i low. calls_at f w i (played_in f w i) (well.replies i)) in
+    let g = sum_plus p l t in
+    let e = all_lines p (Book f w) in
+    let k = sum_count p (λ i. stands is_at_action (played_in f w i)) in
+    whole (calls_in f w) (sum PROCESSES (λ i. sum f.settings.nodes (λ m. calls_by ((w.nodes m).played i)))) (sum PROCESSES y) (sum p y) (sum p (λ i. l i + t i))
+    (sum p l) (sum p t) (length (Book f w)) (count p (λ i. stands is_at_action (played_in f w i))) a b c d g e k
+  where
+    whole : (x x1 x2 x3 x4 l t lines acts : ℕ) → x ≡ x1 → x1 ≤ x2 → x2 ≤ x3 → x3 ≤ x4 → x4 ≡ l + t → l ≤ lines → t ≡ acts → x ≤ lines + acts
+    whole x x1 x2 x3 x4 l t lines acts e1 e2 e3 e4 e5 e6 e7 = omega (arith, e1, e2, e3, e4, e5, e6, e7)
 
 pub divided : (k a t : ℕ) → BURST_TURNS * k ≤ BURST_TURNS * a + t → k ≤ a + t / BURST_TURNS
 divided k a t h = omega (arith, h)

@@ -1,5 +1,5 @@
 -- Each burst and each act is paid by what its process has done.
-use Rattle.std.proofs.Common.{◌≡◌, ◌≤◌, ◌<◌, ◌⊎◌, ◌+◌, ◌==◌, inl, inr, ⊎_elim, ℕ, zero, suc, false, List, [], ◌∷◌, ◌++◌, length, Option, Some, None, refl, sym, ap, ◌∙◌, arith, subst}
+use Rattle.std.proofs.Common.{◌≡◌, ◌≤◌, ◌<◌, ◌⊎◌, ◌+◌, ◌*◌, ◌==◌, inl, inr, ⊎_elim, ℕ, zero, suc, true, false, List, [], ◌∷◌, ◌++◌, length, Option, Some, None, refl, sym, ap, ◌∙◌, arith, subst}
 use Rattle.std.proofs.lemmas.Bool.{cases_lt, cond_both}
 use Rattle.orca_base.specs.declared.ids.ProcessNo.{ProcessNo}
 use Rattle.orca_base.specs.declared.limits.TheConstants.{BURST_TURNS, PROCESSES}
@@ -16,16 +16,23 @@ use Rattle.value_core.specs.History.{Objects}
 use Rattle.guard_queue.specs.declared.queue.Suspended.{Suspended}
 use Rattle.object_manager.specs.State.{message_of}
 use Rattle.group_rules.specs.Sets.{with_at}
+use Rattle.group_rules.specs.Steps.{submit}
 use Rattle.world_rules.specs.Bursts.{Halts, Ran, last_turn, reads_on}
-use Rattle.world_rules.specs.Frame.{Frame}
-use Rattle.world_rules.specs.Nodes.{Node, NodeWork, idle, known, plays}
+use Rattle.world_rules.specs.Frame.{Frame, group}
+use Rattle.world_rules.specs.Mail.Errand.{Ask}
+use Rattle.world_rules.specs.Nodes.{Node, NodeWork, does, idle, known, plays}
+use Rattle.world_rules.specs.Nodes.Deed.{Submits}
+use Rattle.world_rules.specs.Owners.{performs_call, sends}
 use Rattle.world_rules.specs.Parts.{acts_at, acts_by, acts_of, asks, calls, calls_as, submits}
 use Rattle.world_rules.specs.Played.{Played, Stage, at_action, halted, moves_to, next_call}
 use Rattle.world_rules.specs.Played.Stage.{Computing, Acting, Submitted, Reading, Asking, Over}
 use Rattle.world_rules.specs.Processes.{owner_in, singles_of}
 use Rattle.world_facts.specs.Processes.{is_last}
+use Rattle.world_facts.specs.Replicated.{AllReplicated}
 use Rattle.world_law.proofs.Onwards.{AreOnward, Onward, on_call, on_read, stay}
-use Rattle.world_enough.specs.Paid.{node_weight, stage_weight, sum, weight, weight_of}
+use Rattle.world_enough.specs.Paid.{is_asking, node_weight, stage_weight, sum, weight, weight_of}
+use Rattle.world_enough.proofs.Costs.{ask_push, call_cost, joins_cost, node_cost, read_cost, work_cost}
+use Rattle.world_enough.proofs.Shared.{no_single}
 use Rattle.world_law.proofs.Maps.{at_both, at_here}
 
 -- ---- sums
@@ -126,34 +133,55 @@ burst_pays f start end computes c = ⊎_elim
 
 -- ---- an act
 
+-- the stage that its process comes to, and what that costs: an Ask and its Answer where it asks an owner, which it does only where some object
+-- is single
 pub record Acted (f : Frame) (m i : ℕ) (r : Played) (node : Node) (u : NodeWork) : Type 0 where
   pub stage : Stage
   pub heavy : stage_weight stage ≡ 2
   pub onward : AreOnward (plays i (moves_to stage r) (idle node)) u
+  pub cost : work_cost u ≤ node_cost node + 2 * is_asking stage
+  pub none : AllReplicated f → is_asking stage ≡ 0
 
 acted_submits : (f : Frame) (m i : ℕ) (r : Played) (act : Action) (x : Message) (node : Node) → Acted f m i r node (submits f m i r act x (idle node))
-acted_submits f m i r act x node = record { stage = Submitted act; heavy = refl; onward = stay (plays i (moves_to (Submitted act) r) (idle node)) _ refl refl }
+acted_submits f m i r act x node =
+    let v : NodeWork = does (Submits x) (plays i (moves_to (Submitted act) r) (idle node)) in
+    record {
+      stage = Submitted act;
+      heavy = refl;
+      onward = stay (plays i (moves_to (Submitted act) r) (idle node)) _ refl refl;
+      cost = let e = joins_cost (submit (group f) m x node.member) v in omega (arith, e);
+      none = λ all. refl;
+    }
 
 acted_as : (f : Frame) (m i : ℕ) (r : Played) (call : Suspended) (class : Class) (node : Node) → Acted f m i r node (calls_as f m i r call class (idle node))
-acted_as f m i r call Reads node = record {
-  stage = Reading (message_of call).action;
-  heavy = refl;
-  onward = on_read f i (plays i (moves_to (Reading (message_of call).action) r) (idle node));
-}
+acted_as f m i r call Reads node =
+    let v : NodeWork = plays i (moves_to (Reading (message_of call).action) r) (idle node) in
+    record {
+      stage = Reading (message_of call).action;
+      heavy = refl;
+      onward = on_read f i v;
+      cost = let e = read_cost f i v in omega (arith, e);
+      none = λ all. refl;
+    }
 acted_as f m i r call Writes node = acted_submits f m i r (message_of call).action (message_of call) node
 
-acted_asks : (f : Frame) (m i : ℕ) (r : Played) (call : Suspended) (node : Node) → Acted f m i r node (asks f m i r call (idle node))
-acted_asks f m i r call node = record {
-  stage = Asking (message_of call).action;
-  heavy = refl;
-  onward =
-      let u : NodeWork = plays i (moves_to (Asking (message_of call).action) r) (idle node) in
-      cond_both (owner_in (known f node) call.object == m) _ _ (λ t. AreOnward u t) (λ e. on_call f m (message_of call) u) (λ e. stay u _ refl refl);
-}
+acted_asks : (f : Frame) (m i : ℕ) (r : Played) (call : Suspended) (node : Node) → singles_of f (known f node) call.object ≡ true → Acted f m i r node (asks f m i r call (idle node))
+acted_asks f m i r call node single =
+    let v : NodeWork = plays i (moves_to (Asking (message_of call).action) r) (idle node) in
+    let owner : ℕ = owner_in (known f node) call.object in
+    record {
+      stage = Asking (message_of call).action;
+      heavy = refl;
+      onward = cond_both (owner == m) _ _ (λ t. AreOnward v t) (λ e. on_call f m (message_of call) v) (λ e. stay v _ refl refl);
+      cost = cond_both (owner == m) (performs_call f m (message_of call) v) (sends m owner (Ask r.place (message_of call)) v) (λ t. work_cost t ≤ node_cost node + 2)
+          (λ e. let c = call_cost f m (message_of call) v in omega (arith, c))
+          (λ e. let p = ask_push [] node.member.installed m owner r.place (message_of call) in omega (arith, p));
+      none = λ all. let c : true ≡ false = sym single ∙ no_single f (known f node) call.object all in absurd (cc c);
+    }
 
 acted_calls : (f : Frame) (m i : ℕ) (r : Played) (call : Suspended) (node : Node) → Acted f m i r node (calls f m i r call (idle node))
 acted_calls f m i r call node = cond_both (singles_of f (known f node) call.object) _ _ (λ u. Acted f m i r node u)
-    (λ e. acted_asks f m i r call node) (λ e. acted_as f m i r call (f.performs.class_of call.kind call.op) node)
+    (λ e. acted_asks f m i r call node e) (λ e. acted_as f m i r call (f.performs.class_of call.kind call.op) node)
 
 acted_by : (f : Frame) (m i : ℕ) (r : Played) (act : Action) (node : Node) → is_last act ≡ false → Acted f m i r node (acts_by f m i r act (idle node))
 acted_by f m i r (action.Make kind object) node e = acted_submits f m i r (action.Make kind object)

@@ -10,7 +10,6 @@ use Rattle.world_rules.specs.Frame.{AreSettings, Frame}
 use Rattle.world_rules.specs.Steps.{Next}
 use Rattle.world_rules.specs.Worlds.{World, opening_world}
 use Rattle.world_facts.specs.Passing.{AllPass}
-use Rattle.world_facts.specs.Replicated.{AllReplicated}
 
 -- ---- events
 
@@ -57,10 +56,10 @@ abbrev pub LeadsFaultless : Frame → World → List Step → World → Type 0
 LeadsFaultless f w [] v = v ≡ w
 LeadsFaultless f w (step ∷ steps) v = (u : World) × Next f w step u × IsFaultless w step × LeadsFaultless f u steps v
 
--- so it is of each faultless run of a program with these meanings, by settings that a run may have, where no object is single
+-- so it is of each faultless run of a program with these meanings, by settings that a run may have
 abbrev pub OfFaultlessRuns : Performs → Computes → (Frame → World → List Step → Type 0) → Type 0
 OfFaultlessRuns p q P =
-    (f : Frame) → f.performs ≡ p → f.computes ≡ q → AreSettings f.settings → AllReplicated f → (steps : List Step) (w : World) →
+    (f : Frame) → f.performs ≡ p → f.computes ≡ q → AreSettings f.settings → (steps : List Step) (w : World) →
     LeadsFaultless f (opening_world f) steps w → P f w steps
 
 -- ---- its events

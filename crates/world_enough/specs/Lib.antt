@@ -2,3 +2,4 @@ pub mod Faultless
 pub mod Paid
 pub mod Bound
 pub mod Tie
+pub mod OneOwner

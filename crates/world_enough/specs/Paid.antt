@@ -51,3 +51,26 @@ IsPaid f w n = (BURST_TURNS * n ≤ weight_in f w) ⊎ (IsSpent f w × (BURST_TU
 
 abbrev pub FaultlessRunsPay : Performs → Computes → Type 0
 FaultlessRunsPay p q = OfFaultlessRuns p q (λ f w steps. IsPaid f w (worked steps))
+
+-- ---- calls on single objects
+
+-- a process asks an owner
+abbrev pub is_asking : Stage → ℕ
+is_asking Computing = 0
+is_asking (Acting act) = 0
+is_asking (Submitted act) = 0
+is_asking (Reading act) = 0
+is_asking (Asking act) = 1
+is_asking (Over act) = 0
+
+-- the calls of a process for which an Ask and an Answer may have come: those whose replies it has, and the one that it asks an owner
+abbrev pub calls_by : Option Played → ℕ
+calls_by None = 0
+calls_by (Some r) = length r.replies + is_asking r.stage
+
+-- at a member, and in a world
+abbrev pub node_calls : (ℕ → Option Played) → ℕ
+node_calls played = sum PROCESSES (λ i. calls_by (played i))
+
+abbrev pub calls_in : Frame → World → ℕ
+calls_in f w = sum f.settings.nodes (λ m. node_calls (w.nodes m).played)

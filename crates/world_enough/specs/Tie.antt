@@ -1,5 +1,6 @@
--- The world of a faultless run is what a list of the group's moves leads to; and no tick comes.
-use Rattle.std.specs.Prelude.{◌≡◌, ◌≤◌, ℕ, true, List, [], ◌∷◌, None}
+-- The world of a faultless run is what a list of the group's moves leads to, and what was delivered beside the group's letters are Asks and
+-- Answers, two for each call on a single object; and no tick comes.
+use Rattle.std.specs.Prelude.{◌≡◌, ◌≤◌, ◌+◌, ◌*◌, ℕ, true, List, [], ◌∷◌, None}
 use Rattle.value_core.specs.Meaning.{Computes, Performs}
 use Rattle.value_core.specs.declared.message.Message.{Message}
 use Rattle.group_rules.specs.Member.{Letter}
@@ -10,7 +11,10 @@ use Rattle.world_rules.specs.Frame.{Frame, group}
 use Rattle.world_rules.specs.Mail.{Carried, Mail}
 use Rattle.world_rules.specs.Standings.{standing}
 use Rattle.world_rules.specs.Worlds.{World, group_world}
+use Rattle.world_facts.specs.Replicated.{AllReplicated}
+use Rattle.world_facts.specs.Rows.{IsOver, IsQuiet, IsUnlimited}
 use Rattle.world_enough.specs.Faultless.{NoTick, OfFaultlessRuns, delivered}
+use Rattle.world_enough.specs.Paid.{calls_in}
 
 -- ---- packets in flight
 
@@ -45,8 +49,23 @@ pub record Tied (f : Frame) (w : World) (d : ℕ) : Type 0 where
   pub calm : AreCalm w.sent w.flights
   pub lives : (m : ℕ) → w.lives m ≡ true
 
+-- n packets were delivered: letters of the group, of which the world is tied to as many, and Asks and Answers, of which there are at most
+-- two for each call, and none where no object is single
+pub record HasDelivered (f : Frame) (w : World) (n : ℕ) : Type 0 where
+  pub letters : ℕ
+  pub errands : ℕ
+  pub all : n ≡ letters + errands
+  pub tied : Tied f w letters
+  pub asked : errands ≤ 2 * calls_in f w
+  pub none : AllReplicated f → errands ≡ 0
+
+-- a quiet moment at which no limit is passed is the run's end
+abbrev pub EndsQuiet : Frame → World → Type 0
+EndsQuiet f w = IsUnlimited f w → IsQuiet f w → IsOver f w
+
 abbrev pub FaultlessRunsNeedNoTick : Performs → Computes → Type 0
-FaultlessRunsNeedNoTick p q = OfFaultlessRuns p q (λ f w steps. NoTick steps × Tied f w (delivered steps))
+FaultlessRunsNeedNoTick p q =
+    OfFaultlessRuns p q (λ f w steps. NoTick steps × HasDelivered f w (delivered steps) × EndsQuiet f w)
 
 -- a faultless run never lacks a group
 abbrev pub FaultlessRunsHaveGroup : Performs → Computes → Type 0

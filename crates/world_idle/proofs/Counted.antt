@@ -12,7 +12,7 @@ use Rattle.world_rules.specs.Nodes.{Node}
 use Rattle.world_rules.specs.Steps.{Leads, Next, Replays, closes, happens, has_stirred, has_stirred_at, has_stirred_below, idle_after}
 use Rattle.world_rules.specs.Worlds.{World, opening_world}
 use Rattle.world_course.proofs.Events.{posts_keep}
-use Rattle.world_idle.specs.Counting.{HasMoved, HaveCounted, IsStill, LeadsStill}
+use Rattle.world_idle.specs.Counting.{HaveCounted, IsStill, LeadsStill}
 use Rattle.world_idle.specs.Faults.{tick_by, ticks_in}
 
 -- ---- what stirs

@@ -1,30 +1,30 @@
-mod Letters
-mod Behind
-mod Flying
-mod Catching
-mod Rows
-mod Ticking
-mod Moving
-mod Sent
-mod Resting
-mod Lasting
-mod Walking
-mod Plain
-mod Worked
-mod Calls
-mod Taking
-mod Own
-mod OwnSteps
-mod Owed
-mod Acted
-mod Owes
-mod Level
-mod Singles
-mod SingleEvents
-mod SingleTicks
-mod SingleLate
-mod SingleSteps
-mod SingleDone
-mod SingleOwing
-mod Every
-mod Counted
+pub mod Letters
+pub mod Behind
+pub mod Flying
+pub mod Catching
+pub mod Rows
+pub mod Ticking
+pub mod Moving
+pub mod Sent
+pub mod Resting
+pub mod Lasting
+pub mod Walking
+pub mod Plain
+pub mod Worked
+pub mod Calls
+pub mod Taking
+pub mod Own
+pub mod OwnSteps
+pub mod Owed
+pub mod Acted
+pub mod Owes
+pub mod Level
+pub mod Singles
+pub mod SingleEvents
+pub mod SingleTicks
+pub mod SingleLate
+pub mod SingleSteps
+pub mod SingleDone
+pub mod SingleOwing
+pub mod Every
+pub mod Counted

@@ -271,7 +271,7 @@ first_at f m j r0 (Reading act) n here home knows own = first_idle n knows own
 first_at f m j r0 (Asking act) n here home knows own = first_idle n knows own
 first_at f m j r0 (Over act) n here home knows own = first_idle n knows own
 
-first_acts : (f : Frame) (m j : ℕ) (o : Option Played) (n : Node) → n.played j ≡ o → IsHome f m n → KnownAt n → OwnAt n → First n (acts_of f m j o (idle n))
+pub first_acts : (f : Frame) (m j : ℕ) (o : Option Played) (n : Node) → n.played j ≡ o → IsHome f m n → KnownAt n → OwnAt n → First n (acts_of f m j o (idle n))
 first_acts f m j None n here home knows own = first_idle n knows own
 first_acts f m j (Some r0) n here home knows own = first_at f m j r0 r0.stage n here home knows own
 

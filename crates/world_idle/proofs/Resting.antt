@@ -337,7 +337,7 @@ waits_here f w lore facts m i r act low here stage done =
 abbrev pub NoneInVain : Frame → World → Type 0
 NoneInVain f w = (i : ℕ) (r : Played) (act : Action) → i < process_count f w → w.lives (home_of f w i) ≡ true → played_in f w i ≡ Some r → r.stage ≡ Asking act → Rests f w i (Asking act)
 
-rests_as : (f : Frame) (w : World) (i : ℕ) (r : Played) (stage : PlayedStage) → r.stage ≡ stage → ready_stage stage ≡ false →
+pub rests_as : (f : Frame) (w : World) (i : ℕ) (r : Played) (stage : PlayedStage) → r.stage ≡ stage → ready_stage stage ≡ false →
     ((act : Action) → stage ≡ Submitted act → Rests f w i (Submitted act)) → ((act : Action) → stage ≡ Asking act → Rests f w i (Asking act)) → Rests f w i stage
 rests_as f w i r (Over act) e ready one two = tt
 rests_as f w i r (Reading act) e ready one two = tt

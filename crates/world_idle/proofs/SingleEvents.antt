@@ -32,7 +32,7 @@ use Rattle.world_idle.proofs.Ticking.{Timed, timed}
 
 -- ---- a packet is taken out
 
-starts_by : (f : Frame) (w : World) (P : Flight Carried → Bool) (flight : Flight Carried) (mail : Mail) (m i c h k : ℕ) (first : NodeWork) → find P w.flights ≡ Some flight → flight.packet.mail ≡ mail →
+pub starts_by : (f : Frame) (w : World) (P : Flight Carried → Bool) (flight : Flight Carried) (mail : Mail) (m i c h k : ℕ) (first : NodeWork) → find P w.flights ≡ Some flight → flight.packet.mail ≡ mail →
     (MailTo k (AskFor i c) mail → (m ≡ k) × Has (AskFor i c) first.node.held) → (MailTo h (AnswerFor i c) mail → (m ≡ h) × Has (AnswerFor i c) first.node.held) →
     Owed f.settings.nodes w.nodes w.flights [] i c h k → Starts f w (without_first P w.flights) m i c h k first
 starts_by f w P flight mail m i c h k first found is ask answer (AskFlies x) = ⊎_elim (λ y. inl (AskFlies y)) (λ y. inr (inl (ask (subst (MailTo k (AskFor i c)) is y.1)))) (flies_taken f.settings.nodes (MailTo k (AskFor i c)) P w.flights flight found x)
@@ -44,7 +44,7 @@ starts_by f w P flight mail m i c h k first found is ask answer (CallWaits x) = 
 starts_by f w P flight mail m i c h k first found is ask answer (AnswerHeld x) = inl (AnswerHeld x)
 
 -- where it comes to nobody
-gone_by : (f : Frame) (w : World) (P : Flight Carried → Bool) (flight : Flight Carried) (i c h k : ℕ) → find P w.flights ≡ Some flight →
+pub gone_by : (f : Frame) (w : World) (P : Flight Carried → Bool) (flight : Flight Carried) (i c h k : ℕ) → find P w.flights ≡ Some flight →
     ((is_whole f.settings.nodes flight.packet ≡ true) × MailTo k (AskFor i c) flight.packet.mail → ⊥) → ((is_whole f.settings.nodes flight.packet ≡ true) × MailTo h (AnswerFor i c) flight.packet.mail → ⊥) →
     Owed f.settings.nodes w.nodes w.flights [] i c h k → Owed f.settings.nodes w.nodes (without_first P w.flights) [] i c h k
 gone_by f w P flight i c h k found ask answer (AskFlies x) = ⊎_elim (λ y. AskFlies y) (λ y. absurd (ask y)) (flies_taken f.settings.nodes (MailTo k (AskFor i c)) P w.flights flight found x)
@@ -55,7 +55,7 @@ gone_by f w P flight i c h k found ask answer (AskHeld x) = AskHeld x
 gone_by f w P flight i c h k found ask answer (CallWaits x) = CallWaits x
 gone_by f w P flight i c h k found ask answer (AnswerHeld x) = AnswerHeld x
 
-asks_found : (nodes : ℕ → Node) (P : Flight Carried → Bool) (flights : List (Flight Carried)) (flight : Flight Carried) → FliesAsking nodes flights → find P flights ≡ Some flight → MailAsksTrue nodes flight.packet.mail
+pub asks_found : (nodes : ℕ → Node) (P : Flight Carried → Bool) (flights : List (Flight Carried)) (flight : Flight Carried) → FliesAsking nodes flights → find P flights ≡ Some flight → MailAsksTrue nodes flight.packet.mail
 asks_found nodes P [] flight h e = absurd (let c : None ≡ Some flight = e in cc c)
 asks_found nodes P (one ∷ more) flight h e = go (P one) (λ d. asks_found nodes P more flight h.1 d) e
   where
@@ -74,10 +74,10 @@ owner_low f w nodes ps i c h k r act o g a = subst (λ (x : ℕ). x < f.settings
 home_low : (f : Frame) (w : World) (nodes : ℕ → Node) (ps : List Begun) (i c h k : ℕ) (r : Played) (act : Action) (o : ObjectId) → Given f w nodes ps → Asker nodes ps i c h k r act o → h < f.settings.nodes
 home_low f w nodes ps i c h k r act o g a = subst (λ (x : ℕ). x < f.settings.nodes) (ap (λ (z : List Begun). home_in z i) g.same ∙ a.home) (g.homes i)
 
-both_on : (f : Frame) (w : World) (m : ℕ) → m < f.settings.nodes → w.lives m ≡ true → lives_in f w m ≡ true
+pub both_on : (f : Frame) (w : World) (m : ℕ) → m < f.settings.nodes → w.lives m ≡ true → lives_in f w m ≡ true
 both_on f w m low live = ap (λ b. b && w.lives m) (lt-ltb m f.settings.nodes low) ∙ live
 
-not_off : (b : Bool) → b ≡ true → b ≡ false → ⊥
+pub not_off : (b : Bool) → b ≡ true → b ≡ false → ⊥
 not_off true e d = cc d
 not_off false e d = cc e
 

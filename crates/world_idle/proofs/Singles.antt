@@ -71,7 +71,7 @@ owed_before f w nodes ps i c h k r act o g a old =
     (g.owes.asks h i r act o old a.is a.calls (λ d. a.other (d ∙ e))))
 
 -- the nodes keep what is held and what waits
-owed_nodes : (n : ℕ) (nodes more : ℕ → Node) (flights : List (Flight Carried)) (mails : List Mail) (i c h k : ℕ) → ((x : ℕ) → (more x).held ≡ (nodes x).held) → ((x : ℕ) → (more x).copies.waits ≡ (nodes x).copies.waits) →
+pub owed_nodes : (n : ℕ) (nodes more : ℕ → Node) (flights : List (Flight Carried)) (mails : List Mail) (i c h k : ℕ) → ((x : ℕ) → (more x).held ≡ (nodes x).held) → ((x : ℕ) → (more x).copies.waits ≡ (nodes x).copies.waits) →
     Owed n nodes flights [] i c h k → Owed n more flights mails i c h k
 owed_nodes n nodes more flights mails i c h k held waits (AskFlies x) = AskFlies x
 owed_nodes n nodes more flights mails i c h k held waits (AnswerFlies x) = AnswerFlies x

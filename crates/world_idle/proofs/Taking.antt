@@ -371,7 +371,7 @@ module _ (f : Frame) (m i c h : ℕ) (K : List Begun) (home : home_in K i ≡ h)
   heard_held place j call reply None v = refl
   heard_held place j call reply (Some r) v = hears_held place j call reply r r.stage v
 
-  takes_held : (e : Errand) (v : NodeWork) → (takes f m e v).node.held ≡ v.node.held
+  pub takes_held : (e : Errand) (v : NodeWork) → (takes f m e v).node.held ≡ v.node.held
   takes_held (Ask place x) v = asked_held x (v.node.given x.process.0) v
   takes_held (Answer place j call reply) v = heard_held place j.0 call reply (v.node.played j.0) v
 

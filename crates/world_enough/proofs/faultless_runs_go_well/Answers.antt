@@ -24,17 +24,18 @@ returns g c =
       holds = c.legal_book.ensures.holds f same_p same_q settings steps w replays;
       stands = c.processes_stand.ensures.stands f steps w replays;
     } in
-    λ f same_p same_q settings none steps w run.
+    λ f same_p same_q settings steps w run each cost.
     let known = facts f same_p same_q settings steps w (leads_of f steps (opening_world f) w run) in
-    let few = c.faultless_runs_need_no_more.ensures f same_p same_q settings none steps w run in
-    let tied = c.faultless_runs_need_no_tick.ensures f same_p same_q settings none steps w run in
-    let group = c.faultless_runs_have_group.ensures f same_p same_q settings none steps w run in
+    let few = c.faultless_runs_need_no_more.ensures f same_p same_q settings steps w run each cost in
+    let went = c.faultless_runs_need_no_tick.ensures f same_p same_q settings steps w run in
+    let group = c.faultless_runs_have_group.ensures f same_p same_q settings steps w run in
     record {
-      ticks = tied.0;
-      lives = tied.1.lives;
-      bounded = is_bounded f w (length steps) (lore f settings) known settings.some few;
+      ticks = went.0;
+      lives = went.1.tied.lives;
+      bounded = is_bounded f w (length steps) each (lore f settings) known settings.some cost few;
       ends = λ less.
           let e = steps_are f (opening_world f) w steps run in
-          ends f w (length steps) (lore f settings) known settings.some group (omega (arith, e)) few less (standing f w) refl;
+          ends f w (length steps) each (lore f settings) known settings.some cost group (omega (arith, e)) few less (standing f w) refl;
       group = group;
+      quiet = went.2;
     }

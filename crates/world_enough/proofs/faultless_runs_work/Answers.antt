@@ -5,7 +5,7 @@ use Rattle.world_enough.specs.Faultless.{worked}
 use Rattle.world_enough.proofs.faultless_runs_work.Goals as goal
 
 pub returns : goal.returns
-returns g c = λ f same_p same_q settings none steps w run.
+returns g c = λ f same_p same_q settings steps w run.
     let lore : Lore f = record {
       lists = c.group_steps.ensures.lists f settings.resilience;
       homes = λ w i. c.processes_stand.ensures.homes f w i settings.some;
@@ -19,4 +19,4 @@ returns g c = λ f same_p same_q settings none steps w run.
       stands = c.processes_stand.ensures.stands f steps w replays;
     } in
     works_most f w (worked steps) (played_well f w lore facts (c.replies_stand.ensures.books f same_p same_q settings steps w replays))
-    (c.faultless_runs_pay.ensures f same_p same_q settings none steps w run)
+    (c.faultless_runs_pay.ensures f same_p same_q settings steps w run)
