@@ -20,6 +20,7 @@ ghost use Rattle.world_enough.specs.Bound.{
   bound_with_singles,
 };
 ghost use Rattle.world_enough.specs.Faultless.{LeadsFaultless};
+ghost use Rattle.world_enough.specs.Numbered.{FaultsAreNumbered};
 ghost use Rattle.world_enough.specs.OneOwner.{owner_end, owner_steps};
 ghost use Rattle.world_enough.specs.Paid.{FaultlessRunsPay};
 ghost use Rattle.world_enough.specs.Tie.{FaultlessRunsHaveGroup, FaultlessRunsNeedNoTick};
@@ -160,6 +161,11 @@ pub fn events_are_enough_with_singles<P: Processor>(machine: &P)
     standings_mean();
     faultless_runs_go_well(machine);
 }
+
+/// Steps are faulty exactly where their last fault has a number, as idle stretches count faults. A call of this function does nothing.
+pub fn faults_are_numbered()
+    ensures { FaultsAreNumbered }
+{}
 
 /// The worked run of one cell on three members, of which one acknowledges, is faultless, and 81 events are its bound. Two more are it
 /// where its process took 25,000 turns, and where that waits at an action; and 89 are it where objects may be single.
