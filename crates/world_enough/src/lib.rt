@@ -3,9 +3,9 @@
 //!
 //! A run is faultless where each packet's fate is Pass, or a Hold for no ticks, no member crashes or is suspected, no wire is exchanged,
 //! and of the packets that are ready the first is delivered; actions and bursts may come in any order. Its group is then what a list of
-//! the group's moves leads to, and the letters in flight are what that list has on its way; beside them fly Asks and Answers, two for each
-//! call on a single object. All of it is of lawful programs, with single objects and without, by settings that a run may have. It has no
-//! code: its functions are laws, whose bodies are empty or call the laws below.
+//! the group's moves leads to, and the letters in flight are what that list has on its way; beside them fly Asks and Answers, at most two
+//! for each call. All of it is of lawful programs, with single objects and without, by settings that a run may have. It has no code: its
+//! functions are laws, whose bodies are empty or call the laws below.
 #![tactic(auto)]
 
 ghost use Rattle.std.specs.Prelude.{◌≡◌, length};
