@@ -23,3 +23,4 @@ mod Ending
 mod Faulty
 mod OneCell
 mod OneOwner
+mod Numbered

@@ -3,3 +3,4 @@ pub mod Paid
 pub mod Bound
 pub mod Tie
 pub mod OneOwner
+pub mod Numbered

@@ -1,5 +1,5 @@
 -- The world of a faultless run is what a list of the group's moves leads to, and what was delivered beside the group's letters are Asks and
--- Answers, two for each call on a single object; and no tick comes.
+-- Answers, at most two for each call; and no tick comes.
 use Rattle.std.specs.Prelude.{◌≡◌, ◌≤◌, ◌+◌, ◌*◌, ℕ, true, List, [], ◌∷◌, None}
 use Rattle.value_core.specs.Meaning.{Computes, Performs}
 use Rattle.value_core.specs.declared.message.Message.{Message}

@@ -3,9 +3,9 @@
 //!
 //! A run is faultless where each packet's fate is Pass, or a Hold for no ticks, no member crashes or is suspected, no wire is exchanged,
 //! and of the packets that are ready the first is delivered; actions and bursts may come in any order. Its group is then what a list of
-//! the group's moves leads to, and the letters in flight are what that list has on its way; beside them fly Asks and Answers, two for each
-//! call on a single object. All of it is of lawful programs, with single objects and without, by settings that a run may have. It has no
-//! code: its functions are laws, whose bodies are empty or call the laws below.
+//! the group's moves leads to, and the letters in flight are what that list has on its way; beside them fly Asks and Answers, at most two
+//! for each call. All of it is of lawful programs, with single objects and without, by settings that a run may have. It has no code: its
+//! functions are laws, whose bodies are empty or call the laws below.
 #![tactic(auto)]
 
 ghost use Rattle.std.specs.Prelude.{◌≡◌, length};
@@ -20,6 +20,7 @@ ghost use Rattle.world_enough.specs.Bound.{
   bound_with_singles,
 };
 ghost use Rattle.world_enough.specs.Faultless.{LeadsFaultless};
+ghost use Rattle.world_enough.specs.Numbered.{FaultsAreNumbered};
 ghost use Rattle.world_enough.specs.OneOwner.{owner_end, owner_steps};
 ghost use Rattle.world_enough.specs.Paid.{FaultlessRunsPay};
 ghost use Rattle.world_enough.specs.Tie.{FaultlessRunsHaveGroup, FaultlessRunsNeedNoTick};
@@ -160,6 +161,11 @@ pub fn events_are_enough_with_singles<P: Processor>(machine: &P)
     standings_mean();
     faultless_runs_go_well(machine);
 }
+
+/// Steps are faulty exactly where their last fault has a number, as idle stretches count faults. A call of this function does nothing.
+pub fn faults_are_numbered()
+    ensures { FaultsAreNumbered }
+{}
 
 /// The worked run of one cell on three members, of which one acknowledges, is faultless, and 81 events are its bound. Two more are it
 /// where its process took 25,000 turns, and where that waits at an action; and 89 are it where objects may be single.
