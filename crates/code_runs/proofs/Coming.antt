@@ -1,7 +1,7 @@
 -- What is given of a run.
 use Rattle.std.proofs.Common.{◌≡◌, ℕ, ◌∙◌, sym, subst}
 use Rattle.value_core.specs.declared.meaning.Tried.{Tried}
-use Rattle.code_rules.specs.Performing.{Came, To, NotYet, GotStuck}
+use Rattle.code_rules.specs.Performing.{Came}
 use Rattle.code_runs.specs.Runs.{Gives, HasSmallGuards, IsCame}
 
 pub came_as : {A : Type 0} (x y : Came A) (z : A) → x ≡ y → IsCame y z → IsCame x z

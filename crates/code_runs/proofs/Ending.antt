@@ -1,5 +1,5 @@
 -- What is made, and where a process then stands, by how a run halted.
-use Rattle.std.proofs.Common.{◌≡◌, ◌+◌, ◌-◌, ◌≤◌, ℕ, List, [], Option, refl, sym, ap, ◌∙◌, subst, arith}
+use Rattle.std.proofs.Common.{◌≡◌, ◌+◌, ◌-◌, ℕ, [], Option, refl, sym, ap, ◌∙◌, subst, arith}
 use Rattle.orca_base.specs.declared.fault.FaultKind.{FaultKind}
 use Rattle.orca_base.specs.declared.fault.FaultKind.TheVariants.{TooLong}
 use Rattle.value_core.specs.Goes.{IfAt}

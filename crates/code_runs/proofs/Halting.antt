@@ -1,18 +1,23 @@
 -- Where a run halts, what it comes to.
-use Rattle.std.proofs.Common.{Bool, ◌^◌, ◌≡◌, ◌+◌, ◌-◌, ◌≤◌, ◌<◌, ℕ, zero, suc, List, [], Option, Some, None, refl, sym, ap, ◌∙◌, subst, arith}
+use Rattle.std.proofs.Common.{Bool, ◌^◌, ◌≡◌, ◌+◌, ◌≤◌, ◌<◌, ℕ, zero, suc, [], Option, take, drop, refl, sym, ap, ◌∙◌, subst, arith}
+use Rattle.std.specs.Prelude.{option_map}
 use Rattle.orca_base.specs.declared.fault.FaultKind.{FaultKind}
 use Rattle.orca_base.specs.declared.fault.FaultKind.TheVariants.{TooLong}
 use Rattle.orca_base.specs.declared.limits.TheConstants.{OPERATION_TURNS}
+use Rattle.value_core.specs.Datum.{Data, data_of}
+use Rattle.value_core.specs.View.{datum_of}
 use Rattle.value_core.specs.declared.action.Reply.{Reply}
 use Rattle.value_core.specs.declared.meaning.Tried.{Tried}
 use Rattle.value_core.specs.declared.meaning.Tried.TheVariants as tried
 use Rattle.value_core.specs.declared.value.Value.{Value}
+use Rattle.meaning_rules.specs.Operations.{reply_of}
 use Rattle.code_rules.specs.Machine.{Code, Config, Effect, Steps, Turns, Asks, Fails, Ends, Tests, Blocks, Stuck, Continuation, exec, react, step}
 use Rattle.code_rules.specs.Performing.{Attempt, Came, To, attempted, next_guard, part_of, tried_by, trying}
 use Rattle.code_steps.specs.Bodies.{effect_in}
 use Rattle.code_steps.specs.declared.config.Effect.{Effect as Done}
 use Rattle.code_steps.specs.declared.config.Effect.TheVariants as done
 use Rattle.code_runs.specs.Runs.{HaltsSo, halts, steps, turns, HasSmallGuard, IsCame, IsHalt, come_to, ends_with}
+use Rattle.code_runs.proofs.Coming.{came_as}
 
 -- a halt comes to the same, whatever would go on behind it
 pub react_halts : (e : Effect) (left : ℕ) → IsHalt e left → (go : Continuation) (t : ℕ) → react e go [] t left ≡ come_to e t
@@ -61,6 +66,10 @@ pub some_left : (code : Code) (c : Config) (left left' : ℕ) (e : Effect) → H
 some_left code c left left' e (halts is h) some = some
 some_left code c left left' e (steps {d = d} is rest) some = some_left code d left left' e rest some
 some_left code c left left' e (turns {d = d} {n = n} is rest) some = some_left code d (suc n) left' e rest (omega arith)
+
+-- a number of turns that is the same
+pub halts_with : (code : Code) (c : Config) (left other left' : ℕ) (e : Effect) → left ≡ other → HaltsSo code c left e left' → HaltsSo code c other e left'
+halts_with code c left other left' e same h = subst (λ (n : ℕ). HaltsSo code c n e left') same h
 
 -- how it halted
 pub halt_of : (code : Code) (c : Config) (left left' : ℕ) (e : Effect) → HaltsSo code c left e left' → IsHalt e left'
@@ -127,6 +136,16 @@ no_test (done.Ends x) c h = tt
 no_test (done.Tests t address) c h = h t address refl
 no_test done.Blocks c h = tt
 no_test done.Stuck c h = tt
+
+-- an end gives what it leaves
+pub tried_ended : (a : Attempt) (guard number : ℕ) (e : Done) (c : Config) (x : Option Value) (state : Data) (r : Reply) → e ≡ done.Ends x → (guard < 2 ^ 16 → number ≡ guard) →
+    ((t : Tried) → ends_with a guard (effect_in e c) ≡ To t → HasSmallGuard t) → state ≡ data_of (drop a.own (take a.names c.locals)) → r ≡ reply_of (option_map datum_of x) →
+    IsCame (ends_with a guard (effect_in e c)) (tried.Did number state r)
+tried_ended a guard number e c x state r is same small left gives =
+    let whole : Tried = tried.Did guard (data_of (drop a.own (take a.names c.locals))) (reply_of (option_map datum_of x)) in
+    let came : ends_with a guard (effect_in e c) ≡ To whole = ap (λ (d : Done). ends_with a guard (effect_in d c)) is in
+    let n : number ≡ guard = same (small whole came) in
+    came_as (ends_with a guard (effect_in e c)) (To whole) (tried.Did number state r) came (cc)
 
 -- what is neither a fault nor an end, nor that all guards were false, is too long, or nothing is said of it
 pub tried_else : (a : Attempt) (guard number : ℕ) (e : Done) (c : Config) → ((x : Option Value) → e ≡ done.Ends x → ⊥) → ((f : FaultKind) → e ≡ done.Fails f → ⊥) → (e ≡ done.Blocks → ⊥) →

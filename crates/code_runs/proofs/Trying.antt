@@ -23,9 +23,11 @@ use Rattle.code_runs.proofs.Ending.{makes_come}
 -- the output object takes each line, and keeps its state
 pub output_tried : (code : Code) (kind : KindNo) (op : OpNo) (state args : Data) (t : Tried) → kind.0 ≡ 0 → t ≡ tried.Did 0 state reply.Done →
     Gives (tries code kind op state args) t
-output_tried code kind op state args t zero is =
-    (0, subst (λ (n : ℕ). IsCame (if n == 0 then To (tried.Did 0 state reply.Done) else operation_tried code (OfOperation kind.0 op.0) state args (operation_of code kind.0 op.0) 0) t)
-    (sym zero) is)
+output_tried code kind op state args t zero is = (
+  0,
+  subst (λ (n : ℕ). IsCame (if n == 0 then To (tried.Did 0 state reply.Done) else operation_tried code (OfOperation kind.0 op.0) state args (operation_of code kind.0 op.0) 0) t)
+      (sym zero) is,
+)
 
 -- another type's operation is tried by its code
 pub tries_of : (code : Code) (kind : KindNo) (op : OpNo) (state args : Data) (n m : ℕ) (o : Option OperationCode) → kind.0 ≢ 0 → n ≡ kind.0 → m ≡ op.0 →

@@ -48,11 +48,7 @@ fn main_text(alloc: Global) -> Result<EmittedBody<'static>, NoMemory> {
         },
         Instr::End,
     ]?;
-    Ok(body(
-        alloc,
-        instrs,
-        vec![in alloc; Value::Int(0), Value::Int(0)]?,
-    ))
+    Ok(body(alloc, instrs, vec![in alloc; Value::Int(0), Value::Int(0)]?))
 }
 
 // An operation of two guards: where its argument is 1 it puts 5 into the field and gives 9, and the other guard is false.
@@ -152,7 +148,14 @@ fn a_process_stops_at_turns_and_actions(rt: HostRuntime) -> Result<(), NoMemory>
     assert!(rt; matches!(halt, Halt::Paused));
     assert!(rt; process.turns == 1);
     let (process, halt) = go(alloc, &code, process, 5)?;
-    assert!(rt; matches!(halt, Halt::At { action: Action::Make { .. } }));
+    assert!(rt;
+        matches!(
+            halt,
+            Halt::At {
+                action: Action::Make { .. }
+            }
+        )
+    );
     assert!(rt; process.turns == 2);
     let process = answer(process, Reply::Done);
     let (process, halt) = go(alloc, &code, process, 5)?;
@@ -160,7 +163,14 @@ fn a_process_stops_at_turns_and_actions(rt: HostRuntime) -> Result<(), NoMemory>
     let value = Value::Int(9);
     let process: CodeProcess<'_> = answer(process, Reply::Gave { value });
     let (process, halt) = go(alloc, &code, process, 5)?;
-    assert!(rt; matches!(halt, Halt::At { action: Action::Ended }));
+    assert!(rt;
+        matches!(
+            halt,
+            Halt::At {
+                action: Action::Ended
+            }
+        )
+    );
     assert!(rt; process.turns == 2);
     Ok(())
 }

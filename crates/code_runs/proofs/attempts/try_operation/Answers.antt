@@ -1,4 +1,4 @@
-use Rattle.std.proofs.Common.{◌≡◌, ℕ, Some, None, ap}
+use Rattle.std.proofs.Common.{◌≡◌, ℕ, Some, ap}
 use Rattle.std.proofs.lemmas.Result.{IfOk-weaker}
 use Rattle.value_core.specs.Datum.{Data}
 use Rattle.value_core.specs.declared.action.Reply.TheVariants as reply
@@ -12,9 +12,9 @@ use Rattle.code_runs.proofs.attempts.try_operation.Goals as goal
 
 pub returns-then-kind-eq0 : goal.returns-then-kind-eq0
 returns-then-kind-eq0 c = λ room guards.
-    let state = c.in_ok-copy-then-kind-eq0.field-0 in
+    let state = c.in_ok-copy.field-0 in
     output_tried (program_seen c.args.code.now) c.args.kind c.args.op c.args.state.now c.args.args.now (tried.Did 0 state reply.Done) c.if-kind-eq0.true
-    (ap (λ (d : Data). tried.Did 0 d reply.Done) (c.in_ok-copy-then-kind-eq0.ensures {u = tt}))
+    (ap (λ (d : Data). tried.Did 0 d reply.Done) (c.in_ok-copy.ensures {u = tt}))
 
 pub returns-in-Some : goal.returns-in-Some
 returns-in-Some c = λ room guards.

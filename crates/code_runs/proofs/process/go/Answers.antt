@@ -1,4 +1,4 @@
-use Rattle.std.proofs.Common.{◌≡◌, ◌+◌, ◌<◌, ◌≤◌, ◌^◌, ap, arith}
+use Rattle.std.proofs.Common.{◌≡◌, ap, arith}
 use Rattle.std.proofs.lemmas.Result.{IfOk-weaker}
 use Rattle.emitted_code.specs.Views.{program_seen}
 use Rattle.code_steps.specs.Bodies.{config_of}
@@ -14,7 +14,7 @@ returns-in_ok-push_reply-in-Running-clause-came c = λ room some fits.
     let budget = c.from.result in
     let same : budget ≡ c.args.budget = c.from.ensures in
     IfOk-weaker c.run_on.result _ _
-    (λ r g. gone_on (program_seen c.args.code.now) (phase_of p.phase) old new p.turns c.args.budget budget (process_of r.0, r.1) (ap phase_of c.in-Running.is) (c.in_ok-push_reply.ensures {u = tt}) same g)
+    (λ r g. gone_on (program_seen c.args.code.now) (phase_of p.phase) old new p.turns c.args.budget budget (process_of r.0, r.1) (ap phase_of c.in-Running.is) (c.in_ok-push_reply-in-Running.ensures {u = tt}) same g)
     (c.run_on.ensures.came room (omega (arith, some, same)) (omega (arith, fits, same)))
 
 pub returns-in-Asking-clause-came : goal.returns-in-Asking-clause-came

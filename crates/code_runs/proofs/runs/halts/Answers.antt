@@ -1,4 +1,4 @@
-use Rattle.std.proofs.Common.{arith, ◌<◌, ◌≡◌, ◌+◌, ◌-◌}
+use Rattle.std.proofs.Common.{arith, ◌-◌}
 use Rattle.code_runs.specs.Runs.{steps}
 use Rattle.code_runs.proofs.Halting.{turn_more}
 use Rattle.code_runs.proofs.runs.halts.Goals as goal
