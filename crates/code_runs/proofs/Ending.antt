@@ -54,7 +54,7 @@ makes_come code fields c left left' e m h came =
 pair_is : (s s' : ProcessState) (h h' : Halt) → s ≡ s' → h ≡ h' → ◌≡◌ {A = ProcessState × Halt} (s, h) (s', h')
 pair_is s s' h h' es eh = ap (λ (x : ProcessState). let p : ProcessState × Halt = (x, h) in p) es ∙ ap (λ (x : Halt). let p : ProcessState × Halt = (s', x) in p) eh
 
-pub came_to : (x : Came (ProcessState × Halt)) (s s' : ProcessState) (h h' : Halt) → x ≡ To (s', h') → s ≡ s' → h ≡ h' → IsCame x (s, h)
+came_to : (x : Came (ProcessState × Halt)) (s s' : ProcessState) (h h' : Halt) → x ≡ To (s', h') → s ≡ s' → h ≡ h' → IsCame x (s, h)
 came_to x s s' h h' is es eh = came_as x (To (s', h')) (s, h) is (pair_is s s' h h' es eh)
 
 -- it is left at the action to which it comes
@@ -63,9 +63,6 @@ left_asking s h act c t es eh = subst (λ (x : ProcessState). IfAt h (halted x))
 
 pub left_over : (s : ProcessState) (h : Halt) (act : Action) (t : ℕ) → s ≡ in_phase (Finished act) t → h ≡ halt.At act → IfAt h (halted s)
 left_over s h act t es eh = subst (λ (x : ProcessState). IfAt h (halted x)) (sym es) (subst (λ (x : Halt). IfAt x (halted (in_phase (Finished act) t))) (sym eh) refl)
-
-pub left_paused : (s : ProcessState) (h : Halt) → h ≡ halt.Paused → IfAt h (halted s)
-left_paused s h eh = subst (λ (x : Halt). IfAt x (halted s)) (sym eh) tt
 
 -- a run comes to where its process then stands
 pub goes_come : (code : Code) (c : Config) (turns left left' : ℕ) (e : Effect) (t' : ℕ) (r : ProcessState × Halt) → HaltsSo code c left e left' → t' + left' ≡ turns + left →

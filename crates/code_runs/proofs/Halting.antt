@@ -20,7 +20,7 @@ use Rattle.code_runs.specs.Runs.{HaltsSo, halts, steps, turns, HasSmallGuard, Is
 use Rattle.code_runs.proofs.Coming.{came_as}
 
 -- a halt comes to the same, whatever would go on behind it
-pub react_halts : (e : Effect) (left : ℕ) → IsHalt e left → (go : Continuation) (t : ℕ) → react e go [] t left ≡ come_to e t
+react_halts : (e : Effect) (left : ℕ) → IsHalt e left → (go : Continuation) (t : ℕ) → react e go [] t left ≡ come_to e t
 react_halts (Steps c) left h go t = absurd h
 react_halts (Turns c) zero h go t = refl
 react_halts (Turns c) (suc zero) h go t = refl
@@ -45,7 +45,7 @@ exec_halts code c left left' e (turns {d = d} {n = n} is rest) t t' taken =
     (suc r.0, ap (λ x. react x (exec code r.0) [] t (suc (suc n))) is ∙ r.1)
 
 -- the same of a try
-pub trying_halts : (code : Code) (a : Attempt) (guard j : ℕ) (c : Config) (left left' : ℕ) (e : Effect) → HaltsSo code c left e left' →
+trying_halts : (code : Code) (a : Attempt) (guard j : ℕ) (c : Config) (left left' : ℕ) (e : Effect) → HaltsSo code c left e left' →
     (k : ℕ) × (trying code a k guard c left ≡ tried_by a guard (trying code a j) e left')
 trying_halts code a guard j c left left' e (halts is h) = (suc j, ap (λ x. tried_by a guard (trying code a j) x left) is)
 trying_halts code a guard j c left left' e (steps {d = d} is rest) =
@@ -72,7 +72,7 @@ pub halts_with : (code : Code) (c : Config) (left other left' : ℕ) (e : Effect
 halts_with code c left other left' e same h = subst (λ (n : ℕ). HaltsSo code c n e left') same h
 
 -- how it halted
-pub halt_of : (code : Code) (c : Config) (left left' : ℕ) (e : Effect) → HaltsSo code c left e left' → IsHalt e left'
+halt_of : (code : Code) (c : Config) (left left' : ℕ) (e : Effect) → HaltsSo code c left e left' → IsHalt e left'
 halt_of code c left left' e (halts is h) = h
 halt_of code c left left' e (steps {d = d} is rest) = halt_of code d left left' e rest
 halt_of code c left left' e (turns {d = d} {n = n} is rest) = halt_of code d (suc n) left' e rest

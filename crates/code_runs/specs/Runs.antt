@@ -19,8 +19,10 @@ IsHalt _ left = Unit {0}
 -- from a configuration, with so many turns left, a run halts so, with so many turns left
 pub data HaltsSo (code : Code) : Config → ℕ → Effect → ℕ → Type 0 where
   halts : {c : Config} {left : ℕ} {e : Effect} → step code c ≡ e → IsHalt e left → HaltsSo code c left e left
-  steps : {c d : Config} {left left' : ℕ} {e : Effect} → step code c ≡ Steps d → HaltsSo code d left e left' → HaltsSo code c left e left'
-  turns : {c d : Config} {n left' : ℕ} {e : Effect} → step code c ≡ Turns d → HaltsSo code d (suc n) e left' → HaltsSo code c (suc (suc n)) e left'
+  steps : {c d : Config} {left left' : ℕ} {e : Effect} → step code c ≡ Steps d → HaltsSo code d left e left' →
+      HaltsSo code c left e left'
+  turns : {c d : Config} {n left' : ℕ} {e : Effect} → step code c ≡ Turns d → HaltsSo code d (suc n) e left' →
+      HaltsSo code c (suc (suc n)) e left'
 
 -- what a run comes to that halts so, after so many turns; what doesn't halt is lost
 abbrev pub come_to : Effect → ℕ → RunResult

@@ -78,7 +78,8 @@ impl<'a, 'p> Attempt<'a, 'p> {
 
     // What the body leaves of the object's fields.
     fn fields(self, alloc: Global, frame: Frame<'_>) -> Result<Parts, NoMemory>
-        ensures { IfOk result (λ p. p ≡ data_of (drop (attempt_seen self.entry).own (take (attempt_seen self.entry).names frame.entry))) }
+        ensures { IfOk result (λ p.
+            p ≡ data_of (drop (attempt_seen self.entry).own (take (attempt_seen self.entry).names frame.entry))) }
     {
         let own = self.args.len() + self.part.opens.len();
         let values = frame.into_values(alloc)?.into_vec();
@@ -100,7 +101,8 @@ impl<'a, 'p> Attempt<'a, 'p> {
         effect: Effect,
         config: Config<'_>,
     ) -> Result<Tried, NoMemory>
-        ensures { ((x : TriedTree) → ends_with (attempt_seen self.entry) guard (effect_in effect (config_of config.entry)) ≡ To x → HasSmallGuard x) →
+        ensures { ((x : TriedTree) →
+                ends_with (attempt_seen self.entry) guard (effect_in effect (config_of config.entry)) ≡ To x → HasSmallGuard x) →
             IfOk result (λ t. IsCame (ends_with (attempt_seen self.entry) guard (effect_in effect (config_of config.entry))) t) }
     {
         let number = guard_number(guard);
@@ -143,11 +145,12 @@ impl<'a, 'p> Attempt<'a, 'p> {
     }
 }
 
-/// What a try of an operation on a state gives: what the code comes to with some number of instructions (`tries` of code_rules). The
-/// output object has one operation, which changes nothing. It asks that numbers of guards have 16 bits.
+/// What a try of an operation on a state gives: what the code comes to with some number of instructions (`tries` of code_rules;
+/// docs/LANGUAGE.md, Code). The output object has one operation, which changes nothing. Where the code is stuck nothing is said. The state
+/// and the arguments are lent, and stay as they are.
 ///
 /// # Errors
-/// Want of memory.
+/// Want of memory, which is also answered where 2^32 - 1 guards were tested.
 pub fn try_operation(
     alloc: Global,
     code: &Emitted<'_>,

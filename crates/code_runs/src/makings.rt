@@ -57,10 +57,10 @@ fn make_by(
 }
 
 /// What the making of an object gives, by the number of its type: what the code comes to with some number of instructions (`makes` of
-/// code_rules). An object of a type without code has no fields.
+/// code_rules; docs/LANGUAGE.md, Code). An object of a type without code has no fields. Where the code is stuck nothing is said.
 ///
 /// # Errors
-/// Want of memory.
+/// Want of memory, which is also answered after 2^64 - 1 instructions.
 pub fn make_object(alloc: Global, code: &Emitted<'_>, kind: KindNo) -> Result<Making, NoMemory>
     ensures { HasRoomThroughout (program_seen code.now) → IfOk result (λ m. Gives (makes (program_seen code.now) kind) m) }
 {

@@ -188,11 +188,11 @@ fn run_on<'a>(
 }
 
 /// A process goes on up to its next action, or until the budget's last turn is begun: to what the code comes to with some number of
-/// instructions (`go` of code_rules). Where it comes to an action it is left at it. Where its code is stuck it is paused, and no more is
-/// said of it: code that means a program is never stuck.
+/// instructions (`go` of code_rules; docs/LANGUAGE.md, Code). Where it comes to an action it is left at it. Where its code is stuck
+/// nothing more is said: code that means a program is never stuck.
 ///
 /// # Errors
-/// Want of memory.
+/// Want of memory, which is also answered after 2^64 - 1 instructions. The process is gone then; whoever would go on keeps a copy.
 pub fn go<'a>(
     alloc: Global,
     code: &Emitted<'_>,

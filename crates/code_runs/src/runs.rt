@@ -35,7 +35,7 @@ fn halts(effect: &Effect, left: &mut u64) -> bool
 /// how many turns are left.
 ///
 /// # Errors
-/// Want of memory.
+/// Want of memory, which is also answered after 2^64 - 1 instructions. Nothing is said then of where the run stands.
 pub fn run(
     alloc: Global,
     code: &Emitted<'_>,
