@@ -102,7 +102,7 @@ impl<'a, 'p> Attempt<'a, 'p> {
         config: Config<'_>,
     ) -> Result<Tried, NoMemory>
         ensures { ((x : TriedTree) →
-                ends_with (attempt_seen self.entry) guard (effect_in effect (config_of config.entry)) ≡ To x → HasSmallGuard x) →
+            ends_with (attempt_seen self.entry) guard (effect_in effect (config_of config.entry)) ≡ To x → HasSmallGuard x) →
             IfOk result (λ t. IsCame (ends_with (attempt_seen self.entry) guard (effect_in effect (config_of config.entry))) t) }
     {
         let number = guard_number(guard);
@@ -126,7 +126,8 @@ impl<'a, 'p> Attempt<'a, 'p> {
 
     // The whole try, from its first guard on, or its body.
     fn run(self, alloc: Global, code: &Emitted<'_>, first: u16) -> Result<Tried, NoMemory>
-        ensures { HasRoomThroughout (program_seen code.now) → HasSmallGuards (attempted (program_seen code.now) (attempt_seen self.entry) first) →
+        ensures { HasRoomThroughout (program_seen code.now) →
+            HasSmallGuards (attempted (program_seen code.now) (attempt_seen self.entry) first) →
             IfOk result (λ t. Gives (attempted (program_seen code.now) (attempt_seen self.entry) first) t) }
     {
         let mut guard = u64::from(first);

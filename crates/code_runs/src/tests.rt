@@ -139,6 +139,33 @@ fn is_at_call(halt: &Halt) -> bool {
     }
 }
 
+fn is_gift(reply: &Reply, number: i64) -> bool {
+    match reply {
+        Reply::Gave { value } => integer_in(value) == number,
+        _ => false,
+    }
+}
+
+// Whether a try ran by this guard, left one integer and gave another.
+fn is_done(tried: &Tried, by: u16, left: i64, given: i64) -> bool {
+    match tried {
+        Tried::Did {
+            guard,
+            state,
+            reply,
+        } => *guard == by && is_one(state, left) && is_gift(reply, given),
+        _ => false,
+    }
+}
+
+// Whether a try without guards left one integer.
+fn is_kept(tried: &Tried, left: i64) -> bool {
+    match tried {
+        Tried::Did { guard, state, .. } => *guard == 0 && is_one(state, left),
+        _ => false,
+    }
+}
+
 #[test]
 fn a_process_stops_at_turns_and_actions(rt: HostRuntime) -> Result<(), NoMemory> {
     let alloc = rt.alloc();
@@ -181,20 +208,13 @@ fn an_operation_is_tried_guard_by_guard(rt: HostRuntime) -> Result<(), NoMemory>
     let code = program(alloc)?;
     let state = one(alloc, 3)?;
     let kind = KindNo(1);
-    let done = match try_operation(alloc, &code, kind, OpNo(0), &state, &one(alloc, 1)?)? {
-        Tried::Did {
-            guard,
-            state,
-            reply: Reply::Gave { value },
-        } => guard == 1 && is_one(&state, 5) && integer_in(&value) == 9,
-        _ => false,
-    };
-    assert!(rt; done);
+    let tried = try_operation(alloc, &code, kind, OpNo(0), &state, &one(alloc, 1)?)?;
+    assert!(rt; is_done(&tried, 1, 5, 9));
     let tried = try_operation(alloc, &code, kind, OpNo(0), &state, &one(alloc, 2)?)?;
     assert!(rt; matches!(tried, Tried::Blocked));
     assert!(rt; is_one(&state, 3));
     let tried = try_operation(alloc, &code, KindNo(0), OpNo(0), &state, &state)?;
-    assert!(rt; matches!(tried, Tried::Did { guard: 0, .. }));
+    assert!(rt; is_kept(&tried, 3));
     Ok(())
 }
 
