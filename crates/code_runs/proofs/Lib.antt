@@ -1,0 +1,5 @@
+mod Coming
+mod Halting
+mod Ending
+mod Filling
+mod Trying
