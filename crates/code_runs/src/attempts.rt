@@ -151,7 +151,8 @@ impl<'a, 'p> Attempt<'a, 'p> {
 /// and the arguments are lent, and stay as they are.
 ///
 /// # Errors
-/// Want of memory, which is also answered where 2^32 - 1 guards were tested.
+/// Want of memory, which is also answered after 2^64 - 1 instructions of a guard or body, and where 2^32 - 1 guards were tested. Code that
+/// means a program comes to neither.
 pub fn try_operation(
     alloc: Global,
     code: &Emitted<'_>,

@@ -189,7 +189,8 @@ fn run_on<'a>(
 
 /// A process goes on up to its next action, or until the budget's last turn is begun: to what the code comes to with some number of
 /// instructions (`go` of code_rules; docs/LANGUAGE.md, Code). Where it comes to an action it is left at it. Where its code is stuck
-/// nothing more is said: code that means a program is never stuck.
+/// nothing more is said: code that means a program is never stuck. It is asked that the objects which the code makes have numbers of 32
+/// bits, that the budget has a turn, and that the turns and the budget together fit 64 bits; without these only `left` is said.
 ///
 /// # Errors
 /// Want of memory, which is also answered after 2^64 - 1 instructions. The process is gone then; whoever would go on keeps a copy.

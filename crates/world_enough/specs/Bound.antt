@@ -111,7 +111,7 @@ Ends Finished = Unit {0}
 Ends Going = Unit {0}
 
 -- no tick came, and every member lives. There were at most so many events, and one more where it is out of turns or at a limit; where more
--- were stated it ends; it never lacks a group; and where it is quiet at no limit it is over
+-- were stated it is not out of events; it never lacks a group; and where it is quiet at no limit it is over
 pub record GoesWellWithin (most : ℕ) (f : Frame) (w : World) (steps : List Step) : Type 0 where
   pub ticks : NoTick steps
   pub lives : (m : ℕ) → w.lives m ≡ true

@@ -19,7 +19,7 @@ ghost use Rattle.world_enough.specs.Bound.{
   bound,
   bound_with_singles,
 };
-ghost use Rattle.world_enough.specs.Faultless.{LeadsFaultless};
+ghost use Rattle.world_enough.specs.Faultless.{LeadsFaultless, delivered, worked};
 ghost use Rattle.world_enough.specs.Numbered.{FaultsAreNumbered};
 ghost use Rattle.world_enough.specs.OneOwner.{owner_end, owner_steps};
 ghost use Rattle.world_enough.specs.Paid.{FaultlessRunsPay};
@@ -42,8 +42,8 @@ use world_book::legal_book;
 use world_facts::{processes_stand, standings_mean};
 use world_law::{group_steps, members_catch_up, processes_are_home};
 
-/// No tick comes in a faultless run, and its group is what a list of the group's moves leads to; what was delivered beside its letters are
-/// Asks and Answers, at most two for each call, and none where no object is single; and a quiet moment at which no limit is passed is the
+/// No tick comes in a faultless run, and its group is what a list of the group's moves leads to; beside that list's letters at most two
+/// packets for each call were delivered, its Ask and its Answer, and none where no object is single; and a quiet moment at which no limit is passed is the
 /// run's end. A call of this function does nothing.
 pub fn faultless_runs_need_no_tick<P: Processor>(machine: &P)
     ensures { FaultlessRunsNeedNoTick (P.performs machine.now) (P.computes machine.now) }
@@ -84,8 +84,8 @@ pub fn faultless_runs_have_group<P: Processor>(machine: &P)
     faultless_runs_need_no_tick(machine);
 }
 
-/// At every moment of a faultless run at most 6 N (L + 1) packets of the group were delivered, with N members and L entries in the
-/// sequencer's log; and two others for each call, or none where no object is single. A call of this function does nothing.
+/// At every moment of a faultless run at most so many packets were delivered: 6 N (L + 1), with N members and L entries in the sequencer's
+/// log, and two for each call, or none where no object is single. A call of this function does nothing.
 pub fn faultless_runs_deliver<P: Processor>(machine: &P)
     ensures { FaultlessRunsDeliver (P.performs machine.now) (P.computes machine.now) }
 {
@@ -171,15 +171,21 @@ pub fn faults_are_numbered()
 /// where its process took 25,000 turns, and where that waits at an action; and 89 are it where objects may be single.
 pub fn one_cell_is_bounded()
     ensures faultless { LeadsFaultless one_cell (opening_world one_cell) one_cell_steps one_cell_end }
+    ensures events { length one_cell_steps ≡ 22 }
+    ensures packets { delivered one_cell_steps ≡ 15 }
+    ensures works { worked one_cell_steps ≡ 7 }
     ensures bound { bound one_cell one_cell_end ≡ 81 }
     ensures turns { bound one_cell (with_stage 25000 (Over action.Ended)) ≡ 83 }
     ensures waits { bound one_cell (with_stage 0 (Submitted (assign 6))) ≡ 83 }
     ensures singles { bound_with_singles one_cell one_cell_end ≡ 89 }
 {}
 
-/// The worked run of a cell that is single, on two members, is faultless: it has 14 events, of which 4 are packets, and 54 are its bound.
+/// The worked run of a cell that is single, on two members, is faultless: it has 14 events, of which 4 are packets and the others bursts and
+/// acts, and 54 are its bound.
 pub fn one_owner_is_bounded()
     ensures faultless { LeadsFaultless single_cell (opening_world single_cell) owner_steps owner_end }
     ensures events { length owner_steps ≡ 14 }
+    ensures packets { delivered owner_steps ≡ 4 }
+    ensures works { worked owner_steps ≡ 10 }
     ensures bound { bound_with_singles single_cell owner_end ≡ 54 }
 {}
