@@ -50,7 +50,7 @@ fn packed<'p>(alloc: Global, emitted: Emitted<'p>) -> Result<Code<'p>, NoMemory>
 }
 
 /// The code of a checked program (docs/LANGUAGE.md, Code). It is exactly that of the definitions, and so means the program's sources
-/// (`code_law`); it can't get stuck. All of it together has at most one instruction for each token of the program's texts (`length_law`).
+/// (`code_law`). All of it together has at most one instruction for each token of the program's texts (`length_law`).
 ///
 /// # Errors
 /// The limit that the program passes, that of parameters first: a function, process or operation has more than 255, or else the units have

@@ -1,9 +1,10 @@
 -- What was printed, one put on; and how the program ends where it runs nothing.
-use Rattle.std.proofs.Common.{◌⊎◌, ◌≡◌, ◌≢◌, ℕ, suc, ◌+◌, ◌<◌, List, [], ◌∷◌, ◌++◌, length, get_or, drop, add-one, drop-cons, Option, Some, None, refl, sym, ap, ◌∙◌, subst, inl, inr}
+use Rattle.std.proofs.Common.{◌⊎◌, ◌≡◌, ◌≢◌, ℕ, suc, ◌+◌, ◌<◌, List, [], ◌∷◌, ◌++◌, length, get_or, drop, map, add-one, drop-cons, Option, Some, None, refl, sym, ap, ◌∙◌, subst, inl, inr}
 use Rattle.std.specs.Prelude.{Bool, Result, Ok, Err, IfNone, IfOk, IfSome, MatchOption, OnErr, OnOk, option_and_then, option_map}
 use Rattle.command_line.specs.declared.request.RunOptions.{RunOptions}
 use Rattle.net_rules.specs.declared.line.ScriptLine.{ScriptLine}
 use Rattle.link_rules.specs.Units.{Source}
+use Rattle.choice_command.specs.Lines.{choice_lines}
 use Rattle.replica_choice.specs.declared.policy.Asked.{Asked}
 use Rattle.accepted_law.specs.Limits.{IsWithinLimits}
 use Rattle.program_bodies.specs.Codes.{sources as sources_of}
@@ -17,7 +18,7 @@ use Rattle.orca_base.specs.declared.refusal.Refusal.TheVariants as refusals
 use Rattle.orca_base.specs.Refusal.{IfBecause}
 use Rattle.orca_io.specs.declared.sink.SinkFault.{SinkFault}
 use Rattle.orca_io.specs.Files.{File}
-use Rattle.orca_io.specs.Reading.{FileRead, HasAsked, ReadSince}
+use Rattle.orca_io.specs.Reading.{FileRead, HasAsked, ReadSince, had}
 use Rattle.orca_io.specs.Sinks.{Puts}
 use Rattle.value_core.specs.History.{output_by, output_of}
 use Rattle.value_core.specs.declared.action.Line.{Line}
@@ -29,9 +30,8 @@ use Rattle.orca_cli.specs.declared.script.ScriptFault.{ScriptFault}
 use Rattle.orca_cli.specs.declared.script.ScriptFault.TheVariants as scripts
 use Rattle.command_output.specs.declared.statuses.TheConstants.{FINISHED, NO_MEMORY, READ_FAULT, WRITE_FAULT}
 use Rattle.orca_cli.specs.Endings as because
-use Rattle.orca_cli.specs.Choosing.{Chooser, WasAsked, WasAskedFirst}
-use Rattle.orca_cli.specs.Choosing as policies
-use Rattle.orca_cli.specs.Endings.{IsAnswer, IsEnding}
+use Rattle.orca_cli.specs.Choosing.{AreChosen, Chooser, WasAskedFirst, WasAskedSome}
+use Rattle.orca_cli.specs.Endings.{IsAnswer, IsEnding, told_by}
 use Rattle.command_files.specs.declared.load_fault.LoadFault.{LoadFault}
 use Rattle.command_files.specs.declared.load_fault.LoadFault.TheVariants as loads
 use Rattle.command_files.specs.Loaded.{front_status, load_status}
@@ -39,10 +39,10 @@ use Rattle.command_files.specs.Sources.{Word}
 use Rattle.orca_cli.specs.Job.{Deed, IsDeedWithin, checks, chooses, deed_in, deed_of, files_in, files_of, lists, named_in, names_by, names_of, replays, runs, script_in, script_of}
 use Rattle.command_output.proofs.Putting.{GrewUpTo, grew_fault, grew_put}
 use Rattle.command_output.specs.Printed.{Grew, WroteOf, Ends, EndsAs}
-use Rattle.orca_cli.specs.Scripts.{HasScript, IsScriptFault, IsScriptOf, IsScriptSince, IsUnreadable, script_status}
+use Rattle.orca_cli.specs.Scripts.{HasScriptSince, IsScriptFault, IsScriptOf, IsScriptSince, IsUnreadable, IsWrong, script_read, script_status}
 use Rattle.command_files.specs.Sources.{AreRead, IsRead}
-use Rattle.orca_cli.specs.Programs.{IsProgram, program_status, units_of}
-use Rattle.command_files.proofs.ReadFiles.{refused_status, since_none}
+use Rattle.orca_cli.specs.Programs.{IsProgramSince, program_status, units_of}
+use Rattle.command_files.proofs.ReadFiles.{refused_status, since_none, since_then}
 use Rattle.fault_scripts.specs.Says.{IsScript}
 use Rattle.orca_base.specs.declared.limits.TheConstants.{SCRIPT_BYTES}
 use Rattle.replay_command.specs.Endings.{IsReplayAnswer}
@@ -72,11 +72,27 @@ grew_line_fault first old new book i line piece fault less is says told puts =
 
 -- ---- how the program ends where it runs nothing
 
--- a refusal's line was printed, or there was no memory for it
-pub answer_of : {L E : Type 0} (bytes : L → List ℕ) (line : Result L E) (policy : Chooser) (words : List Word) (told : Option (List File)) (failed : Word → Type 0) (old new : Option (List ℕ)) (wanted status : ℕ) (text : List ℕ) →
-    IfOk line (λ l. bytes l ≡ text) → IfOk line (λ l. Grew old new (Ends wanted status (bytes l))) → OnErr line ((status ≡ NO_MEMORY) × (new ≡ old)) → EndsAs wanted status → IsEnding policy words told failed wanted text → IsAnswer policy words told failed old new status
-answer_of bytes (Ok l) policy words told failed old new wanted status text is grew silent ends refusal = inl (wanted, text, refusal, ends, subst (λ (t : List ℕ). Grew old new (Ends wanted status t)) is grew)
-answer_of bytes (Err e) policy words told failed old new wanted status text is grew silent ends refusal = inr silent
+-- a line was printed of an ending for which no policy is asked, or there was no memory for it
+pub answer_of : {L E : Type 0} (bytes : L → List ℕ) (line : Result L E) (policy : Chooser) (words : List Word) (told : Option (List File)) (earlier later : List FileRead) (failed : Word → Type 0) (old new : Option (List ℕ)) (wanted status : ℕ) (text : List ℕ) →
+    IfOk line (λ l. bytes l ≡ text) → IfOk line (λ l. Grew old new (Ends wanted status (bytes l))) → OnErr line ((status ≡ NO_MEMORY) × (new ≡ old)) → EndsAs wanted status → (ending : IsEnding policy words told earlier later failed wanted text) →
+    policy.told ≡ told_by policy words told earlier later failed wanted text ending → IsAnswer policy words told earlier later failed old new status policy.told
+answer_of bytes (Ok l) policy words told earlier later failed old new wanted status text is grew silent ends ending unasked = inl (wanted, text, ending, ends, subst (λ (t : List ℕ). Grew old new (Ends wanted status t)) is grew, unasked)
+answer_of bytes (Err e) policy words told earlier later failed old new wanted status text is grew silent ends ending unasked = inr (silent.0, silent.1, inl refl)
+
+-- nothing was printed, for want of memory
+pub lacked : (policy : Chooser) (words : List Word) (told : Option (List File)) (earlier later : List FileRead) (failed : Word → Type 0) (old : Option (List ℕ)) (status : ℕ) → status ≡ NO_MEMORY → IsAnswer policy words told earlier later failed old old status policy.told
+lacked policy words told earlier later failed old status is = inr (is, refl, inl refl)
+
+-- a policy that tells the same
+pub told_same : (policy : Chooser) (words : List Word) (told : Option (List File)) (earlier later : List FileRead) (failed : Word → Type 0) (old new : Option (List ℕ)) (status : ℕ) (asked : List Asked) → asked ≡ policy.told →
+    IsAnswer policy words told earlier later failed old new status policy.told → IsAnswer policy words told earlier later failed old new status asked
+told_same policy words told earlier later failed old new status asked same answer = subst (IsAnswer policy words told earlier later failed old new status) (sym same) answer
+
+-- choices were printed
+pub chosen_answer : (policy : Chooser) (words : List Word) (told : Option (List File)) (earlier later : List FileRead) (failed : Word → Type 0) (old new : Option (List ℕ)) (status nodes : ℕ) (files : List Word) (units : List Source) (text : List ℕ) (asked : List Asked) →
+    deed_in words ≡ Some (chooses nodes files) → IsProgramSince told earlier later files units → AreChosen policy nodes units text asked → EndsAs FINISHED status → Grew old new (Ends FINISHED status text) → IsAnswer policy words told earlier later failed old new status asked
+chosen_answer policy words told earlier later failed old new status nodes files units text asked is program chosen ends grew =
+    inl (FINISHED, choice_lines policy.rule nodes policy.told units, because.chosen nodes files units is program, ends, subst (λ (t : List ℕ). Grew old new (Ends FINISHED status t)) chosen.lines grew, chosen.asked)
 
 -- a refusal isn't the end of what is wanted
 pub ends_unfinished : (wanted status : ℕ) → wanted ≢ FINISHED → EndsAs wanted status → status ≢ FINISHED
@@ -159,24 +175,38 @@ asked_words may_fail words deed old new is asked = subst (λ (l : List Word). Ha
 pub script_listed : (words files : List Word) (what : Listed) → deed_in words ≡ Some (lists what files) → script_in words ≡ None
 script_listed words files what asked = ap (option_and_then script_of) asked
 
--- a check has no script, nor has a listing; a run has the one that was read
-pub has_none : (words : List Word) (told : Option (List File)) (files : List Word) → deed_in words ≡ Some (checks files) → HasScript told words
-has_none words told files asked = ([], subst (λ (o : Option Word). IsScriptOf told o []) (sym (script_checked words files asked)) refl)
+-- behind the sources nothing was read where the words name no script, as those of a check, a listing or of choices; else the script that was had
+has_since : (told : Option (List File)) (named script : Option Word) (lines : List ScriptLine) (sources : List File) (old mid new : List FileRead) → named ≡ script → ReadSince old mid (map had sources) → (is : IsScriptOf told script lines) → ReadSince mid new (script_read told script lines is)
+    → (is : IsScriptOf told named lines) × ReadSince old new (map had sources ++ script_read told named lines is)
+has_since told named script lines sources old mid new same first is second =
+    subst (λ (o : Option Word). (k : IsScriptOf told o lines) × ReadSince old new (map had sources ++ script_read told o lines k)) (sym same)
+    (is, since_then old mid new (map had sources) (script_read told script lines is) first second)
 
-pub lists_none : (words : List Word) (told : Option (List File)) (files : List Word) (what : Listed) → deed_in words ≡ Some (lists what files) → HasScript told words
-lists_none words told files what asked = ([], subst (λ (o : Option Word). IsScriptOf told o []) (sym (script_listed words files what asked)) refl)
+none_since : (words : List Word) (told : Option (List File)) (sources : List File) (old new : List FileRead) → script_in words ≡ None → ReadSince old new (map had sources) → HasScriptSince told words old new sources
+none_since words told sources old new none read =
+    let has = has_since told (script_in words) None [] sources old new new none read refl (since_none new) in
+    (([], has.0), has.1)
 
-pub chooses_none : (words : List Word) (told : Option (List File)) (files : List Word) (nodes : ℕ) → deed_in words ≡ Some (chooses nodes files) → HasScript told words
-chooses_none words told files nodes asked = ([], subst (λ (o : Option Word). IsScriptOf told o []) (sym (ap (option_and_then script_of) asked)) refl)
+pub has_none : (words : List Word) (told : Option (List File)) (files : List Word) (sources : List File) (old new : List FileRead) → deed_in words ≡ Some (checks files) → ReadSince old new (map had sources) → HasScriptSince told words old new sources
+has_none words told files sources old new asked read = none_since words told sources old new (script_checked words files asked) read
 
-pub has_script : (words : List Word) (told : Option (List File)) (files : List Word) (options : RunOptions) (script : Option Word) (lines : List ScriptLine) → deed_in words ≡ Some (runs options script files) → IsScriptOf told script lines → HasScript told words
-has_script words told files options script lines asked is = (lines, subst (λ (o : Option Word). IsScriptOf told o lines) (sym (script_run words files options script asked)) is)
+pub lists_none : (words : List Word) (told : Option (List File)) (files : List Word) (what : Listed) (sources : List File) (old new : List FileRead) → deed_in words ≡ Some (lists what files) → ReadSince old new (map had sources) → HasScriptSince told words old new sources
+lists_none words told files what sources old new asked read = none_since words told sources old new (script_listed words files what asked) read
+
+pub chooses_none : (words : List Word) (told : Option (List File)) (files : List Word) (nodes : ℕ) (sources : List File) (old new : List FileRead) → deed_in words ≡ Some (chooses nodes files) → ReadSince old new (map had sources) → HasScriptSince told words old new sources
+chooses_none words told files nodes sources old new asked read = none_since words told sources old new (ap (option_and_then script_of) asked) read
+
+pub has_script : (words : List Word) (told : Option (List File)) (files : List Word) (options : RunOptions) (script : Option Word) (lines : List ScriptLine) (sources : List File) (old mid new : List FileRead) → deed_in words ≡ Some (runs options script files)
+    → ReadSince old mid (map had sources) → IsScriptSince told script mid new lines → HasScriptSince told words old new sources
+has_script words told files options script lines sources old mid new asked read is =
+    let has = has_since told (script_in words) script lines sources old mid new (script_run words files options script asked) read is.0 is.1 in
+    ((lines, has.0), has.1)
 
 -- where a run has no script though its files were read, it is that of the file that the words name
-pub unscripted_run : (words files : List Word) (options : RunOptions) (script : Option Word) (told : Option (List File)) (failed : Word → Type 0) (fault : ScriptFault) (A : Type 0) → deed_in words ≡ Some (runs options script files)
-    → MatchOption script ⊥ (λ name. IsScriptFault told failed name fault) → ((name : Word) → script_in words ≡ Some name → IsScriptFault told failed name fault → A) → A
-unscripted_run words files options None told failed fault A asked is so = absurd is
-unscripted_run words files options (Some name) told failed fault A asked is so = so name (script_run words files options (Some name) asked) is
+pub unscripted_run : (words files : List Word) (options : RunOptions) (script : Option Word) (told : Option (List File)) (earlier later : List FileRead) (failed : Word → Type 0) (fault : ScriptFault) (A : Type 0) → deed_in words ≡ Some (runs options script files)
+    → MatchOption script ⊥ (λ name. IsScriptFault told earlier later failed name fault) → ((name : Word) → script_in words ≡ Some name → IsScriptFault told earlier later failed name fault → A) → A
+unscripted_run words files options None told earlier later failed fault A asked is so = absurd is
+unscripted_run words files options (Some name) told earlier later failed fault A asked is so = so name (script_run words files options (Some name) asked) is
 
 -- the script that was read since: none, or that of a file's text
 pub script_none : (told : Option (List File)) (reads : List FileRead) (lines : List ScriptLine) → lines ≡ [] → IsScriptSince told None reads reads lines
@@ -188,11 +218,24 @@ script_since (Ok lines) told file text old new read since is = ((text, read, is)
 script_since (Err e) told file text old new read since is = tt
 
 -- by another cause of a failed read
-pub script_map : (told : Option (List File)) (failed other : Word → Type 0) (script : Word) (fault : ScriptFault) → (failed script → other script) → IsScriptFault told failed script fault → IsScriptFault told other script fault
-script_map told failed other script (scripts.Absent file) so h = h
-script_map told failed other script (scripts.TooLong file) so h = h
-script_map told failed other script (scripts.Failed file) so h = (h.0, h.1, so h.2)
-script_map told failed other script (scripts.Bad error) so h = h
+pub script_map : (told : Option (List File)) (earlier later : List FileRead) (failed other : Word → Type 0) (script : Word) (fault : ScriptFault) → (failed script → other script) → IsScriptFault told earlier later failed script fault → IsScriptFault told earlier later other script fault
+script_map told earlier later failed other script (scripts.Absent file) so h = h
+script_map told earlier later failed other script (scripts.TooLong file) so h = h
+script_map told earlier later failed other script (scripts.Failed file) so h = (h.0, h.1, so h.2)
+script_map told earlier later failed other script (scripts.Bad error) so h = h
+
+-- a text that was read and is no script
+wrong_is : (told : Option (List File)) (failed : Word → Type 0) (file : Word) (text : List ℕ) (old new : List FileRead) (fault : ScriptFault) → IsRead told SCRIPT_BYTES (file, text) → ReadSince old new ((file, Ok text) ∷ []) → IsWrong text fault → IsScriptFault told old new failed file fault
+wrong_is told failed file text old new (scripts.Absent other) read since is = absurd is
+wrong_is told failed file text old new (scripts.TooLong other) read since is = absurd is
+wrong_is told failed file text old new (scripts.Failed other) read since is = absurd is
+wrong_is told failed file text old new (scripts.Bad error) read since is = (text, read, since, is)
+
+pub wrong_since : (r : Result (List ScriptLine) (Refusal ScriptFault)) (told : Option (List File)) (failed : Word → Type 0) (file : Word) (text : List ℕ) (old new : List FileRead) → IsRead told SCRIPT_BYTES (file, text) → ReadSince old new ((file, Ok text) ∷ [])
+    → IfBecause r (IsWrong text) → IfBecause r (IsScriptFault told old new failed file)
+wrong_since (Ok lines) told failed file text old new read since is = tt
+wrong_since (Err (refusals.Because fault)) told failed file text old new read since is = wrong_is told failed file text old new fault read since is
+wrong_since (Err refusals.NoMemory) told failed file text old new read since is = tt
 
 -- a run whose script wasn't had ends with no status of a write fault, and with that of a read fault where its file can't be read
 pub unscripted_status : (fault : ScriptFault) → script_status fault ≢ WRITE_FAULT
@@ -221,8 +264,8 @@ pub program_apart : (fault : ProgramFault) → program_status fault ≢ WRITE_FA
 program_apart (Refused fault) h = refused_status fault h
 program_apart (Limited passed) h = absurd cc
 
-pub is_program : (told : Option (List File)) (files : List Word) (sources : List File) (units : List Source) → AreRead told files sources → IsAccepted sources units → IsWithinLimits units → IsProgram told files units
-is_program told files sources units read accepted within = record { loaded = (sources, read, accepted); within = within }
+pub is_program_since : (told : Option (List File)) (files : List Word) (sources : List File) (units : List Source) (old new : List FileRead) → AreRead told files sources → IsAccepted sources units → IsWithinLimits units → ReadSince old new (map had sources) → IsProgramSince told old new files units
+is_program_since told files sources units old new read accepted within since = (record { loaded = (sources, read, accepted); within = within }, since)
 
 -- the machine of a checked program has its units
 pub machine_units : {E : Type 0} (r : Result TreeMachine E) (checked : Checked) (units : List Source) → sources_of checked ≡ units → IfOk r (λ m. m.code.checked ≡ checked) → IfOk r (λ m. units_of m ≡ units)
@@ -232,30 +275,19 @@ machine_units (Err e) checked units are of = tt
 -- ---- what is said of a history
 
 -- an ending of `replay` is one of the program
-pub replayed_so : (policy : Chooser) (words : List Word) (told : Option (List File)) (failed : Word → Type 0) (old new : Option (List ℕ)) (status : ℕ) (history : Word) (files : List Word) → deed_in words ≡ Some (replays history files) → IsReplayAnswer told failed history files old new status
-    → IsAnswer policy words told failed old new status
-replayed_so policy words told failed old new status history files asked (inl (wanted, line, ending, ends, grew)) = inl (wanted, line, because.replayed history files wanted line asked ending, ends, grew)
-replayed_so policy words told failed old new status history files asked (inr silent) = inr silent
+pub replayed_so : (policy : Chooser) (words : List Word) (told : Option (List File)) (earlier later : List FileRead) (failed : Word → Type 0) (old new : Option (List ℕ)) (status : ℕ) (history : Word) (files : List Word) → deed_in words ≡ Some (replays history files)
+    → IsReplayAnswer told failed history files old new status → IsAnswer policy words told earlier later failed old new status policy.told
+replayed_so policy words told earlier later failed old new status history files asked (inl (wanted, line, ending, ends, grew)) = inl (wanted, line, because.replayed history files wanted line asked ending, ends, grew, refl)
+replayed_so policy words told earlier later failed old new status history files asked (inr silent) = inr (silent.0, silent.1, inl refl)
 
 -- ---- what a policy was asked
 
-abbrev pub chosen_deed : Option Deed → Type 0
-chosen_deed (Some (chooses nodes files)) = Unit {0}
-chosen_deed other = ⊥
-
--- nothing, where the words ask for no choices
-pub unasked_by : (words : List Word) (deed : Option Deed) (files : Option (List File)) (policy : Chooser) (status : ℕ) → deed_in words ≡ deed → (chosen_deed deed → ⊥) → WasAsked words files policy status policy.told
-unasked_by words deed files policy status is other = policies.nothing (λ nodes names asked done. other (subst chosen_deed (sym asked ∙ is) tt)) refl
-
--- nor where they were not told
-pub unasked_end : (words : List Word) (files : Option (List File)) (policy : Chooser) (status : ℕ) (new : List Asked) → status ≢ FINISHED → new ≡ policy.told → WasAsked words files policy status new
-unasked_end words files policy status new apart same = policies.nothing (λ nodes names asked done. apart done) same
-
 -- the first sites, where memory lacked
-pub first_asked : (words : List Word) (told : Option (List File)) (policy : Chooser) (nodes : ℕ) (files : List Word) (sources : List File) (status : ℕ) (new : List Asked) → deed_in words ≡ Some (chooses nodes files) → AreRead told files sources → status ≡ NO_MEMORY
-    → (new ≡ policy.told) ⊎ ((units : List Source) × IsAccepted sources units × IsWithinLimits units × WasAskedFirst policy nodes units new) → WasAsked words told policy status new
-first_asked words told policy nodes files sources status new asked read lacked (inl same) = unasked_end words told policy status new (λ done. absurd (cc (lacked, done))) same
-first_asked words told policy nodes files sources status new asked read lacked (inr some) = policies.first nodes files some.0 asked (is_program told files sources some.0 read some.1 some.2) some.3 lacked
+pub first_asked : (words : List Word) (told : Option (List File)) (policy : Chooser) (nodes : ℕ) (files : List Word) (sources : List File) (old new : List FileRead) (asked : List Asked) → deed_in words ≡ Some (chooses nodes files) → AreRead told files sources → ReadSince old new (map had sources)
+    → (asked ≡ policy.told) ⊎ ((units : List Source) × IsAccepted sources units × IsWithinLimits units × WasAskedFirst policy nodes units asked) → WasAskedSome policy words told old new asked
+first_asked words told policy nodes files sources old new asked is read since (inl same) = inl same
+first_asked words told policy nodes files sources old new asked is read since (inr some) =
+    inr (record { nodes = nodes; files = files; units = some.0; asked = is; program = is_program_since told files sources some.0 old new read some.1 some.2 since; first = some.3 })
 
 -- what is so of each refusal is so of its cause
 pub begun_none : (T : Type 0) {E : Type 0} (e : Refusal E) (P : Type 0) → P → IfBecause {T = T} (Err e) (λ _. P)
@@ -288,7 +320,3 @@ module _ {T E : Type 0} (r : Result T E) (policy : Chooser) (nodes : ℕ) where
           → OnErr r ((new ≡ policy.told) ⊎ ((units : List Source) × IsAccepted sources units × IsWithinLimits units × WasAskedFirst policy nodes units new))
       by (Ok x) h = tt
       by (Err e) h = some h
-
--- a text that is the line of an ending is said by that
-pub said_as : {A : Type 0} (policy : Chooser) (words : List Word) (told : Option (List File)) (failed : Word → Type 0) (text line : List ℕ) → text ≡ line → IsEnding policy words told failed FINISHED line → (IsEnding policy words told failed FINISHED text → A) → A
-said_as policy words told failed text line is ending so = so (subst (IsEnding policy words told failed FINISHED) (sym is) ending)

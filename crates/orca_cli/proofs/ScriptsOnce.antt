@@ -9,8 +9,9 @@ use Rattle.fault_scripts.specs.declared.error.ScriptError.{ScriptError}
 use Rattle.net_rules.specs.declared.line.ScriptLine.{ScriptLine}
 use Rattle.orca_base.specs.declared.limits.TheConstants.{SCRIPT_BYTES}
 use Rattle.orca_io.specs.Files.{File}
+use Rattle.orca_io.specs.Reading.{FileRead}
 use Rattle.command_files.specs.Lines.{absent_line}
-use Rattle.command_files.specs.Loaded.{Never}
+use Rattle.command_files.specs.Loaded.{IsAbsent, IsThere, IsTooLong, Never}
 use Rattle.command_files.specs.Sources.{IsRead, Word}
 use Rattle.orca_cli.specs.Scripts.{IsScriptFault, IsScriptOf, script_fault_line, script_status}
 use Rattle.orca_cli.specs.declared.script.ScriptFault.{ScriptFault}
@@ -48,13 +49,26 @@ script_apart text other x y same is was = ok_err x y (sym (again text x is) ∙ 
 
 -- ---- the file
 
+-- why there is no script, whatever was read for it
+abbrev pub Unscripted : Option (List File) → (Word → Type 0) → Word → ScriptFault → Type 0
+Unscripted told failed script (scripts.Absent file) = (file.now ≡ script) × IsAbsent told script
+Unscripted told failed script (scripts.TooLong file) = (file.now ≡ script) × IsTooLong told SCRIPT_BYTES script
+Unscripted told failed script (scripts.Failed file) = (file.now ≡ script) × IsThere told script × failed script
+Unscripted told failed script (scripts.Bad error) = (text : List ℕ) × IsRead told SCRIPT_BYTES (script, text) × IsRefusal text error
+
+pub unscripted_of : (told : Option (List File)) (earlier later : List FileRead) (failed : Word → Type 0) (script : Word) (f : ScriptFault) → IsScriptFault told earlier later failed script f → Unscripted told failed script f
+unscripted_of told earlier later failed script (scripts.Absent file) h = h
+unscripted_of told earlier later failed script (scripts.TooLong file) h = h
+unscripted_of told earlier later failed script (scripts.Failed file) h = h
+unscripted_of told earlier later failed script (scripts.Bad error) h = (h.0, h.1, h.3)
+
 abbrev file_with : Word → List ℕ → File
 file_with script text = (script, text)
 
 same_script : (shelf : List File) (script : Word) (text other : List ℕ) → IsRead (Some shelf) SCRIPT_BYTES (file_with script text) → IsRead (Some shelf) SCRIPT_BYTES (file_with script other) → text ≡ other
 same_script shelf script text other read was = same_text shelf SCRIPT_BYTES (file_with script text) (file_with script other) refl read was
 
-script_read : (shelf : List File) (script : Word) (text : List ℕ) (f : ScriptFault) → IsRead (Some shelf) SCRIPT_BYTES (file_with script text) → IsScriptFault (Some shelf) Never script f → (error : ScriptError) × (f ≡ scripts.Bad error) × IsRefusal text error
+script_read : (shelf : List File) (script : Word) (text : List ℕ) (f : ScriptFault) → IsRead (Some shelf) SCRIPT_BYTES (file_with script text) → Unscripted (Some shelf) Never script f → (error : ScriptError) × (f ≡ scripts.Bad error) × IsRefusal text error
 script_read shelf script text (scripts.Absent file) read h =
     absurd (read_apart shelf SCRIPT_BYTES (file_with script text) script refl read (absent_none shelf SCRIPT_BYTES script h.1))
 script_read shelf script text (scripts.TooLong file) read h =
@@ -64,14 +78,14 @@ script_read shelf script text (scripts.Bad error) read h =
     (error, refl, subst (λ (t : List ℕ). IsRefusal t error) (same_script shelf script h.0 text h.1 read) h.2)
 
 -- of a file that has a wrong line it is the one
-bad_once : (shelf : List File) (script : Word) (error : ScriptError) (g : ScriptFault) → IsScriptFault (Some shelf) Never script (scripts.Bad error) → IsScriptFault (Some shelf) Never script g → g ≡ scripts.Bad error
+bad_once : (shelf : List File) (script : Word) (error : ScriptError) (g : ScriptFault) → Unscripted (Some shelf) Never script (scripts.Bad error) → Unscripted (Some shelf) Never script g → g ≡ scripts.Bad error
 bad_once shelf script error g h k =
     let other = script_read shelf script h.0 g h.1 k in
     let same = error_once h.0 h.0 other.0 error refl other.2 h.2 in
     other.1 ∙ ap (λ (e : ScriptError). scripts.Bad e) same
 
 -- there is one reason for which there is no script
-pub script_once : (shelf : List File) (script : Word) (f g : ScriptFault) → IsScriptFault (Some shelf) Never script f → IsScriptFault (Some shelf) Never script g → SameEnd (script_status f) (script_fault_line f) (script_status g) (script_fault_line g)
+pub script_once : (shelf : List File) (script : Word) (f g : ScriptFault) → Unscripted (Some shelf) Never script f → Unscripted (Some shelf) Never script g → SameEnd (script_status f) (script_fault_line f) (script_status g) (script_fault_line g)
 script_once shelf script (scripts.Failed file) g h k = absurd h.2
 script_once shelf script (scripts.Absent file) (scripts.Failed other) h k = absurd k.2
 script_once shelf script (scripts.TooLong file) (scripts.Failed other) h k = absurd k.2
@@ -90,7 +104,7 @@ script_once shelf script (scripts.TooLong file) (scripts.Absent other) h k = abs
 script_once shelf script (scripts.TooLong file) (scripts.TooLong other) h k = (refl, refl)
 
 -- or there is a script
-pub script_had : (shelf : List File) (script : Word) (f : ScriptFault) (lines : List ScriptLine) → IsScriptFault (Some shelf) Never script f → IsScriptOf (Some shelf) (Some script) lines → ⊥
+pub script_had : (shelf : List File) (script : Word) (f : ScriptFault) (lines : List ScriptLine) → Unscripted (Some shelf) Never script f → IsScriptOf (Some shelf) (Some script) lines → ⊥
 script_had shelf script f lines h has =
     let bad = script_read shelf script has.0 f has.1 h in
     script_apart has.0 has.0 lines bad.0 refl has.2 bad.2
@@ -101,8 +115,8 @@ script_of_once shelf None lines more h k = h ∙ sym k
 script_of_once shelf (Some script) lines more h k = lines_once h.0 k.0 lines more (same_script shelf script h.0 k.0 h.1 k.1) h.2 k.2
 
 -- where no read failed
-pub script_quiet : (told : Option (List File)) (failed : Word → Type 0) (never : (file : Word) → failed file → ⊥) (script : Word) (f : ScriptFault) → IsScriptFault told failed script f → IsScriptFault told Never script f
-script_quiet told failed never script (scripts.Absent file) h = h
-script_quiet told failed never script (scripts.TooLong file) h = h
-script_quiet told failed never script (scripts.Failed file) h = absurd (never script h.2)
-script_quiet told failed never script (scripts.Bad error) h = h
+pub script_quiet : (told : Option (List File)) (earlier later : List FileRead) (failed : Word → Type 0) (never : (file : Word) → failed file → ⊥) (script : Word) (f : ScriptFault) → IsScriptFault told earlier later failed script f → IsScriptFault told earlier later Never script f
+script_quiet told earlier later failed never script (scripts.Absent file) h = h
+script_quiet told earlier later failed never script (scripts.TooLong file) h = h
+script_quiet told earlier later failed never script (scripts.Failed file) h = absurd (never script h.2)
+script_quiet told earlier later failed never script (scripts.Bad error) h = h

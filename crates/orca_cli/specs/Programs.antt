@@ -1,6 +1,7 @@
 -- Accepted programs: which texts are one, and why others aren't (docs/FORMATS.md, Statuses).
-use Rattle.std.specs.Prelude.{ℕ, List, Option}
+use Rattle.std.specs.Prelude.{ℕ, List, Option, map}
 use Rattle.orca_io.specs.Files.{File}
+use Rattle.orca_io.specs.Reading.{FileRead, ReadSince, had}
 use Rattle.link_rules.specs.Units.{Source}
 use Rattle.accepted_law.specs.Limits.{IsWithinLimits}
 use Rattle.program_limits.specs.Passed.{Passes}
@@ -20,6 +21,10 @@ use Rattle.orca_cli.specs.declared.program.ProgramFault.TheVariants.{Limited, Re
 pub record IsProgram (told : Option (List File)) (files : List Word) (units : List Source) : Type 0 where
   pub loaded : IsLoaded told files units
   pub within : IsWithinLimits units
+
+-- it is that of the texts which were read since, and nothing else was read
+abbrev pub IsProgramSince : Option (List File) → List FileRead → List FileRead → List Word → List Source → Type 0
+IsProgramSince told earlier later files units = (program : IsProgram told files units) × ReadSince earlier later (map had program.loaded.0)
 
 -- Why sources are no accepted program: some text is no unit, or they don't link, or break a rule of typing. Or they are units that pass this limit,
 -- and would be one else

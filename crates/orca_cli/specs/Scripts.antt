@@ -1,5 +1,5 @@
 -- The script of a run: what the text in its file says, or nothing where there is none (docs/RUNTIME.md, Fault scripts).
-use Rattle.std.specs.Prelude.{◌≡◌, ℕ, List, [], ◌∷◌, Option, None, Some, codes}
+use Rattle.std.specs.Prelude.{◌≡◌, ℕ, List, [], ◌∷◌, ◌++◌, map, Option, None, Some, codes}
 use Rattle.fault_scripts.specs.Says.{IsScript}
 use Rattle.fault_scripts.specs.Script.{IsRefusal}
 use Rattle.net_rules.specs.declared.line.ScriptLine.{ScriptLine}
@@ -36,6 +36,15 @@ IsScriptSince told script old new lines = (has : IsScriptOf told script lines) �
 abbrev pub HasScript : Option (List File) → List Word → Type 0
 HasScript told words = (lines : List ScriptLine) × IsScriptOf told (script_in words) lines
 
+-- what is read for that
+abbrev pub script_reads : (told : Option (List File)) (words : List Word) → HasScript told words → List FileRead
+script_reads told words script = script_read told (script_in words) script.0 script.1
+
+-- these sources were read since, behind them the text of that script, and nothing else
+abbrev pub HasScriptSince : Option (List File) → List Word → List FileRead → List FileRead → List File → Type 0
+HasScriptSince told words earlier later sources =
+    (script : HasScript told words) × ReadSince earlier later (map had sources ++ script_reads told words script)
+
 -- the text is no script: this line is the first that is wrong
 abbrev pub IsWrong : List ℕ → ScriptFault → Type 0
 IsWrong text (Bad error) = IsRefusal text error
@@ -43,12 +52,14 @@ IsWrong text (Absent file) = ⊥
 IsWrong text (TooLong file) = ⊥
 IsWrong text (Failed file) = ⊥
 
--- The file isn't there, or is longer than a script may be, or is there and can't be read, where its read failed. Or its text is no script
-abbrev pub IsScriptFault : Option (List File) → (Word → Type 0) → Word → ScriptFault → Type 0
-IsScriptFault told failed script (Absent file) = (file.now ≡ script) × IsAbsent told script
-IsScriptFault told failed script (TooLong file) = (file.now ≡ script) × IsTooLong told SCRIPT_BYTES script
-IsScriptFault told failed script (Failed file) = (file.now ≡ script) × IsThere told script × failed script
-IsScriptFault told failed script (Bad error) = (text : List ℕ) × IsRead told SCRIPT_BYTES (script, text) × IsWrong text (Bad error)
+-- The file isn't there, or is longer than a script may be, or is there and can't be read, where its read failed. Or its text, which was
+-- read since, is no script
+abbrev pub IsScriptFault : Option (List File) → List FileRead → List FileRead → (Word → Type 0) → Word → ScriptFault → Type 0
+IsScriptFault told earlier later failed script (Absent file) = (file.now ≡ script) × IsAbsent told script
+IsScriptFault told earlier later failed script (TooLong file) = (file.now ≡ script) × IsTooLong told SCRIPT_BYTES script
+IsScriptFault told earlier later failed script (Failed file) = (file.now ≡ script) × IsThere told script × failed script
+IsScriptFault told earlier later failed script (Bad error) =
+    (text : List ℕ) × IsRead told SCRIPT_BYTES (script, text) × ReadSince earlier later (had (script, text) ∷ []) × IsWrong text (Bad error)
 
 abbrev pub script_status : ScriptFault → ℕ
 script_status (Absent file) = ABSENT

@@ -11,7 +11,7 @@ ghost use Rattle.orca_front.specs.Sources.{AreUnits, IsAccepted, file_of};
 ghost use Rattle.program_bodies.specs.Codes.{sources};
 ghost use Rattle.command_files.specs.Sources.{Word};
 ghost use Rattle.command_output.specs.Printed.{HasStopped};
-ghost use Rattle.orca_cli.specs.Choosing.{AreChosen, WasAsked, WasAskedFirst, chooser_of};
+ghost use Rattle.orca_cli.specs.Choosing.{AreChosen, WasAskedFirst, chooser_of};
 ghost use Rattle.orca_cli.specs.Endings.{IsAnswer};
 ghost use Rattle.orca_cli.specs.Job.{chooses, deed_in};
 ghost use Rattle.orca_cli.specs.Programs.{IsProgramFault};
@@ -110,7 +110,8 @@ fn program_choices<P: Policy>(
     ensures refused { IfBecause result (IsProgramFault (map file_of files.now)) }
     ensures unasked { IfBecause result (λ _. P.told policy.new ≡ P.told policy.old) }
     ensures first { OnErr result ((P.told policy.new ≡ P.told policy.old) ⊎ ((units : List Source) ×
-        IsAccepted (map file_of files.now) units × IsWithinLimits units × WasAskedFirst (chooser_of P.rule P.told policy.old) nodes units (P.told policy.new))) }
+        IsAccepted (map file_of files.now) units × IsWithinLimits units ×
+        WasAskedFirst (chooser_of P.rule P.told policy.old) nodes units (P.told policy.new))) }
     ensures same_rule { P.rule policy.new ≡ P.rule policy.old }
 {
     match linked_program(alloc, files) {
@@ -120,7 +121,8 @@ fn program_choices<P: Policy>(
 }
 
 /// Says what a policy chooses for the sites of the program in the files, among so many members, or why nothing, as `check` does. Nothing is
-/// kept. Where the program is accepted, the policy is asked about each site, in order, or about so many from the front where memory lacks.
+/// kept. Where its choices are told, whole or a front of them, the policy was asked about each site of that program, in order; where memory
+/// lacked before that, about so many from the front; and else about none.
 pub fn choose_files<F: Shelf, K: Sink, P: Policy>(
     alloc: Global,
     nodes: u8,
@@ -131,11 +133,9 @@ pub fn choose_files<F: Shelf, K: Sink, P: Policy>(
 ) -> Ended
     ensures none { result.kept ≡ None }
     ensures said { (words : List Word) → deed_in words ≡ Some (chooses nodes (map (λ f. f.now) files.now)) →
-        IsAnswer (chooser_of P.rule P.told policy.old) words (F.told shelf.old)
+        IsAnswer (chooser_of P.rule P.told policy.old) words (F.told shelf.old) (F.reads shelf.old) (F.reads shelf.new)
         (FailedAt (F.faults shelf.old) (F.faults shelf.new) (F.reads shelf.old) (F.reads shelf.new))
-        (K.told out.old) (K.told out.new) result.status }
-    ensures chosen { (words : List Word) → deed_in words ≡ Some (chooses nodes (map (λ f. f.now) files.now)) →
-        WasAsked words (F.told shelf.old) (chooser_of P.rule P.told policy.old) result.status (P.told policy.new) }
+        (K.told out.old) (K.told out.new) result.status (P.told policy.new) }
     ensures same_rule { P.rule policy.new ≡ P.rule policy.old }
     ensures same { F.told shelf.new ≡ F.told shelf.old }
     ensures read { F.faults shelf.old ≤ F.faults shelf.new }

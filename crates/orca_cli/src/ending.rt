@@ -11,7 +11,7 @@ ghost use Rattle.orca_cli.specs.Choosing.{Chooser};
 ghost use Rattle.orca_cli.specs.Endings.{IsAnswer};
 ghost use Rattle.orca_cli.specs.Job.{files_in};
 ghost use Rattle.orca_cli.specs.Programs.{IsProgramFault};
-ghost use Rattle.orca_cli.specs.Scripts.{HasScript};
+ghost use Rattle.orca_cli.specs.Scripts.{HasScriptSince};
 
 use crate::kept::Ended;
 use crate::program::ProgramFault;
@@ -44,7 +44,7 @@ pub fn said_unread<K: Sink>(alloc: Global, out: &mut K, fault: LoadFault<'_>) ->
     ensures said { (policy : Chooser) (words : List Word) (told : Option (List File)) (before now : ℕ) (old new : List FileRead)
         (files : List Word) → files_in words ≡ Some files →
         IsLoadFault told (FailedAt before now old new) files fault.entry →
-        IsAnswer policy words told (FailedAt before now old new) (K.told out.old) (K.told out.new) result.status }
+        IsAnswer policy words told old new (FailedAt before now old new) (K.told out.old) (K.told out.new) result.status policy.told }
     ensures unfinished { result.status ≢ FINISHED }
     ensures status { IsFailed fault.entry → (result.status ≡ READ_FAULT) ⊎ HasStopped result.status }
     ensures later { K.faults out.old ≤ K.faults out.new }
@@ -59,8 +59,9 @@ pub fn said_refused<K: Sink>(alloc: Global, out: &mut K, fault: &ProgramFault) -
     ensures none { result.kept ≡ None }
     ensures said { (policy : Chooser) (words : List Word) (told : Option (List File)) (before now : ℕ) (old new : List FileRead)
         (files : List Word) (sources : List File) →
-        files_in words ≡ Some files → AreRead told files sources → HasScript told words → IsProgramFault sources fault.now →
-        IsAnswer policy words told (FailedAt before now old new) (K.told out.old) (K.told out.new) result.status }
+        files_in words ≡ Some files → AreRead told files sources → HasScriptSince told words old new sources →
+        IsProgramFault sources fault.now →
+        IsAnswer policy words told old new (FailedAt before now old new) (K.told out.old) (K.told out.new) result.status policy.told }
     ensures unfinished { result.status ≢ FINISHED }
     ensures later { K.faults out.old ≤ K.faults out.new }
     ensures failed { result.status ≡ WRITE_FAULT → Rose (K.faults out.old) (K.faults out.new) }

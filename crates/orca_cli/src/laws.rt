@@ -7,10 +7,12 @@ ghost use Rattle.orca_io.specs.Reading.{FailedAt, FileRead};
 ghost use Rattle.link_rules.specs.Units.{Source};
 ghost use Rattle.command_files.specs.Loaded.{Never};
 ghost use Rattle.command_files.specs.Sources.{Word};
-ghost use Rattle.orca_cli.specs.Choosing.{Chooser};
-ghost use Rattle.orca_cli.specs.Endings.{IsEnding};
+ghost use Rattle.orca_cli.specs.Choosing.{Chooser, told_all};
+ghost use Rattle.orca_cli.specs.Endings.{IsEnding, told_by};
 ghost use Rattle.orca_cli.specs.Headline.{IsNamed};
+ghost use Rattle.orca_cli.specs.Job.{chooses, deed_in};
 ghost use Rattle.orca_cli.specs.Listings.{IsSameText};
+ghost use Rattle.orca_cli.specs.Programs.{IsProgram, IsProgramSince};
 
 use program_names::names_law;
 
@@ -19,24 +21,34 @@ use program_names::names_law;
 /// - `once`: words have one ending without a run at most, by a policy, by its status and its line, but for the notes of a listing
 ///   (docs/FORMATS.md, Statuses).
 /// - `apart`: they have none where they name a run, of a program that is accepted and with a script.
+/// - `chosen`: where they ask for the choices of an accepted program, the policy was asked about each of its sites.
 /// - `named`: they name one run at most, by its program and its script.
 /// - `read`: so they do by what was read, whether files are told or not.
+/// - `program`: by the texts that were read the program is one.
 /// - `quiet`: where no file's read failed, an ending is one without a fault.
 pub fn endings_law()
-    ensures once { (policy : Chooser) (words : List Word) (files : List File) (one two : ℕ) (a b : List ℕ) →
-        IsEnding policy words (Some files) Never one a → IsEnding policy words (Some files) Never two b → (one ≡ two) × IsSameText words a b }
-    ensures apart { (policy : Chooser) (words : List Word) (files : List File) (old new : List FileRead) (units : List Source)
-        (lines : List ScriptLine) (one : ℕ) (a : List ℕ) → IsEnding policy words (Some files) Never one a →
+    ensures once { (policy : Chooser) (words : List Word) (files : List File) (old new was now : List FileRead) (one two : ℕ)
+        (a b : List ℕ) → IsEnding policy words (Some files) old new Never one a → IsEnding policy words (Some files) was now Never two b →
+        (one ≡ two) × IsSameText words a b }
+    ensures apart { (policy : Chooser) (words : List Word) (files : List File) (was now old new : List FileRead) (units : List Source)
+        (lines : List ScriptLine) (one : ℕ) (a : List ℕ) → IsEnding policy words (Some files) was now Never one a →
         IsNamed words (Some files) old new units lines → ⊥ }
+    ensures chosen { (policy : Chooser) (words : List Word) (files : List File) (before now : ℕ) (old new : List FileRead) (nodes : ℕ)
+        (names : List Word) (units : List Source) (one : ℕ) (a : List ℕ) → ((file : Word) → FailedAt before now old new file → ⊥) →
+        deed_in words ≡ Some (chooses nodes names) → IsProgram (Some files) names units →
+        (ending : IsEnding policy words (Some files) old new (FailedAt before now old new) one a) →
+        told_by policy words (Some files) old new (FailedAt before now old new) one a ending ≡ told_all policy nodes units }
     ensures named { (words : List Word) (files : List File) (old new was now : List FileRead) (units others : List Source)
         (lines more : List ScriptLine) → IsNamed words (Some files) old new units lines → IsNamed words (Some files) was now others more →
         (units ≡ others) × (lines ≡ more) }
     ensures read { (words : List Word) (told other : Option (List File)) (old new : List FileRead) (units others : List Source)
         (lines more : List ScriptLine) → IsNamed words told old new units lines → IsNamed words other old new others more →
         (units ≡ others) × (lines ≡ more) }
+    ensures program { (told other : Option (List File)) (old new : List FileRead) (names : List Word) (units others : List Source) →
+        IsProgramSince told old new names units → IsProgramSince other old new names others → units ≡ others }
     ensures quiet { (policy : Chooser) (words : List Word) (told : Option (List File)) (before now : ℕ) (old new : List FileRead)
         (one : ℕ) (a : List ℕ) → ((file : Word) → FailedAt before now old new file → ⊥) →
-        IsEnding policy words told (FailedAt before now old new) one a → IsEnding policy words told Never one a }
+        IsEnding policy words told old new (FailedAt before now old new) one a → IsEnding policy words told old new Never one a }
 {
     names_law();
 }

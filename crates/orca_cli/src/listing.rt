@@ -118,9 +118,9 @@ pub fn list_program<F: Shelf, K: Sink>(
 ) -> Ended
     ensures none { result.kept ≡ None }
     ensures said { (policy : Chooser) (words : List Word) → deed_in words ≡ Some (lists what (map (λ f. f.now) files.now)) →
-        IsAnswer policy words (F.told shelf.old)
+        IsAnswer policy words (F.told shelf.old) (F.reads shelf.old) (F.reads shelf.new)
         (FailedAt (F.faults shelf.old) (F.faults shelf.new) (F.reads shelf.old) (F.reads shelf.new))
-        (K.told out.old) (K.told out.new) result.status }
+        (K.told out.old) (K.told out.new) result.status policy.told }
     ensures same { F.told shelf.new ≡ F.told shelf.old }
     ensures read { F.faults shelf.old ≤ F.faults shelf.new }
     ensures asked { HasAsked (F.may_fail shelf.old) (map (λ f. f.now) files.now) (F.reads shelf.old) (F.reads shelf.new) }

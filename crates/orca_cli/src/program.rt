@@ -83,7 +83,8 @@ pub fn typed<'p>(alloc: Global, program: &'p Program) -> Result<Checked<'p>, Ref
 /// Whether the program keeps within the limits.
 pub fn fits(alloc: Global, program: &Program) -> Result<(), Refusal<ProgramFault>>
     ensures within { OnOk result (IsWithinLimits (map source program.now.units.items)) }
-    ensures refused { (files : List File) → IsAccepted files (map source program.now.units.items) → IfBecause result (IsProgramFault files) }
+    ensures refused { (files : List File) → IsAccepted files (map source program.now.units.items) →
+        IfBecause result (IsProgramFault files) }
 {
     match within_limits(alloc, program) {
         Ok(()) => Ok(()),

@@ -66,7 +66,7 @@ pub fn script_of<'a, F: Shelf>(
     ensures had { IfOk result (IsScriptSince (F.told shelf.old) (option_map (λ f. f.now) file.entry)
         (F.reads shelf.old) (F.reads shelf.new)) }
     ensures refused { IfBecause result (λ fault. MatchOption (option_map (λ f. f.now) file.entry) ⊥ (λ name.
-        IsScriptFault (F.told shelf.old)
+        IsScriptFault (F.told shelf.old) (F.reads shelf.old) (F.reads shelf.new)
         (FailedAt (F.faults shelf.old) (F.faults shelf.new) (F.reads shelf.old) (F.reads shelf.new)) name fault)) }
     ensures quiet { (F.faults shelf.new ≡ F.faults shelf.old) ⊎ MatchRefusal result (λ _. ⊥) IsUnreadable }
     ensures same { F.told shelf.new ≡ F.told shelf.old }
@@ -89,7 +89,7 @@ fn script_in<'a, F: Shelf>(
 ) -> Result<Script, Refusal<ScriptFault<'a>>>
     ensures script { IfOk result (IsScriptOf (F.told shelf.old) (Some file.now)) }
     ensures had { IfOk result (IsScriptSince (F.told shelf.old) (Some file.now) (F.reads shelf.old) (F.reads shelf.new)) }
-    ensures refused { IfBecause result (IsScriptFault (F.told shelf.old)
+    ensures refused { IfBecause result (IsScriptFault (F.told shelf.old) (F.reads shelf.old) (F.reads shelf.new)
         (FailedAt (F.faults shelf.old) (F.faults shelf.new) (F.reads shelf.old) (F.reads shelf.new)) file.now) }
     ensures quiet { (F.faults shelf.new ≡ F.faults shelf.old) ⊎ MatchRefusal result (λ _. ⊥) IsUnreadable }
     ensures same { F.told shelf.new ≡ F.told shelf.old }

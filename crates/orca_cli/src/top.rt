@@ -6,7 +6,7 @@ ghost use Rattle.command_line.specs.Asked.{IsRunWithin};
 ghost use Rattle.orca_base.specs.Refusal.{IfBecause};
 ghost use Rattle.orca_io.specs.Causes.{Rose};
 ghost use Rattle.orca_io.specs.Files.{File};
-ghost use Rattle.orca_io.specs.Reading.{FailedAt, FileRead, HasAsked};
+ghost use Rattle.orca_io.specs.Reading.{FailedAt, FileRead, HasAsked, ReadSince, had};
 ghost use Rattle.link_rules.specs.Units.{Source};
 ghost use Rattle.accepted_law.specs.Limits.{IsWithinLimits};
 ghost use Rattle.meaning_rules.specs.Meanings.{computes_of, performs_of};
@@ -16,14 +16,15 @@ ghost use Rattle.history_commands.specs.ReadBack.{ReadsBack};
 ghost use Rattle.history_text.specs.Sound.{AreTables};
 ghost use Rattle.run_loop.specs.Asked.{HaveToldOn, WereAskedIn};
 ghost use Rattle.run_loop.specs.Left.{run_of};
-ghost use Rattle.orca_cli.specs.Choosing.{Chooser, WasAsked, chooser_of};
+ghost use Rattle.orca_cli.specs.Choosing.{Chooser, chooser_of};
 ghost use Rattle.orca_cli.specs.Endings.{IsAnswer};
-ghost use Rattle.orca_cli.specs.Headline.{AreLoaded, AreUntouched, HaveObeyed, IsProgramRun, IsRun, IsRunOf, WasBegun, settings_of, wires_of};
+ghost use Rattle.orca_cli.specs.Headline.{AreLoaded, AreUntouched, HaveObeyed, IsProgramRun, IsRun, IsRunOf, WasBegun};
+ghost use Rattle.orca_cli.specs.Headline.{settings_of, wires_of};
 ghost use Rattle.command_files.specs.Sources.{Word};
 ghost use Rattle.orca_cli.specs.Job.{checks, deed_in, files_in, named_in, runs, script_in, script_names};
 ghost use Rattle.orca_cli.specs.Laws.{RunLaws};
 ghost use Rattle.command_output.specs.Printed.{HasStopped};
-ghost use Rattle.orca_cli.specs.Scripts.{HasScript, IsScriptFault, IsUnreadable};
+ghost use Rattle.orca_cli.specs.Scripts.{IsScriptFault, IsUnreadable};
 ghost use Rattle.orca_cli.specs.Programs.{IsProgramFault, units_of};
 ghost use Rattle.orca_cli.specs.Standings.{awaited_name, run_said};
 ghost use Rattle.command_files.specs.Sources.{AreRead};
@@ -78,9 +79,9 @@ fn check_files<F: Shelf, K: Sink>(
 ) -> Ended
     ensures none { result.kept ≡ None }
     ensures said { (policy : Chooser) (words : List Word) → deed_in words ≡ Some (checks (map (λ f. f.now) files.now)) →
-        IsAnswer policy words (F.told shelf.old)
+        IsAnswer policy words (F.told shelf.old) (F.reads shelf.old) (F.reads shelf.new)
         (FailedAt (F.faults shelf.old) (F.faults shelf.new) (F.reads shelf.old) (F.reads shelf.new))
-        (K.told out.old) (K.told out.new) result.status }
+        (K.told out.old) (K.told out.new) result.status policy.told }
     ensures same { F.told shelf.new ≡ F.told shelf.old }
     ensures read { F.faults shelf.old ≤ F.faults shelf.new }
     ensures asked { HasAsked (F.may_fail shelf.old) (map (λ f. f.now) files.now) (F.reads shelf.old) (F.reads shelf.new) }
@@ -106,10 +107,10 @@ fn check_files<F: Shelf, K: Sink>(
 fn said_unscripted<K: Sink>(alloc: Global, out: &mut K, fault: ScriptFault<'_>) -> Ended
     ensures none { result.kept ≡ None }
     ensures said { (policy : Chooser) (words : List Word) (told : Option (List File)) (before now : ℕ) (old new : List FileRead)
-        (files : List Word) (sources : List File) (script : Word) →
-        files_in words ≡ Some files → AreRead told files sources → script_in words ≡ Some script →
-        IsScriptFault told (FailedAt before now old new) script fault.entry →
-        IsAnswer policy words told (FailedAt before now old new) (K.told out.old) (K.told out.new) result.status }
+        (between : List FileRead) (files : List Word) (sources : List File) (script : Word) →
+        files_in words ≡ Some files → AreRead told files sources → ReadSince old between (map had sources) →
+        script_in words ≡ Some script → IsScriptFault told between new (FailedAt before now old new) script fault.entry →
+        IsAnswer policy words told old new (FailedAt before now old new) (K.told out.old) (K.told out.new) result.status policy.told }
     ensures status { IsUnreadable fault.entry → (result.status ≡ READ_FAULT) ⊎ HasStopped result.status }
     ensures later { K.faults out.old ≤ K.faults out.new }
     ensures failed { result.status ≡ WRITE_FAULT → Rose (K.faults out.old) (K.faults out.new) }
@@ -286,9 +287,9 @@ fn run_files<F: Shelf, K: Sink, W: Wire>(
     requires wires { (1 ≤ length wires.old) × (length wires.old ≤ 1000) }
     ensures refused { (policy : Chooser) (words : List Word) →
         deed_in words ≡ Some (runs options (option_map (λ f. f.now) script.entry) (map (λ f. f.now) files.now)) →
-        IfNone result.kept (IsAnswer policy words (F.told shelf.old)
+        IfNone result.kept (IsAnswer policy words (F.told shelf.old) (F.reads shelf.old) (F.reads shelf.new)
         (FailedAt (F.faults shelf.old) (F.faults shelf.new) (F.reads shelf.old) (F.reads shelf.new))
-        (K.told out.old) (K.told out.new) result.status) }
+        (K.told out.old) (K.told out.new) result.status policy.told) }
     ensures kept { (words : List Word) →
         deed_in words ≡ Some (runs options (option_map (λ f. f.now) script.entry) (map (λ f. f.now) files.now)) →
         IfSome result.kept (λ k. IsRunOf words (F.told shelf.old) (F.reads shelf.old) (F.reads shelf.new) k result.status
@@ -349,8 +350,9 @@ pub fn orca_main_over<F: Shelf, K: Sink, W: Wire, P: Policy>(
 ) -> Ended
     requires wires { (1 ≤ length wires.old) × (length wires.old ≤ 1000) }
     ensures refused { IfNone result.kept (IsAnswer (chooser_of P.rule P.told policy.old) (map string_bytes words.now) (F.told shelf.old)
+        (F.reads shelf.old) (F.reads shelf.new)
         (FailedAt (F.faults shelf.old) (F.faults shelf.new) (F.reads shelf.old) (F.reads shelf.new))
-        (K.told out.old) (K.told out.new) result.status) }
+        (K.told out.old) (K.told out.new) result.status (P.told policy.new)) }
     ensures untouched { IfNone result.kept (AreUntouched (map string_bytes words.now) (F.told shelf.old)
         (F.reads shelf.old) (F.reads shelf.new) result.status
         (wires_of W.told W.rule W.loaded wires.old) (wires_of W.told W.rule W.loaded wires.new)) }
@@ -365,8 +367,7 @@ pub fn orca_main_over<F: Shelf, K: Sink, W: Wire, P: Policy>(
     ensures asked { HasAsked (F.may_fail shelf.old) (named_in (map string_bytes words.now)) (F.reads shelf.old) (F.reads shelf.new) }
     ensures may { F.may_fail shelf.new ≡ F.may_fail shelf.old }
     ensures written { K.faults out.old ≤ K.faults out.new }
-    ensures chosen { WasAsked (map string_bytes words.now) (F.told shelf.old)
-        (chooser_of P.rule P.told policy.old) result.status (P.told policy.new) }
+    ensures unasked { IfSome result.kept (λ _. P.told policy.new ≡ P.told policy.old) }
     ensures same_rule { P.rule policy.new ≡ P.rule policy.old }
 {
     match job_of(alloc, words) {
@@ -411,13 +412,15 @@ pub fn orca_main<F: Shelf, K: Sink>(
 ) -> Ended
     requires wires { (1 ≤ length wires.old.items) × (length wires.old.items ≤ 1000) }
 
-    // Nothing is kept: an ending by its cause, with its line, or want of memory. What the wires tell, their scripts, and when these were
-    // loaded, are as before, unless memory lacked for the run that the words name: then that was begun.
+    // Nothing is kept: an ending by its cause, with its line, or want of memory; and where that tells choices, the policy was asked about
+    // each site of that program, in order, or about so many from the front where memory lacked before, and else about nothing. What the
+    // wires tell, their scripts, and when these were loaded, are as before, unless memory lacked for the run that the words name: then that
+    // was begun.
     ensures refused { IfNone result.kept (IsAnswer
         (chooser_of (λ b. (Policy-box b).rule b.value) (λ b. (Policy-box b).told b.value) policy.old)
-        (map string_bytes words.now) (F.told shelf.old)
+        (map string_bytes words.now) (F.told shelf.old) (F.reads shelf.old) (F.reads shelf.new)
         (FailedAt (F.faults shelf.old) (F.faults shelf.new) (F.reads shelf.old) (F.reads shelf.new))
-        (K.told out.old) (K.told out.new) result.status) }
+        (K.told out.old) (K.told out.new) result.status ((Policy-box policy.new).told policy.new.value)) }
     ensures untouched { IfNone result.kept (AreUntouched (map string_bytes words.now) (F.told shelf.old)
         (F.reads shelf.old) (F.reads shelf.new) result.status
         (wires_of (λ b. (Wire-box b).told b.value) (λ b. (Wire-box b).rule b.value) (λ b. (Wire-box b).loaded b.value)
@@ -457,11 +460,9 @@ pub fn orca_main<F: Shelf, K: Sink>(
         (wires_of (λ b. (Wire-box b).told b.value) (λ b. (Wire-box b).rule b.value) (λ b. (Wire-box b).loaded b.value)
         wires.new.items) }
 
-    // The policy is asked about each site of the program whose choices the words ask for, in order, or about so many from the front where
-    // memory lacks, and else nothing; and it keeps its rule.
-    ensures chosen { WasAsked (map string_bytes words.now) (F.told shelf.old)
-        (chooser_of (λ b. (Policy-box b).rule b.value) (λ b. (Policy-box b).told b.value) policy.old)
-        result.status ((Policy-box policy.new).told policy.new.value) }
+    // A run asks the policy nothing; and it keeps its rule.
+    ensures unasked { IfSome result.kept (λ _.
+        (Policy-box policy.new).told policy.new.value ≡ (Policy-box policy.old).told policy.old.value) }
     ensures same_rule { (Policy-box policy.new).rule policy.new.value ≡ (Policy-box policy.old).rule policy.old.value }
 {
     let ended = orca_main_over(alloc, words, shelf, out, wires, policy);

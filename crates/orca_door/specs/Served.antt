@@ -1,5 +1,5 @@
--- What the program does for its words over its own two wires: the first does what the script of the words says, and on the second nothing
--- happens.
+-- What the program does for its words over its own two wires: the first answers as its script says, which is that of the words where a run
+-- is begun; the second lets every packet pass, and gives no act.
 use Rattle.std.specs.Prelude.{◌≡◌, ℕ, List, [], ◌∷◌, Option, reverse}
 use Rattle.net_rules.specs.Answered.{Answered}
 use Rattle.net_rules.specs.declared.asked.Asked.{Asked}
@@ -7,6 +7,7 @@ use Rattle.net_rules.specs.declared.line.ScriptLine.{ScriptLine}
 use Rattle.orca_io.specs.Files.{File}
 use Rattle.orca_io.specs.Reading.{FileRead}
 use Rattle.command_files.specs.Sources.{Word}
+use Rattle.replica_choice.specs.declared.policy.Asked.{Asked as Question}
 use Rattle.orca_cli.specs.declared.kept.Kept.{Kept}
 use Rattle.orca_cli.specs.Choosing.{Chooser}
 use Rattle.orca_cli.specs.Endings.{IsAnswer}
@@ -36,11 +37,12 @@ pub record HaveAnswered (wires : Wires) : Type 0 where
 -- ---- what is done
 
 -- Nothing is kept: an ending by its cause with its line, or want of memory, over wires that are as they were made, unless memory lacked for
--- the run that the words name. Or a run was kept, and is the one that the words ask for, of the program whose texts were read. Either way
--- the wires answered so; where a run was begun, the lines of the first are those that the words name (`AreLoaded` of orca_cli)
+-- the run that the words name; and a policy was asked what that ending says. Or a run was kept, and is the one that the words ask for, of
+-- the program whose texts were read, and no policy was asked. Either way the wires answered so; where a run was begun, the lines of the
+-- first are those that the words name (`AreLoaded` of orca_cli)
 pub data IsServed (policy : Chooser) (words : List Word) (files : Option (List File)) (earlier later : List FileRead)
-    (failed : Word → Type 0) (old new : Option (List ℕ)) (status : ℕ) : Type 0 where
-  ended : (after : Wires) → HaveAnswered after → IsAnswer policy words files failed old new status →
-      AreUntouched words files earlier later status fresh after → IsServed policy words files earlier later failed old new status
+    (failed : Word → Type 0) (old new : Option (List ℕ)) (status : ℕ) (told : List Question) : Type 0 where
+  ended : (after : Wires) → HaveAnswered after → IsAnswer policy words files earlier later failed old new status told →
+      AreUntouched words files earlier later status fresh after → IsServed policy words files earlier later failed old new status told
   ran : (k : Kept) (after : Wires) → HaveAnswered after → IsRunOf words files earlier later k status old new fresh after →
-      IsServed policy words files earlier later failed old new status
+      told ≡ policy.told → IsServed policy words files earlier later failed old new status told

@@ -4,7 +4,7 @@ ghost use Rattle.std.specs.Prelude.{◌≡◌, ◌⊎◌, ◌<◌, ◌≤◌, If
 ghost use Rattle.command_output.specs.Printed.{HasStopped};
 ghost use Rattle.orca_io.specs.Causes.{Rose};
 ghost use Rattle.orca_io.specs.Reading.{FailedAt, HasAsked};
-ghost use Rattle.orca_cli.specs.Choosing.{WasAsked, chooser_of};
+ghost use Rattle.orca_cli.specs.Choosing.{chooser_of};
 ghost use Rattle.orca_cli.specs.Job.{named_in};
 ghost use Rattle.orca_door.specs.Obeying.{AreTwo};
 ghost use Rattle.orca_door.specs.Served.{IsServed, fresh, wired};
@@ -48,7 +48,7 @@ fn served<F: Shelf, K: Sink, P: Policy>(
     ensures served { IsServed (chooser_of P.rule P.told policy.old) (map string_bytes words.now) (F.told shelf.old)
         (F.reads shelf.old) (F.reads shelf.new)
         (FailedAt (F.faults shelf.old) (F.faults shelf.new) (F.reads shelf.old) (F.reads shelf.new))
-        (K.told out.old) (K.told out.new) result }
+        (K.told out.old) (K.told out.new) result (P.told policy.new) }
     ensures write_fault { result ≡ WRITE_FAULT → Rose (K.faults out.old) (K.faults out.new) }
     ensures stopped { K.faults out.old < K.faults out.new → HasStopped result }
     ensures same { F.told shelf.new ≡ F.told shelf.old }
@@ -57,8 +57,6 @@ fn served<F: Shelf, K: Sink, P: Policy>(
     ensures written { K.faults out.old ≤ K.faults out.new }
     ensures asked { HasAsked (F.may_fail shelf.old) (named_in (map string_bytes words.now)) (F.reads shelf.old) (F.reads shelf.new) }
     ensures may { F.may_fail shelf.new ≡ F.may_fail shelf.old }
-    ensures chosen { WasAsked (map string_bytes words.now) (F.told shelf.old)
-        (chooser_of P.rule P.told policy.old) result (P.told policy.new) }
     ensures same_rule { P.rule policy.new ≡ P.rule policy.old }
 {
     let ended = orca_main_over(alloc, words, shelf, out, wires, policy);
@@ -66,11 +64,11 @@ fn served<F: Shelf, K: Sink, P: Policy>(
     ended.status
 }
 
-/// Does what the words ask for, over a network that the script of the words tells, and gives the status of docs/FORMATS.md.
+/// Does what the words ask for, over two wires that it makes, and gives the status of docs/FORMATS.md.
 ///
-/// `words` leaves out the program's name. There are two wires: the first does what that script says, or lets all pass where the words name
-/// none; the second, to which the script may swap, lets all pass. The policy chooses what `choice` prints. Where memory lacks for the wires,
-/// the status says so.
+/// `words` leaves out the program's name. The first wire is loaded with the script of the words before a run begins, or with the empty one
+/// where they name none, and answers as that says; the second, to which the script may swap, lets every packet pass and gives no act. The
+/// policy chooses what `choice` prints. Where memory lacks for the wires, that is the status, and nothing is read.
 pub fn serve<F: Shelf, K: Sink, P: Policy>(
     alloc: Global,
     words: &[String],
@@ -78,11 +76,12 @@ pub fn serve<F: Shelf, K: Sink, P: Policy>(
     out: &mut K,
     policy: &mut P,
 ) -> u8
-    // An ending by its cause, with its line, or want of memory; or the run that the words ask for, whose network answered by their script.
+    // An ending by its cause, with its line and what the policy was asked for it, or want of memory; or the run that the words ask for,
+    // over wires that answered by their scripts, for which no policy was asked.
     ensures served { IsServed (chooser_of P.rule P.told policy.old) (map string_bytes words.now) (F.told shelf.old)
         (F.reads shelf.old) (F.reads shelf.new)
         (FailedAt (F.faults shelf.old) (F.faults shelf.new) (F.reads shelf.old) (F.reads shelf.new))
-        (K.told out.old) (K.told out.new) result }
+        (K.told out.old) (K.told out.new) result (P.told policy.new) }
 
     // A write fault is told only where the sink's count of faults rose; and where it rose, that or want of memory is told.
     ensures write_fault { result ≡ WRITE_FAULT → Rose (K.faults out.old) (K.faults out.new) }
@@ -100,10 +99,7 @@ pub fn serve<F: Shelf, K: Sink, P: Policy>(
     ensures asked { HasAsked (F.may_fail shelf.old) (named_in (map string_bytes words.now)) (F.reads shelf.old) (F.reads shelf.new) }
     ensures may { F.may_fail shelf.new ≡ F.may_fail shelf.old }
 
-    // The policy is asked about each site of the program whose choices the words ask for, in order, or about so many from the front where
-    // memory lacks, and else nothing; and it keeps its rule.
-    ensures chosen { WasAsked (map string_bytes words.now) (F.told shelf.old)
-        (chooser_of P.rule P.told policy.old) result (P.told policy.new) }
+    // The policy keeps its rule.
     ensures same_rule { P.rule policy.new ≡ P.rule policy.old }
 {
     match two_wires(alloc) {

@@ -467,16 +467,6 @@ few_steps f s in_use old new count read d going =
 
 -- ---- at its end
 
-ended_so : (stands : Standing) (f : Frame) (steps : List Step) (w : World) (asked : ℕ → List Asked) → (stands ≡ Going → ⊥) → WereUsed f steps w asked → WereUsedSo stands f steps w asked
-ended_so Going f steps w asked over used = absurd (over refl)
-ended_so (Limit what number) f steps w asked over used = used
-ended_so OutOfTurns f steps w asked over used = used
-ended_so OutOfEvents f steps w asked over used = used
-ended_so NoGroup f steps w asked over used = used
-ended_so Faulted f steps w asked over used = used
-ended_so Blocked f steps w asked over used = used
-ended_so Finished f steps w asked over used = used
-
 -- between two events, however it stands
 pub used_between : (stands : Standing) (f : Frame) (steps : List Step) (w : World) (asked : ℕ → List Asked) → WereUsed f steps w asked → WereUsedSo stands f steps w asked
 used_between Going f steps w asked used = all_used f steps w asked used
@@ -497,11 +487,6 @@ used_up_to NoGroup f steps w asked used = all_used f steps w asked used
 used_up_to Faulted f steps w asked used = all_used f steps w asked used
 used_up_to Blocked f steps w asked used = all_used f steps w asked used
 used_up_to Finished f steps w asked used = all_used f steps w asked used
-
--- of whichever world it is, by how that stands
-pub used_over : {S : Type 0} (f : Frame) (s : Seen S) (in_use : ℕ) (old new : List (List Asked)) (stands : Standing) → (d : IsDriven f s in_use old new) → stands ≡ standing f d.world → (stands ≡ Going → ⊥)
-    → WereUsedSo stands f s.steps d.world (asked_since old new)
-used_over f s in_use old new stands d is over = ended_so stands f s.steps d.world (asked_since old new) over d.used
 
 pub used_stopped : {S : Type 0} (f : Frame) (s : Seen S) (old new : List (List Asked)) (stands : Standing) → (h : HasStopped f s old new) → stands ≡ standing f h.world → WereUsedSo stands f s.steps h.world (asked_since old new)
 used_stopped f s old new stands h is = subst (λ (st : Standing). WereUsedSo st f s.steps h.world (asked_since old new)) (sym (is ∙ h.going)) h.used

@@ -1,11 +1,10 @@
 -- A run from its opening to what is kept of it.
-use Rattle.std.proofs.Common.{◌≡◌, ◌∙◌, ◌≢◌, inl, inr, ℕ, List, [], length, IfSome, Result, Ok, Err, IfOk, OnErr, OnOk, ap, sym, subst, refl}
+use Rattle.std.proofs.Common.{◌≡◌, ◌∙◌, inl, inr, ℕ, List, [], length, IfSome, Result, Ok, Err, IfOk, OnErr, OnOk, ap, sym, subst, refl}
 use Rattle.std.specs.Result.{result_ok}
 use Rattle.net_rules.specs.declared.asked.Asked.{Asked}
 use Rattle.orca_base.specs.declared.refusal.NoMemory.{NoMemory}
 use Rattle.world_rules.specs.declared.settings.Settings.{Settings}
 use Rattle.world_rules.specs.declared.standing.Standing.{Standing}
-use Rattle.world_rules.specs.declared.standing.Standing.TheVariants.{Going}
 use Rattle.world_rules.specs.declared.event.Step.{Step}
 use Rattle.world_rules.specs.Frame.{AreSettings, Frame}
 use Rattle.world_rules.specs.Standings as rules
@@ -21,7 +20,7 @@ use Rattle.run_ends.specs.declared.ends.RunEnd.{RunEnd}
 use Rattle.run_loop.specs.Asked.{AreInTime, HaveToldOn, NoneAskedBehind, WereAskedIn, WereUsedSo, asked_since}
 use Rattle.run_loop.specs.Driven.{HasCome, HasStopped, IsDriven, Stepping}
 use Rattle.run_loop.specs.Left.{HasRun}
-use Rattle.run_loop.proofs.Driving.{all_used, opens, opens_used, used_between, used_over, used_stopped, used_up_to}
+use Rattle.run_loop.proofs.Driving.{all_used, opens, opens_used, used_between, used_stopped, used_up_to}
 use Rattle.run_loop.proofs.Telling.{none_since}
 use Rattle.run_loop.proofs.Using.{in_time_none}
 
@@ -45,27 +44,6 @@ pub record HasGone {S : Type 0} (f : Frame) (s : Seen S) (st : Standing) (old ne
   pub unused : NoneAskedBehind world.swaps (asked_since old new)
   pub in_time : AreInTime f s.steps (asked_since old new)
   pub told : HaveToldOn old new
-
-pub gone : {S T E : Type 0} (f : Frame) (s : Seen S) (in_use : ℕ) (st : Standing) (old new : List (List Asked)) (r : Result T E) → OnOk r (IsDriven f s in_use old new) → OnOk r (Of f s (λ w. rules.standing f w ≢ Going))
-    → OnErr r (HasStopped f s old new) → Of f s (λ w. st ≡ rules.standing f w) → HasGone f s st old new
-gone f s in_use st old new (Ok x) d over stopped stands = record {
-  world = d.world;
-  replays = d.replays;
-  first = d.first;
-  used = used_over f s in_use old new st d (stands d.world d.replays) (λ going. over d.world d.replays (sym (stands d.world d.replays) ∙ going));
-  unused = subst (λ (k : ℕ). NoneAskedBehind k (asked_since old new)) d.swaps d.unused;
-  in_time = d.in_time;
-  told = d.told;
-}
-gone f s in_use st old new (Err e) driven over h stands = record {
-  world = h.world;
-  replays = h.replays;
-  first = h.first;
-  used = used_stopped f s old new st h (stands h.world h.replays);
-  unused = h.unused;
-  in_time = h.in_time;
-  told = h.told;
-}
 
 -- stepped through so far
 pub gone_by : {S : Type 0} (f : Frame) (s : Stepping S) (st : Standing) (old new : List (List Asked)) → HasCome f s old new → Of f s.world (λ w. st ≡ rules.standing f w) → HasGone f s.world st old new
@@ -137,3 +115,8 @@ ran f s st old new (Ok end) h stands stuck steps book notes its longest nodes pr
 pub kept_steps : (r : Result RunEnd NoMemory) (steps : List Step) → IfOk r (λ end. end.steps.items ≡ steps) → IfSome (result_ok r) (λ end. end.steps.items ≡ steps)
 kept_steps (Err e) steps so = tt
 kept_steps (Ok end) steps so = so
+
+-- a run that was driven to its end has come so far
+pub has_come : {S T E : Type 0} (f : Frame) (s : Stepping S) (old new : List (List Asked)) (r : Result T E) → OnOk r (IsDriven f s.world s.in_use old new) → OnErr r (HasStopped f s.world old new) → HasCome f s old new
+has_come f s old new (Ok x) driven stopped = inl driven
+has_come f s old new (Err e) driven stopped = inr stopped

@@ -1,5 +1,5 @@
 -- What a step of the world is to the run, as each call of drive.rt sees it.
-use Rattle.std.proofs.Common.{◌≡◌, ◌∙◌, ◌<◌, ◌≤◌, ◌+◌, ◌-◌, ℕ, suc, true, false, nat_lt, List, [], ◌∷◌, get_or, length, map, set, Option, Some, None, IfNone, IfSome, Result, Ok, Err, OnErr, OnOk, ap, sym, subst, arith}
+use Rattle.std.proofs.Common.{◌≡◌, ◌∙◌, ◌<◌, ◌≤◌, ◌+◌, ◌-◌, ℕ, suc, true, false, nat_lt, List, [], ◌∷◌, get_or, length, map, set, Option, Some, None, IfNone, IfSome, Result, Ok, Err, OnErr, ap, sym, subst, arith}
 use Rattle.std.specs.Prelude.{option_map, slice_index_or}
 use Rattle.std.proofs.lemmas.Bool.{ltb-true}
 use Rattle.std.proofs.lemmas.List.{length-map, length-set}
@@ -15,16 +15,21 @@ use Rattle.world_rules.specs.declared.event.Step.{Step}
 use Rattle.world_rules.specs.Acts.{event_of, swaps_by}
 use Rattle.world_rules.specs.Frame.{Frame}
 use Rattle.world_rules.specs.Standings.{process_count}
-use Rattle.world_rules.specs.Steps.{Known, Next, Possible}
+use Rattle.world_rules.specs.Steps.{Known, Next, Possible, Replays}
 use Rattle.world_rules.specs.Worlds.{World}
 use Rattle.world_facts.specs.Counted.{AllCounted}
 use Rattle.world_parts.specs.Choosing.{due_act, is_ready}
 use Rattle.world_parts.specs.Seen.{Of, Seen, tasks_out}
-use Rattle.world_core.specs.Stepping.{IsRefused, Stepped}
-use Rattle.run_loop.specs.Driven.{ComesFirst, HasAnswered, HasStopped, IsDriven, IsDrivenTo, IsDue, IsGoing, MayBe, MayGoOn, WentOn, told_more}
+use Rattle.world_core.specs.Stepping.{IsRefused, Stepped, told_so}
+use Rattle.run_loop.specs.Driven.{ComesFirst, HasAnswered, HasStopped, IsDriven, IsDrivenTo, IsDue, IsGoing, MayBe, MayGoOn, Stepping, WentOn, told_more}
 use Rattle.run_loop.proofs.Due.{act_may, deliver_may, tick_may}
 use Rattle.run_loop.proofs.Driving.{act_done, due_done, gives_nothing, passes_over, same_length, stops, stops_asked}
-use Rattle.run_loop.proofs.Telling.{kept_at, put_at, told_at}
+use Rattle.run_loop.specs.Asked.{HaveToldOn}
+use Rattle.run_loop.proofs.Telling.{kept_at, put_at, tells_more, told_at}
+
+-- a run that is stepped through, of its parts
+abbrev pub stepping : {S : Type 0} → Seen S → ℕ → Stepping S
+stepping world in_use = record { world = world; in_use = in_use }
 
 pub on_err : {T E : Type 0} (r : Result T E) (A : Type 0) → A → OnErr r A
 on_err (Ok x) A a = tt
@@ -98,6 +103,30 @@ module _ {W S : Type 0} (told : W → List Asked) (wires : List W) (first wire :
       subst (λ (x : Seen S). HasStopped f x old (map told (set wires in_use wire))) (sym unchanged)
       (subst (HasStopped f s old) (sym (kept_at told wires in_use first wire same)) (stops f s (suc (suc (length s.steps))) in_use old (map told wires) on.driven going))
 
+-- ---- wires tell on
+
+-- a step that was done told the wire in use more: an act of its own, or what was due
+module _ {W S : Type 0} (told : W → List Asked) (wires : List W) (first wire : W) (f : Frame) (s after : Seen S) (in_use : ℕ) (old : List (List Asked)) where
+  stepped_on : (what : Event) (w : World) → Replays f s.steps w → in_use < length wires → Stepped f what s after (told (get_or wires in_use first)) (told wire) → HaveToldOn (map told wires) (map told (set wires in_use wire))
+  stepped_on what w replays lt st =
+      let led = st.leads w replays in
+      tells_more told wires in_use first wire (map told_so led.more) lt led.asked
+
+  pub acts_on : (answer : Option WireAct) (what : Event) → HasAnswered f s in_use old (map told wires) answer → Stepped f what s after (told (get_or wires in_use first)) (told wire) → HaveToldOn (map told wires) (map told (set wires in_use wire))
+  acts_on answer what h st =
+      let within = h.driven.within in
+      let same = same_length f s in_use old (map told wires) answer h in
+      let many = length-map wires told in
+      stepped_on what h.driven.world h.driven.replays (omega (arith, within, same, many)) st
+
+  pub due_on : (what : Event) → MayGoOn f s in_use old (map told wires) → Stepped f what s after (told (get_or wires in_use first)) (told wire) → HaveToldOn (map told wires) (map told (set wires in_use wire))
+  due_on what on st =
+      let within = on.driven.within in
+      let many = length-map wires told in
+      stepped_on what on.driven.world on.driven.replays (omega (arith, within, many)) st
+
+-- ---- memory lacked
+
 -- where the world and what wires told stayed
 pub stopped_as : {S : Type 0} (f : Frame) (s after : Seen S) (next in_use : ℕ) (old was new : List (List Asked)) → IsDrivenTo f s next in_use old was → IsGoing f s → after ≡ s → new ≡ was → HasStopped f after old new
 stopped_as {S} f s after next in_use old was new driven going unchanged told =
@@ -131,12 +160,9 @@ tick_due f s act packet ready no_act no_packet no_ready going idle acts packets 
 pub ready_one : {S : Type 0} (f : Frame) (s : Seen S) (found : Option ProcessNo) (i : ProcessNo) → found ≡ Some i → IfSome found (λ k. Of f s (λ w. is_ready f s w k.0 ≡ true)) → Of f s (λ w. is_ready f s w i.0 ≡ true)
 ready_one f s found i is ready = subst (λ (o : Option ProcessNo). IfSome o (λ k. Of f s (λ w. is_ready f s w k.0 ≡ true))) is ready
 
--- ---- a result handed on
+-- ---- a stepper
 
-pub ok_as : {T E A B : Type 0} (r : Result T E) → (A → B) → OnOk r A → OnOk r B
-ok_as (Ok x) so a = so a
-ok_as (Err e) so a = tt
-
-pub err_as : {T E A B : Type 0} (r : Result T E) → (A → B) → OnErr r A → OnErr r B
-err_as (Ok x) so a = tt
-err_as (Err e) so a = so a
+-- it stands as it did, where its parts do
+pub stays_as : {S T E : Type 0} (r : Result T E) (now was : Seen S) (in_use used : ℕ) (s : Stepping S) → OnErr r (now ≡ was) → OnErr r (in_use ≡ used) → stepping was used ≡ s → OnErr r (stepping now in_use ≡ s)
+stays_as (Ok x) now was in_use used s world wire is = tt
+stays_as (Err e) now was in_use used s world wire is = (λ i. stepping (world i) (wire i)) ∙ is

@@ -3,7 +3,7 @@ use Rattle.std.proofs.Common.{◌≡◌, ◌∙◌, ◌<◌, ⊎_elim, ℕ, List
 use Rattle.std.specs.Prelude.{slice_index_or}
 use Rattle.std.proofs.Math.Seq.{drop-append_seam}
 use Rattle.std.proofs.lemmas.Bool.{cases_eq}
-use Rattle.std.proofs.lemmas.List.{get_or-set_other, get_or-set_same, length-set}
+use Rattle.std.proofs.lemmas.List.{get_or-set_other, get_or-set_same, length-map, length-set}
 use Rattle.net_rules.specs.declared.asked.Asked.{Asked}
 use Rattle.run_loop.specs.Asked.{HaveToldOn, asked_since}
 use Rattle.run_loop.specs.Driven.{told_more}
@@ -58,6 +58,21 @@ tells_itself told = record {
     none [] = refl
     none (x ∷ xs) = ap (λ (l : List Asked). x ∷ l) (none xs)
 
+-- what is told further is told on
+past : (first more all : List Asked) → all ≡ first ++ more → all ≡ first ++ drop (length first) all
+past first more all e = e ∙ ap (λ (l : List Asked). first ++ l) (sym (ap (drop (length first)) e ∙ drop-append_seam first more))
+
+pub tells_further : (old mid new : List (List Asked)) → HaveToldOn old mid → HaveToldOn mid new → HaveToldOn old new
+tells_further old mid new h k = record {
+  count = k.count ∙ h.count;
+  each = λ wire.
+      let first = slice_index_or old wire [] in
+      let before = asked_since old mid wire in
+      let since = asked_since mid new wire in
+      past first (before ++ since) (slice_index_or new wire [])
+      (k.each wire ∙ ap (λ (l : List Asked). l ++ since) (h.each wire) ∙ append_assoc first before since);
+}
+
 -- ---- a wire in the list
 
 -- one that tells more, at its place
@@ -83,3 +98,14 @@ pub kept_at : {W A : Type 0} (says : W → A) (wires : List W) (at : ℕ) (first
 kept_at says [] at first wire same = refl
 kept_at says (x ∷ wires) zero first wire same = ap (λ a. a ∷ map says wires) same
 kept_at says (x ∷ wires) (suc at) first wire same = ap (λ l. says x ∷ l) (kept_at says wires at first wire same)
+
+-- so wires tell on where one of them tells more, or the same
+pub tells_more : {W : Type 0} (told : W → List Asked) (wires : List W) (at : ℕ) (first wire : W) (more : List Asked) → at < length wires → told wire ≡ told (get_or wires at first) ++ more → HaveToldOn (map told wires) (map told (set wires at wire))
+tells_more told wires at first wire more lt h =
+    let many = length-map wires told in
+    subst (HaveToldOn (map told wires)) (sym (told_set told wires at wire first more lt h))
+    (tells_on (map told wires) (map told wires) at more (tells_itself (map told wires)) (omega (arith, lt, many)))
+
+pub tells_same : {W : Type 0} (told : W → List Asked) (wires : List W) (at : ℕ) (first wire : W) → told wire ≡ told (get_or wires at first) → HaveToldOn (map told wires) (map told (set wires at wire))
+tells_same told wires at first wire same =
+    subst (HaveToldOn (map told wires)) (sym (kept_at told wires at first wire same)) (tells_itself (map told wires))

@@ -21,8 +21,8 @@ abbrev pub run_of : Performs → Computes → Settings → Frame
 run_of p q settings = record { performs = p; computes = q; settings = settings }
 
 -- how a run stands, and what is kept, are those of the world to which its steps lead. What is so of each run: its book is a history, and
--- replies and copies are the book's; each line of its book was performed at its place; who waits at its end is stuck; processes stand by
--- what they do next
+-- replies and copies are the book's; each line of its book was performed at its place; processes stand by what they do next; and who waits
+-- is stuck: at a member that applied the whole list, on a single object, and where the run is over at each living member
 pub record IsLeft (f : Frame) (w : World) (standing : Standing) (end : RunEnd) : Type 0 where
   pub replays : Replays f end.steps.items w
   pub stands : standing ≡ rules.standing f w

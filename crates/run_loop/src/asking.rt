@@ -3,6 +3,7 @@
 ghost use Rattle.std.specs.Prelude.{◌≡◌, ◌<◌, ◌∷◌, [], IfOk, OnErr, length, map};
 ghost use Rattle.net_rules.specs.declared.asked.Asked.TheVariants.{Act};
 ghost use Rattle.world_rules.specs.Acts.{event_of, swaps_by};
+ghost use Rattle.run_loop.specs.Asked.{HaveToldOn};
 ghost use Rattle.run_loop.specs.Driven.{told_more};
 
 use net_rules::WireAct;
@@ -19,6 +20,7 @@ pub(crate) fn ask<W: Wire>(
     requires { at < length wires.old }
     ensures told { IfOk result (λ act. map W.told wires.new ≡ told_more at (Act number act ∷ []) (map W.told wires.old)) }
     ensures err { OnErr result (map W.told wires.new ≡ map W.told wires.old) }
+    ensures on { HaveToldOn (map W.told wires.old) (map W.told wires.new) }
     ensures scripts { map W.rule wires.new ≡ map W.rule wires.old }
     ensures loaded { map W.loaded wires.new ≡ map W.loaded wires.old }
 {

@@ -1,10 +1,9 @@
-//! What drives a run: it does the next event, again and again.
+//! What drives a run: it does the next event.
 
-ghost use Rattle.std.specs.Prelude.{◌≡◌, ◌≢◌, ◌<◌, ◌+◌, [], false, true, Err, IfOk, None, Ok, OnErr, OnOk, Some, length, map};
+ghost use Rattle.std.specs.Prelude.{◌≡◌, ◌<◌, ◌+◌, [], false, true, Err, IfOk, None, Ok, OnErr, OnOk, Some, length, map};
 ghost use Rattle.world_rules.specs.Frame.{AreSettings};
-ghost use Rattle.world_rules.specs.Standings as rules;
-ghost use Rattle.world_rules.specs.declared.standing.Standing.TheVariants.{Going};
-ghost use Rattle.world_parts.specs.Seen.{Of, tasks_out};
+ghost use Rattle.world_parts.specs.Seen.{tasks_out};
+ghost use Rattle.run_loop.specs.Asked.{HaveToldOn};
 ghost use Rattle.run_loop.specs.Driven.{ComesFirst, HasAnswered, HasStopped, IsDriven, IsDue, IsGoing, MayBe, MayGoOn, WentOn};
 
 use crate::asking::{ask, event_of, swaps_of};
@@ -14,8 +13,8 @@ use node_parts::OneRun;
 use orca_base::NoMemory;
 use std::alloc::Global;
 use wires::Wire;
-use world_core::{Event, Settings, Standing, StepError, World};
-use world_facts::{standings_mean, worlds_count};
+use world_core::{Event, Settings, StepError, World};
+use world_facts::worlds_count;
 
 /// A run that is driven: its world, which wire is in use, and how many bursts each process has computed.
 #[derive(Drop)]
@@ -39,31 +38,8 @@ impl<P: OneRun> Driver<P> {
         })
     }
 
-    /// Does one event after the other, until the run isn't going. Where there is no memory it stops before an event, and the run goes
-    /// on standing for the steps before it.
-    pub(crate) fn drive<W: Wire>(
-        &mut self,
-        alloc: Global,
-        machine: &P,
-        wires: &mut [W],
-    ) -> Result<(), NoMemory>
-        requires { IsDriven P.run.frame self.old.world self.old.in_use P.run.told (map W.told wires.old) }
-        ensures driven { OnOk result (IsDriven P.run.frame self.new.world self.new.in_use P.run.told (map W.told wires.new)) }
-        ensures over { OnOk result (Of P.run.frame self.new.world (λ w. rules.standing P.run.frame w ≢ Going)) }
-        ensures stopped { OnErr result (HasStopped P.run.frame self.new.world P.run.told (map W.told wires.new)) }
-        ensures scripts { map W.rule wires.new ≡ map W.rule wires.old }
-        ensures loaded { map W.loaded wires.new ≡ map W.loaded wires.old }
-    {
-        worlds_count();
-        standings_mean();
-        'events: while self.world.standing() == Standing::Going {
-            self.next(alloc, machine, wires)?;
-        }
-        Ok(())
-    }
-
     /// Does the next event: what the wire in use gives, or what is due, where that gives nothing or what it gives is passed over. Where
-    /// there is no memory, the world is as it was.
+    /// there is no memory, the driver is as it was.
     pub(crate) fn next<W: Wire>(
         &mut self,
         alloc: Global,
@@ -75,6 +51,8 @@ impl<P: OneRun> Driver<P> {
         ensures went { OnOk result (WentOn P.run.frame self.old.world self.new.world self.new.in_use P.run.told (map W.told wires.new)) }
         ensures stopped { OnErr result (HasStopped P.run.frame self.new.world P.run.told (map W.told wires.new)) }
         ensures err { OnErr result (self.new.world ≡ self.old.world) }
+        ensures in_use { OnErr result (self.new.in_use ≡ self.old.in_use) }
+        ensures told { HaveToldOn (map W.told wires.old) (map W.told wires.new) }
         ensures scripts { map W.rule wires.new ≡ map W.rule wires.old }
         ensures loaded { map W.loaded wires.new ≡ map W.loaded wires.old }
     {
@@ -100,8 +78,11 @@ impl<P: OneRun> Driver<P> {
             WentOn P.run.frame self.old.world self.new.world self.new.in_use P.run.told (map W.told wires.new) }
         ensures passed { result ≡ Ok false → MayGoOn P.run.frame self.new.world self.new.in_use P.run.told (map W.told wires.new) }
         ensures same { result ≡ Ok false → self.new.world ≡ self.old.world }
+        ensures same_wire { result ≡ Ok false → self.new.in_use ≡ self.old.in_use }
         ensures stopped { OnErr result (HasStopped P.run.frame self.new.world P.run.told (map W.told wires.new)) }
         ensures err { OnErr result (self.new.world ≡ self.old.world) }
+        ensures in_use { OnErr result (self.new.in_use ≡ self.old.in_use) }
+        ensures told { HaveToldOn (map W.told wires.old) (map W.told wires.new) }
         ensures scripts { map W.rule wires.new ≡ map W.rule wires.old }
         ensures loaded { map W.loaded wires.new ≡ map W.loaded wires.old }
     {
@@ -130,6 +111,8 @@ impl<P: OneRun> Driver<P> {
         ensures went { OnOk result (WentOn P.run.frame self.old.world self.new.world self.new.in_use P.run.told (map W.told wires.new)) }
         ensures stopped { OnErr result (HasStopped P.run.frame self.new.world P.run.told (map W.told wires.new)) }
         ensures err { OnErr result (self.new.world ≡ self.old.world) }
+        ensures in_use { OnErr result (self.new.in_use ≡ self.old.in_use) }
+        ensures told { HaveToldOn (map W.told wires.old) (map W.told wires.new) }
         ensures scripts { map W.rule wires.new ≡ map W.rule wires.old }
         ensures loaded { map W.loaded wires.new ≡ map W.loaded wires.old }
     {
@@ -142,8 +125,9 @@ impl<P: OneRun> Driver<P> {
         }
         match chosen(&self.world, &self.bursts) {
             Some(process) => {
+                self.world.compute(alloc, machine, process)?;
                 self.bursts.count(process);
-                self.world.compute(alloc, machine, process)
+                Ok(())
             }
             None => self.step(alloc, machine, Event::Tick, wires),
         }
@@ -164,6 +148,8 @@ impl<P: OneRun> Driver<P> {
         ensures went { OnOk result (WentOn P.run.frame self.old.world self.new.world self.new.in_use P.run.told (map W.told wires.new)) }
         ensures stopped { OnErr result (HasStopped P.run.frame self.new.world P.run.told (map W.told wires.new)) }
         ensures err { OnErr result (self.new.world ≡ self.old.world) }
+        ensures in_use { OnErr result (self.new.in_use ≡ self.old.in_use) }
+        ensures told { HaveToldOn (map W.told wires.old) (map W.told wires.new) }
         ensures scripts { map W.rule wires.new ≡ map W.rule wires.old }
         ensures loaded { map W.loaded wires.new ≡ map W.loaded wires.old }
     {

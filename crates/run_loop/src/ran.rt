@@ -5,7 +5,7 @@ ghost use Rattle.world_rules.specs.Frame.{AreSettings};
 ghost use Rattle.run_loop.specs.Asked.{HaveToldOn, WereAskedIn};
 ghost use Rattle.run_loop.specs.Left.{HasRun, run_of};
 
-use crate::drive::Driver;
+use crate::stepper::Stepper;
 use node_parts::{OneRun, RunMachine, RunName};
 use std::alloc::Global;
 use std::marker::Brand;
@@ -16,7 +16,7 @@ use world_core::{RunEnd, Settings, Standing};
 /// What a run leaves.
 #[derive(Drop)]
 pub struct Ran {
-    /// How it stands: it is going where it was given up, for want of memory.
+    /// How it stands. It is going where it was given up: for want of memory, or by whoever stepped through it.
     pub standing: Standing,
     /// All that is kept of it; none where there was no memory to begin, or for what is kept.
     pub end: Option<RunEnd>,
@@ -90,15 +90,12 @@ fn run_tied<P: OneRun, W: Wire>(
     ensures scripts { map W.rule wires.new ≡ map W.rule wires.old }
     ensures loaded { map W.loaded wires.new ≡ map W.loaded wires.old }
 {
-    let Ok(mut driver) = Driver::new(alloc, machine, settings) else {
+    let Ok(mut stepper) = Stepper::begin(alloc, machine, settings) else {
         return Ran {
             standing: Standing::Going,
             end: None,
         };
     };
-    let _ = driver.drive(alloc, machine, wires);
-    Ran {
-        standing: driver.world.standing(),
-        end: driver.world.into_end(alloc).ok(),
-    }
+    let _ = stepper.drive(alloc, machine, wires);
+    stepper.into_ran(alloc)
 }

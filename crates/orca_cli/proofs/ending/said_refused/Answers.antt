@@ -1,3 +1,4 @@
+use Rattle.std.proofs.Common.{refl}
 use Rattle.orca_io.specs.Reading.{FailedAt}
 use Rattle.orca_cli.specs.Endings as because
 use Rattle.orca_cli.specs.Programs.{program_line, program_status}
@@ -9,7 +10,8 @@ said-requires g c = rw c.status.ensures (program_apart c.args.fault.now)
 
 pub returns-clause-said : goal.returns-clause-said
 returns-clause-said g c = λ policy words told before now old new files sources asked read has is.
-    answer_of (λ l. l.items) c.line.result policy words told (FailedAt before now old new) _ _ (program_status c.args.fault.now) _ (program_line c.args.fault.now) c.line.ensures (rw c.status.ensures at c.said.ensures.printed) c.said.ensures.silent (rw c.status.ensures at c.said.ensures.status) (because.refused files sources c.args.fault.now asked read has is)
+    answer_of (λ l. l.items) c.line.result policy words told old new (FailedAt before now old new) _ _ (program_status c.args.fault.now) _ (program_line c.args.fault.now) c.line.ensures (rw c.status.ensures at c.said.ensures.printed) c.said.ensures.silent (rw c.status.ensures at c.said.ensures.status)
+    (because.refused files sources c.args.fault.now asked read has is) refl
 
 pub returns-clause-unfinished : goal.returns-clause-unfinished
 returns-clause-unfinished g c = ends_unfinished _ _ (program_unfinished c.args.fault.now) (rw c.status.ensures at c.said.ensures.status)

@@ -1,3 +1,4 @@
+use Rattle.std.proofs.Common.{refl}
 use Rattle.orca_io.specs.Reading.{FailedAt}
 use Rattle.orca_cli.specs.Endings as because
 use Rattle.command_files.specs.Loaded.{load_line, load_status}
@@ -10,7 +11,8 @@ said-requires g c = rw c.status.ensures (unread_status c.args.fault)
 
 pub returns-clause-said : goal.returns-clause-said
 returns-clause-said g c = λ policy words told before now old new files asked is.
-    answer_of (λ l. l.items) c.line.result policy words told (FailedAt before now old new) _ _ (load_status c.args.fault) _ (load_line c.args.fault) c.line.ensures (rw c.status.ensures at c.said.ensures.printed) c.said.ensures.silent (rw c.status.ensures at c.said.ensures.status) (because.unread files c.args.fault asked is)
+    answer_of (λ l. l.items) c.line.result policy words told old new (FailedAt before now old new) _ _ (load_status c.args.fault) _ (load_line c.args.fault) c.line.ensures (rw c.status.ensures at c.said.ensures.printed) c.said.ensures.silent (rw c.status.ensures at c.said.ensures.status)
+    (because.unread files c.args.fault asked is) refl
 
 pub returns-clause-unfinished : goal.returns-clause-unfinished
 returns-clause-unfinished g c = ends_unfinished _ _ (unread_unfinished c.args.fault) (rw c.status.ensures at c.said.ensures.status)

@@ -2,16 +2,16 @@ use Rattle.std.proofs.Common.{refl}
 use Rattle.orca_cli.specs.Endings as because
 use Rattle.orca_cli.specs.Lines as lines
 use Rattle.command_files.proofs.AskedFiles.{asked_none}
-use Rattle.orca_cli.proofs.CliLemmas.{answer_of, asked_words, deed_is, deed_none, if_none, unasked_by, unasked_end, within_is}
+use Rattle.orca_cli.proofs.CliLemmas.{answer_of, asked_words, deed_is, deed_none, if_none, within_is}
 use Rattle.orca_cli.proofs.top.orca_main_over.Goals as goal
 
 pub returns-in-Ok-Some-Says-clause-refused : goal.returns-in-Ok-Some-Says-clause-refused
 returns-in-Ok-Some-Says-clause-refused g c =
-    if_none _ _ (answer_of (λ l. l.items) c.whole.result _ _ _ _ _ _ 0 _ c.in-Ok-Some-Says.text.now c.whole.ensures c.said.ensures.printed c.said.ensures.silent c.said.ensures.status (because.said c.in-Ok-Some-Says.text.now (deed_is _ _ _ _ c.in-Ok-Some-Says.ensures.is c.in-Ok-Some-Says.field-0-is c.in-Ok-Some-Says.field-0-0-is)))
+    if_none _ _ (answer_of (λ l. l.items) c.whole.result _ _ _ _ _ _ _ _ 0 _ c.in-Ok-Some-Says.text.now c.whole.ensures c.said.ensures.printed c.said.ensures.silent c.said.ensures.status (because.said c.in-Ok-Some-Says.text.now (deed_is _ _ _ _ c.in-Ok-Some-Says.ensures.is c.in-Ok-Some-Says.field-0-is c.in-Ok-Some-Says.field-0-0-is)) refl)
 
 pub returns-in-Ok-None-clause-refused : goal.returns-in-Ok-None-clause-refused
 returns-in-Ok-None-clause-refused g c =
-    if_none _ _ (answer_of (λ l. l.items) c.usage_line.result _ _ _ _ _ _ 2 _ lines.usage_line c.usage_line.ensures c.said-in-Ok-None.ensures.printed c.said-in-Ok-None.ensures.silent c.said-in-Ok-None.ensures.status (because.usage (deed_none _ _ c.in-Ok-None.ensures.is c.in-Ok-None.field-0-is)))
+    if_none _ _ (answer_of (λ l. l.items) c.usage_line.result _ _ _ _ _ _ _ _ 2 _ lines.usage_line c.usage_line.ensures c.said-in-Ok-None.ensures.printed c.said-in-Ok-None.ensures.silent c.said-in-Ok-None.ensures.status (because.usage (deed_none _ _ c.in-Ok-None.ensures.is c.in-Ok-None.field-0-is)) refl)
 
 pub returns-in-Ok-Some-Replays-clause-refused : goal.returns-in-Ok-Some-Replays-clause-refused
 returns-in-Ok-Some-Replays-clause-refused g c =
@@ -72,28 +72,3 @@ returns-in-Ok-Some-Lists-clause-asked g c =
 pub returns-in-Ok-Some-Chooses-clause-asked : goal.returns-in-Ok-Some-Chooses-clause-asked
 returns-in-Ok-Some-Chooses-clause-asked g c =
     asked_words _ _ _ _ _ (deed_is _ _ _ _ c.in-Ok-Some-Chooses.ensures.is c.in-Ok-Some-Chooses.field-0-is c.in-Ok-Some-Chooses.field-0-0-is) (rw c.deref-in-Ok-Some-Chooses.ensures.value at c.choose_files.ensures.asked)
-
-pub returns-in-Ok-Some-Chooses-clause-chosen : goal.returns-in-Ok-Some-Chooses-clause-chosen
-returns-in-Ok-Some-Chooses-clause-chosen g c =
-    (rw c.deref-in-Ok-Some-Chooses.ensures.value at c.choose_files.ensures.chosen) _ (deed_is _ _ _ _ c.in-Ok-Some-Chooses.ensures.is c.in-Ok-Some-Chooses.field-0-is c.in-Ok-Some-Chooses.field-0-0-is)
-
-pub returns-in-Ok-None-clause-chosen : goal.returns-in-Ok-None-clause-chosen
-returns-in-Ok-None-clause-chosen g c = unasked_by _ _ _ _ _ (deed_none _ _ c.in-Ok-None.ensures.is c.in-Ok-None.field-0-is) (λ h. h)
-
-pub returns-in-Err-clause-chosen : goal.returns-in-Err-clause-chosen
-returns-in-Err-clause-chosen g c = unasked_end _ _ _ _ _ (λ done. absurd (cc (c.nothing.ensures.status, done))) refl
-
-pub returns-in-Ok-Some-Says-clause-chosen : goal.returns-in-Ok-Some-Says-clause-chosen
-returns-in-Ok-Some-Says-clause-chosen g c = unasked_by _ _ _ _ _ (deed_is _ _ _ _ c.in-Ok-Some-Says.ensures.is c.in-Ok-Some-Says.field-0-is c.in-Ok-Some-Says.field-0-0-is) (λ h. h)
-
-pub returns-in-Ok-Some-Checks-clause-chosen : goal.returns-in-Ok-Some-Checks-clause-chosen
-returns-in-Ok-Some-Checks-clause-chosen g c = unasked_by _ _ _ _ _ (deed_is _ _ _ _ c.in-Ok-Some-Checks.ensures.is c.in-Ok-Some-Checks.field-0-is c.in-Ok-Some-Checks.field-0-0-is) (λ h. h)
-
-pub returns-in-Ok-Some-Lists-clause-chosen : goal.returns-in-Ok-Some-Lists-clause-chosen
-returns-in-Ok-Some-Lists-clause-chosen g c = unasked_by _ _ _ _ _ (deed_is _ _ _ _ c.in-Ok-Some-Lists.ensures.is c.in-Ok-Some-Lists.field-0-is c.in-Ok-Some-Lists.field-0-0-is) (λ h. h)
-
-pub returns-in-Ok-Some-Runs-clause-chosen : goal.returns-in-Ok-Some-Runs-clause-chosen
-returns-in-Ok-Some-Runs-clause-chosen g c = unasked_by _ _ _ _ _ (deed_is _ _ _ _ c.in-Ok-Some-Runs.ensures.is c.in-Ok-Some-Runs.field-0-is c.in-Ok-Some-Runs.field-0-0-is) (λ h. h)
-
-pub returns-in-Ok-Some-Replays-clause-chosen : goal.returns-in-Ok-Some-Replays-clause-chosen
-returns-in-Ok-Some-Replays-clause-chosen g c = unasked_by _ _ _ _ _ (deed_is _ _ _ _ c.in-Ok-Some-Replays.ensures.is c.in-Ok-Some-Replays.field-0-is c.in-Ok-Some-Replays.field-0-0-is) (λ h. h)

@@ -8,4 +8,5 @@ pub answered-requires : goal.answered-requires
 answered-requires g c = two_left _ _ _ _ _ _ _ c.orca_main_over-ended.result.kept _ _ c.requires c.orca_main_over-ended.ensures.untouched c.orca_main_over-ended.ensures.headline
 
 pub returns-clause-served : goal.returns-clause-served
-returns-clause-served g c = is_served _ _ _ _ _ _ _ _ _ c.orca_main_over-ended.result.kept _ _ c.requires c.answered.ensures c.orca_main_over-ended.ensures.refused c.orca_main_over-ended.ensures.untouched c.orca_main_over-ended.ensures.headline
+returns-clause-served g c =
+    is_served _ _ _ _ _ _ _ _ _ _ c.orca_main_over-ended.result.kept _ _ c.requires c.answered.ensures c.orca_main_over-ended.ensures.refused c.orca_main_over-ended.ensures.untouched c.orca_main_over-ended.ensures.headline c.orca_main_over-ended.ensures.unasked

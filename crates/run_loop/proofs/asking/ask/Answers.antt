@@ -3,7 +3,7 @@ use Rattle.net_rules.specs.declared.asked.Asked.{Asked}
 use Rattle.net_rules.specs.declared.asked.Asked.TheVariants.{Act}
 use Rattle.std.specs.Prelude.{List}
 use Rattle.run_loop.proofs.Stepping.{on_err}
-use Rattle.run_loop.proofs.Telling.{kept_at, told_set}
+use Rattle.run_loop.proofs.Telling.{kept_at, tells_more, tells_same, told_set}
 use Rattle.run_loop.proofs.asking.ask.Goals as goal
 
 pub returns-in_err-make_room-clause-err : goal.returns-in_err-make_room-clause-err
@@ -30,3 +30,12 @@ returns-clause-scripts g c =
 pub returns-clause-loaded : goal.returns-clause-loaded
 returns-clause-loaded g c =
     kept_at g.W.Wire.loaded c.args.wires.now c.args.at c.index-wires-at.result c.next_act.new.self (c.next_act.ensures.since ∙ c.make_room.ensures.since)
+
+pub returns-in_err-make_room-clause-on : goal.returns-in_err-make_room-clause-on
+returns-in_err-make_room-clause-on g c =
+    tells_same g.W.Wire.told c.args.wires.now c.args.at c.index-wires-at.result c.make_room.new.self c.make_room.ensures.told
+
+pub returns-clause-on : goal.returns-clause-on
+returns-clause-on g c =
+    tells_more g.W.Wire.told c.args.wires.now c.args.at c.index-wires-at.result c.next_act.new.self (Act c.args.number c.next_act.result ∷ []) c.requires
+    (c.next_act.ensures.told ∙ ap (λ (l : List Asked). l ++ Act c.args.number c.next_act.result ∷ []) c.make_room.ensures.told)

@@ -1,6 +1,6 @@
 use Rattle.std.proofs.Common.{Err, ap, map}
-use Rattle.run_loop.proofs.Stepping.{act_by, none_given, passed_by, some_given, stopped_asked_by}
-use Rattle.run_loop.proofs.Telling.{kept_at}
+use Rattle.run_loop.proofs.Stepping.{act_by, acts_on, none_given, passed_by, some_given, stopped_asked_by}
+use Rattle.run_loop.proofs.Telling.{kept_at, tells_itself, tells_same}
 use Rattle.run_loop.proofs.drive.Driver.does.Goals as goal
 
 pub returns-in_default-clause-passed : goal.returns-in_default-clause-passed
@@ -49,3 +49,19 @@ returns-in-Err-NoMemory-clause-scripts g c =
 pub returns-in-Err-NoMemory-clause-loaded : goal.returns-in-Err-NoMemory-clause-loaded
 returns-in-Err-NoMemory-clause-loaded g c =
     kept_at g.W.Wire.loaded c.args.wires.now c.args.self.now.in_use c.index-wires-self.result c.step.new.wire c.step.ensures.since
+
+pub returns-in_default-clause-told : goal.returns-in_default-clause-told
+returns-in_default-clause-told g c = tells_itself (map g.W.Wire.told c.args.wires.now)
+
+pub returns-in-Ok-clause-told : goal.returns-in-Ok-clause-told
+returns-in-Ok-clause-told g c =
+    acts_on g.W.Wire.told c.args.wires.now c.index-wires-self.result c.step.new.wire g.P.OneRun.run.frame c.args.self.now.world c.step.new.self c.args.self.now.in_use g.P.OneRun.run.told
+    c.args.act c.event_of.result c.requires.answered c.in-Ok.ensures.done
+
+pub returns-in-Err-NotEnabled-clause-told : goal.returns-in-Err-NotEnabled-clause-told
+returns-in-Err-NotEnabled-clause-told g c =
+    tells_same g.W.Wire.told c.args.wires.now c.args.self.now.in_use c.index-wires-self.result c.step.new.wire c.in-Err-NotEnabled.ensures.unasked
+
+pub returns-in-Err-NoMemory-clause-told : goal.returns-in-Err-NoMemory-clause-told
+returns-in-Err-NoMemory-clause-told g c =
+    tells_same g.W.Wire.told c.args.wires.now c.args.self.now.in_use c.index-wires-self.result c.step.new.wire c.in-Err-NoMemory.ensures.unasked

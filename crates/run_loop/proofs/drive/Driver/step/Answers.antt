@@ -1,5 +1,5 @@
-use Rattle.run_loop.proofs.Stepping.{due_by, stopped_by}
-use Rattle.run_loop.proofs.Telling.{kept_at}
+use Rattle.run_loop.proofs.Stepping.{due_by, due_on, stopped_by}
+use Rattle.run_loop.proofs.Telling.{kept_at, tells_same}
 use Rattle.run_loop.proofs.drive.Driver.step.Goals as goal
 
 pub returns-in-Ok-clause-went : goal.returns-in-Ok-clause-went
@@ -27,3 +27,12 @@ returns-in-Err-NoMemory-clause-scripts g c =
 pub returns-in-Err-NoMemory-clause-loaded : goal.returns-in-Err-NoMemory-clause-loaded
 returns-in-Err-NoMemory-clause-loaded g c =
     kept_at g.W.Wire.loaded c.args.wires.now c.args.self.now.in_use c.index-wires-self.result c.step.new.wire c.step.ensures.since
+
+pub returns-in-Ok-clause-told : goal.returns-in-Ok-clause-told
+returns-in-Ok-clause-told g c =
+    due_on g.W.Wire.told c.args.wires.now c.index-wires-self.result c.step.new.wire g.P.OneRun.run.frame c.args.self.now.world c.step.new.self c.args.self.now.in_use g.P.OneRun.run.told
+    c.args.event c.requires.on c.in-Ok.ensures.done
+
+pub returns-in-Err-NoMemory-clause-told : goal.returns-in-Err-NoMemory-clause-told
+returns-in-Err-NoMemory-clause-told g c =
+    tells_same g.W.Wire.told c.args.wires.now c.args.self.now.in_use c.index-wires-self.result c.step.new.wire c.in-Err-NoMemory.ensures.unasked

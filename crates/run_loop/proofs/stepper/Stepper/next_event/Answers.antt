@@ -1,5 +1,6 @@
-use Rattle.std.proofs.Common.{◌≡◌, OnErr, OnOk, map, subst, sym}
+use Rattle.std.proofs.Common.{OnOk, map, subst, sym}
 use Rattle.run_loop.specs.Driven.{IsDriven, IsGoing, Stepping, WentOn}
+use Rattle.run_loop.proofs.Stepping.{stays_as}
 use Rattle.run_loop.proofs.stepper.Stepper.next_event.Goals as goal
 
 pub next-requires-clause-driven : goal.next-requires-clause-driven
@@ -14,4 +15,5 @@ returns-clause-went g c =
     subst (λ (s : Stepping g.row.P-State.Denot). OnOk c.next.result (WentOn g.P.OneRun.run.frame s.world c.next.new.self.world c.next.new.self.in_use g.P.OneRun.run.told (map g.W.Wire.told c.next.new.wires))) c.self.view_is c.next.ensures.went
 
 pub returns-clause-err : goal.returns-clause-err
-returns-clause-err g c = subst (λ (s : Stepping g.row.P-State.Denot). OnErr c.next.result (c.next.new.self.world ≡ s.world)) c.self.view_is c.next.ensures.err
+returns-clause-err g c =
+    stays_as c.next.result c.next.new.self.world c.self.inside.driver.world c.next.new.self.in_use c.self.inside.driver.in_use c.args.self.now c.next.ensures.err c.next.ensures.in_use c.self.view_is
