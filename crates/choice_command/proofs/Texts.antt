@@ -121,7 +121,7 @@ module _ (rule : Rule) (nodes : ℕ) where
       ∙ ap (λ (l : List Choice). choices_of ess front ++ l ∷ []) (chosen ∙ ap (λ (l : List Asked). choices_by rule nodes l es) is)
       ∙ sym (text_more ess es front own (each_chosen rule nodes told (all_of ess)) (each_chosen rule nodes (after_all told ess) es))
       ∙ ap (λ (l : List Choice). choices_of (ess ++ es ∷ []) l)
-        (sym (chosen_behind rule nodes told (all_of ess) es) ∙ ap (λ (l : List Estimate). choices_by rule nodes told l) (sym (all_more ess es)))
+      (sym (chosen_behind rule nodes told (all_of ess) es) ∙ ap (λ (l : List Estimate). choices_by rule nodes told l) (sym (all_more ess es)))
       ∙ ap (λ (l : List (List Estimate)). choices_of l (choices_by rule nodes told (all_of l))) (sym e)
 
   -- who asked about all texts in front, and about the first sites of the next one, asked about the first of all
@@ -132,9 +132,9 @@ module _ (rule : Rule) (nodes : ℕ) where
       let all : all_of (map view (take i xs)) ++ (view x ++ all_of others) ≡ all_of (map view xs) =
       sym (flat_map-append (λ (l : List Estimate). l) (map view (take i xs)) (view x ∷ others))
       ∙ ap all_of
-        (ap (λ (l : List A). map view (take i xs) ++ map view l) (sym (rest_is xs i x lt there))
-        ∙ sym (map-append view (take i xs) (drop i xs))
-        ∙ ap (map view) (take-append-drop i xs))
+      (ap (λ (l : List A). map view (take i xs) ++ map view l) (sym (rest_is xs i x lt there))
+      ∙ sym (map-append view (take i xs) (drop i xs))
+      ∙ ap (map view) (take-append-drop i xs))
       in
       subst (λ (l : List Estimate). AsksFirst rule nodes l told new) all
       (first_behind rule nodes told now new (all_of (map view (take i xs))) (view x) (all_of others) is first)

@@ -7,7 +7,7 @@ use Rattle.access_estimates.proofs.Listing.{listed}
 use Rattle.estimate_rules.specs.Estimates.{estimates, process_estimates, summaries_of}
 use Rattle.estimate_rules.specs.Sites.{all_of, choices_of, estimates_by_text}
 use Rattle.replica_choice.specs.Asking.{AsksFirst, choices_by, questions}
-use Rattle.replica_choice.proofs.Zipped.{if_ok_all, on_err_any}
+use Rattle.replica_choice.proofs.Zipped.{on_err_any}
 use Rattle.choice_command.proofs.Told.{asked_none}
 use Rattle.choice_command.proofs.runs.run_choices.Goals as goal
 

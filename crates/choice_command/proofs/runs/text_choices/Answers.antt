@@ -1,10 +1,10 @@
-use Rattle.std.proofs.Common.{◌≡◌, ◌+◌, ◌++◌, ◌∷◌, [], List, Vec, Global, length, map, take, refl, sym, ap, ◌∙◌, arith}
+use Rattle.std.proofs.Common.{◌≡◌, ◌++◌, ◌∷◌, [], List, Vec, Global, map, take, refl, sym, ap, ◌∙◌, arith}
 use Rattle.std.proofs.lemmas.List.{append-nil, take_all}
 use Rattle.orca_base.specs.declared.what.Choice.{Choice}
 use Rattle.site_estimates.specs.declared.estimate.Estimate.{Estimate}
 use Rattle.program_bodies.proofs.Matched.{seen_more}
 use Rattle.estimate_rules.specs.Sites.{all_of, choices_of}
-use Rattle.replica_choice.specs.Asking.{AsksFirst, Rule, choices_by, questions}
+use Rattle.replica_choice.specs.Asking.{Rule, choices_by, questions}
 use Rattle.replica_choice.proofs.Zipped.{on_err_any}
 use Rattle.choice_command.proofs.Told.{asked_all}
 use Rattle.choice_command.proofs.Texts.{choices_next, first_next, known_next, same_first}
