@@ -1,8 +1,8 @@
 -- What stands at a position of the top level, and what is known of it as a process.
-use Rattle.std.proofs.Common.{◌≡◌, ℕ, ◌<◌, Bool, true, false, cond, List, [], ◌++◌, length, get_or, map, Option, Some, None, sym, ap, ◌∙◌}
+use Rattle.std.proofs.Common.{◌≡◌, ℕ, ◌<◌, Bool, true, false, cond, List, [], ◌∷◌, ◌++◌, length, get_or, map, Option, Some, None, sym, ap, ◌∙◌}
 use Rattle.std.specs.Prelude.{slice_get, option_map, OnOk, Result}
 use Rattle.std.specs.Option.{option_map_or}
-use Rattle.std.proofs.lemmas.List.{append-nil}
+use Rattle.std.proofs.lemmas.List.{append-nil, map-append}
 use Rattle.std.proofs.lemmas.Option.{slice_get-get_or, slice_get-map}
 use Rattle.std.proofs.lemmas.Result.{on_ok_weaker}
 use Rattle.type_rules.specs.TopLevel.{TopName}
@@ -22,8 +22,14 @@ item_there tops names i x lt is e =
 pub adds_none : {A : Type 0} (old own : List A) (p b : Bool) → p ≡ false → p ≡ b → old ≡ old ++ cond b own []
 adds_none {A} old own p b e f = sym (append-nil old) ∙ ap (λ (x : Bool). old ++ cond x own []) (sym e ∙ f)
 
-pub adds_own : {A E U : Type 0} (r : Result U E) (old new own : List A) (p b : Bool) → p ≡ true → p ≡ b → OnOk r (new ≡ old ++ own) → OnOk r (new ≡ old ++ cond b own [])
-adds_own {A} r old new own p b e f h = on_ok_weaker r (λ x. x ∙ ap (λ (c : Bool). old ++ cond c own []) (sym e ∙ f)) h
+-- and one adds its own list
+pub adds_list : {V L : Type 0} (view : V → L) (old new : List V) (v : V) (own : L) (p b : Bool) → p ≡ true → p ≡ b → new ≡ old ++ v ∷ [] → view v ≡ own →
+    map view new ≡ map view old ++ cond b (own ∷ []) []
+adds_list {V} {L} view old new v own p b e f pushed is =
+    ap (map view) pushed
+    ∙ map-append view old (v ∷ [])
+    ∙ ap (λ (x : L). map view old ++ x ∷ []) is
+    ∙ ap (λ (c : Bool). map view old ++ cond c (own ∷ []) []) (sym e ∙ f)
 
 -- and what isn't known neither
 pub none_known : {A W : Type 0} (f : W → List A) (o : Option W) (old : List A) (K : Type 0) (R : K → W → Type 0) → Both R None o → old ≡ old ++ option_map_or f o []

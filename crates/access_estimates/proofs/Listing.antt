@@ -3,7 +3,8 @@ use Rattle.std.proofs.Common.{◌≡◌, ℕ, zero, suc, ◌<◌, ◌+◌, Bool,
 use Rattle.std.specs.Prelude.{flat_map, position}
 use Rattle.std.specs.List.{cons_option}
 use Rattle.std.proofs.Math.Seq.{drop-cons}
-use Rattle.std.proofs.lemmas.List.{length-append, map-append}
+use Rattle.std.proofs.lemmas.List.{append-nil, length-append, map-append}
+use Rattle.std.proofs.lemmas.Grind.{flat_map-append}
 use Rattle.std.proofs.lemmas.List.Elements.{filter-append}
 use Rattle.link_rules.specs.Units.{Source}
 use Rattle.type_tables.specs.Entries.{or_other}
@@ -23,6 +24,21 @@ pub pushed : {X Y : Type 0} (view : X → Y) (xs ys : List X) (x : X) (all more 
 pushed {X} {Y} view xs ys x all more y e before own after =
     ap (map view) e ∙ map-append view xs (x ∷ []) ∙ ap (λ (l : List Y). l ++ view x ∷ []) before ∙ ap (λ (v : Y). all ++ v ∷ []) own ∙ sym after
 
+-- ---- lists of lists
+
+-- what is put one behind the other is each with its own
+pub listed : {X Y : Type 0} (f : X → List Y) (xs : List X) → flat_map f xs ≡ flat_map (λ ys. ys) (map f xs)
+listed f [] = refl
+listed {X} {Y} f (x ∷ xs) = ap (λ (l : List Y). f x ++ l) (listed f xs)
+
+-- one list more
+pub joined_more : {A X : Type 0} (view : A → List X) (ys : List A) (x : A) →
+    flat_map (λ l. l) (map view (ys ++ x ∷ [])) ≡ flat_map (λ l. l) (map view ys) ++ view x
+joined_more {A} {X} view ys x =
+    ap (flat_map (λ (l : List X). l)) (map-append view ys (x ∷ []))
+    ∙ flat_map-append (λ (l : List X). l) (map view ys) (view x ∷ [])
+    ∙ ap (λ (l : List X). flat_map (λ (m : List X). m) (map view ys) ++ l) (append-nil (view x))
+
 -- ---- what may be absent
 
 pub cons_is : {X : Type 0} (o : Option X) (xs : List X) → cons_option o xs ≡ option_list o ++ xs
@@ -31,15 +47,15 @@ cons_is (Some x) xs = refl
 
 -- ---- what passes a test
 
-pub passed_flat : {A B C : Type 0} (view : A → B) (p : B → Bool) (f : B → List C) (xs : List A) (i : ℕ) (x : A) → i < length xs → x ≡ get_or xs i x →
-    flat_map f (filter p (map view (drop i xs))) ≡ cond (p (view x)) (f (view x)) [] ++ flat_map f (filter p (map view (drop (i + 1) xs)))
-passed_flat {A} {B} {C} view p f xs i x lt is =
-    ap (λ (l : List A). flat_map f (filter p (map view l))) (rest_is xs i x lt is) ∙ by_test (p (view x)) refl
+pub passed_map : {A B C : Type 0} (view : A → B) (p : B → Bool) (f : B → C) (xs : List A) (i : ℕ) (x : A) → i < length xs → x ≡ get_or xs i x →
+    map f (filter p (map view (drop i xs))) ≡ cond (p (view x)) (f (view x) ∷ []) [] ++ map f (filter p (map view (drop (i + 1) xs)))
+passed_map {A} {B} {C} view p f xs i x lt is =
+    ap (λ (l : List A). map f (filter p (map view l))) (rest_is xs i x lt is) ∙ by_test (p (view x)) refl
   where
     others : List B
     others = filter p (map view (drop (i + 1) xs))
 
-    by_test : (b : Bool) → p (view x) ≡ b → flat_map f (cond (p (view x)) (view x ∷ others) others) ≡ cond (p (view x)) (f (view x)) [] ++ flat_map f others
+    by_test : (b : Bool) → p (view x) ≡ b → map f (cond (p (view x)) (view x ∷ others) others) ≡ cond (p (view x)) (f (view x) ∷ []) [] ++ map f others
     by_test true e = rw e refl
     by_test false e = rw e refl
 
