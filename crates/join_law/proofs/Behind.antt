@@ -1,5 +1,5 @@
 -- The rounds behind the run, one after the other.
-use Rattle.std.proofs.Common.{◌≡◌, ◌≤◌, ◌<◌, ◌+◌, ◌⊎◌, ℕ, zero, suc, Bool, true, false, cond, leb, List, length, Option, refl, sym, ap, ◌∙◌, subst, arith, inl, inr}
+use Rattle.std.proofs.Common.{◌≡◌, ◌≤◌, ◌<◌, ◌+◌, ◌⊎◌, ℕ, zero, suc, Bool, true, false, cond, leb, List, length, Option, Some, refl, sym, ap, ◌∙◌, subst, arith, inl, inr}
 use Rattle.std.proofs.lemmas.Bool.{le-leb, leb-true}
 use Rattle.net_rules.specs.declared.fate.Fate.{Fate}
 use Rattle.world_rules.specs.declared.event.Step.{Step}
@@ -78,3 +78,20 @@ last_behind f start fates steps w m done u b so fates_are =
 
 pub ends_at_once : (f : Frame) (fates : List Fate) (w : World) (o : Option ℕ) (u : Rounding) → ahead f w f.settings.nodes ≡ o → ends_with f fates w o u ≡ u → BehindRun f fates w u u
 ends_at_once f fates w o u is same = sym (ap (λ (p : Option ℕ). ends_with f fates w p u) is ∙ same)
+
+-- after however many
+some_if : (f : Frame) (fates : List Fate) (w : World) (m done k : ℕ) (v : Rounding) → most_rounds w m ≡ done + k → ((w.nodes m).member.applied ≤ v.copies.applied) ⊎ (done ≡ most_rounds w m) →
+    catches_up f fates w m k v ≡ v
+some_if f fates w m done k v is (inl caught) = caught_now f fates w m k v caught
+some_if f fates w m done k v is (inr all) = let none : k ≡ 0 = omega (arith, is, all) in ap (λ (j : ℕ). catches_up f fates w m j v) none
+
+rest_of : (done most : ℕ) → done ≤ most → (k : ℕ) × (most ≡ done + k)
+rest_of zero most le = (most, omega arith)
+rest_of (suc done) zero le = absurd (omega (arith, le))
+rest_of (suc done) (suc most) le = let rest = rest_of done most (omega (arith, le)) in (rest.0, omega (arith, rest.1))
+
+pub some_behind : (f : Frame) (fates : List Fate) (w : World) (m done : ℕ) (before u : Rounding) → ahead f w f.settings.nodes ≡ Some m → done ≤ most_rounds w m → RoundsWith f fates w m done before u →
+    ((w.nodes m).member.applied ≤ u.copies.applied) ⊎ (done ≡ most_rounds w m) → BehindRun f fates w before u
+some_behind f fates w m done before u member le with_it so =
+    let rest = rest_of done (most_rounds w m) le in
+    sym (ap (λ (o : Option ℕ). ends_with f fates w o before) member ∙ caught_with f fates w m done rest.0 (most_rounds w m) before u rest.1 with_it ∙ some_if f fates w m done rest.0 u rest.1 so)

@@ -339,7 +339,7 @@ one_ahead f w m false o is before = none_more f w m o is before
 one_ahead f w m true None is before = first_ahead f w m is before
 one_ahead f w m true (Some i) is before = next_ahead f w m i (ltb (number w i) (number w m)) refl is before
 
-aheads : (f : Frame) (w : World) (n : ℕ) → AheadBy f w n (ahead f w n)
+pub aheads : (f : Frame) (w : World) (n : ℕ) → AheadBy f w n (ahead f w n)
 aheads f w zero = record { answers_too = λ k is. absurd (cc is); most = λ j lt is. absurd (omega (arith, lt)) }
 aheads f w (suc m) = one_ahead f w m (can_answer f w m) (ahead f w m) refl (aheads f w m)
 

@@ -64,7 +64,7 @@ sent_reached f w fate from to packet v r move one =
           (copies_sent (packet ∷ r.sent) from to packet fate is_ready v.rounding here) (more_sent packet r.sent v.coming r.coming);
     }
 
-seek_reached : (f : Frame) (w : World) (fates : List Fate) (m : ℕ) (u : Rounding) → IsReached f w (between u) → IsReached f w (asks_member f fates m u)
+pub seek_reached : (f : Frame) (w : World) (fates : List Fate) (m : ℕ) (u : Rounding) → IsReached f w (between u) → IsReached f w (asks_member f fates m u)
 seek_reached f w fates m u r =
     sent_reached f w (fate_in fates (length u.asked)) f.settings.nodes m (Seek u.copies.applied) (between u) r (Seeks u.copies.applied) refl
 
@@ -99,7 +99,7 @@ whole_reached : (f : Frame) (w : World) (fates : List Fate) (to : ℕ) (packet :
 whole_reached f w fates to packet true v r among = reach_reached f w fates to packet v r among
 whole_reached f w fates to packet false v r among = r
 
-first_reached : (f : Frame) (w : World) (fates : List Fate) (u : Rounding) (coming : List (Flight Carried)) → IsReached f w (record { rounding = u; coming = coming }) →
+pub first_reached : (f : Frame) (w : World) (fates : List Fate) (u : Rounding) (coming : List (Flight Carried)) → IsReached f w (record { rounding = u; coming = coming }) →
     IsReached f w (first_reaches f fates w u coming)
 first_reached f w fates u [] r = r
 first_reached f w fates u (x ∷ xs) r =
@@ -110,7 +110,7 @@ moments_reached : (f : Frame) (w : World) (fates : List Fate) (n : ℕ) (v : Mom
 moments_reached f w fates zero v r = r
 moments_reached f w fates (suc n) v r = moments_reached f w fates n (next_moment f fates w v) (first_reached f w fates v.rounding v.coming r)
 
-opening_reached : (f : Frame) (w : World) (u : Rounding) → IsReached f w (between u) → IsReached f w (opens_round u)
+pub opening_reached : (f : Frame) (w : World) (u : Rounding) → IsReached f w (between u) → IsReached f w (opens_round u)
 opening_reached f w u r = record {
   moves = r.moves;
   sent = r.sent;
@@ -226,7 +226,7 @@ released_reached f w fates u r =
     let all = all_run f fates w (due u) (record u { held = still u }) in
     subst (IsReached f w) all.1 (moments_reached f w fates all.0 (opens_round u) (opening_reached f w u r))
 
-round_reached : (f : Frame) (w : World) (fates : List Fate) (m : ℕ) (u : Rounding) → IsReached f w (between u) → IsReached f w (between (round f fates w m u))
+pub round_reached : (f : Frame) (w : World) (fates : List Fate) (m : ℕ) (u : Rounding) → IsReached f w (between u) → IsReached f w (between (round f fates w m u))
 round_reached f w fates m u r =
     let v = releases f fates w u in
     let runs = seek_runs f fates w m v in
@@ -243,7 +243,7 @@ within_reached f w fates m u v r within = elim within.1 [
 
 -- ---- beside the run
 
-step_reached : (f : Frame) (w x : World) (step : Step) (u : Rounding) → Next f w step x → IsReached f w (between u) → IsReached f x (between u)
+pub step_reached : (f : Frame) (w x : World) (step : Step) (u : Rounding) → Next f w step x → IsReached f w (between u) → IsReached f x (between u)
 step_reached f w x step u next r = record {
   moves = r.moves ++ Happens step ∷ [];
   sent = r.sent;
@@ -264,7 +264,7 @@ along_reached f fates start n w (step ∷ steps) u v z r along =
     along_reached f fates start (suc n) along.0 steps (turns f fates start along.0 n u) v z
     (turned_if f along.0 fates (leb start n) u (step_reached f w along.0 step u along.1 r)) along.2
 
-opens_reached : (f : Frame) → IsReached f (opening_world f) (between opening_rounding)
+pub opens_reached : (f : Frame) → IsReached f (opening_world f) (between opening_rounding)
 opens_reached f = record { moves = []; sent = []; followed = refl; held = tt; coming = tt }
 
 beside_reached : (f : Frame) (start : ℕ) (fates : List Fate) (steps : List Step) (w : World) (u : Rounding) → Alongside f fates start 1 (opening_world f) steps opening_rounding w u → IsReached f w (between u)

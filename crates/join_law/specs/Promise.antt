@@ -13,13 +13,13 @@ use Rattle.group_join.specs.declared.packet.JoinPacket.{JoinPacket}
 use Rattle.group_join.specs.Following.{AreAfter, MayReceive, TellsList}
 use Rattle.world_rules.specs.declared.event.Step.{Step}
 use Rattle.world_rules.specs.Frame.{AreSettings, Frame}
-use Rattle.world_rules.specs.Worlds.{World, agreed}
+use Rattle.world_rules.specs.Worlds.{World, agreed, opening_world}
 use Rattle.world_facts.specs.Replicated.{AllReplicated}
 use Rattle.world_book.specs.Promise.{book_up_to}
 use Rattle.join_law.specs.Followed.{Followed, Joining, Move, opening_joining}
 use Rattle.world_rules.specs.Steps.{Next}
-use Rattle.join_law.specs.Rounds.{BehindRun, BesideRun, Carried, Rounding, Rounds, ahead, can_answer, has_passed, most_rounds, releases, round, turns}
-use Rattle.join_law.specs.Moments.{BeginsBehind, IsBehind, IsReached, Moment, RoundsUpTo, WithinRound, asks_member, between, moments, next_moment, opens_round}
+use Rattle.join_law.specs.Rounds.{BehindRun, BesideRun, Carried, Rounding, Rounds, ahead, can_answer, has_passed, most_rounds, opening_rounding, releases, round, turns}
+use Rattle.join_law.specs.Moments.{BeginsBehind, IsBehind, IsReached, Moment, RoundsUpTo, RoundsWith, WithinRound, asks_member, between, moments, next_moment, opens_round}
 
 -- the follower's copies are those after the first entries of the agreed list, as many as it applied; and so its objects are those that
 -- the lines of the book leave whose places are at most that number
@@ -58,6 +58,20 @@ MomentsAreReached =
     (f : Frame) (start : ℕ) (fates : List Fate) (steps : List Step) (w : World) (v : Moment) →
     RoundsUpTo f start fates steps w v → IsReached f w v
 
+-- some moves lead to the opening; and from where some lead to others lead on: to the next step of the run, to the beginning of a round,
+-- to the Seek of a round, to the next moment, and to the end of a round
+pub record ReachedGoesOn : Type 0 where
+  pub opening : (f : Frame) → IsReached f (opening_world f) (between opening_rounding)
+  pub step : (f : Frame) (w x : World) (step : Step) (u : Rounding) → IsReached f w (between u) → Next f w step x → IsReached f x (between u)
+  pub opens : (f : Frame) (w : World) (u : Rounding) → IsReached f w (between u) → IsReached f w (opens_round u)
+  pub asks :
+      (f : Frame) (w : World) (fates : List Fate) (m : ℕ) (u : Rounding) → IsReached f w (between u) →
+      IsReached f w (asks_member f fates m u)
+  pub next : (f : Frame) (w : World) (fates : List Fate) (v : Moment) → IsReached f w v → IsReached f w (next_moment f fates w v)
+  pub rounds :
+      (f : Frame) (w : World) (fates : List Fate) (m : ℕ) (u : Rounding) → IsReached f w (between u) →
+      IsReached f w (between (round f fates w m u))
+
 -- so each packet that comes may be received, and the follower is one at each moment
 abbrev pub ReachedMayReceive : Performs → Computes → ArgsFit → Type 0
 ReachedMayReceive p q fits_args =
@@ -89,7 +103,7 @@ pub record BehindGoesOn : Type 0 where
       BeginsBehind f start fates steps w m (suc done) (round f fates w m u)
 
 -- all rounds are done where nobody is ahead, or the follower isn't behind at the run's end; and after a round where it isn't any more, or
--- as many were done as are done at most
+-- as many were done as are done at most. `some`, so it is after however many rounds, none among them
 pub record BehindEnds : Type 0 where
   pub nobody :
       (f : Frame) (start : ℕ) (fates : List Fate) (steps : List Step) (w : World) (u : Rounding) → BesideRun f start fates steps w u →
@@ -103,6 +117,10 @@ pub record BehindEnds : Type 0 where
       BeginsBehind f start fates steps w m done u →
       ((w.nodes m).member.applied ≤ (round f fates w m u).copies.applied) ⊎ (suc done ≡ most_rounds w m) →
       length fates ≡ length (round f fates w m u).asked → Rounds f start fates steps w (round f fates w m u)
+  pub some :
+      (f : Frame) (fates : List Fate) (w : World) (m done : ℕ) (before u : Rounding) → ahead f w f.settings.nodes ≡ Some m →
+      done ≤ most_rounds w m → RoundsWith f fates w m done before u →
+      ((w.nodes m).member.applied ≤ u.copies.applied) ⊎ (done ≡ most_rounds w m) → BehindRun f fates w before u
 
 -- what the wire answers later changes nothing of what stands
 abbrev pub RoundsStay : Type 0

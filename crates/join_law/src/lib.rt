@@ -8,7 +8,7 @@
 #![tactic(auto)]
 
 ghost use Rattle.join_law.specs.OneCell.{FollowsOneCell};
-ghost use Rattle.join_law.specs.Promise.{AllFollow, AllMayReceive, BehindEnds, BehindGoesOn, BehindStays, MomentsAreReached, MomentsFollow, MomentsGoOn, NoneFall, ReachedMayReceive, RoundEnds, RoundsCatchUp, RoundsFollow, RoundsGoOn, RoundsStay, MomentsStay};
+ghost use Rattle.join_law.specs.Promise.{AllFollow, AllMayReceive, BehindEnds, BehindGoesOn, BehindStays, MomentsAreReached, MomentsFollow, MomentsGoOn, NoneFall, ReachedGoesOn, ReachedMayReceive, RoundEnds, RoundsCatchUp, RoundsFollow, RoundsGoOn, RoundsStay, MomentsStay};
 
 use book_law::{every_call_fits, singles_law};
 use group_law::agreement_law;
@@ -59,6 +59,8 @@ pub fn followers_may_receive<P: Processor>(machine: &P)
 ///
 /// - `reached`: whatever the rounds reach, also within one round, some moves lead to, and by then each packet that is held back or comes
 ///   was sent.
+/// - `goes`: so it is of the opening; and it stays so at a step of the run, where a round begins, at its Seek, from moment to
+///   moment, and at a round's end.
 /// - `steps`: a step and its round go behind those beside a run.
 /// - `behind`, `behind_ends`: so do rounds behind the run, one after the other; and when all are done.
 /// - `answered`, `answered_behind`, `stay`: what the wire answers later changes nothing of what stands, beside the run, behind it and
@@ -66,6 +68,7 @@ pub fn followers_may_receive<P: Processor>(machine: &P)
 /// - `moments`, `ends`: a moment goes behind those within a round; where nothing comes any more, its half is done.
 pub fn rounds_law()
     ensures reached { MomentsAreReached }
+    ensures goes { ReachedGoesOn }
     ensures steps { RoundsGoOn }
     ensures behind { BehindGoesOn }
     ensures behind_ends { BehindEnds }
