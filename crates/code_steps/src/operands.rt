@@ -1,6 +1,6 @@
 //! The operands of a body that runs.
 
-ghost use Rattle.std.specs.Prelude.{◌≡◌, ◌∷◌, ◌↔◌, [], IfOk, IsTrue, List, MatchOption, OnOk, false, true};
+ghost use Rattle.std.specs.Prelude.{◌≡◌, ◌∷◌, ◌↔◌, [], IfOk, IsTrue, List, MatchOption, OnOk, false, map, reverse, true};
 ghost use Rattle.value_core.specs.Datum.{Datum, list_of};
 ghost use Rattle.value_core.specs.View.{datum_of};
 ghost use Rattle.code_rules.specs.Machine.{Effect};
@@ -38,6 +38,20 @@ impl Operands {
         Operands {
             values: Vec::new(alloc),
         }
+    }
+
+    /// These, of which the last one is on top. It takes no memory.
+    pub fn from_vec(values: Vec<Value>) -> Operands
+        ensures { result ≡ reverse (map datum_of values.items) }
+    {
+        Operands { values }
+    }
+
+    /// They, with the top one last.
+    pub fn as_slice(&self) -> &[Value]
+        ensures { self.now ≡ reverse (map datum_of result.now) }
+    {
+        &self.values
     }
 
     /// One more on top.
