@@ -1,0 +1,4 @@
+mod Alike
+mod Waiting
+mod Standing
+mod Meant
