@@ -188,9 +188,9 @@ fn joined(alloc: Global, texts: Vec<Vec<Estimate>>) -> Result<Vec<Estimate>, NoM
 }
 
 /// The estimates of a checked program's sites, text by text, in the order of its texts (docs/RUNTIME.md, Choice of copies): a text without
-/// a site has an empty list. It is asked that the program keeps within the limits, so that its numbers fit their types: `within_limits` of
-/// program_limits says so. The only error is want of memory. No clause says so, but each body is gone through once, and each round through
-/// its uses of objects alone.
+/// a site has an empty list. The program keeps within the limits, as `within_limits` of program_limits says, so that its numbers fit their
+/// types. The only error is want of memory. Each body is gone through once, and in each round its uses of objects alone; no clause says what
+/// it costs.
 pub fn estimates_by_text(
     alloc: Global,
     checked: &Checked<'_>,

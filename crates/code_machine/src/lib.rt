@@ -10,7 +10,8 @@
 //! operations; on program_limits; on the law of code_rules, that the program's code means its sources; on code_numbers, by which its
 //! numbers have as many bits as actions and answers give them; and on machine_laws, by which what fits stays fitting.
 //!
-//! A process goes on from where it stands, so that an action costs what is computed between it and the one before.
+//! A process goes on from where it stands, so that an action costs what is computed between it and the one before, and a look at each body
+//! that waits. No clause says so.
 //!
 //! Not in it: what an instruction does (`code_steps`), and how far a run goes (`code_runs`); the fast path (`stack_machine`).
 #![tactic(auto)]

@@ -6,7 +6,7 @@ use Rattle.code_rules.specs.Machine.{Code, Config, Effect, Steps, Turns, step, R
 use Rattle.code_rules.specs.Performing.{Attempt, Came, To, NotYet, GotStuck, tried_by}
 use Rattle.code_steps.specs.Moves.{HasRoomAt}
 
--- wherever a run stands, an object that the instruction there makes has a number of 32 bits
+-- wherever a run may stand, reached or not, an object that the instruction there makes has a number of 32 bits
 abbrev pub HasRoomThroughout : Code → Type 0
 HasRoomThroughout code = (c : Config) → HasRoomAt code c
 

@@ -8,7 +8,7 @@
 //! turns that were taken. What is lent is never changed.
 //!
 //! Not in it: what one instruction does (`code_steps`); whose meaning the code has, and the traits `Performer` and `Processor`
-//! (`code_machine`, which isn't there yet); the fast path (`stack_machine`).
+//! (`code_machine`); the fast path (`stack_machine`).
 #![tactic(auto)]
 
 mod attempts;

@@ -415,7 +415,7 @@ pub fn orca_main<F: Shelf, K: Sink>(
     // Nothing is kept: an ending by its cause, with its line, or want of memory; and where that tells choices, the policy was asked about
     // each site of that program, in order, or about so many from the front where memory lacked before, and else about nothing. What the
     // wires tell, their scripts, and when these were loaded, are as before, unless memory lacked for the run that the words name: then that
-    // was begun.
+    // may have been begun.
     ensures refused { IfNone result.kept (IsAnswer
         (chooser_of (λ b. (Policy-box b).rule b.value) (λ b. (Policy-box b).told b.value) policy.old)
         (map string_bytes words.now) (F.told shelf.old) (F.reads shelf.old) (F.reads shelf.new)

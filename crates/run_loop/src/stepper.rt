@@ -65,7 +65,7 @@ impl<P: OneRun> Stepper<P> {
 
     /// Does the next event of a run that is going: one step more, and the steps before stay. The wire in use is asked about an act first.
     /// Wires go on telling what they told before. Where there is no memory, the run stands as it did, but that the wire in use may have
-    /// been asked about an act.
+    /// been asked about an act: no clause lets it go on then, but `into_ran` ends it.
     pub fn next_event<W: Wire>(
         &mut self,
         alloc: Global,
