@@ -1,3 +1,4 @@
 pub mod Once
+pub mod Compiled
 pub mod Counted
 pub mod Topped

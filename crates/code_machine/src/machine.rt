@@ -5,11 +5,9 @@ ghost use Rattle.orca_base.specs.Refusal.{IfBecause};
 ghost use Rattle.accepted_law.specs.Limits.{IsWithinLimits};
 ghost use Rattle.program_limits.specs.Passed.{Passes};
 ghost use Rattle.program_bodies.specs.Codes.{sources};
-ghost use Rattle.emitted_code.specs.Views.{program_seen};
-ghost use Rattle.code_rules.specs.Program.{program_code};
 ghost use Rattle.machine_laws.specs.ValueLaws.{ValueLaws};
 ghost use Rattle.machine_laws.specs.LawsOnce.{ValueLaws-prop};
-ghost use Rattle.code_machine.specs.Once.{code_once};
+ghost use Rattle.code_machine.specs.Compiled.{IsCompiled, compiled_once};
 
 use code_units::compile;
 use emitted_code::Emitted;
@@ -29,7 +27,7 @@ pub struct CodeMachine<'p> {
     pub tables: Code<'p>,
     pub code: Emitted<'p>,
     pub ghost within: { IsWithinLimits (sources tables.checked) },
-    pub ghost compiled: { program_seen code ≡ program_code (sources tables.checked) } by { code_once (program_seen code) (program_code (sources tables.checked)) },
+    pub ghost compiled: { IsCompiled (sources tables.checked) code } by { compiled_once (sources tables.checked) code },
     pub ghost laws: { ValueLaws } by { ValueLaws-prop },
 }
 
