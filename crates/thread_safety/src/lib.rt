@@ -9,8 +9,11 @@
 use group_member::Member;
 use guard_queue::{Objects, Queue};
 use history_buffer::Shared;
+use node_core::{Done, Node, Task};
+use node_parts::OneRun;
 use object_manager::{Copies, View};
 use value_core::{Action, Instance, Line, Message, Parts, Reply, Value};
+use world_core::World;
 
 // Asks that values of this type may be handed to another thread.
 fn may_be_sent<T: Send>() {}
@@ -52,4 +55,29 @@ pub fn copies() {
 /// A member of the group may be sent.
 pub fn members() {
     may_be_sent::<Member<Shared<Message>>>();
+}
+
+/// A task may be sent, and so may what was computed of it, where the machine's states may be sent and shared.
+pub fn tasks<P: OneRun + Send>()
+where
+    P::State: Send + Sync,
+{
+    may_be_sent::<Task<P>>();
+    may_be_sent::<Done<P>>();
+}
+
+/// A member of a run may be sent, where the machine's states may be sent and shared.
+pub fn nodes<P: OneRun + Send>()
+where
+    P::State: Send + Sync,
+{
+    may_be_sent::<Node<P>>();
+}
+
+/// A run in code may be sent, where the machine's states may be sent and shared.
+pub fn worlds<P: OneRun + Send>()
+where
+    P::State: Send + Sync,
+{
+    may_be_sent::<World<P>>();
 }
