@@ -7,7 +7,7 @@ use Rattle.world_rules.specs.Standings.{process_count}
 use Rattle.world_rules.specs.Worlds.{World, home_of}
 use Rattle.world_parts.specs.Choosing.{is_ready}
 use Rattle.world_parts.specs.Seen.{Of, Seen}
-use Rattle.room_state.specs.Turns.{IsChosen, NoneReady, goes_before, tasks_of}
+use Rattle.room_state.specs.Stated.{IsChosen, NoneReady, goes_before, tasks_of}
 
 -- ---- which of two goes first
 

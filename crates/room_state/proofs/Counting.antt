@@ -4,7 +4,7 @@ use Rattle.std.specs.Prelude.{slice_set}
 use Rattle.std.proofs.lemmas.Bool.{cases_eq, eq-eqb, ne_eqb}
 use Rattle.std.proofs.lemmas.List.{get_or-set_other, get_or-set_same}
 use Rattle.orca_base.specs.declared.ids.ProcessNo.{ProcessNo}
-use Rattle.room_state.specs.Turns.{HasCounted, tasks_of}
+use Rattle.room_state.specs.Stated.{HasCounted, tasks_of}
 
 -- a place more, with none, says nothing new
 pub none_more : (tasks : List ℕ) (i : ℕ) → tasks_of (tasks ++ 0 ∷ []) i ≡ tasks_of tasks i

@@ -2,6 +2,6 @@ pub mod Stepped
 pub mod TakingIn
 pub mod Choosing
 pub mod Counting
-pub mod Turning
+pub mod Ordering
 pub mod Taking
 pub mod Holding

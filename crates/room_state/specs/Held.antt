@@ -17,7 +17,7 @@ use Rattle.world_rules.specs.Worlds.{World}
 use Rattle.room_state.specs.declared.phase.Phase.{Phase}
 use Rattle.room_state.specs.declared.phase.Phase.TheVariants as phase
 use Rattle.room_state.specs.Driven.{HasStopped, IsDriven, MayGoOn}
-use Rattle.room_state.specs.Turns.{HasCounted, IsChosen, NoneReady, NothingDue}
+use Rattle.room_state.specs.Stated.{HasCounted, IsChosen, NoneReady, NothingDue}
 
 -- the run's steps and the tasks that are out; which wire is in use, and whether it was asked what it does before the next event; what the
 -- wires tell; and how many tasks of each process were handed out
@@ -38,7 +38,7 @@ IsAt run phase.Stopped h = HasStopped run.frame h.seen run.told h.told
 abbrev pub Holds : {S : Type 0} → Run → Held S → Type 0
 Holds run h = IsAt run h.phase h
 
--- ---- what a take says, beside `HasTurned` where an event was done
+-- ---- what a take says, beside `HasStepped` where an event was done
 
 -- where nothing is due, a process was handed out, first of those that are ready for a worker of this home; the wire in use was asked before
 pub record HasHandedOut {S : Type 0} (f : Frame) (home : ℕ) (task : Tasked S) (s : Seen S) (tasks : List ℕ) (new : Held S) : Type 0 where
@@ -51,8 +51,9 @@ pub record HasHandedOut {S : Type 0} (f : Frame) (home : ℕ) (task : Tasked S) 
   pub asked : new.phase ≡ phase.Asked
 
 -- nothing is due, no process is ready, and a task is out; the wire in use was asked before
-pub record HasToWait {S : Type 0} (f : Frame) (s : Seen S) (new : Held S) : Type 0 where
+pub record HasToWait {S : Type 0} (f : Frame) (s : Seen S) (tasks : List ℕ) (new : Held S) : Type 0 where
   pub seen : new.seen ≡ s
+  pub counts : new.tasks ≡ tasks
   pub due : Of f s (NothingDue f)
   pub ready : Of f s (NoneReady f s)
   pub out : 0 < tasks_out s

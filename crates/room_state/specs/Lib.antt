@@ -1,3 +1,3 @@
 pub mod Driven
-pub mod Turns
+pub mod Stated
 pub mod Held

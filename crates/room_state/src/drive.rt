@@ -10,7 +10,7 @@ ghost use Rattle.run_loop.specs.Driven.{ComesFirst, IsDue, IsGoing, MayBe};
 ghost use Rattle.room_state.specs.declared.drive.Due.TheVariants as due;
 ghost use Rattle.room_state.specs.Driven.{HasAnswered, HasStopped, IsDriven, MayGoOn, WentOn};
 ghost use Rattle.room_state.specs.Held.{AreAskedOnce};
-ghost use Rattle.room_state.specs.Turns.{HasCounted, HasTurned, IsChosen, IsInTurn, NoneReady, NothingDue};
+ghost use Rattle.room_state.specs.Stated.{HasCounted, HasStepped, IsChosen, IsFirstDue, NoneReady, NothingDue};
 
 use crate::asking::{ask, event_of, swaps_of};
 use crate::order::{TaskCounts, chosen};
@@ -55,7 +55,7 @@ impl<P: OneRun> Driver<P> {
         requires going { IsGoing P.run.frame self.old.world }
         ensures done { result ≡ Ok true →
             WentOn P.run.frame self.old.world self.new.world self.new.in_use P.run.told (map W.told wires.new) }
-        ensures turn { result ≡ Ok true → HasTurned P.run.frame self.old.world self.new.world }
+        ensures order { result ≡ Ok true → HasStepped P.run.frame self.old.world self.new.world }
         ensures passed { result ≡ Ok false → MayGoOn P.run.frame self.new.world self.new.in_use P.run.told (map W.told wires.new) }
         ensures same { result ≡ Ok false → self.new ≡ self.old }
         ensures stopped { OnErr result (HasStopped P.run.frame self.new.world P.run.told (map W.told wires.new)) }
@@ -84,7 +84,7 @@ impl<P: OneRun> Driver<P> {
         requires going { IsGoing P.run.frame self.old.world }
         ensures done { result ≡ Ok true →
             WentOn P.run.frame self.old.world self.new.world self.new.in_use P.run.told (map W.told wires.new) }
-        ensures turn { result ≡ Ok true → HasTurned P.run.frame self.old.world self.new.world }
+        ensures order { result ≡ Ok true → HasStepped P.run.frame self.old.world self.new.world }
         ensures passed { result ≡ Ok false → MayGoOn P.run.frame self.new.world self.new.in_use P.run.told (map W.told wires.new) }
         ensures same { result ≡ Ok false → (self.new ≡ self.old) × (map W.told wires.new ≡ map W.told wires.old) }
         ensures stopped { OnErr result (HasStopped P.run.frame self.new.world P.run.told (map W.told wires.new)) }
@@ -124,7 +124,7 @@ impl<P: OneRun> Driver<P> {
         requires going { IsGoing P.run.frame self.old.world }
         ensures went { result ≡ Ok due.Stepped →
             WentOn P.run.frame self.old.world self.new.world self.new.in_use P.run.told (map W.told wires.new) }
-        ensures turn { result ≡ Ok due.Stepped → HasTurned P.run.frame self.old.world self.new.world }
+        ensures order { result ≡ Ok due.Stepped → HasStepped P.run.frame self.old.world self.new.world }
         ensures ready { (i : ProcessNo) → result ≡ Ok (due.Ready i) → Of P.run.frame self.old.world (λ w. NothingDue P.run.frame w ×
             IsChosen P.run.frame self.old.world w self.old.tasks.counts.items home (process_count P.run.frame w) i.0) }
         ensures waits { result ≡ Ok due.Wait → (0 < tasks_out self.old.world) × Of P.run.frame self.old.world
@@ -153,7 +153,7 @@ impl<P: OneRun> Driver<P> {
         self.step(alloc, machine, Event::Tick, wires)
     }
 
-    // Does an event that is possible and in turn: an action, a delivery or a tick.
+    // Does an event that is possible and the first of what is due: an action, a delivery or a tick.
     fn step<W: Wire>(
         &mut self,
         alloc: Global,
@@ -164,10 +164,10 @@ impl<P: OneRun> Driver<P> {
         requires on { MayGoOn P.run.frame self.old.world self.old.in_use P.run.told (map W.told wires.old) }
         requires possible { MayBe P.run.frame self.old.world event }
         requires first { ComesFirst P.run.frame self.old.world event }
-        requires turn { Of P.run.frame self.old.world (λ w. IsInTurn P.run.frame self.old.world w event) }
+        requires order { Of P.run.frame self.old.world (λ w. IsFirstDue P.run.frame self.old.world w event) }
         requires plain { IsDue event }
         ensures went { OnOk result (WentOn P.run.frame self.old.world self.new.world self.new.in_use P.run.told (map W.told wires.new)) }
-        ensures turn { OnOk result (HasTurned P.run.frame self.old.world self.new.world) }
+        ensures order { OnOk result (HasStepped P.run.frame self.old.world self.new.world) }
         ensures stepped { IfOk result (λ step. step ≡ due.Stepped) }
         ensures stopped { OnErr result (HasStopped P.run.frame self.new.world P.run.told (map W.told wires.new)) }
         ensures err { OnErr result ((self.new ≡ self.old) × (map W.told wires.new ≡ map W.told wires.old)) }

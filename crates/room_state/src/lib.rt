@@ -3,8 +3,8 @@
 //! The floor above uses `RoomState`, which owns a run's world and its wires: `take` does the next event, or hands out a burst that is
 //! computed outside, and `put` takes that in. *The value is a replay*: between any two calls its steps are a run's, and the wires were used
 //! in it (`Holds` of specs/Held.antt), whichever tasks are out. So what it leaves is what `run` of `run_loop` promises (`into_ran`), and
-//! `take` says which event comes, or whose burst, by the stated order. A wire is asked about an act once for each event, and where memory
-//! lacked no event comes any more.
+//! `take` says which event comes, or whose burst, by the stated order. A wire is asked about an act at most once before each event, and
+//! where memory lacked no event comes any more.
 //!
 //! It stands on `world_core`, which does the events, hands tasks out and takes them back, and on the definitions of `run_loop`. It knows
 //! nothing of threads and of locks.

@@ -4,7 +4,7 @@ ghost use Rattle.std.specs.Prelude.{◌≡◌, ◌<◌, ℕ, [], IfNone, IfSome,
 ghost use Rattle.orca_base.specs.declared.ids.ProcessNo.{ProcessNo};
 ghost use Rattle.world_parts.specs.Seen.{Of};
 ghost use Rattle.world_rules.specs.Standings.{process_count};
-ghost use Rattle.room_state.specs.Turns.{HasCounted, IsChosen, NoneReady, goes_before, tasks_of};
+ghost use Rattle.room_state.specs.Stated.{HasCounted, IsChosen, NoneReady, goes_before, tasks_of};
 
 use node_parts::OneRun;
 use orca_base::{NoMemory, ProcessNo};

@@ -12,7 +12,7 @@ ghost use Rattle.run_loop.specs.Left.{HasRun};
 ghost use Rattle.room_state.specs.declared.phase.Phase.TheVariants as phase;
 ghost use Rattle.room_state.specs.declared.state.Taken.TheVariants as taken;
 ghost use Rattle.room_state.specs.Held.{HasFailed, HasHandedOut, HasToWait, Holds, IsHandedBack, is_idle};
-ghost use Rattle.room_state.specs.Turns.{HasTurned};
+ghost use Rattle.room_state.specs.Stated.{HasStepped};
 
 use crate::drive::{Driver, Due};
 use crate::order::{TaskCounts, chosen};
@@ -93,6 +93,7 @@ impl<P: RoomRun, W: Wire> RoomState<P, W> {
     /// they have.
     pub fn new(alloc: Global, world: World<P>, wires: Vec<W>) -> RoomState<P, W>
         requires opens { world.steps ≡ [] }
+        requires idle { tasks_out world ≡ 0 }
         requires ranges { AreSettings P.run.frame.settings }
         requires wires { P.run.frame.settings.wires ≡ length wires.items }
         requires told { map W.told wires.items ≡ P.run.told }
@@ -117,17 +118,17 @@ impl<P: RoomRun, W: Wire> RoomState<P, W> {
     /// `Over` comes exactly where the run isn't going. Else the first of these comes that there is: what the wire in use gives; the action
     /// of the lowest process that is at one; the packet of the lowest number that can be delivered; the burst of a process that is ready;
     /// and where no task is out, a tick. Of processes that are ready the one of which the fewest tasks were handed out goes first, then one
-    /// on the home member, then the lowest. The wire in use is asked before the next event alone, and once; an act that it gives is the
-    /// event, unless it is passed over (`Holds`).
+    /// on the home member, then the lowest. The wire in use is asked at most once before each event, and before each that is no burst; an act
+    /// that it gives is the event, unless it is passed over (`Holds`).
     ///
     /// Where memory lacks, the world is as it was, and no event comes any more.
     pub fn take(&mut self, alloc: Global, machine: &P, home: u8) -> Result<Taken<P>, NoMemory>
         ensures over { result ≡ Ok taken.Over →
             (self.new ≡ self.old) × Of P.run.frame self.old.seen (λ w. rules.standing P.run.frame w ≢ Going) }
         ensures ended { Of P.run.frame self.old.seen (λ w. rules.standing P.run.frame w ≢ Going) → result ≡ Ok taken.Over }
-        ensures stepped { result ≡ Ok taken.Stepped → HasTurned P.run.frame self.old.seen self.new.seen × (self.new.tasks ≡ self.old.tasks) }
+        ensures stepped { result ≡ Ok taken.Stepped → HasStepped P.run.frame self.old.seen self.new.seen × (self.new.tasks ≡ self.old.tasks) }
         ensures task { (t : _) → result ≡ Ok (taken.Task t) → HasHandedOut P.run.frame home t self.old.seen self.old.tasks self.new }
-        ensures wait { result ≡ Ok taken.Wait → HasToWait P.run.frame self.old.seen self.new }
+        ensures wait { result ≡ Ok taken.Wait → HasToWait P.run.frame self.old.seen self.old.tasks self.new }
         ensures err { OnErr result (HasFailed self.old self.new) }
         ensures refuses { self.old.phase ≡ phase.Stopped → OnOk result ⊥ × (self.new ≡ self.old) }
     {
@@ -148,9 +149,9 @@ impl<P: RoomRun, W: Wire> RoomState<P, W> {
         requires unasked { self.old.phase ≡ phase.Unasked }
         requires going { IsGoing P.run.frame self.old.seen }
         ensures not_over { result ≡ Ok taken.Over → ⊥ }
-        ensures stepped { result ≡ Ok taken.Stepped → HasTurned P.run.frame self.old.seen self.new.seen × (self.new.tasks ≡ self.old.tasks) }
+        ensures stepped { result ≡ Ok taken.Stepped → HasStepped P.run.frame self.old.seen self.new.seen × (self.new.tasks ≡ self.old.tasks) }
         ensures task { (t : _) → result ≡ Ok (taken.Task t) → HasHandedOut P.run.frame home t self.old.seen self.old.tasks self.new }
-        ensures wait { result ≡ Ok taken.Wait → HasToWait P.run.frame self.old.seen self.new }
+        ensures wait { result ≡ Ok taken.Wait → HasToWait P.run.frame self.old.seen self.old.tasks self.new }
         ensures err { OnErr result (HasFailed self.old self.new) }
     {
         match self.driver.asks(alloc, machine, &mut self.wires) {
@@ -174,9 +175,9 @@ impl<P: RoomRun, W: Wire> RoomState<P, W> {
         requires asked { self.old.phase ≡ phase.Asked }
         requires going { IsGoing P.run.frame self.old.seen }
         ensures not_over { result ≡ Ok taken.Over → ⊥ }
-        ensures stepped { result ≡ Ok taken.Stepped → HasTurned P.run.frame self.old.seen self.new.seen × (self.new.tasks ≡ self.old.tasks) }
+        ensures stepped { result ≡ Ok taken.Stepped → HasStepped P.run.frame self.old.seen self.new.seen × (self.new.tasks ≡ self.old.tasks) }
         ensures task { (t : _) → result ≡ Ok (taken.Task t) → HasHandedOut P.run.frame home t self.old.seen self.old.tasks self.new }
-        ensures wait { result ≡ Ok taken.Wait → HasToWait P.run.frame self.old.seen self.new }
+        ensures wait { result ≡ Ok taken.Wait → HasToWait P.run.frame self.old.seen self.old.tasks self.new }
         ensures err { OnErr result
             ((self.new.phase ≡ phase.Stopped) × (self.new.seen ≡ self.old.seen) × (self.new.told ≡ self.old.told)) }
     {
@@ -232,7 +233,7 @@ impl<P: RoomRun, W: Wire> RoomState<P, W> {
         }
     }
 
-    /// Whether there is nothing to do until a task that is out comes back. The wire in use may not have been asked yet.
+    /// Whether nothing is due, no process is ready, and a task is out, in a run that is going. The wire in use may still have an act.
     pub fn is_idle(&self) -> bool
         ensures { Of P.run.frame self.now.seen (λ w. result ≡ is_idle P.run.frame self.now w) }
     {

@@ -3,7 +3,7 @@ use Rattle.run_loop.proofs.Stepping.{act_by, none_given, passed_by, some_given, 
 use Rattle.run_loop.proofs.Telling.{kept_at}
 use Rattle.room_state.specs.Driven.{without_tasks}
 use Rattle.room_state.proofs.Stepped.{none_out, same_driver, same_run, stepped_so}
-use Rattle.room_state.proofs.Turning.{turned_by}
+use Rattle.room_state.proofs.Ordering.{stepped_by}
 use Rattle.room_state.proofs.drive.Driver.does.Goals as goal
 
 pub returns-in_default-clause-passed : goal.returns-in_default-clause-passed
@@ -53,8 +53,8 @@ pub returns-in-Err-NoMemory-clause-loaded : goal.returns-in-Err-NoMemory-clause-
 returns-in-Err-NoMemory-clause-loaded g c =
     kept_at g.W.Wire.loaded c.args.wires.now c.args.self.now.in_use c.index-wires-self.result c.step.new.wire c.step.ensures.since
 
-pub returns-in-Ok-clause-turn : goal.returns-in-Ok-clause-turn
-returns-in-Ok-clause-turn g c = λ _. turned_by g.P.OneRun.run.frame c.args.self.now.world c.in-Some.act c.event_of.result c.step.new.self _ _ c.event_of.ensures c.in-Ok.ensures.done
+pub returns-in-Ok-clause-order : goal.returns-in-Ok-clause-order
+returns-in-Ok-clause-order g c = λ _. stepped_by g.P.OneRun.run.frame c.args.self.now.world c.in-Some.act c.event_of.result c.step.new.self _ _ c.event_of.ensures c.in-Ok.ensures.done c.in-Ok.ensures.out
 
 pub returns-in-Err-NotEnabled-clause-same : goal.returns-in-Err-NotEnabled-clause-same
 returns-in-Err-NotEnabled-clause-same g c = λ _. (

@@ -2,7 +2,7 @@ use Rattle.run_loop.proofs.Stepping.{due_by, stopped_by}
 use Rattle.run_loop.proofs.Telling.{kept_at}
 use Rattle.room_state.specs.Driven.{without_tasks}
 use Rattle.room_state.proofs.Stepped.{none_out, same_driver, same_run, stepped_so}
-use Rattle.room_state.proofs.Turning.{turned}
+use Rattle.room_state.proofs.Ordering.{has_stepped}
 use Rattle.room_state.proofs.drive.Driver.step.Goals as goal
 
 pub returns-in-Ok-clause-went : goal.returns-in-Ok-clause-went
@@ -31,8 +31,8 @@ pub returns-in-Err-NoMemory-clause-loaded : goal.returns-in-Err-NoMemory-clause-
 returns-in-Err-NoMemory-clause-loaded g c =
     kept_at g.W.Wire.loaded c.args.wires.now c.args.self.now.in_use c.index-wires-self.result c.step.new.wire c.step.ensures.since
 
-pub returns-in-Ok-clause-turn : goal.returns-in-Ok-clause-turn
-returns-in-Ok-clause-turn g c = turned g.P.OneRun.run.frame c.args.self.now.world c.args.event c.step.new.self _ _ c.requires.turn c.in-Ok.ensures.done
+pub returns-in-Ok-clause-order : goal.returns-in-Ok-clause-order
+returns-in-Ok-clause-order g c = has_stepped g.P.OneRun.run.frame c.args.self.now.world c.args.event c.step.new.self _ _ c.requires.order c.in-Ok.ensures.done c.in-Ok.ensures.out
 
 pub returns-in-Err-NoMemory-clause-err : goal.returns-in-Err-NoMemory-clause-err
 returns-in-Err-NoMemory-clause-err g c = (

@@ -1,5 +1,5 @@
 use Rattle.std.proofs.Common.{◌≡◌, ◌≤◌, ℕ, length}
-use Rattle.room_state.specs.Turns.{tasks_of}
+use Rattle.room_state.specs.Stated.{tasks_of}
 use Rattle.room_state.proofs.order.TaskCounts.make_room.Given as goal
 
 -- places more, with none

@@ -3,7 +3,7 @@ use Rattle.world_core.specs.Stepping.{is_going}
 use Rattle.world_parts.specs.Seen.{Of, tasks_out}
 use Rattle.world_rules.specs.declared.standing.Standing.TheVariants.{Going}
 use Rattle.room_state.specs.Held.{Held, is_idle, is_stopped}
-use Rattle.room_state.proofs.Turning.{any_ready, idle_is}
+use Rattle.room_state.proofs.Ordering.{any_ready, idle_is}
 use Rattle.room_state.proofs.state.RoomState.is_idle.Goals as goal
 
 pub returns-then-is_none-2 : goal.returns-then-is_none-2

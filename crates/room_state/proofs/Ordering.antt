@@ -1,4 +1,4 @@
--- What is in turn may be, and what was done was in turn.
+-- What is first of what is due may be, and what was done was so.
 use Rattle.std.proofs.Common.{◌≡◌, ◌∙◌, ◌&&◌, nat_lt, not, is_some, ℕ, Bool, true, false, List, Option, Some, None, IfNone, IfSome, ap, sym, subst, refl}
 use Rattle.std.specs.Prelude.{option_map}
 use Rattle.net_rules.specs.declared.asked.Asked.{Asked}
@@ -13,26 +13,26 @@ use Rattle.world_rules.specs.Frame.{Frame}
 use Rattle.world_rules.specs.Standings.{any_below, process_count, standing}
 use Rattle.world_rules.specs.Worlds.{World}
 use Rattle.world_facts.proofs.Rows.{any_at, any_from}
-use Rattle.world_core.specs.Stepping.{Stepped, is_going}
+use Rattle.world_core.specs.Stepping.{KeepsOut, Stepped, is_going}
 use Rattle.world_parts.specs.Choosing.{due_act, is_ready}
 use Rattle.world_parts.specs.Seen.{Of, Seen, tasks_out}
 use Rattle.run_loop.specs.Driven.{IsGoing, MayBe}
 use Rattle.run_loop.proofs.Due.{tick_may}
 use Rattle.room_state.specs.Held.{Held, is_idle, is_stopped}
-use Rattle.room_state.specs.Turns.{HasTurned, IsChosen, IsIdle, IsInTurn, NoneReady, NothingDue}
+use Rattle.room_state.specs.Stated.{HasStepped, IsChosen, IsQuietNow, IsFirstDue, NoneReady, NothingDue}
 
 -- ---- what is due
 
 module _ {S : Type 0} (f : Frame) (s : Seen S) where
-  pub act_turn : (found : Option ProcessNo) (i : ProcessNo) → found ≡ Some i → Of f s (λ w. option_map (λ (k : ProcessNo). k.0) found ≡ due_act f w) → Of f s (λ w. due_act f w ≡ Some i.0)
-  act_turn found i is due = λ w led. sym (due w led) ∙ ap (option_map (λ (k : ProcessNo). k.0)) is
+  pub act_first : (found : Option ProcessNo) (i : ProcessNo) → found ≡ Some i → Of f s (λ w. option_map (λ (k : ProcessNo). k.0) found ≡ due_act f w) → Of f s (λ w. due_act f w ≡ Some i.0)
+  act_first found i is due = λ w led. sym (due w led) ∙ ap (option_map (λ (k : ProcessNo). k.0)) is
 
   pub no_act : (found : Option ProcessNo) → found ≡ None → Of f s (λ w. option_map (λ (k : ProcessNo). k.0) found ≡ due_act f w) → Of f s (λ w. due_act f w ≡ None)
   no_act found is due = λ w led. sym (due w led) ∙ ap (option_map (λ (k : ProcessNo). k.0)) is
 
-  pub packet_turn : (act : Option ProcessNo) (found : Option (ℕ × ℕ)) (packet copy : ℕ) → act ≡ None → found ≡ Some (packet, copy) → Of f s (λ w. option_map (λ (k : ProcessNo). k.0) act ≡ due_act f w)
+  pub packet_next : (act : Option ProcessNo) (found : Option (ℕ × ℕ)) (packet copy : ℕ) → act ≡ None → found ≡ Some (packet, copy) → Of f s (λ w. option_map (λ (k : ProcessNo). k.0) act ≡ due_act f w)
       → Of f s (λ w. option_map (λ (p : ℕ × ℕ). (p.0, p.1)) found ≡ first_ready w.flights) → Of f s (λ w. (due_act f w ≡ None) × (first_ready w.flights ≡ Some (packet, copy)))
-  packet_turn act found packet copy none is acts due = λ w led. (no_act act none acts w led, sym (due w led) ∙ ap (option_map (λ (p : ℕ × ℕ). (p.0, p.1))) is)
+  packet_next act found packet copy none is acts due = λ w led. (no_act act none acts w led, sym (due w led) ∙ ap (option_map (λ (p : ℕ × ℕ). (p.0, p.1))) is)
 
   pub nothing_due : (act : Option ProcessNo) (packet : Option (ℕ × ℕ)) → act ≡ None → packet ≡ None → Of f s (λ w. option_map (λ (k : ProcessNo). k.0) act ≡ due_act f w)
       → Of f s (λ w. option_map (λ (p : ℕ × ℕ). (p.0, p.1)) packet ≡ first_ready w.flights) → Of f s (NothingDue f)
@@ -45,29 +45,30 @@ module _ {S : Type 0} (f : Frame) (s : Seen S) where
   pub none_chosen : (found : Option ProcessNo) (A : Type 0) → found ≡ None → IfNone found A → A
   none_chosen found A is h = subst (λ (o : Option ProcessNo). IfNone o A) is h
 
-  pub idle_now : Of f s (NothingDue f) → Of f s (NoneReady f s) → tasks_out s ≡ 0 → Of f s (IsIdle f s)
+  pub idle_now : Of f s (NothingDue f) → Of f s (NoneReady f s) → tasks_out s ≡ 0 → Of f s (IsQuietNow f s)
   idle_now due ready out = λ w led. record { due = due w led; ready = ready w led; out = out }
 
-  pub tick_now : IsGoing f s → Of f s (IsIdle f s) → MayBe f s event.Tick
+  pub tick_now : IsGoing f s → Of f s (IsQuietNow f s) → MayBe f s event.Tick
   tick_now going idle = λ w led. let h = idle w led in tick_may f s w (going w led) h.out h.due.action h.due.packet h.ready
 
   -- ---- what was done
 
-  pub turned : (what : Event) (after : Seen S) (before told : List Asked) → Of f s (λ w. IsInTurn f s w what) → Stepped f what s after before told → HasTurned f s after
-  turned what after before told turn st = record {
+  pub has_stepped : (what : Event) (after : Seen S) (before told : List Asked) → Of f s (λ w. IsFirstDue f s w what) → Stepped f what s after before told → KeepsOut f what s after → HasStepped f s after
+  has_stepped what after before told first st keeps = record {
     step = st.step;
     steps = st.steps;
     next = λ w led. let on = st.leads w led in (on.world, on.next);
-    turn = λ w led. subst (IsInTurn f s w) (sym st.event_is) (turn w led);
+    first = λ w led. subst (IsFirstDue f s w) (sym st.event_is) (first w led);
+    out = subst (λ (e : Event). KeepsOut f e s after) (sym st.event_is) keeps;
   }
 
-  act_in_turn : (w : World) (act : WireAct) → IsInTurn f s w (event_of act)
-  act_in_turn w (does.Crash node) = tt
-  act_in_turn w (does.Suspect node) = tt
-  act_in_turn w does.Swap = tt
+  act_is_first : (w : World) (act : WireAct) → IsFirstDue f s w (event_of act)
+  act_is_first w (does.Crash node) = tt
+  act_is_first w (does.Suspect node) = tt
+  act_is_first w does.Swap = tt
 
-  pub turned_by : (act : WireAct) (what : Event) (after : Seen S) (before told : List Asked) → what ≡ event_of act → Stepped f what s after before told → HasTurned f s after
-  turned_by act what after before told is st = turned what after before told (λ w led. subst (IsInTurn f s w) (sym is) (act_in_turn w act)) st
+  pub stepped_by : (act : WireAct) (what : Event) (after : Seen S) (before told : List Asked) → what ≡ event_of act → Stepped f what s after before told → KeepsOut f what s after → HasStepped f s after
+  stepped_by act what after before told is st keeps = has_stepped what after before told (λ w led. subst (IsFirstDue f s w) (sym is) (act_is_first w act)) st keeps
 
   -- ---- whether a process is ready
 

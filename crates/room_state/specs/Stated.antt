@@ -3,6 +3,7 @@
 use Rattle.std.specs.Prelude.{◌≡◌, ◌<◌, ◌≤◌, ◌==◌, ◌&&◌, ◌||◌, ◌+◌, ◌-◌, ◌^◌, ◌++◌, ◌∷◌, [], ℕ, Bool, not, false, true, nat_lt, min, if◌then◌else◌, List, None, Some, slice_index_or}
 use Rattle.net_rules.specs.Flights.{first_ready}
 use Rattle.orca_base.specs.declared.ids.ProcessNo.{ProcessNo}
+use Rattle.world_core.specs.Stepping.{KeepsOut}
 use Rattle.world_parts.specs.Choosing.{due_act, is_ready}
 use Rattle.world_parts.specs.Seen.{Of, Seen, tasks_out}
 use Rattle.world_rules.specs.declared.event.Event.{Event}
@@ -23,7 +24,7 @@ abbrev pub NoneReady : {S : Type 0} → Frame → Seen S → World → Type 0
 NoneReady f s w = (i : ℕ) → i < process_count f w → is_ready f s w i ≡ false
 
 -- nothing is due, no process is ready, and no task is out
-pub record IsIdle {S : Type 0} (f : Frame) (s : Seen S) (w : World) : Type 0 where
+pub record IsQuietNow {S : Type 0} (f : Frame) (s : Seen S) (w : World) : Type 0 where
   pub due : NothingDue f w
   pub ready : NoneReady f s w
   pub out : tasks_out s ≡ 0
@@ -31,21 +32,23 @@ pub record IsIdle {S : Type 0} (f : Frame) (s : Seen S) (w : World) : Type 0 whe
 -- of what is due the event is the first: the action of the lowest process that is at one; where there is none, the packet of the lowest
 -- number and copy that can be delivered; where there is none of these either, and nothing else to do or to wait for, a tick. Of what a wire
 -- gives, which comes before all of these, nothing is said here
-abbrev pub IsInTurn : {S : Type 0} → Frame → Seen S → World → Event → Type 0
-IsInTurn f s w (event.Act process) = due_act f w ≡ Some process.0
-IsInTurn f s w (event.Deliver packet copy) = (due_act f w ≡ None) × (first_ready w.flights ≡ Some (packet, copy))
-IsInTurn f s w event.Tick = IsIdle f s w
-IsInTurn f s w (event.Crash node) = Unit {0}
-IsInTurn f s w (event.Suspect node) = Unit {0}
-IsInTurn f s w event.Swap = Unit {0}
-IsInTurn f s w (event.Burst process place turns) = ⊥
+abbrev pub IsFirstDue : {S : Type 0} → Frame → Seen S → World → Event → Type 0
+IsFirstDue f s w (event.Act process) = due_act f w ≡ Some process.0
+IsFirstDue f s w (event.Deliver packet copy) = (due_act f w ≡ None) × (first_ready w.flights ≡ Some (packet, copy))
+IsFirstDue f s w event.Tick = IsQuietNow f s w
+IsFirstDue f s w (event.Crash node) = Unit {0}
+IsFirstDue f s w (event.Suspect node) = Unit {0}
+IsFirstDue f s w event.Swap = Unit {0}
+IsFirstDue f s w (event.Burst process place turns) = ⊥
 
--- an event was done, which is the last step now, and was in turn where no wire gave it
-pub record HasTurned {S : Type 0} (f : Frame) (old new : Seen S) : Type 0 where
+-- an event was done, which is the last step now, and was first of what is due where no wire gave it. The tasks that were out are out still,
+-- but for those that it ends
+pub record HasStepped {S : Type 0} (f : Frame) (old new : Seen S) : Type 0 where
   pub step : Step
   pub steps : new.steps ≡ old.steps ++ step ∷ []
   pub next : Of f old (λ w. (v : World) × Next f w step v)
-  pub turn : Of f old (λ w. IsInTurn f old w step.event)
+  pub first : Of f old (λ w. IsFirstDue f old w step.event)
+  pub out : KeepsOut f step.event old new
 
 -- ---- which process is handed out
 
