@@ -3,7 +3,6 @@ use denote.Param.Send.{IsSend, IsSync, plain_send, recorded_send, sendable, stru
 use denote.RattleType.{RattleType}
 use denote.Struct.Declared.{shape}
 use Rattle.std.proofs.Crossing.{Vec-send, crosses}
-use Rattle.history_buffer.proofs.shared.Shared.TheSendSync.{the_send as shared_send}
 use Rattle.lossy_net.proofs.net.Net.TheSendSync.{the_send as net_send}
 use Rattle.orca_base.proofs.items.Items.TheSendSync.{the_send as items_send}
 use Rattle.book_law.specs.contracts.placing.Placed as Placed
@@ -41,7 +40,7 @@ ledger_send =
     (struct_send (shape LedgerInside.the_type) (
       Vec-send _ step_send,
       (
-        Vec-send _ (search (shared_send, message_row_send, message_row_sync, crosses, sendable) depth 60 fits 20000),
+        Vec-send _ (search (message_row_send, message_row_sync, crosses, sendable) depth 60 fits 20000),
         (Vec-send _ piece_row_send, (plain_send _ _ _ _ _, (plain_send _ _ _ _ _, (plain_send _ _ _ _ _, (plain_send _ _ _ _ _, tt))))),
       ),
     )))

@@ -11,3 +11,9 @@ may_be_sent-requires-send-T g c κs within =
 pub may_be_sent-requires-2-send-T : goal.may_be_sent-requires-2-send-T
 may_be_sent-requires-2-send-T g c κs within =
     param_send 0 _ (arg_send _ no _ (done_send (param 0 g.row.P) _ g.P.OneRun g.P.Processor g.P.Performer c.type_bounds.send-P-State c.type_bounds.sync-P-State))
+
+pub returns-clause-task : goal.returns-clause-task
+returns-clause-task g c = task_send (param 0 g.row.P) _ g.P.OneRun g.P.Processor g.P.Performer c.type_bounds.send-P-State c.type_bounds.sync-P-State
+
+pub returns-clause-done : goal.returns-clause-done
+returns-clause-done g c = done_send (param 0 g.row.P) _ g.P.OneRun g.P.Processor g.P.Performer c.type_bounds.send-P-State c.type_bounds.sync-P-State
