@@ -61,7 +61,8 @@ pub record HasToWait {S : Type 0} (f : Frame) (s : Seen S) (tasks : List ℕ) (n
 
 -- the wires tell what they told, but that the one in use may have been asked about an act before the next event
 abbrev pub AreAskedOnce : {S : Type 0} → Seen S → ℕ → List (List Asked) → List (List Asked) → Type 0
-AreAskedOnce s in_use old new = (new ≡ old) ⊎ ((answer : Option WireAct) × (new ≡ told_more in_use (Act (suc (length s.steps)) answer ∷ []) old))
+AreAskedOnce s in_use old new =
+    (new ≡ old) ⊎ ((answer : Option WireAct) × (new ≡ told_more in_use (Act (suc (length s.steps)) answer ∷ []) old))
 
 -- memory lacked: no event comes any more, the world is as it was, and no wire was asked about a packet
 pub record HasFailed {S : Type 0} (old new : Held S) : Type 0 where

@@ -66,9 +66,11 @@ pub record IsChosen {S : Type 0} (f : Frame) (s : Seen S) (w : World) (tasks : L
   pub below : i < n
   pub ready : is_ready f s w i ≡ true
   pub fewest : (j : ℕ) → j < n → is_ready f s w j ≡ true → tasks_of tasks i ≤ tasks_of tasks j
-  pub at_home : (j : ℕ) → j < n → is_ready f s w j ≡ true → tasks_of tasks j ≡ tasks_of tasks i → home_of f w j ≡ home → home_of f w i ≡ home
+  pub at_home :
+      (j : ℕ) → j < n → is_ready f s w j ≡ true → tasks_of tasks j ≡ tasks_of tasks i → home_of f w j ≡ home → home_of f w i ≡ home
   pub lowest :
-      (j : ℕ) → j < n → is_ready f s w j ≡ true → tasks_of tasks j ≡ tasks_of tasks i → (home_of f w i ≡ home → home_of f w j ≡ home) → i ≤ j
+      (j : ℕ) → j < n → is_ready f s w j ≡ true → tasks_of tasks j ≡ tasks_of tasks i →
+      (home_of f w i ≡ home → home_of f w j ≡ home) → i ≤ j
 
 -- whether process i goes before process j of a lower number: fewer tasks of it were handed out, or as many, and it alone is on this member
 abbrev pub goes_before : Frame → World → List ℕ → ℕ → ℕ → ℕ → Bool

@@ -118,15 +118,16 @@ impl<P: RoomRun, W: Wire> RoomState<P, W> {
     /// `Over` comes exactly where the run isn't going. Else the first of these comes that there is: what the wire in use gives; the action
     /// of the lowest process that is at one; the packet of the lowest number that can be delivered; the burst of a process that is ready;
     /// and where no task is out, a tick. Of processes that are ready the one of which the fewest tasks were handed out goes first, then one
-    /// on the home member, then the lowest. The wire in use is asked at most once before each event, and before each that is no burst; an act
-    /// that it gives is the event, unless it is passed over (`Holds`).
+    /// on the home member, then the lowest. The wire in use is asked at most once before each event, and before each that is no burst; an
+    /// act that it gives is the event, unless it is passed over (`Holds`).
     ///
     /// Where memory lacks, the world is as it was, and no event comes any more.
     pub fn take(&mut self, alloc: Global, machine: &P, home: u8) -> Result<Taken<P>, NoMemory>
         ensures over { result ≡ Ok taken.Over →
             (self.new ≡ self.old) × Of P.run.frame self.old.seen (λ w. rules.standing P.run.frame w ≢ Going) }
         ensures ended { Of P.run.frame self.old.seen (λ w. rules.standing P.run.frame w ≢ Going) → result ≡ Ok taken.Over }
-        ensures stepped { result ≡ Ok taken.Stepped → HasStepped P.run.frame self.old.seen self.new.seen × (self.new.tasks ≡ self.old.tasks) }
+        ensures stepped { result ≡ Ok taken.Stepped →
+            HasStepped P.run.frame self.old.seen self.new.seen × (self.new.tasks ≡ self.old.tasks) }
         ensures task { (t : _) → result ≡ Ok (taken.Task t) → HasHandedOut P.run.frame home t self.old.seen self.old.tasks self.new }
         ensures wait { result ≡ Ok taken.Wait → HasToWait P.run.frame self.old.seen self.old.tasks self.new }
         ensures err { OnErr result (HasFailed self.old self.new) }
@@ -149,7 +150,8 @@ impl<P: RoomRun, W: Wire> RoomState<P, W> {
         requires unasked { self.old.phase ≡ phase.Unasked }
         requires going { IsGoing P.run.frame self.old.seen }
         ensures not_over { result ≡ Ok taken.Over → ⊥ }
-        ensures stepped { result ≡ Ok taken.Stepped → HasStepped P.run.frame self.old.seen self.new.seen × (self.new.tasks ≡ self.old.tasks) }
+        ensures stepped { result ≡ Ok taken.Stepped →
+            HasStepped P.run.frame self.old.seen self.new.seen × (self.new.tasks ≡ self.old.tasks) }
         ensures task { (t : _) → result ≡ Ok (taken.Task t) → HasHandedOut P.run.frame home t self.old.seen self.old.tasks self.new }
         ensures wait { result ≡ Ok taken.Wait → HasToWait P.run.frame self.old.seen self.old.tasks self.new }
         ensures err { OnErr result (HasFailed self.old self.new) }
@@ -175,7 +177,8 @@ impl<P: RoomRun, W: Wire> RoomState<P, W> {
         requires asked { self.old.phase ≡ phase.Asked }
         requires going { IsGoing P.run.frame self.old.seen }
         ensures not_over { result ≡ Ok taken.Over → ⊥ }
-        ensures stepped { result ≡ Ok taken.Stepped → HasStepped P.run.frame self.old.seen self.new.seen × (self.new.tasks ≡ self.old.tasks) }
+        ensures stepped { result ≡ Ok taken.Stepped →
+            HasStepped P.run.frame self.old.seen self.new.seen × (self.new.tasks ≡ self.old.tasks) }
         ensures task { (t : _) → result ≡ Ok (taken.Task t) → HasHandedOut P.run.frame home t self.old.seen self.old.tasks self.new }
         ensures wait { result ≡ Ok taken.Wait → HasToWait P.run.frame self.old.seen self.old.tasks self.new }
         ensures err { OnErr result
