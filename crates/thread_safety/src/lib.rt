@@ -94,7 +94,8 @@ pub fn copies()
 
 /// A member of the group may be sent.
 pub fn members()
-    ensures { IsSend (member_type.the_row (shared_type.the_row message_type.the_row reply_type.the_row ⟦<Message as Body>⟧) reply_type.the_row) }
+    ensures { IsSend (member_type.the_row (shared_type.the_row message_type.the_row reply_type.the_row ⟦<Message as Body>⟧)
+        reply_type.the_row) }
 {
     may_be_sent::<Member<Shared<Message>>>();
 }
@@ -105,10 +106,22 @@ where
     P::State: Send + Sync,
     ensures task { IsSend (task_type.the_row P.row P.State.row (record { run = P.run; stood = P.stood; left = P.left })
         (record { computes = P.computes; stands = P.stands; halted = P.halted })
-        (record { performs = P.performs; fits_state = P.fits_state; fits_args = P.fits_args; fits_text = P.fits_text; fits_reply = P.fits_reply })) }
+        (record {
+          performs = P.performs;
+          fits_state = P.fits_state;
+          fits_args = P.fits_args;
+          fits_text = P.fits_text;
+          fits_reply = P.fits_reply;
+        })) }
     ensures done { IsSend (done_type.the_row P.row P.State.row (record { run = P.run; stood = P.stood; left = P.left })
         (record { computes = P.computes; stands = P.stands; halted = P.halted })
-        (record { performs = P.performs; fits_state = P.fits_state; fits_args = P.fits_args; fits_text = P.fits_text; fits_reply = P.fits_reply })) }
+        (record {
+          performs = P.performs;
+          fits_state = P.fits_state;
+          fits_args = P.fits_args;
+          fits_text = P.fits_text;
+          fits_reply = P.fits_reply;
+        })) }
 {
     may_be_sent::<Task<P>>();
     may_be_sent::<Done<P>>();
@@ -129,7 +142,13 @@ where
     P::State: Send + Sync,
     ensures { IsSend (world_type.the_row P.row P.State.row (record { run = P.run; stood = P.stood; left = P.left })
         (record { computes = P.computes; stands = P.stands; halted = P.halted })
-        (record { performs = P.performs; fits_state = P.fits_state; fits_args = P.fits_args; fits_text = P.fits_text; fits_reply = P.fits_reply })) }
+        (record {
+          performs = P.performs;
+          fits_state = P.fits_state;
+          fits_args = P.fits_args;
+          fits_text = P.fits_text;
+          fits_reply = P.fits_reply;
+        })) }
 {
     may_be_sent::<World<P>>();
 }
