@@ -1,2 +1,5 @@
 pub mod ValuesCross
 pub mod CopiesCross
+pub mod TasksCross
+pub mod NodesCross
+pub mod WorldsCross
