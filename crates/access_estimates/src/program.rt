@@ -81,7 +81,8 @@ fn add_known(
     routine: Option<&Routine<'_>>,
     table: &[Vec<Counts>],
 ) -> Result<(), NoMemory>
-    ensures { (us : List Source) (t : TopName) → t.defined.name.text ≡ process.now → Both (λ c w. IsRoutine us c.now w) routine.entry (routine_of us t) →
+    ensures { (us : List Source) (t : TopName) → t.defined.name.text ≡ process.now →
+        Both (λ c w. IsRoutine us c.now w) routine.entry (routine_of us t) →
         OnOk result (all.new.items ≡ all.old.items ++ rules.process_estimates (by_table (map (λ l. l.items) table.now)) us t) }
 {
     match routine {
@@ -97,7 +98,8 @@ fn process_sites(
     routine: Option<&Routine<'_>>,
     table: &[Vec<Counts>],
 ) -> Result<Vec<Estimate>, NoMemory>
-    ensures { (us : List Source) (t : TopName) → t.defined.name.text ≡ process.now → Both (λ c w. IsRoutine us c.now w) routine.entry (routine_of us t) →
+    ensures { (us : List Source) (t : TopName) → t.defined.name.text ≡ process.now →
+        Both (λ c w. IsRoutine us c.now w) routine.entry (routine_of us t) →
         IfOk result (λ v. v.items ≡ rules.process_estimates (by_table (map (λ l. l.items) table.now)) us t) }
 {
     let mut sites = Vec::new(alloc);
@@ -189,8 +191,8 @@ fn joined(alloc: Global, texts: Vec<Vec<Estimate>>) -> Result<Vec<Estimate>, NoM
 
 /// The estimates of a checked program's sites, text by text, in the order of its texts (docs/RUNTIME.md, Choice of copies): a text without
 /// a site has an empty list. The program keeps within the limits, as `within_limits` of program_limits says, so that its numbers fit their
-/// types. The only error is want of memory. Each body is gone through once, and in each round its uses of objects alone; no clause says what
-/// it costs.
+/// types. The only error is want of memory. Each body is gone through once, and in each round its uses of objects alone; no clause says
+/// what it costs.
 pub fn estimates_by_text(
     alloc: Global,
     checked: &Checked<'_>,

@@ -1,5 +1,5 @@
-//! The calls of the product that cases are: by the program's own door, `serve` of `orca_door`; and by `orca_main` of `orca_cli`, which tells
-//! what a run left too.
+//! The calls of the product that cases are: by the program's own door, `serve` of `orca_door`; and by `orca_main` of `orca_cli`, which
+//! tells what a run left too.
 //!
 //! `Product` makes a call, and tells in plain values what came of it (`Outcome` of `case_tables`). Whatever stands above the top is checked
 //! with all that a run promises, so each of the two is called at one place, over any shelf and sink, and what comes of it is handed out

@@ -24,7 +24,7 @@ pub struct CallParts<'a> {
 
 /// Who makes the calls of cases: whoever knows the whole product.
 pub trait Calls {
-    /// What comes of a call. By the door it is told the status and what was printed alone. Err where memory lacks for what the call is given,
-    /// or for what is told of it.
+    /// What comes of a call. By the door it is told the status and what was printed alone. Err where memory lacks for what the call is
+    /// given, or for what is told of it.
     fn outcome(&self, rt: &HostRuntime, call: CallParts<'_>) -> Result<Box<Outcome>, NoMemory>;
 }

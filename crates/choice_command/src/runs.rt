@@ -43,8 +43,8 @@ fn text_choices<P: Policy>(
 /// What a policy chooses for a checked program's sites among so many members, text by text, as the settings of a run have it in which no
 /// member may be lost (docs/RUNTIME.md, Choice of copies); in another one nobody is asked. That the n-th choice of a text is where the n-th
 /// object of each process is kept that runs it, are laws of estimate_rules (`sites_are_objects`, `answers_by_text`). The policy is asked
-/// about each site once, in the order of the texts, and keeps its rule. The only error is want of memory: then it was asked about so many of
-/// them from the front, maybe all. The program keeps within the limits, as `within_limits` of program_limits says.
+/// about each site once, in the order of the texts, and keeps its rule. The only error is want of memory: then it was asked about so many
+/// of them from the front, maybe all. The program keeps within the limits, as `within_limits` of program_limits says.
 pub fn run_choices<P: Policy>(
     alloc: Global,
     checked: &Checked<'_>,

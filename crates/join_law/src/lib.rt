@@ -8,7 +8,25 @@
 #![tactic(auto)]
 
 ghost use Rattle.join_law.specs.OneCell.{FollowsOneCell};
-ghost use Rattle.join_law.specs.Promise.{AllFollow, AllMayReceive, BehindEnds, BehindGoesOn, BehindStays, MomentsAreReached, MomentsFollow, MomentsGoOn, NoneFall, ReachedGoesOn, ReachedMayReceive, RoundEnds, RoundsCatchUp, RoundsFollow, RoundsGoOn, RoundsStay, MomentsStay};
+ghost use Rattle.join_law.specs.Promise.{
+  AllFollow,
+  AllMayReceive,
+  BehindEnds,
+  BehindGoesOn,
+  BehindStays,
+  MomentsAreReached,
+  MomentsFollow,
+  MomentsGoOn,
+  NoneFall,
+  ReachedGoesOn,
+  ReachedMayReceive,
+  RoundEnds,
+  RoundsCatchUp,
+  RoundsFollow,
+  RoundsGoOn,
+  RoundsStay,
+  MomentsStay,
+};
 
 use book_law::{every_call_fits, singles_law};
 use group_law::agreement_law;

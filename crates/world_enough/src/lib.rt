@@ -43,8 +43,8 @@ use world_facts::{processes_stand, standings_mean};
 use world_law::{group_steps, members_catch_up, processes_are_home};
 
 /// No tick comes in a faultless run, and its group is what a list of the group's moves leads to; beside that list's letters at most two
-/// packets for each call were delivered, its Ask and its Answer, and none where no object is single; and a quiet moment at which no limit is passed is the
-/// run's end. A call of this function does nothing.
+/// packets for each call were delivered, its Ask and its Answer, and none where no object is single; and a quiet moment at which no limit
+/// is passed is the run's end. A call of this function does nothing.
 pub fn faultless_runs_need_no_tick<P: Processor>(machine: &P)
     ensures { FaultlessRunsNeedNoTick (P.performs machine.now) (P.computes machine.now) }
 {
@@ -180,8 +180,8 @@ pub fn one_cell_is_bounded()
     ensures singles { bound_with_singles one_cell one_cell_end ≡ 89 }
 {}
 
-/// The worked run of a cell that is single, on two members, is faultless: it has 14 events, of which 4 are packets and the others bursts and
-/// acts, and 54 are its bound.
+/// The worked run of a cell that is single, on two members, is faultless: it has 14 events, of which 4 are packets and the others bursts
+/// and acts, and 54 are its bound.
 pub fn one_owner_is_bounded()
     ensures faultless { LeadsFaultless single_cell (opening_world single_cell) owner_steps owner_end }
     ensures events { length owner_steps ≡ 14 }
