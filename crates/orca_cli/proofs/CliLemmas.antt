@@ -8,7 +8,7 @@ use Rattle.choice_command.specs.Lines.{choice_lines}
 use Rattle.replica_choice.specs.declared.policy.Asked.{Asked}
 use Rattle.accepted_law.specs.Limits.{IsWithinLimits}
 use Rattle.program_bodies.specs.Codes.{sources as sources_of}
-use Rattle.eval_machine.specs.declared.machine.TreeMachine.{TreeMachine}
+use Rattle.code_machine.specs.declared.machine.CodeMachine.{CodeMachine}
 use Rattle.type_decls.specs.declared.checked.Checked.{Checked}
 use Rattle.orca_front.specs.declared.fault.FrontFault.{FrontFault}
 use Rattle.orca_front.specs.declared.fault.FrontFault.TheVariants as fronts
@@ -268,7 +268,7 @@ pub is_program_since : (told : Option (List File)) (files : List Word) (sources 
 is_program_since told files sources units old new read accepted within since = (record { loaded = (sources, read, accepted); within = within }, since)
 
 -- the machine of a checked program has its units
-pub machine_units : {E : Type 0} (r : Result TreeMachine E) (checked : Checked) (units : List Source) → sources_of checked ≡ units → IfOk r (λ m. m.code.checked ≡ checked) → IfOk r (λ m. units_of m ≡ units)
+pub machine_units : {E : Type 0} (r : Result CodeMachine E) (checked : Checked) (units : List Source) → sources_of checked ≡ units → IfOk r (λ m. m.tables.checked ≡ checked) → IfOk r (λ m. units_of m ≡ units)
 machine_units (Ok m) checked units are of = ap sources_of of ∙ are
 machine_units (Err e) checked units are of = tt
 

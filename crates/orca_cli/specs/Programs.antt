@@ -11,7 +11,7 @@ use Rattle.command_files.specs.Loaded.{IsLoaded, front_status}
 use Rattle.command_files.specs.Sources.{Word}
 use Rattle.command_output.specs.declared.statuses.TheConstants.{LIMIT}
 use Rattle.program_bodies.specs.Codes.{sources}
-use Rattle.eval_machine.specs.declared.machine.TreeMachine.{TreeMachine}
+use Rattle.code_machine.specs.declared.machine.CodeMachine.{CodeMachine}
 use Rattle.replay_command.specs.Endings.{passed_line}
 use Rattle.orca_cli.specs.declared.program.ProgramFault.{ProgramFault}
 use Rattle.orca_cli.specs.declared.program.ProgramFault.TheVariants.{Limited, Refused}
@@ -41,5 +41,5 @@ program_line (Refused fault) = fault_line fault
 program_line (Limited passed) = passed_line passed
 
 -- the units of the program that a machine runs
-abbrev pub units_of : TreeMachine → List Source
-units_of m = sources m.code.checked
+abbrev pub units_of : CodeMachine → List Source
+units_of m = sources m.tables.checked

@@ -11,7 +11,7 @@ ghost use Rattle.orca_cli.specs.Programs.{IsProgramFault, program_line, program_
 
 use command_files::front_status;
 use command_output::LIMIT;
-use eval_machine::TreeMachine;
+use code_machine::CodeMachine;
 use orca_base::{NoMemory, Refusal, refuse};
 use orca_front::{FrontFault, SourceFile, accepted, fault_line, linked};
 use orca_modules::Program;
@@ -97,11 +97,11 @@ pub fn fits(alloc: Global, program: &Program) -> Result<(), Refusal<ProgramFault
 fn checked_machine<'p>(
     alloc: Global,
     checked: Checked<'p>,
-) -> Result<TreeMachine<'p>, Refusal<ProgramFault>>
-    ensures of { IfOk result (λ m. m.code.checked ≡ checked.entry) }
+) -> Result<CodeMachine<'p>, Refusal<ProgramFault>>
+    ensures of { IfOk result (λ m. m.tables.checked ≡ checked.entry) }
     ensures refused { (files : List File) → IsAccepted files (sources checked.entry) → IfBecause result (IsProgramFault files) }
 {
-    match TreeMachine::new(alloc, checked) {
+    match CodeMachine::new(alloc, checked) {
         Ok(machine) => Ok(machine),
         Err(Refusal::Because { cause }) => refuse(ProgramFault::Limited { passed: cause }),
         Err(Refusal::NoMemory) => Err(Refusal::NoMemory),
@@ -125,7 +125,7 @@ pub fn judged(alloc: Global, program: &Program) -> Result<(), Refusal<ProgramFau
 pub fn machine_of<'p>(
     alloc: Global,
     program: &'p Program,
-) -> Result<TreeMachine<'p>, Refusal<ProgramFault>>
+) -> Result<CodeMachine<'p>, Refusal<ProgramFault>>
     ensures of { IfOk result (λ m. units_of m ≡ map source program.now.units.items) }
     ensures accepted { (files : List File) → AreUnits files (map source program.now.units.items) →
         IfOk result (λ _. IsAccepted files (map source program.now.units.items)) }

@@ -73,7 +73,7 @@ fn replayed<F: Shelf, K: Sink>(
         Err(Refusal::Because { cause }) => return say_unfit(alloc, out, &cause),
         Err(Refusal::NoMemory) => return NO_MEMORY,
     };
-    judge(alloc, out, &machine, machine.code.checked(), &read.history)
+    judge(alloc, out, &machine, machine.tables.checked(), &read.history)
 }
 
 /// Says whether the history in a file is one of the program in others, or why that can't be said. Nothing is kept.

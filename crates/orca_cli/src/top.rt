@@ -42,7 +42,7 @@ use crate::script::{ScriptFault, script_of};
 use command_files::sources;
 use command_line::RunOptions;
 use command_output::{FINISHED, NO_MEMORY, READ_FAULT, USAGE, WRITE_FAULT};
-use eval_machine::TreeMachine;
+use code_machine::CodeMachine;
 use fault_scripts::Script;
 use history_text::{Names, lines_fit};
 use orca_base::{Items, NoMemory, Refusal};
@@ -148,7 +148,7 @@ fn load_first<W: Wire>(alloc: Global, script: &Script, wires: &mut [W]) -> Resul
 }
 
 // What is so of each run of the program. A call of this function does nothing.
-fn laws_of_runs(machine: &TreeMachine<'_>)
+fn laws_of_runs(machine: &CodeMachine<'_>)
     ensures { RunLaws (performs_of (units_of machine.now)) (computes_of (units_of machine.now)) }
 {
     book_by_places();
@@ -166,7 +166,7 @@ fn laws_of_runs(machine: &TreeMachine<'_>)
 // Runs a program over wires as they are loaded, and tells what came of it, the history by these names.
 fn run_loaded<K: Sink, W: Wire>(
     alloc: Global,
-    machine: &TreeMachine<'_>,
+    machine: &CodeMachine<'_>,
     names: &Names,
     options: RunOptions,
     out: &mut K,
@@ -217,7 +217,7 @@ fn run_loaded<K: Sink, W: Wire>(
 // Runs a program over wires as they are loaded, and tells what came of it, the history by the program's names.
 fn run_named<K: Sink, W: Wire>(
     alloc: Global,
-    machine: &TreeMachine<'_>,
+    machine: &CodeMachine<'_>,
     options: RunOptions,
     out: &mut K,
     wires: &mut [W],
@@ -237,7 +237,7 @@ fn run_named<K: Sink, W: Wire>(
     ensures failed { result.status ≡ WRITE_FAULT → Rose (K.faults out.old) (K.faults out.new) }
     ensures stopped { K.faults out.old < K.faults out.new → HasStopped result.status }
 {
-    match names(alloc, machine.code.checked()) {
+    match names(alloc, machine.tables.checked()) {
         Ok(names) => run_loaded(alloc, machine, &names, options, out, wires),
         Err(_) => nothing(),
     }
@@ -246,7 +246,7 @@ fn run_named<K: Sink, W: Wire>(
 // Runs a program with this script, and tells what came of it. Where memory lacks for the script, the wires are as before.
 fn run_program<K: Sink, W: Wire>(
     alloc: Global,
-    machine: &TreeMachine<'_>,
+    machine: &CodeMachine<'_>,
     options: RunOptions,
     script: &Script,
     out: &mut K,

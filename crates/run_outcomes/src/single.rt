@@ -6,7 +6,7 @@ ghost use Rattle.world_rules.specs.Frame.{AreSettings};
 use crate::events::counted;
 use crate::lines::written;
 use crate::outcome::NoOutcome;
-use eval_machine::TreeMachine;
+use code_machine::CodeMachine;
 use fault_scripts::read_script;
 use orca_base::{Choice, Items, NoMemory};
 use orca_front::{SourceFile, accepted, linked};
@@ -95,7 +95,7 @@ fn ran(alloc: Global, program: &Program, wires: &mut Vec<ScriptWire>) -> Result<
     }
     let settings = single_settings(alloc)?;
     let checked = accepted(alloc, program).ok().ok_or(NoOutcome::NoProgram)?;
-    let machine = TreeMachine::new(alloc, checked)
+    let machine = CodeMachine::new(alloc, checked)
         .ok()
         .ok_or(NoOutcome::NoProgram)?;
     Ok(run(alloc, &machine, settings, wires))
