@@ -12,12 +12,12 @@ use Rattle.value_core.specs.declared.value.Value.{Value}
 use Rattle.value_paths.specs.declared.step.Step.{Step as ValueStep}
 use Rattle.value_paths.specs.declared.step.Step.TheVariants as value_step
 use Rattle.meaning_rules.specs.Variables.{Target as RuleTarget}
-use Rattle.eval_variables.specs.Gives.{passed_of, path_of, step_of}
-use Rattle.eval_variables.specs.declared.steps.Passed.{Passed}
-use Rattle.eval_variables.specs.declared.steps.Passed.TheVariants as passed
-use Rattle.eval_variables.specs.declared.steps.Step.{Step}
-use Rattle.eval_variables.specs.declared.steps.Step.TheVariants as step
-use Rattle.eval_variables.specs.declared.steps.Target.{Target}
+use Rattle.frame_variables.specs.Gives.{passed_of, path_of, step_of}
+use Rattle.frame_variables.specs.declared.steps.Passed.{Passed}
+use Rattle.frame_variables.specs.declared.steps.Passed.TheVariants as passed
+use Rattle.frame_variables.specs.declared.steps.Step.{Step}
+use Rattle.frame_variables.specs.declared.steps.Step.TheVariants as step
+use Rattle.frame_variables.specs.declared.steps.Target.{Target}
 use Rattle.code_rules.specs.Machine.{lent}
 
 -- ---- answers

@@ -3,7 +3,7 @@
 ghost use Rattle.std.specs.Prelude.{◌≡◌, ◌↔◌, ◌∷◌, IsTrue, map, slice_get};
 ghost use Rattle.std.specs.List.{All};
 ghost use Rattle.value_core.specs.View.{datum_of};
-ghost use Rattle.eval_variables.specs.Gives.{passed_of};
+ghost use Rattle.frame_variables.specs.Gives.{passed_of};
 ghost use Rattle.code_rules.specs.Machine.{lent};
 ghost use Rattle.code_steps.specs.Bodies.{caller_of, config_of, number_of};
 ghost use Rattle.code_runs.specs.Processes.{phase_of, with_reply};
@@ -12,7 +12,7 @@ ghost use Rattle.code_machine.specs.Topped.{topped};
 
 use code_runs::Phase;
 use code_steps::{BodyNo, Caller, Config, Operands};
-use eval_variables::{Frame, Passed, Step};
+use frame_variables::{Frame, Passed, Step};
 use value_core::Value;
 
 // ---- values

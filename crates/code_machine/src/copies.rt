@@ -1,14 +1,14 @@
 //! Copies of where a process stands. The lists that values hold are shared.
 
 ghost use Rattle.std.specs.Prelude.{◌≡◌, IfOk, map};
-ghost use Rattle.eval_variables.specs.Gives.{passed_of};
+ghost use Rattle.frame_variables.specs.Gives.{passed_of};
 ghost use Rattle.code_rules.specs.Machine.{lent};
 ghost use Rattle.code_runs.specs.Processes.{phase_of};
 ghost use Rattle.code_steps.specs.Bodies.{caller_of, config_of};
 
 use code_runs::Phase;
 use code_steps::{Caller, Config, Operands, add_copies};
-use eval_variables::{Frame, Passed, Run, Step, Target};
+use frame_variables::{Frame, Passed, Run, Step, Target};
 use orca_base::NoMemory;
 use std::alloc::Global;
 use value_core::{Parts, Value};

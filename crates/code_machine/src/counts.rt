@@ -8,7 +8,7 @@ ghost use Rattle.code_machine.specs.Counted.{AreCounted, IsCounted, IsCountedPha
 
 use code_runs::Phase;
 use code_steps::{Caller, Config};
-use eval_variables::Frame;
+use frame_variables::Frame;
 
 // Whether no value stands at the last number.
 fn is_counted(frame: &Frame<'_>) -> bool

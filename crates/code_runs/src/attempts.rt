@@ -16,7 +16,7 @@ use crate::beginnings::{NOBODY, begin, values_behind, values_in_front};
 use crate::runs::run;
 use code_steps::{BodyNo, Config, Effect, add_copies, add_spare, operation_at};
 use emitted_code::{Emitted, EmittedBody};
-use eval_variables::Frame;
+use frame_variables::Frame;
 use orca_base::{FaultKind, KindNo, NoMemory, OPERATION_TURNS, OpNo};
 use std::alloc::Global;
 use value_core::{ObjectState, Parts, Reply, Tried, Value};

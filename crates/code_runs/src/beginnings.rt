@@ -6,7 +6,7 @@ ghost use Rattle.code_rules.specs.Performing.{begun};
 ghost use Rattle.code_steps.specs.Bodies.{config_of, number_of};
 
 use code_steps::{BodyNo, Config, Operands};
-use eval_variables::{Frame, Run};
+use frame_variables::{Frame, Run};
 use orca_base::{NoMemory, ProcessNo};
 use std::alloc::Global;
 use value_core::{Parts, Value};

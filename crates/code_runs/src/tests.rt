@@ -4,7 +4,7 @@ use crate::attempts::try_operation;
 use crate::makings::make_object;
 use crate::process::{CodeProcess, answer, go, start};
 use emitted_code::{Emitted, EmittedBody, EmittedOperation, EmittedType, Instr, Listing};
-use eval_variables::integer_in;
+use frame_variables::integer_in;
 use orca_base::{KindNo, NoMemory, OpNo, ProcessNo, TextNo};
 use orca_tree::Operator;
 use std::alloc::Global;

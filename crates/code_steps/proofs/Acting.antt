@@ -16,8 +16,8 @@ use Rattle.meaning_rules.specs.Calls.{id_in}
 use Rattle.meaning_rules.specs.Processes.{own_object}
 use Rattle.meaning_rules.specs.Operators.{fitting_all, integer_in}
 use Rattle.meaning_rules.specs.States.{State, Goes, gives}
-use Rattle.eval_variables.specs.declared.stop.Stop.{Stop}
-use Rattle.eval_variables.specs.Gives.{Fails}
+use Rattle.frame_variables.specs.declared.stop.Stop.{Stop}
+use Rattle.frame_variables.specs.Gives.{Fails}
 use Rattle.code_rules.specs.Instructions as rules
 use Rattle.code_rules.specs.Machine.{Code, Config, Effect, Asks, Stuck, act, at_state, object_at, on_result, on_top, pops}
 use Rattle.code_steps.specs.declared.advance.Advance.{Advance}

@@ -8,8 +8,8 @@ use Rattle.value_core.specs.View.{datum_of}
 use Rattle.value_core.specs.declared.value.Value.{Value}
 use Rattle.meaning_rules.specs.Expressions.{result}
 use Rattle.meaning_rules.specs.States.{State, Out, gives}
-use Rattle.eval_variables.specs.declared.stop.Stop.{Stop}
-use Rattle.eval_variables.specs.Gives.{Fails, Gives}
+use Rattle.frame_variables.specs.declared.stop.Stop.{Stop}
+use Rattle.frame_variables.specs.Gives.{Fails, Gives}
 use Rattle.code_rules.specs.Machine.{Config, Effect, at_state, next, on_out, on_result, pushes}
 use Rattle.code_rules.specs.Machine as machine
 use Rattle.code_steps.specs.declared.advance.Advance.{Advance}

@@ -7,8 +7,8 @@ use Rattle.value_core.specs.Datum.{Datum, data_of}
 use Rattle.meaning_rules.specs.Calls.{Passed, values_in}
 use Rattle.meaning_rules.specs.Operators.{fitting, fitting_all}
 use Rattle.meaning_rules.specs.States.{State, Goes, gives}
-use Rattle.eval_variables.specs.declared.stop.Stop.{Stop}
-use Rattle.eval_variables.specs.Gives.{Fails}
+use Rattle.frame_variables.specs.declared.stop.Stop.{Stop}
+use Rattle.frame_variables.specs.Gives.{Fails}
 use Rattle.code_rules.specs.Instructions as rules
 use Rattle.code_rules.specs.Instructions.{Shape}
 use Rattle.code_rules.specs.Machine as machine

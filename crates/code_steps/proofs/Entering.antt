@@ -4,8 +4,8 @@ use Rattle.std.specs.Prelude.{reverse}
 use Rattle.std.proofs.lemmas.List.{map-append, reverse-append}
 use Rattle.value_core.specs.Datum.{Datum}
 use Rattle.meaning_rules.specs.Calls.{Passed as RulePassed}
-use Rattle.eval_variables.specs.declared.steps.Passed.{Passed}
-use Rattle.eval_variables.specs.Gives.{passed_of}
+use Rattle.frame_variables.specs.declared.steps.Passed.{Passed}
+use Rattle.frame_variables.specs.Gives.{passed_of}
 use Rattle.code_rules.specs.Machine.{Body, Config, entered, filled}
 use Rattle.code_steps.specs.declared.config.Caller.{Caller}
 use Rattle.code_steps.specs.Bodies.{caller_of, callers_of}

@@ -5,8 +5,8 @@ use Rattle.value_core.specs.Datum.{Datum}
 use Rattle.meaning_rules.specs.Calls.{Callee, invoked}
 use Rattle.meaning_rules.specs.Calls.{Passed as RulePassed}
 use Rattle.meaning_rules.specs.Expressions.{result}
-use Rattle.eval_variables.specs.declared.steps.Passed.{Passed}
-use Rattle.eval_variables.specs.Gives.{passed_of}
+use Rattle.frame_variables.specs.declared.steps.Passed.{Passed}
+use Rattle.frame_variables.specs.Gives.{passed_of}
 use Rattle.code_rules.specs.Instructions.{Shape}
 use Rattle.code_rules.specs.Machine.{Config, Stuck, at_state, no_calls, nodes, on_out, pushes}
 use Rattle.code_steps.specs.Moves.{holding}

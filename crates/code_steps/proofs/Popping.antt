@@ -3,8 +3,8 @@ use Rattle.std.proofs.Common.{◌≡◌, Option, Some, None, Vec, Global, ℕ, z
 use Rattle.std.specs.Prelude.{◌≢◌, MatchOption}
 use Rattle.value_core.specs.Datum.{Datum, list_of}
 use Rattle.value_core.specs.declared.value.Parts.{Parts}
-use Rattle.eval_variables.specs.declared.steps.Step.{Step}
-use Rattle.eval_variables.specs.Gives.{path_of}
+use Rattle.frame_variables.specs.declared.steps.Step.{Step}
+use Rattle.frame_variables.specs.Gives.{path_of}
 use Rattle.value_paths.specs.declared.step.Step.{Step as ValueStep}
 use Rattle.code_rules.specs.Instructions.{Mark}
 use Rattle.code_rules.specs.Machine.{indices, pops, steps_by}

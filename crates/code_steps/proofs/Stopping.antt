@@ -3,9 +3,9 @@ use Rattle.std.proofs.Common.{◌≡◌, List, Ok, Err, Some, refl, ap, ◌∙�
 use Rattle.orca_base.specs.declared.fault.FaultKind.{FaultKind}
 use Rattle.value_core.specs.Datum.{Datum}
 use Rattle.meaning_rules.specs.States.{State, Out, Goes, gives}
-use Rattle.eval_variables.specs.declared.stop.Stop.{Stop}
-use Rattle.eval_variables.specs.declared.stop.Stop.TheVariants as stop
-use Rattle.eval_variables.specs.Gives.{Fails}
+use Rattle.frame_variables.specs.declared.stop.Stop.{Stop}
+use Rattle.frame_variables.specs.declared.stop.Stop.TheVariants as stop
+use Rattle.frame_variables.specs.Gives.{Fails}
 use Rattle.code_rules.specs.Machine.{Config, Effect, on_out, on_result}
 use Rattle.code_steps.specs.declared.advance.Advance.{Advance}
 use Rattle.code_steps.specs.declared.advance.Advance.TheVariants as advance

@@ -4,9 +4,9 @@ use Rattle.value_core.specs.Datum.{Datum}
 use Rattle.value_core.specs.View.{datum_of}
 use Rattle.value_core.specs.declared.value.Value.{Value}
 use Rattle.value_paths.specs.declared.step.Step.{Step as ValueStep}
-use Rattle.eval_variables.specs.declared.steps.Passed.TheVariants as passed
-use Rattle.eval_variables.specs.declared.steps.Target.{Target}
-use Rattle.eval_variables.specs.Gives.{target_of}
+use Rattle.frame_variables.specs.declared.steps.Passed.TheVariants as passed
+use Rattle.frame_variables.specs.declared.steps.Target.{Target}
+use Rattle.frame_variables.specs.Gives.{target_of}
 use Rattle.meaning_rules.specs.Calls.{Passed as RulePassed}
 use Rattle.meaning_rules.specs.Calls as calls
 use Rattle.code_rules.specs.Instructions as rules

@@ -13,9 +13,9 @@ use Rattle.value_ops.specs.Texts.{joined, text_of}
 use Rattle.meaning_rules.specs.States.{State, Goes, Stops, Faults, gives}
 use Rattle.meaning_rules.specs.Operators.{and_then}
 use Rattle.meaning_rules.specs.Statements.{line_of}
-use Rattle.eval_variables.specs.declared.stop.Stop.{Stop}
-use Rattle.eval_variables.specs.declared.stop.Stop.TheVariants as stop
-use Rattle.eval_variables.specs.Gives.{Fails, Gives}
+use Rattle.frame_variables.specs.declared.stop.Stop.{Stop}
+use Rattle.frame_variables.specs.declared.stop.Stop.TheVariants as stop
+use Rattle.frame_variables.specs.Gives.{Fails, Gives}
 use Rattle.code_rules.specs.Instructions as rules
 use Rattle.code_rules.specs.Machine.{Code, Config, Effect, Stuck, act, count_of, on_result, pops, pushes, texts_by}
 use Rattle.emitted_code.specs.Views.{texts_of}

@@ -4,8 +4,8 @@ use Rattle.value_core.specs.Datum.{Datum}
 use Rattle.value_paths.specs.declared.step.Step.{Step as ValueStep}
 use Rattle.code_rules.specs.Instructions.{Mark}
 use Rattle.code_rules.specs.Machine.{steps_by}
-use Rattle.eval_variables.specs.declared.steps.Step.{Step}
-use Rattle.eval_variables.specs.Gives.{path_of}
+use Rattle.frame_variables.specs.declared.steps.Step.{Step}
+use Rattle.frame_variables.specs.Gives.{path_of}
 
 pub path_made : (none : List Step) (made : List ValueStep) (marks : List Mark) (xs values : List Datum) → none ≡ [] → made ≡ path_of none ++ steps_by marks xs →
     xs ≡ values → made ≡ steps_by marks values

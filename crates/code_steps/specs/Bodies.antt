@@ -2,9 +2,9 @@
 use Rattle.std.specs.Prelude.{List, map, reverse, Option, Some, None, option_map}
 use Rattle.value_core.specs.View.{datum_of}
 use Rattle.code_rules.specs.Machine as rules
-use Rattle.eval_variables.specs.Gives.{passed_of}
-use Rattle.eval_variables.specs.declared.stop.Stop.{Stop}
-use Rattle.eval_variables.specs.declared.stop.Stop.TheVariants as stop
+use Rattle.frame_variables.specs.Gives.{passed_of}
+use Rattle.frame_variables.specs.declared.stop.Stop.{Stop}
+use Rattle.frame_variables.specs.declared.stop.Stop.TheVariants as stop
 use Rattle.code_steps.specs.declared.config.BodyNo.{BodyNo}
 use Rattle.code_steps.specs.declared.config.BodyNo.TheVariants as body
 use Rattle.code_steps.specs.declared.config.Caller.{Caller}

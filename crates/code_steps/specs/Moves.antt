@@ -5,8 +5,8 @@ use Rattle.code_rules.specs.Instructions as rules
 use Rattle.code_rules.specs.Instructions.{Instr, Make, Call, Return, End}
 use Rattle.code_rules.specs.Machine as machine
 use Rattle.code_rules.specs.Machine.{Code, Config, Effect, act}
-use Rattle.eval_variables.specs.declared.stop.Stop.{Stop}
-use Rattle.eval_variables.specs.declared.stop.Stop.TheVariants as stop
+use Rattle.frame_variables.specs.declared.stop.Stop.{Stop}
+use Rattle.frame_variables.specs.declared.stop.Stop.TheVariants as stop
 use Rattle.code_steps.specs.declared.advance.Advance.{Advance}
 use Rattle.code_steps.specs.declared.advance.Advance.TheVariants as advance
 

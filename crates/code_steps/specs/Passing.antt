@@ -10,9 +10,9 @@ use Rattle.value_core.specs.View.{datum_of}
 use Rattle.value_core.specs.declared.value.Value.{Value}
 use Rattle.meaning_rules.specs.Calls.{Passed as RulePassed}
 use Rattle.meaning_rules.specs.Expressions.{result}
-use Rattle.eval_variables.specs.declared.stop.Stop.{Stop}
-use Rattle.eval_variables.specs.declared.steps.Passed.{Passed}
-use Rattle.eval_variables.specs.Gives.{passed_of}
+use Rattle.frame_variables.specs.declared.stop.Stop.{Stop}
+use Rattle.frame_variables.specs.declared.steps.Passed.{Passed}
+use Rattle.frame_variables.specs.Gives.{passed_of}
 use Rattle.code_rules.specs.Instructions.{Instr, Shape, Make}
 use Rattle.code_rules.specs.Machine.{Code, Config, Effect, Stuck, act, short, take_args, take_one}
 use Rattle.code_steps.specs.declared.advance.Advance.{Advance}

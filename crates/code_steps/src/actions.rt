@@ -15,7 +15,7 @@ ghost use Rattle.code_steps.specs.Passing.{Makes};
 use crate::advance::{Advance, stopped};
 use crate::loops::set_slot;
 use crate::operands::Operands;
-use eval_variables::{Run, fitting_all, integer_in};
+use frame_variables::{Run, fitting_all, integer_in};
 use orca_base::{KindNo, NoMemory, ObjectId, OpNo, ProcessNo, TextNo};
 use std::alloc::Global;
 use value_core::{Action, Value};

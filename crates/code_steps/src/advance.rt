@@ -4,7 +4,7 @@ ghost use Rattle.std.specs.Prelude.{◌≡◌, IfOk, Some};
 ghost use Rattle.code_steps.specs.Moves.{told};
 ghost use Rattle.code_steps.specs.Passing.{Changes};
 
-use eval_variables::Stop;
+use frame_variables::Stop;
 use orca_base::{FaultKind, NoMemory};
 use value_core::Action;
 

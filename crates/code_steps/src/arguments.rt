@@ -3,13 +3,13 @@
 ghost use Rattle.std.specs.Prelude.{◌≡◌, ◌∷◌, IfOk, List, MatchOption, [], false, map, true};
 ghost use Rattle.code_rules.specs.Instructions.{Gives, Lends};
 ghost use Rattle.emitted_code.specs.Views.{marks_of, shape_of};
-ghost use Rattle.eval_variables.specs.Gives.{passed_of};
+ghost use Rattle.frame_variables.specs.Gives.{passed_of};
 ghost use Rattle.code_steps.specs.Passing.{Takes, TakesOne};
 
 use crate::operands::Operands;
 use crate::paths::pop_path;
 use emitted_code::{Mark, Shape};
-use eval_variables::{Passed, Target};
+use frame_variables::{Passed, Target};
 use orca_base::NoMemory;
 use std::alloc::Global;
 

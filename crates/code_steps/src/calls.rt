@@ -4,7 +4,7 @@ ghost use Rattle.std.specs.Prelude.{◌≡◌, ◌+◌, ◌++◌, ◌∷◌, ◌
 ghost use Rattle.value_core.specs.Datum.{list_of};
 ghost use Rattle.value_core.specs.View.{datum_of};
 ghost use Rattle.meaning_rules.specs.Expressions.{result as given_result};
-ghost use Rattle.eval_variables.specs.Gives.{Gives, passed_of, state_of};
+ghost use Rattle.frame_variables.specs.Gives.{Gives, passed_of, state_of};
 ghost use Rattle.code_rules.specs.Instructions as rules;
 ghost use Rattle.code_rules.specs.Machine as machine;
 ghost use Rattle.emitted_code.specs.Views.{body_seen, program_seen, shape_of};
@@ -17,7 +17,7 @@ use crate::operands::Operands;
 use crate::slots::{add_copies, add_spare, first_values};
 use crate::variables::clear_run;
 use emitted_code::{Emitted, EmittedBody, Shape};
-use eval_variables::{Frame, Passed, Run, Stop, exchange_frame, fitting, fitting_passed, store};
+use frame_variables::{Frame, Passed, Run, Stop, exchange_frame, fitting, fitting_passed, store};
 use orca_base::{FaultKind, NoMemory};
 use std::alloc::Global;
 use std::mem;

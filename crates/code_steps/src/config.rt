@@ -6,7 +6,7 @@ ghost use Rattle.code_steps.specs.Moves.{effect_of};
 
 use crate::advance::Advance;
 use crate::operands::Operands;
-use eval_variables::{Frame, Passed, Run, Stop};
+use frame_variables::{Frame, Passed, Run, Stop};
 use orca_base::{FaultKind, NoMemory, ProcessNo};
 use value_core::{Action, Value};
 

@@ -15,7 +15,7 @@ use crate::operands::Operands;
 use crate::operators::{apply, apply_before, decide, guard, pop, unless};
 use crate::variables::{assign, delete, get, insert, take_least};
 use emitted_code::Instr;
-use eval_variables::Run;
+use frame_variables::Run;
 use orca_base::{FaultKind, NoMemory, ProcessNo};
 use orca_tree::Operator;
 use std::alloc::Global;

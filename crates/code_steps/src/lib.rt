@@ -5,7 +5,7 @@
 //! `Effect`). It asks for nothing but that an object which this instruction makes has a number of 32 bits, and leaves open want of memory.
 //!
 //! It is the slow, whole machine's inside: values stand where they are read and written, and nothing is compiled further. What variables
-//! hold is done by `eval_variables`, of any values. Not in it: loops over instructions, and whose meaning the code has
+//! hold is done by `frame_variables`, of any values. Not in it: loops over instructions, and whose meaning the code has
 //! (`code_machine`); the fast path (`stack_machine`).
 #![tactic(auto)]
 

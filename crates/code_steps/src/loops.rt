@@ -13,7 +13,7 @@ ghost use Rattle.code_steps.specs.Moves.{Moves};
 use crate::advance::Advance;
 use crate::operands::Operands;
 use crate::variables::clear_run;
-use eval_variables::{Run, Target, integer_in, store};
+use frame_variables::{Run, Target, integer_in, store};
 use orca_base::NoMemory;
 use std::alloc::Global;
 use value_core::Value;

@@ -21,7 +21,7 @@ impl Model for Operands {
     ghost use Rattle.std.specs.Prelude.{List, map, reverse};
     ghost use Rattle.value_core.specs.Datum.{Datum};
     ghost use Rattle.value_core.specs.View.{datum_of};
-    ghost use Rattle.eval_variables.specs.Frames.{frame_code};
+    ghost use Rattle.frame_variables.specs.Frames.{frame_code};
 
     ghost Value = { List Datum };
 

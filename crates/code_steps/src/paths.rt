@@ -5,12 +5,12 @@ ghost use Rattle.value_core.specs.Datum.{Datum};
 ghost use Rattle.value_core.specs.View.{datum_of};
 ghost use Rattle.code_rules.specs.Machine.{indices, steps_by};
 ghost use Rattle.emitted_code.specs.Views.{mark_of, marks_of};
-ghost use Rattle.eval_variables.specs.Gives.{path_of};
+ghost use Rattle.frame_variables.specs.Gives.{path_of};
 ghost use Rattle.code_steps.specs.Pops.{PopsPath};
 
 use crate::operands::Operands;
 use emitted_code::Mark;
-use eval_variables::{Step, integer_in};
+use frame_variables::{Step, integer_in};
 use orca_base::NoMemory;
 use std::alloc::Global;
 use value_core::Value;

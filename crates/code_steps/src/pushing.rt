@@ -5,7 +5,7 @@ ghost use Rattle.code_steps.specs.Passing.{Pushes, PushesFound};
 
 use crate::advance::{Advance, stopped};
 use crate::operands::Operands;
-use eval_variables::Stop;
+use frame_variables::Stop;
 use orca_base::{FaultKind, NoMemory};
 use std::alloc::Global;
 use value_core::Value;

@@ -5,7 +5,7 @@ ghost use Rattle.value_core.specs.Datum as datum;
 ghost use Rattle.value_core.specs.Datum.{list_of};
 ghost use Rattle.value_core.specs.View.{datum_of};
 
-use eval_variables::Frame;
+use frame_variables::Frame;
 use orca_base::NoMemory;
 use std::alloc::Global;
 use value_core::{Parts, Value};

@@ -5,7 +5,7 @@ use crate::operands::Operands;
 use crate::slots::add_copies;
 use crate::stepping::step;
 use emitted_code::{Emitted, EmittedBody, Instr, Listing, Mark, Shape};
-use eval_variables::{Frame, Run, integer_in};
+use frame_variables::{Frame, Run, integer_in};
 use orca_base::{NoMemory, ProcessNo, TextNo};
 use orca_tree::Operator;
 use std::alloc::Global;

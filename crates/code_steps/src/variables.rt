@@ -1,7 +1,7 @@
 //! Variables: what is read from them, and what is put into them.
 
 ghost use Rattle.std.specs.Prelude.{◌≡◌, IfOk};
-ghost use Rattle.eval_variables.specs.Gives.{state_of};
+ghost use Rattle.frame_variables.specs.Gives.{state_of};
 ghost use Rattle.code_rules.specs.Instructions as rules;
 ghost use Rattle.code_rules.specs.Machine.{at_state};
 ghost use Rattle.emitted_code.specs.Views.{marks_of};
@@ -12,7 +12,7 @@ use crate::operands::Operands;
 use crate::paths::pop_path;
 use crate::pushing::{push_found, push_made};
 use emitted_code::Mark;
-use eval_variables::{Run, Target, drop_element, find, put, store, take};
+use frame_variables::{Run, Target, drop_element, find, put, store, take};
 use orca_base::NoMemory;
 use std::alloc::Global;
 use value_core::Value;

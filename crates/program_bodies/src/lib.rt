@@ -2,11 +2,11 @@
 //! names and by types.
 //!
 //! The floors above use `Code`, made once of a checked program by `Code::new`: its functions, processes and object types by number, each
-//! with its `Body`; and `Site`, where a phrase is evaluated: a body, the loops that are open, and whether it is a guard. What a site
-//! answers of a name, of a step and of what is called is what the meaning says (meaning_rules) in each scope that the site is (`IsSite` of
+//! with its `Body`; and `Site`, where a phrase stands: a body, the loops that are open, and whether it is a guard. What a site answers of a
+//! name, of a type and of what is called is what the meaning says (meaning_rules) in each scope that the site is (`IsSite` of
 //! specs/), of any name and any type: the definitions have an answer for all, and so has code.
 //!
-//! It stands on program_tables, on the steps of eval_variables, and on type_decls, whose tables of a checked program it asks. Each look-up
+//! It stands on program_tables, and on type_decls, whose tables of a checked program it asks. Each look-up
 //! costs a logarithm, beside the loops that are open. An operation has a table of its own, with its object's fields in it, so the tables of
 //! an object type are as large as its operations times its fields (docs/OPEN.md).
 #![tactic(auto)]
@@ -31,4 +31,4 @@ pub use implementations::{Implementations, Implemented, implementations_of};
 pub use names::Named;
 pub use objects::{ObjectCode, OperationCode};
 pub use site::{Site, inner_loops};
-pub use types::{inside, step_by};
+pub use types::inside;

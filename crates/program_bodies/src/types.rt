@@ -1,4 +1,4 @@
-//! Types of designators, and steps through values by them.
+//! Types of designators.
 
 ghost use Rattle.std.specs.Prelude.{◌≡◌, [], List, IfOk, drop, map, option_map, slice_get};
 ghost use Rattle.std.specs.Option.{option_map_or};
@@ -7,23 +7,18 @@ ghost use Rattle.orca_syntax.specs.Shown.{definition as definition_shown, expr, 
 ghost use Rattle.orca_syntax.specs.Syntax.{Field};
 ghost use Rattle.link_rules.specs.Units.{Source};
 ghost use Rattle.link_rules.specs.Units.{values_of as rule_values_of};
-ghost use Rattle.type_rules.specs.declared.types.Base.{Base as BaseType};
 ghost use Rattle.type_rules.specs.Expressions.{field_of};
 ghost use Rattle.type_rules.specs.Scopes as scopes;
 ghost use Rattle.type_rules.specs.TopLevel.{top_names};
-ghost use Rattle.type_rules.specs.Types.{inside_of, outside, outside_of};
+ghost use Rattle.type_rules.specs.Types.{inside_of, outside_of};
 ghost use Rattle.type_forms.specs.Indexed.{Indexes};
 ghost use Rattle.type_forms.specs.Seen.{what};
-ghost use Rattle.value_core.specs.View.{datum_of};
-ghost use Rattle.value_paths.specs.declared.step.Step.TheVariants as value_step;
 ghost use Rattle.meaning_rules.specs.Designators as rules;
 ghost use Rattle.meaning_rules.specs.Statements as statements;
-ghost use Rattle.eval_variables.specs.Gives.{step_of};
 ghost use Rattle.program_tables.specs.Layers.{type_seen};
 ghost use Rattle.program_bodies.specs.Sites.{IsSite};
 
 use crate::site::Site;
-use eval_variables::{Step, integer_in};
 use orca_base::NoMemory;
 use orca_tree::{Definition, Expression, Name, Selector};
 use program_tables::Seen;
@@ -31,7 +26,6 @@ use std::alloc::Global;
 use type_exprs::typed;
 use type_forms::{Index, What};
 use type_rules::{Base, DataType, Layer};
-use value_core::Value;
 
 // The layers inside of the outermost.
 fn inner(layers: &[Layer]) -> &[Layer]
@@ -53,27 +47,6 @@ pub fn inside(kind: Option<Seen<'_>>) -> Option<Seen<'_>>
             layers: inner(kind.layers),
             base: kind.base,
         }),
-    }
-}
-
-/// The step by an index: to an element of an array, or else to a node.
-pub fn step_by(kind: Option<Seen<'_>>, index: &Value) -> Step
-    ensures { step_of result ≡ rules.step_by_index (option_map type_seen kind.entry) (datum_of index.now) }
-{
-    let index = integer_in(index);
-    match kind {
-        None => Step::Node { name: index },
-        Some(kind) => index_into(kind.layers, index),
-    }
-}
-
-// The step by an index into what has these layers.
-fn index_into(layers: &[Layer], index: i64) -> Step
-    ensures { (b : BaseType) → step_of result ≡ rules.index_into (outside layers.now b) index }
-{
-    match layers.first() {
-        Some(Layer::Array { low, .. }) => Step::Index { low: *low, index },
-        _ => Step::Node { name: index },
     }
 }
 
@@ -193,33 +166,6 @@ impl<'a, 'p> Site<'a, 'p> {
         match e {
             Expression::Get { from } => self.behind_all(self.root(&from.name), &from.path),
             _ => None,
-        }
-    }
-
-    // The place of a record's field, and 0 of what is no field of a record.
-    fn field_place(self, kind: Seen<'_>, name: &Name) -> usize
-        ensures { (w : scopes.Scope) → IsSite self.entry w →
-            value_step.Field result ≡ rules.field_of_base w.program name.now.text (outside_of (type_seen kind.entry)) }
-    {
-        if !kind.layers.is_empty() {
-            return 0;
-        }
-        match kind.base {
-            Base::Record { number } => self.code.tables().field(number, name.text.as_str()),
-            _ => 0,
-        }
-    }
-
-    /// The step to a record's field.
-    pub fn step_to(self, kind: Option<Seen<'_>>, name: &Name) -> Step
-        ensures { (w : scopes.Scope) → IsSite self.entry w →
-            step_of result ≡ rules.step_to_field w (option_map type_seen kind.entry) name.now }
-    {
-        match kind {
-            None => Step::Field { place: 0 },
-            Some(kind) => Step::Field {
-                place: self.field_place(kind, name),
-            },
         }
     }
 

@@ -6,7 +6,7 @@ ghost use Rattle.orca_lexer.specs.Tokens.{HasRoom, Tokens};
 ghost use Rattle.orca_syntax.specs.TextSyntax.{IsOfText};
 ghost use Rattle.value_core.specs.Sound.{AreSound};
 
-use eval_variables::{Frame, Run};
+use frame_variables::{Frame, Run};
 use link_rules::NamedUnit;
 use orca_base::{NoMemory, Text};
 use orca_lexer::{Token, tokens};

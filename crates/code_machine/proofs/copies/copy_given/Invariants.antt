@@ -1,5 +1,5 @@
 use Rattle.std.proofs.Common.{◌≡◌, map, take}
-use Rattle.eval_variables.specs.Gives.{passed_of}
+use Rattle.frame_variables.specs.Gives.{passed_of}
 use Rattle.code_rules.specs.Machine.{lent}
 use Rattle.code_machine.proofs.copies.copy_given.Given as goal
 

@@ -1,6 +1,6 @@
 use Rattle.std.proofs.Common.{[], refl}
 use Rattle.emitted_code.specs.Views.{marks_of}
-use Rattle.eval_variables.specs.Gives.{path_of}
+use Rattle.frame_variables.specs.Gives.{path_of}
 use Rattle.code_steps.proofs.Popping.{has_path, no_path}
 use Rattle.code_steps.proofs.Taking.{lends_none, lends_one}
 use Rattle.code_steps.proofs.arguments.take_lent.Goals as goal

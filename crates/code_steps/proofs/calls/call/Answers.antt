@@ -4,8 +4,8 @@ use Rattle.value_core.specs.Datum.{data_of}
 use Rattle.meaning_rules.specs.Calls.{values_in}
 use Rattle.meaning_rules.specs.Operators.{fitting_all}
 use Rattle.meaning_rules.specs.States.{State, Goes, gives}
-use Rattle.eval_variables.specs.declared.steps.Passed.{Passed}
-use Rattle.eval_variables.specs.Gives.{Fails, passed_of}
+use Rattle.frame_variables.specs.declared.steps.Passed.{Passed}
+use Rattle.frame_variables.specs.Gives.{Fails, passed_of}
 use Rattle.emitted_code.specs.Views.{program_seen, shape_of}
 use Rattle.code_steps.specs.Bodies.{config_of, effect_in}
 use Rattle.code_steps.proofs.Calling.{calls_fail, calls_not, calls_on}

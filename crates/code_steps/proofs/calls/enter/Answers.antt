@@ -1,7 +1,7 @@
 use Rattle.std.proofs.Common.{◌<◌, None, Some, arith, length, map, refl, ◌∙◌}
 use Rattle.std.proofs.lemmas.Result.{IfOk-weaker}
 use Rattle.emitted_code.specs.Views.{body_seen, program_seen}
-use Rattle.eval_variables.specs.Gives.{passed_of}
+use Rattle.frame_variables.specs.Gives.{passed_of}
 use Rattle.code_steps.specs.Bodies.{config_of}
 use Rattle.code_steps.proofs.Calling.{entered_to, too_deep}
 use Rattle.code_steps.proofs.calls.enter.Goals as goal

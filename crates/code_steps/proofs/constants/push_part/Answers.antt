@@ -3,8 +3,8 @@ use Rattle.std.proofs.lemmas.Result.{IfOk-weaker}
 use Rattle.value_core.specs.View.{datum_of}
 use Rattle.value_paths.specs.Paths.{part_at}
 use Rattle.emitted_code.specs.Views.{marks_of}
-use Rattle.eval_variables.specs.declared.steps.Step.{Step}
-use Rattle.eval_variables.specs.Gives.{path_of}
+use Rattle.frame_variables.specs.declared.steps.Step.{Step}
+use Rattle.frame_variables.specs.Gives.{path_of}
 use Rattle.code_steps.specs.Pops.{PopsPath}
 use Rattle.code_steps.proofs.Popping.{has_path, no_path}
 use Rattle.code_steps.proofs.Arriving.{found}

@@ -6,7 +6,7 @@ use Rattle.value_core.specs.View.{datum_of}
 use Rattle.meaning_rules.specs.Operators.{and_then}
 use Rattle.meaning_rules.specs.States.{State, gives}
 use Rattle.meaning_rules.specs.Statements.{line_of}
-use Rattle.eval_variables.specs.Gives.{Gives}
+use Rattle.frame_variables.specs.Gives.{Gives}
 use Rattle.code_rules.specs.Machine.{texts_by}
 use Rattle.emitted_code.specs.Views.{texts_of}
 use Rattle.code_steps.proofs.Popping.{has_values, no_values}

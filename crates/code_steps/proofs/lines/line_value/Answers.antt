@@ -5,7 +5,7 @@ use Rattle.value_core.specs.Datum as datum
 use Rattle.value_core.specs.View.{datum_of}
 use Rattle.meaning_rules.specs.States.{Goes, gives}
 use Rattle.meaning_rules.specs.Statements.{line_of}
-use Rattle.eval_variables.specs.Gives.{Fails}
+use Rattle.frame_variables.specs.Gives.{Fails}
 use Rattle.code_rules.specs.Machine.{texts_by}
 use Rattle.emitted_code.specs.Views.{texts_of}
 use Rattle.code_steps.proofs.Texts.{fails_first, line_text}

@@ -1,6 +1,6 @@
 use Rattle.std.proofs.Common.{ap, sym}
 use Rattle.value_core.specs.View.{datum_of}
-use Rattle.eval_variables.specs.Gives.{path_of, state_of}
+use Rattle.frame_variables.specs.Gives.{path_of, state_of}
 use Rattle.code_steps.proofs.Setting.{no_slot, slot_set, there, not_there}
 use Rattle.code_steps.proofs.loops.set_slot.Goals as goal
 

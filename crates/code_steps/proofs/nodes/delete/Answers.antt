@@ -4,8 +4,8 @@ use Rattle.value_core.specs.Datum as datum
 use Rattle.meaning_rules.specs.Calls.{Deletes, invoked}
 use Rattle.code_rules.specs.Machine.{no_calls}
 use Rattle.emitted_code.specs.Views.{shape_of}
-use Rattle.eval_variables.specs.declared.steps.Passed.{Passed}
-use Rattle.eval_variables.specs.Gives.{passed_of, state_of}
+use Rattle.frame_variables.specs.declared.steps.Passed.{Passed}
+use Rattle.frame_variables.specs.Gives.{passed_of, state_of}
 use Rattle.code_steps.specs.Passing.{Takes}
 use Rattle.code_steps.proofs.Graphs.{changes, changes_not, has_args, no_args}
 use Rattle.code_steps.proofs.Arriving.{given}

@@ -2,7 +2,7 @@ use Rattle.std.proofs.Common.{[], map}
 use Rattle.value_core.specs.Datum.{list_of}
 use Rattle.value_core.specs.View.{datum_of}
 use Rattle.emitted_code.specs.Views.{marks_of}
-use Rattle.eval_variables.specs.Gives.{path_of}
+use Rattle.frame_variables.specs.Gives.{path_of}
 use Rattle.code_steps.proofs.Popping.{has_values, no_values, path_lacks, path_taken}
 use Rattle.code_steps.proofs.Walking.{path_made}
 use Rattle.code_steps.proofs.paths.pop_path.Goals as goal

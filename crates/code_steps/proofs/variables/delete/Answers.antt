@@ -5,7 +5,7 @@ use Rattle.value_core.specs.View.{datum_of}
 use Rattle.meaning_rules.specs.Variables.{drop_element}
 use Rattle.code_rules.specs.Machine.{to}
 use Rattle.emitted_code.specs.Views.{marks_of}
-use Rattle.eval_variables.specs.Gives.{path_of, state_of}
+use Rattle.frame_variables.specs.Gives.{path_of, state_of}
 use Rattle.code_steps.proofs.Popping.{has_path, no_path}
 use Rattle.code_steps.proofs.Arriving.{changed}
 use Rattle.code_steps.proofs.Taken.{deletes, deletes_none, deletes_not}

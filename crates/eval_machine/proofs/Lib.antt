@@ -1,9 +1,0 @@
-mod Rows
-mod Attempting
-mod Texting
-mod Beyond
-mod Pointing
-mod Turning
-mod Numbered
-mod Once
-mod Compared

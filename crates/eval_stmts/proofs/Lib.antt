@@ -1,6 +1,0 @@
-mod Rows
-mod Loops
-mod OwnVariables
-mod Entering
-mod OutputLines
-mod Routines

@@ -1,6 +1,0 @@
-use Rattle.std.proofs.Common.{refl}
-use Rattle.eval_variables.specs.Gives.{state_of}
-use Rattle.eval_variables.proofs.variables.exchange.Goals as goal
-
-pub returns-clause-put : goal.returns-clause-put
-returns-clause-put c = c.exchange.ensures (state_of c.args.run.now) refl

@@ -1,0 +1,15 @@
+mod Stopping
+mod Changing
+mod Placing
+mod Putting
+mod Pairing
+mod Fronts
+mod Keeping
+mod Staying
+mod Naming
+mod Rising
+mod Standing
+mod Walking
+mod Bounding
+mod Growing
+mod Enlarging
