@@ -1,17 +1,16 @@
-use Rattle.std.proofs.Common.{refl}
-use Rattle.orca_cli.specs.Endings as because
+use Rattle.orca_answers.specs.Endings as because
 use Rattle.orca_cli.specs.Lines as lines
 use Rattle.command_files.proofs.AskedFiles.{asked_none}
-use Rattle.orca_cli.proofs.CliLemmas.{answer_of, asked_words, deed_is, deed_none, if_none, within_is}
+use Rattle.orca_answers.proofs.AnswerLemmas.{answer_of, asked_words, deed_is, deed_none, if_none, within_is}
 use Rattle.orca_cli.proofs.top.orca_main_over.Goals as goal
 
 pub returns-in-Ok-Some-Says-clause-refused : goal.returns-in-Ok-Some-Says-clause-refused
 returns-in-Ok-Some-Says-clause-refused g c =
-    if_none _ _ (answer_of (λ l. l.items) c.whole.result _ _ _ _ _ _ _ _ 0 _ c.in-Ok-Some-Says.text.now c.whole.ensures c.said.ensures.printed c.said.ensures.silent c.said.ensures.status (because.said c.in-Ok-Some-Says.text.now (deed_is _ _ _ _ c.in-Ok-Some-Says.ensures.is c.in-Ok-Some-Says.field-0-is c.in-Ok-Some-Says.field-0-0-is)) refl)
+    if_none _ _ (answer_of (λ l. l.items) c.whole.result _ _ _ _ _ _ _ _ 0 _ c.in-Ok-Some-Says.text.now c.whole.ensures c.said.ensures.printed c.said.ensures.silent c.said.ensures.status (because.said c.in-Ok-Some-Says.text.now (deed_is _ _ _ _ c.in-Ok-Some-Says.ensures.is c.in-Ok-Some-Says.field-0-is c.in-Ok-Some-Says.field-0-0-is)))
 
 pub returns-in-Ok-None-clause-refused : goal.returns-in-Ok-None-clause-refused
 returns-in-Ok-None-clause-refused g c =
-    if_none _ _ (answer_of (λ l. l.items) c.usage_line.result _ _ _ _ _ _ _ _ 2 _ lines.usage_line c.usage_line.ensures c.said-in-Ok-None.ensures.printed c.said-in-Ok-None.ensures.silent c.said-in-Ok-None.ensures.status (because.usage (deed_none _ _ c.in-Ok-None.ensures.is c.in-Ok-None.field-0-is)) refl)
+    if_none _ _ (answer_of (λ l. l.items) c.usage_line.result _ _ _ _ _ _ _ _ 2 _ lines.usage_line c.usage_line.ensures c.said-in-Ok-None.ensures.printed c.said-in-Ok-None.ensures.silent c.said-in-Ok-None.ensures.status (because.usage (deed_none _ _ c.in-Ok-None.ensures.is c.in-Ok-None.field-0-is)))
 
 pub returns-in-Ok-Some-Replays-clause-refused : goal.returns-in-Ok-Some-Replays-clause-refused
 returns-in-Ok-Some-Replays-clause-refused g c =

@@ -1,11 +1,12 @@
 use Rattle.std.proofs.Common.{◌≡◌, ⊎_elim, inl, inr, map, arith, refl, subst, sym}
 use Rattle.orca_front.specs.Sources.{IsAccepted, file_of}
-use Rattle.orca_io.specs.Reading.{FailedAt, had}
-use Rattle.orca_cli.specs.Scripts.{IsUnreadable}
+use Rattle.orca_io.specs.Reading.{had}
+use Rattle.command_files.specs.Stopped.{StoppedAt}
+use Rattle.orca_answers.specs.Scripts.{IsUnreadable}
 use Rattle.command_files.proofs.AskedFiles.{asked_behind, asked_more}
-use Rattle.command_files.proofs.ReadFiles.{failed_since, only_left, since_then}
-use Rattle.orca_cli.specs.Programs.{units_of}
-use Rattle.orca_cli.proofs.CliLemmas.{files_run, has_script, if_none, script_map, unscripted_run}
+use Rattle.command_files.proofs.ReadFiles.{stopped_since, only_left, since_then}
+use Rattle.orca_answers.specs.Programs.{units_of}
+use Rattle.orca_answers.proofs.AnswerLemmas.{files_run, has_script, if_none, script_map, unscripted_run}
 use Rattle.orca_cli.proofs.HeadlineLemmas.{none_as, run_of_words, untouched_run}
 use Rattle.orca_cli.proofs.top.run_files.Goals as goal
 
@@ -26,10 +27,10 @@ returns-in-Err-Because-script_of-clause-refused g c = λ policy words asked.
     let new = g.F.Shelf.reads c.script_of.new.shelf in
     let quiet = only_left c.in-Ok.ensures.quiet in
     if_none _ _
-    (unscripted_run words _ c.args.options _ told between new (FailedAt mid now between new) c.in-Err-Because-script_of.cause _ asked
+    (unscripted_run words _ c.args.options _ told between new (StoppedAt mid now between new) c.in-Err-Because-script_of.cause _ asked
     (rw (c.sources.ensures.same, c.in-Err-Because-script_of.field-0-is) at c.in-Err-Because-script_of.ensures.refused)
     (λ name named fault. c.said_unscripted.ensures.said policy words told before now old new between (map (λ f. f.now) c.args.files.now) (map file_of c.in-Ok.sources.items) name (files_run words _ c.args.options _ asked) c.in-Ok.ensures.read c.in-Ok.ensures.had named
-    (rw c.in-Err-Because-script_of.field-0-is (script_map told between new (FailedAt mid now between new) (FailedAt before now old new) name c.in-Err-Because-script_of.cause (failed_since before mid now old between new _ name quiet c.in-Ok.ensures.had) fault))))
+    (rw c.in-Err-Because-script_of.field-0-is (script_map told between new (StoppedAt mid now between new) (StoppedAt before now old new) name c.in-Err-Because-script_of.cause (stopped_since before mid now old between new _ name quiet c.in-Ok.ensures.had) fault))))
 
 pub returns-in-Err-Because-script_of-clause-read_fault : goal.returns-in-Err-Because-script_of-clause-read_fault
 returns-in-Err-Because-script_of-clause-read_fault g c = λ rose.
