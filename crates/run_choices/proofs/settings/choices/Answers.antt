@@ -1,0 +1,1 @@
+use Rattle.run_choices.proofs.settings.choices.Goals as goal
