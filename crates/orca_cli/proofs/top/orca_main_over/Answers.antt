@@ -33,7 +33,7 @@ run_files-requires-clause-options g c = within_is _ _ _ c.in-Ok-Some-Runs.ensure
 
 pub returns-in-Ok-Some-Runs-clause-refused : goal.returns-in-Ok-Some-Runs-clause-refused
 returns-in-Ok-Some-Runs-clause-refused g c =
-    (rw c.deref-in-Ok-Some-Runs.ensures.value at c.run_files.ensures.refused) _ _ (deed_is _ _ _ _ c.in-Ok-Some-Runs.ensures.is c.in-Ok-Some-Runs.field-0-is c.in-Ok-Some-Runs.field-0-0-is)
+    (rw c.deref-in-Ok-Some-Runs.ensures.value at c.run_files.ensures.refused) _ (deed_is _ _ _ _ c.in-Ok-Some-Runs.ensures.is c.in-Ok-Some-Runs.field-0-is c.in-Ok-Some-Runs.field-0-0-is)
 
 pub returns-in-Ok-Some-Runs-clause-untouched : goal.returns-in-Ok-Some-Runs-clause-untouched
 returns-in-Ok-Some-Runs-clause-untouched g c =
