@@ -5,7 +5,7 @@ use crate::told::told;
 use orca_base::NoMemory;
 use orca_cli::{Ended, orca_main};
 use orca_io::{MemoryShelf, MemorySink};
-use replica_choice::{CostPolicy, Policy};
+use replica_choice::{AlwaysReplicated, Policy};
 use std::alloc::Global;
 use wires::{PlainWire, ScriptWire, Wire};
 
@@ -18,7 +18,8 @@ pub enum Wires {
     Two,
 }
 
-/// What comes of these words over these files, each a name and a text, and these wires, where the puts of these numbers, from 1 on, fail.
+/// What comes of these words over these files, each a name and a text, and these wires, where the puts of these numbers, from 1 on, fail. By
+/// the policy that is handed in each object is at every member.
 pub fn outcome_of(
     alloc: Global,
     words: &[&str],
@@ -46,7 +47,7 @@ fn ended(
     if wires == Wires::Two {
         boxed.push(Box::new(alloc, PlainWire::new(alloc))?)?;
     }
-    let mut policy: Box<dyn Policy + Send> = Box::new(alloc, CostPolicy::new(alloc))?;
+    let mut policy: Box<dyn Policy + Send> = Box::new(alloc, AlwaysReplicated::new(alloc))?;
     Ok(Box::new(
         alloc,
         orca_main(alloc, words, shelf, out, &mut boxed, &mut policy),

@@ -2,8 +2,8 @@
 //!
 //! The crates above use `outcome_of`, which calls `orca_main` over files, output and wires in memory and tells what came of it: the status, what
 //! was printed, and of a kept run its events and packets by number, the lines of its history by sort, and a row a member and a process.
-//! `single_outcome_of` tells the same of a run in which an object has a single copy, by `run_loop`, since the top keeps each object at every
-//! member. An `Outcome` owns numbers and a text alone, so that whoever holds one needs to know nothing of what a run promises: this crate
+//! In such a run each object is at every member. `single_outcome_of` tells the same of a run in which an object has a single copy, by
+//! `run_loop`. An `Outcome` owns numbers and a text alone, so that whoever holds one needs to know nothing of what a run promises: this crate
 //! alone stands on `orca_cli` and what is below it. It promises nothing of what it tells.
 #![tactic(auto)]
 
