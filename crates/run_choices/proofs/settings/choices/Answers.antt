@@ -1,1 +1,0 @@
-use Rattle.run_choices.proofs.settings.choices.Goals as goal
