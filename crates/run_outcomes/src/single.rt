@@ -3,16 +3,14 @@
 ghost use Rattle.std.specs.Prelude.{◌≡◌, IfOk};
 ghost use Rattle.world_rules.specs.Frame.{AreSettings};
 
-use crate::events::counted;
-use crate::lines::written;
-use crate::outcome::NoOutcome;
 use code_machine::CodeMachine;
 use fault_scripts::read_script;
 use orca_base::{Choice, Items, NoMemory};
 use orca_front::{SourceFile, accepted, linked};
 use orca_modules::Program;
-use run_loop::{Ran, Settings, run};
-use std::alloc::Global;
+use run_loop::{Ran, Settings, Step, run};
+use std::alloc::{AllocError, AllocFailed, Global};
+use value_core::{Action, Line, Value};
 use wires::{ScriptWire, Wire};
 use world_rules::Standing;
 
@@ -34,6 +32,33 @@ pub struct SingleOutcome {
     pub written: String,
 }
 
+/// Why nothing is told of a run.
+#[derive(Clone, Copy, Debug, PartialEq, Eq)]
+pub enum NoOutcome {
+    /// There was no memory for what the run is given, or for what is told of it.
+    NoMemory,
+    /// The program or the script is none.
+    NoProgram,
+}
+
+impl From<NoMemory> for NoOutcome {
+    fn from(_: NoMemory) -> NoOutcome {
+        NoOutcome::NoMemory
+    }
+}
+
+impl From<AllocError> for NoOutcome {
+    fn from(_: AllocError) -> NoOutcome {
+        NoOutcome::NoMemory
+    }
+}
+
+impl<T: Drop> From<AllocFailed<T>> for NoOutcome {
+    fn from(_: AllocFailed<T>) -> NoOutcome {
+        NoOutcome::NoMemory
+    }
+}
+
 /// What comes of a run of this program on three members, over a wire with this script, where the first object that a process of the second
 /// declared text makes is at its maker alone.
 pub fn single_outcome_of(
@@ -53,11 +78,31 @@ fn single_told(alloc: Global, ran: &Ran) -> Result<SingleOutcome, NoOutcome> {
     let main = end.nodes.first().ok_or(NoOutcome::NoProgram)?;
     Ok(SingleOutcome {
         finished: ran.standing == Standing::Finished,
-        packets: counted(&end.steps).packets,
+        packets: packets_of(&end.steps),
         book: end.book.len(),
         applied: main.applied,
         written: String::from_str(alloc, written(&end.book).unwrap_or(""))?,
     })
+}
+
+// How many packets were sent.
+fn packets_of(steps: &[Step]) -> u64 {
+    let mut packets = 0u64;
+    for step in steps {
+        packets = packets.saturating_add(step.fates.len() as u64);
+    }
+    packets
+}
+
+// What the last line writes.
+fn written(book: &[Line]) -> Option<&str> {
+    match &book.last()?.action {
+        Action::Call { args, .. } => match args.as_slice().first()? {
+            Value::Text(text) => Some(text.as_str()),
+            _ => None,
+        },
+        _ => None,
+    }
 }
 
 // The program of a text.
