@@ -39,7 +39,7 @@ fn over<F: Shelf>(
     by: By,
 ) -> Result<Box<Outcome>, NoMemory> {
     let mut out = CaseSink::new(alloc, given)?;
-    let mut outcome = called(alloc, words, shelf, &mut out, by, given.wires)?;
+    let mut outcome = called(alloc, words, shelf, &mut out, by, given)?;
     outcome.printed = Vec::from_slice(alloc, out.bytes())?;
     Ok(outcome)
 }
@@ -53,7 +53,7 @@ fn over_sure(
     by: By,
 ) -> Result<Box<Outcome>, NoMemory> {
     let mut out = SureSink::new(alloc);
-    let mut outcome = called(alloc, words, shelf, &mut out, by, given.wires)?;
+    let mut outcome = called(alloc, words, shelf, &mut out, by, given)?;
     outcome.printed = Vec::from_slice(alloc, out.bytes())?;
     Ok(outcome)
 }

@@ -1,12 +1,12 @@
 //! The one place where the product is called.
 
 use case_runs::left_of;
-use case_tables::{By, Outcome, Wires};
-use orca_base::NoMemory;
+use case_tables::{By, Given, Outcome, Policies, Wires};
+use orca_base::{Choice, NoMemory};
 use orca_cli::{Ended, orca_main};
 use orca_door::serve;
 use orca_io::{Shelf, Sink};
-use replica_choice::{CostPolicy, Policy};
+use replica_choice::{AlwaysReplicated, CostPolicy, Fixed, Policy};
 use std::alloc::Global;
 use wires::{PlainWire, ScriptWire, Wire};
 
@@ -17,18 +17,27 @@ pub fn called<F: Shelf, K: Sink>(
     shelf: &mut F,
     out: &mut K,
     by: By,
-    wires: Wires,
+    given: &Given,
 ) -> Result<Box<Outcome>, NoMemory> {
+    let mut policy: Box<dyn Policy + Send> = match given.policy {
+        Policies::Costs => Box::new(alloc, CostPolicy::new(alloc))?,
+        Policies::Replicated => Box::new(alloc, AlwaysReplicated::new(alloc))?,
+        Policies::ListedReplicated => Box::new(alloc, listed(alloc, Choice::Replicated)?)?,
+        Policies::ListedSingle => Box::new(alloc, listed(alloc, Choice::Single)?)?,
+    };
     match by {
-        By::Door => {
-            let mut policy = CostPolicy::new(alloc);
-            answered(alloc, serve(alloc, words, shelf, out, &mut policy))
-        }
+        By::Door => answered(alloc, serve(alloc, words, shelf, out, &mut policy)),
         By::Top => {
-            let ended = ended(alloc, words, shelf, out, wires)?;
+            let ended = ended(alloc, words, shelf, out, given.wires, &mut policy)?;
             told(alloc, &ended)
         }
     }
+}
+
+// The policy that gives one answer 64 times.
+fn listed(alloc: Global, choice: Choice) -> Result<Fixed, NoMemory> {
+    let choices = vec![in alloc; choice; 64]?;
+    Ok(Fixed::new(alloc, choices))
 }
 
 // How the top ends.
@@ -38,6 +47,7 @@ fn ended<F: Shelf, K: Sink>(
     shelf: &mut F,
     out: &mut K,
     wires: Wires,
+    policy: &mut Box<dyn Policy + Send>,
 ) -> Result<Box<Ended>, NoMemory> {
     let mut boxed: Vec<Box<dyn Wire + Send>> = Vec::new(alloc);
     if wires != Wires::Plain {
@@ -50,10 +60,9 @@ fn ended<F: Shelf, K: Sink>(
     if count < 1 || 2 < count {
         return Err(NoMemory);
     }
-    let mut policy: Box<dyn Policy + Send> = Box::new(alloc, CostPolicy::new(alloc))?;
     Ok(Box::new(
         alloc,
-        orca_main(alloc, words, shelf, out, &mut boxed, &mut policy),
+        orca_main(alloc, words, shelf, out, &mut boxed, policy),
     )?)
 }
 

@@ -11,7 +11,7 @@ struct Work {
     turns: u64,
 }
 
-/// The bound of a run: 6 N (L + 1) + 2 C + T / 10,000 + P. L is taken as the most entries that a member applied, which it is where the run
+/// The bound of a run: 6 N (L + 1) + 4 C + T / 10,000 + P. L is taken as the most entries that a member applied, which it is where the run
 /// is over and each member lives.
 pub fn bound(left: &Left) -> u64 {
     let members = left.members.len() as u64;
@@ -26,7 +26,7 @@ pub fn bound(left: &Left) -> u64 {
         .saturating_mul(6)
         .saturating_mul(entries.saturating_add(1));
     deliveries
-        .saturating_add(calls.saturating_mul(2))
+        .saturating_add(calls.saturating_mul(4))
         .saturating_add(turns / u64::from(BURST_TURNS))
         .saturating_add(processes)
 }

@@ -27,11 +27,25 @@ pub enum Wires {
     Plain,
 }
 
+/// Which policy a call has.
+#[derive(Clone, Copy, PartialEq, Eq)]
+pub enum Policies {
+    /// That of the program itself: what costs less is chosen.
+    Costs,
+    /// Each object is at every member.
+    Replicated,
+    /// A list of 64 answers, by each of which the object is at every member.
+    ListedReplicated,
+    /// A list of 64 answers, by each of which the object is at one member alone.
+    ListedSingle,
+}
+
 /// How a call is made.
 #[derive(Drop)]
 pub struct Given {
     pub outside: Outside,
     pub wires: Wires,
+    pub policy: Policies,
     /// The reads that fail, by their numbers from 1.
     pub reads: Vec<u64>,
     /// The writes that fail, by their numbers from 1.
@@ -48,6 +62,7 @@ impl Given {
         Given {
             outside: Outside::Memory,
             wires: Wires::Both,
+            policy: Policies::Costs,
             reads: Vec::new(alloc),
             writes: Vec::new(alloc),
             lacking: Vec::new(alloc),

@@ -1,7 +1,7 @@
 //! How the call of a case is made, and how what it prints is compared, as the lines of a case say it.
 
 use crate::case::Flaw;
-use crate::given::{Given, Outside, Wires};
+use crate::given::{Given, Outside, Policies, Wires};
 use std::alloc::Global;
 
 /// How what is printed is compared.
@@ -40,6 +40,7 @@ impl Heads {
             "outside" => self.given.outside = outside_of(rest).ok_or(wrong(line))?,
             "printed" => self.printing = printing_of(rest).ok_or(wrong(line))?,
             "wires" => self.given.wires = wires_of(rest).ok_or(wrong(line))?,
+            "policy" => self.given.policy = policy_of(rest).ok_or(wrong(line))?,
             "reads" => self.given.reads = numbers(alloc, line, rest)?,
             "writes" => self.given.writes = numbers(alloc, line, rest)?,
             "lacking" => self.given.lacking = numbers(alloc, line, rest)?,
@@ -82,6 +83,16 @@ fn wires_of(words: &str) -> Option<Wires> {
         "both" => Some(Wires::Both),
         "script" => Some(Wires::Script),
         "plain" => Some(Wires::Plain),
+        _ => None,
+    }
+}
+
+fn policy_of(words: &str) -> Option<Policies> {
+    match words {
+        "costs" => Some(Policies::Costs),
+        "replicated" => Some(Policies::Replicated),
+        "listed replicated" => Some(Policies::ListedReplicated),
+        "listed single" => Some(Policies::ListedSingle),
         _ => None,
     }
 }

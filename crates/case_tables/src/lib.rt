@@ -31,6 +31,6 @@ pub use calls::{By, CallParts, Calls};
 pub use case_sink::CaseSink;
 pub use ends::{Member, Process, Standing};
 pub use events::{Counts, Events};
-pub use given::{CaseFile, Given, Outside, Wires};
+pub use given::{CaseFile, Given, Outside, Policies, Wires};
 pub use outcome::{Ends, Left, Outcome};
 pub use tables::answer_tables;

@@ -66,7 +66,7 @@ usage: orca choice [OPTIONS] FILE...
 
   --nodes N  members of the group, 1 to 16 (3)
 
-So far a run replicates all of them.
+A run on as many members keeps them so, unless its --resilience is above 0.
 ";
 
 /// The command `replay`.

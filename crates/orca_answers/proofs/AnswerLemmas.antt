@@ -28,7 +28,7 @@ use Rattle.orca_answers.specs.declared.script.ScriptFault.{ScriptFault}
 use Rattle.orca_answers.specs.declared.script.ScriptFault.TheVariants as scripts
 use Rattle.command_output.specs.declared.statuses.TheConstants.{FINISHED, NO_MEMORY, READ_FAULT, WRITE_FAULT}
 use Rattle.orca_answers.specs.Endings as because
-use Rattle.orca_answers.specs.Choosing.{AreChosen, Chooser, WasAskedFirst, WasAskedSome}
+use Rattle.orca_answers.specs.Choosing.{AreChosen, Chooser, WasAskedFirst, WasAskedSome, asking}
 use Rattle.orca_answers.specs.Endings.{IsAnswer, IsEnding}
 use Rattle.command_files.specs.declared.load_fault.LoadFault.{LoadFault}
 use Rattle.command_files.specs.declared.load_fault.LoadFault.TheVariants as loads
@@ -262,8 +262,15 @@ replayed_so policy words told earlier later stopped old new status history files
 pub first_asked : (words : List Word) (told : Option (List File)) (policy : Chooser) (nodes : ℕ) (files : List Word) (sources : List File) (old new : List FileRead) (asked : List Asked) → deed_in words ≡ Some (chooses nodes files) → AreRead told files sources → ReadSince old new (map had sources)
     → (asked ≡ policy.told) ⊎ ((units : List Source) × IsAccepted sources units × IsWithinLimits units × WasAskedFirst policy nodes units asked) → WasAskedSome policy words told old new asked
 first_asked words told policy nodes files sources old new asked is read since (inl same) = inl same
-first_asked words told policy nodes files sources old new asked is read since (inr some) =
-    inr (record { nodes = nodes; files = files; units = some.0; asked = is; program = is_program_since told files sources some.0 old new read some.1 some.2 since; first = some.3 })
+first_asked words told policy nodes files sources old new asked is read since (inr some) = inr (record {
+  nodes = nodes;
+  files = files;
+  units = some.0;
+  asked = ap (option_and_then asking) is;
+  program = record { loaded = (sources, read, some.1); within = some.2 };
+  read = chooses_none words told files nodes sources old new is since;
+  first = some.3;
+})
 
 -- what is so of each refusal is so of its cause
 pub begun_none : (T : Type 0) {E : Type 0} (e : Refusal E) (P : Type 0) → P → IfBecause {T = T} (Err e) (λ _. P)

@@ -1,5 +1,5 @@
 -- What a policy chooses for the sites of the program that words name, and what it was asked for them (docs/FORMATS.md, Choices).
-use Rattle.std.specs.Prelude.{◌≡◌, ◌⊎◌, ◌++◌, ℕ, List, Option, Some}
+use Rattle.std.specs.Prelude.{◌≡◌, ◌⊎◌, ◌==◌, ◌++◌, ℕ, List, Option, Some, None, if◌then◌else◌, option_and_then}
 use Rattle.orca_io.specs.Files.{File}
 use Rattle.orca_io.specs.Reading.{FileRead}
 use Rattle.link_rules.specs.Units.{Source}
@@ -9,8 +9,9 @@ use Rattle.replica_choice.specs.declared.policy.Asked.{Asked}
 use Rattle.replica_choice.specs.Asking.{AsksFirst, Rule, questions}
 use Rattle.choice_command.specs.Lines.{choice_lines, program_choices}
 use Rattle.command_files.specs.Sources.{Word}
-use Rattle.orca_answers.specs.Job.{chooses, deed_in}
-use Rattle.orca_answers.specs.Programs.{IsProgramSince}
+use Rattle.orca_answers.specs.Job.{Deed, checks, chooses, deed_in, lists, replays, runs, says}
+use Rattle.orca_answers.specs.Programs.{IsProgram}
+use Rattle.orca_answers.specs.Scripts.{HasScriptSince}
 
 -- a policy: how it chooses, and what it was asked so far, with its answers
 pub record Chooser : Type 0 where
@@ -34,16 +35,32 @@ pub record AreChosen (policy : Chooser) (nodes : ℕ) (units : List Source) (tex
   pub lines : text ≡ choice_lines policy.rule nodes policy.told units
   pub asked : new ≡ told_all policy nodes units
 
+-- ---- for which words it is asked
+
+-- among how many members it is asked about the program in which files: for `choice`, and for a run in which no member may be lost
+abbrev pub asking : Deed → Option (ℕ × List Word)
+asking (says text) = None
+asking (checks files) = None
+asking (lists what files) = None
+asking (chooses nodes files) = Some (nodes, files)
+asking (runs options script files) = if options.group.resilience == 0 then Some (options.group.nodes, files) else None
+asking (replays history files) = None
+
+abbrev pub asking_in : List Word → Option (ℕ × List Word)
+asking_in words = option_and_then asking (deed_in words)
+
 -- ---- where memory lacked
 
--- it was asked about so many sites from the front, maybe all, of the program whose choices the words ask for, and whose texts were read
+-- it was asked about so many sites from the front, maybe all, of the program for whose choices or whose run the words ask, and whose texts
+-- were read, and behind them that of the run's script
 pub record WasAskedFront (policy : Chooser) (words : List Word) (told : Option (List File)) (earlier later : List FileRead)
     (new : List Asked) : Type 0 where
   pub nodes : ℕ
   pub files : List Word
   pub units : List Source
-  pub asked : deed_in words ≡ Some (chooses nodes files)
-  pub program : IsProgramSince told earlier later files units
+  pub asked : asking_in words ≡ Some (nodes, files)
+  pub program : IsProgram told files units
+  pub read : HasScriptSince told words earlier later program.loaded.0
   pub first : WasAskedFirst policy nodes units new
 
 -- or nothing

@@ -1,9 +1,8 @@
 -- What a run leaves is what the headline says of it: from the run that was driven, the law of runs, and what was printed.
 use Rattle.std.proofs.Common.{◌≡◌, ◌∙◌, ◌≤◌, ◌⊎◌, inl, inr, ℕ, zero, true, false, List, [], ◌∷◌, get_or, length, map, set, Option, Some, None, IfNone, IfSome, Result, Ok, Err, OnErr, suc, ap, sym, subst, refl, arith}
-use Rattle.std.specs.Prelude.{option_map, slice_get}
+use Rattle.std.specs.Prelude.{option_and_then, option_map, slice_get}
 use Rattle.std.specs.List.{All}
 use Rattle.std.proofs.lemmas.List.{length-map}
-use Rattle.command_line.specs.Asked.{IsRunWithin}
 use Rattle.command_line.specs.declared.request.RunOptions.{RunOptions}
 use Rattle.net_rules.specs.declared.asked.Asked.{Asked}
 use Rattle.net_rules.specs.declared.line.ScriptLine.{ScriptLine}
@@ -26,7 +25,7 @@ use Rattle.world_rules.specs.declared.standing.Standing.{Standing}
 use Rattle.world_rules.specs.declared.standing.Standing.TheVariants.{Going}
 use Rattle.world_rules.specs.Frame.{AreSettings, Frame}
 use Rattle.world_rules.specs.Standings as rules
-use Rattle.world_facts.specs.Replicated.{AllReplicated}
+use Rattle.replica_choice.specs.declared.policy.Asked as replica
 use Rattle.run_ends.specs.declared.ends.RunEnd.{RunEnd}
 use Rattle.run_loop.specs.Asked.{HaveToldOn, WereAskedIn, WereUsedSo, asked_since}
 use Rattle.run_loop.specs.Left.{HasRun, run_of}
@@ -35,8 +34,15 @@ use Rattle.meaning_rules.specs.Meanings.{computes_of, performs_of}
 use Rattle.orca_cli.specs.declared.kept.Kept.{Kept}
 use Rattle.command_output.specs.declared.statuses.TheConstants.{NO_MEMORY}
 use Rattle.orca_answers.specs.Named.{IsNamed}
-use Rattle.orca_cli.specs.Headline.{AreLoaded, AreUntouched, HaveObeyed, IsRun, IsProgramRun, IsRunOf, KeepRules, WasBegun, Wires, settings_of, wires_of}
+use Rattle.orca_cli.specs.Headline.{AreLoaded, AreUntouched, HaveObeyed, IsRun, IsProgramRun, IsRunOf, KeepRules, WasBegun, Wires, settings_for, told_for, wires_of}
 use Rattle.command_files.specs.Sources.{Word}
+use Rattle.command_files.specs.Sources.{AreRead}
+use Rattle.accepted_law.specs.Limits.{IsWithinLimits}
+use Rattle.orca_front.specs.Sources.{IsAccepted}
+use Rattle.orca_answers.specs.Choosing.{Chooser, WasAskedFirst, WasAskedSome, asking}
+use Rattle.orca_answers.specs.Job.{deed_in, runs}
+use Rattle.orca_answers.specs.Scripts.{HasScriptSince}
+use Rattle.run_choices.proofs.Resilience.{then_none}
 use Rattle.orca_cli.specs.Kept.{IsEndOf}
 use Rattle.orca_cli.specs.Rows.{KeptRow}
 use Rattle.orca_cli.specs.Laws.{RunLaws}
@@ -47,26 +53,6 @@ use Rattle.program_names.specs.Naming.{AreNamesOf, CallsNamed}
 use Rattle.orca_cli.proofs.KeptLemmas.{history_kept}
 use Rattle.orca_cli.proofs.LowestLemmas.{ending_is}
 use Rattle.orca_cli.proofs.RowLemmas.{gone_well, row_kept, rows_shown}
-
--- ---- the settings
-
--- numbers of words that are in their ranges are those of settings that a run may have
-pub are_settings : (options : RunOptions) (wires : ℕ) → IsRunWithin options → 1 ≤ wires → wires ≤ 1000 → AreSettings (settings_of options wires)
-are_settings options wires within some few = record {
-  some = within.group.some;
-  few = within.group.most;
-  resilience = within.group.fewer;
-  a_turn = within.turns.0;
-  turns = within.turns.1;
-  an_event = within.events.0;
-  events = within.events.1;
-  a_wire = some;
-  wires = few;
-  single = λ text number e. let no : false ≡ true = e in absurd (cc no);
-}
-
-pub ranges_as : (options : RunOptions) (wires : ℕ) (settings : Settings) → settings ≡ settings_of options wires → IsRunWithin options → (1 ≤ wires) × (wires ≤ 1000) → AreSettings settings
-ranges_as options wires settings is within few = subst AreSettings (sym is) (are_settings options wires within few.0 few.1)
 
 -- ---- the run
 
@@ -81,9 +67,9 @@ pub record IsTold (name : Action → List ℕ) (says : Kept → List ℕ → Lis
   pub printed : Grew old new (Ends (standing_status standing) status (says (kept_of end) (ending_line name turns standing end.processes.items)))
 
 pub is_run : (f : Frame) (name : Action → List ℕ) (says : Kept → List ℕ → List ℕ) (end : RunEnd) (standing : Standing) (status : ℕ) (old new : Option (List ℕ)) (before after : List (List Asked))
-    → RunLaws f.performs f.computes → AreSettings f.settings → AllReplicated f → HasRun f standing before after end → HaveToldOn before after → IsTold name says f.settings.turns end standing status old new
+    → RunLaws f.performs f.computes → AreSettings f.settings → HasRun f standing before after end → HaveToldOn before after → IsTold name says f.settings.turns end standing status old new
     → IsRun f name says (kept_of end) status old new before after
-is_run f name says end standing status old new before after laws settings none h told printed =
+is_run f name says end standing status old new before after laws settings h told printed =
     let w = h.world in
     let left = h.left in
     let k : Kept = kept_of end in
@@ -92,14 +78,14 @@ is_run f name says end standing status old new before after laws settings none h
     let stand = laws.ends f w in
     let processes = laws.stand f end.steps.items w left.replays in
     let some = settings.some in
-    let enough = laws.enough f refl refl settings none end.steps.items w h.first in
+    let enough = laws.enough f refl refl settings end.steps.items w h.first in
     let row : KeptRow f w k (rules.standing f w) =
     row_kept f w k laws.read is stand (laws.finished f end.steps.items w left.replays) processes left.kept left.stuck
     (laws.spent f refl refl settings end.steps.items w left.replays) settings.a_turn enough (rules.standing f w) refl in
     record {
       world = w;
       end = is;
-      history = history_kept f w none (omega (arith, some)) left.kept stand left.mean (laws.placed f w) laws.homes k left.its is;
+      history = history_kept f w (omega (arith, some)) left.kept stand left.mean (laws.placed f w) laws.homes k left.its is;
       reads = laws.read f w;
       row = row;
       only = rows_shown f w k laws.count laws.read is stand processes settings.a_turn;
@@ -118,13 +104,13 @@ is_run f name says end standing status old new before after laws settings none h
       in_time = h.in_time;
     }
 
--- by the settings of the words
-pub is_run_by : (p : Performs) (q : Computes) (options : RunOptions) (wires : ℕ) (settings : Settings) (name : Action → List ℕ) (says : Kept → List ℕ → List ℕ) (end : RunEnd) (standing : Standing) (status : ℕ) (old new : Option (List ℕ)) (before after : List (List Asked))
-    → RunLaws p q → settings ≡ settings_of options wires → AreSettings settings → HasRun (run_of p q settings) standing before after end → HaveToldOn before after → IsTold name says options.turns end standing status old new
-    → IsRun (run_of p q (settings_of options wires)) name says (kept_of end) status old new before after
-is_run_by p q options wires settings name says end standing status old new before after laws is ranges h told printed =
-    is_run (run_of p q (settings_of options wires)) name says end standing status old new before after laws (subst AreSettings is ranges) (λ text number. refl)
-    (subst (λ (s : Settings). HasRun (run_of p q s) standing before after end) is h) told printed
+-- by the turns of the words
+pub is_run_by : (p : Performs) (q : Computes) (turns : ℕ) (settings : Settings) (name : Action → List ℕ) (says : Kept → List ℕ → List ℕ) (end : RunEnd) (standing : Standing) (status : ℕ) (old new : Option (List ℕ)) (before after : List (List Asked))
+    → RunLaws p q → settings.turns ≡ turns → AreSettings settings → HasRun (run_of p q settings) standing before after end → HaveToldOn before after → IsTold name says turns end standing status old new
+    → IsRun (run_of p q settings) name says (kept_of end) status old new before after
+is_run_by p q turns settings name says end standing status old new before after laws same ranges h told printed =
+    is_run (run_of p q settings) name says end standing status old new before after laws ranges h told
+    (subst (λ (n : ℕ). IsTold name says n end standing status old new) (sym same) printed)
 
 -- ---- its history as a text
 
@@ -144,11 +130,11 @@ module _ (p : Performs) (q : Computes) (settings : Settings) (names : Names) (st
   book_back are = reads_back p q names end.book.items are book_legal
 
 -- by the program's names
-pub program_run : (units : List Source) (options : RunOptions) (wires : ℕ) (names : Names) (o : Option Kept) (status : ℕ) (old new : Option (List ℕ)) (before after : List (List Asked)) → AreNamesOf units names → CallsNamed units names
-    → IfSome o (λ k. IsRun (run_of (performs_of units) (computes_of units) (settings_of options wires)) (awaited_name names) (run_said options names) k status old new before after)
-    → IfSome o (λ k. ReadsBack (performs_of units) (computes_of units) names k.book.items) → IfSome o (λ k. IsProgramRun units options wires k status old new before after)
-program_run units options wires names None status old new before after are calls run back = tt
-program_run units options wires names (Some k) status old new before after are calls run back = record { names = names; are = are; calls = calls; run = run; back = back }
+pub program_run : (units : List Source) (options : RunOptions) (settings : Settings) (names : Names) (o : Option Kept) (status : ℕ) (old new : Option (List ℕ)) (before after : List (List Asked)) → AreNamesOf units names → CallsNamed units names
+    → IfSome o (λ k. IsRun (run_of (performs_of units) (computes_of units) settings) (awaited_name names) (run_said options names) k status old new before after)
+    → IfSome o (λ k. ReadsBack (performs_of units) (computes_of units) names k.book.items) → IfSome o (λ k. IsProgramRun units options settings k status old new before after)
+program_run units options settings names None status old new before after are calls run back = tt
+program_run units options settings names (Some k) status old new before after are calls run back = record { names = names; are = are; calls = calls; run = run; back = back }
 
 -- of what there is
 pub some_is : {T : Type 0} (o : Option T) (x : T) (P : T → Type 0) → o ≡ Some x → IfSome o P → P x
@@ -216,29 +202,48 @@ still_loaded told rule loaded old mid new lines h rules counts = record {
 }
 
 -- a run over these wires was begun
-pub begun_so : {W : Type 0} (told : W → List Asked) (rule : W → Rule) (loaded : W → ℕ) (before after : List W) (units : List Source) (options : RunOptions) (lines : List ScriptLine)
+pub begun_so : {W : Type 0} (told : W → List Asked) (rule : W → Rule) (loaded : W → ℕ) (before after : List W) (units : List Source) (settings : Settings) (lines : List ScriptLine)
     → AreLoaded lines (wires_of told rule loaded before) (wires_of told rule loaded after) → HaveToldOn (map told before) (map told after)
-    → WereAskedIn (run_of (performs_of units) (computes_of units) (settings_of options (length before))) (map told before) (map told after)
-    → WasBegun units options lines (wires_of told rule loaded before) (wires_of told rule loaded after)
-begun_so told rule loaded before after units options lines has more asked = record {
-  loaded = has;
-  told = more;
-  asked = subst (λ (n : ℕ). WereAskedIn (run_of (performs_of units) (computes_of units) (settings_of options n)) (map told before) (map told after)) (sym (length-map before told)) asked;
-}
+    → WereAskedIn (run_of (performs_of units) (computes_of units) settings) (map told before) (map told after)
+    → WasBegun units settings lines (wires_of told rule loaded before) (wires_of told rule loaded after)
+begun_so told rule loaded before after units settings lines has more asked = record { loaded = has; told = more; asked = asked }
 
 -- ---- the run that the words ask for
 
+-- its settings over these wires
+settings_over : {W : Type 0} (told : W → List Asked) (policy : Chooser) (units : List Source) (options : RunOptions) (wires : List W) (settings : Settings) → settings ≡ settings_for policy units options (length wires)
+    → settings ≡ settings_for policy units options (length (map told wires))
+settings_over told policy units options wires settings is = is ∙ ap (settings_for policy units options) (sym (length-map wires told))
+
 -- where nothing of it is kept
-pub untouched_run : {K : Type 0} (A : Type 0) (words : List Word) (files : Option (List File)) (earlier later : List FileRead) (units : List Source) (options : RunOptions) (lines : List ScriptLine) (o : Option K) (status : ℕ) (old new : Wires)
-    (named : IsNamed words files earlier later units lines) → named.options ≡ options → IfNone o ((status ≡ NO_MEMORY) × A) → IfNone o ((new ≡ old) ⊎ WasBegun units options lines old new) → IfNone o (AreUntouched words files earlier later status old new)
-untouched_run A words files earlier later units options lines (Some k) status old new named same lacked begun = tt
-untouched_run A words files earlier later units options lines None status old new named same lacked (inl kept) = inl kept
-untouched_run A words files earlier later units options lines None status old new named same lacked (inr begun) = inr (record {
+pub untouched_run : {W K : Type 0} (A : Type 0) (told : W → List Asked) (rule : W → Rule) (loaded : W → ℕ) (before after : List W) (policy : Chooser) (words : List Word) (files : Option (List File)) (earlier later : List FileRead) (units : List Source) (options : RunOptions) (settings : Settings)
+    (lines : List ScriptLine) (o : Option K) (status : ℕ) (named : IsNamed words files earlier later units lines) → named.options ≡ options → settings ≡ settings_for policy units options (length before) → IfNone o ((status ≡ NO_MEMORY) × A)
+    → IfNone o ((wires_of told rule loaded after ≡ wires_of told rule loaded before) ⊎ WasBegun units settings lines (wires_of told rule loaded before) (wires_of told rule loaded after))
+    → IfNone o (AreUntouched policy words files earlier later status (wires_of told rule loaded before) (wires_of told rule loaded after))
+untouched_run A told rule loaded before after policy words files earlier later units options settings lines (Some k) status named same is lacked begun = tt
+untouched_run A told rule loaded before after policy words files earlier later units options settings lines None status named same is lacked (inl kept) = inl kept
+untouched_run A told rule loaded before after policy words files earlier later units options settings lines None status named same is lacked (inr begun) = inr (record {
   status = lacked.0;
   units = units;
   lines = lines;
   named = named;
-  begun = subst (λ (os : RunOptions). WasBegun units os lines old new) (sym same) begun;
+  begun = subst (λ (s : Settings). WasBegun units s lines (wires_of told rule loaded before) (wires_of told rule loaded after))
+      (settings_over told policy units options before settings is ∙ ap (λ (os : RunOptions). settings_for policy units os (length (map told before))) (sym same)) begun;
+})
+
+-- what the policy was asked for it
+pub run_asked : (policy : Chooser) (words files : List Word) (options : RunOptions) (script : Option Word) (told : Option (List File)) (sources : List File) (units : List Source) (old new : List FileRead) (asked : List replica.Asked) → deed_in words ≡ Some (runs options script files)
+    → AreRead told files sources → IsAccepted sources units → IsWithinLimits units → HasScriptSince told words old new sources
+    → (asked ≡ policy.told) ⊎ ((options.group.resilience ≡ 0) × WasAskedFirst policy options.group.nodes units asked) → WasAskedSome policy words told old new asked
+run_asked policy words files options script told sources units old new asked is read accepted within has (inl same) = inl same
+run_asked policy words files options script told sources units old new asked is read accepted within has (inr some) = inr (record {
+  nodes = options.group.nodes;
+  files = files;
+  units = units;
+  asked = ap (option_and_then asking) is ∙ then_none options.group.resilience _ _ some.0;
+  program = record { loaded = (sources, read, accepted); within = within };
+  read = has;
+  first = some.1;
 })
 
 pub if_some : {T : Type 0} (o : Option T) (P : T → Type 0) → ((x : T) → P x) → IfSome o P
@@ -249,17 +254,18 @@ pub none_as : {T A B : Type 0} (o : Option T) → (A → B) → IfNone o A → I
 none_as None so a = so a
 none_as (Some x) so a = tt
 
-pub run_of_words : {W : Type 0} (told : W → List Asked) (rule : W → Rule) (loaded : W → ℕ) (before after : List W) (words : List Word) (files : Option (List File)) (earlier later : List FileRead) (units : List Source) (options : RunOptions) (lines : List ScriptLine)
-    (o : Option Kept) (status : ℕ) (old new : Option (List ℕ)) (named : IsNamed words files earlier later units lines) → named.options ≡ options
-    → IfSome o (λ k. IsProgramRun units options (length before) k status old new (map told before) (map told after))
+pub run_of_words : {W : Type 0} (told : W → List Asked) (rule : W → Rule) (loaded : W → ℕ) (before after : List W) (policy : Chooser) (words : List Word) (files : Option (List File)) (earlier later : List FileRead) (units : List Source) (options : RunOptions) (settings : Settings)
+    (lines : List ScriptLine) (o : Option Kept) (status : ℕ) (old new : Option (List ℕ)) (asked : List replica.Asked) (named : IsNamed words files earlier later units lines) → named.options ≡ options → settings ≡ settings_for policy units options (length before) → asked ≡ told_for policy units options
+    → IfSome o (λ k. IsProgramRun units options settings k status old new (map told before) (map told after))
     → IfSome o (λ k. AreLoaded lines (wires_of told rule loaded before) (wires_of told rule loaded after))
-    → IfSome o (λ k. IsRunOf words files earlier later k status old new (wires_of told rule loaded before) (wires_of told rule loaded after))
-run_of_words told rule loaded before after words files earlier later units options lines None status old new named same run has = tt
-run_of_words told rule loaded before after words files earlier later units options lines (Some k) status old new named same run has = record {
+    → IfSome o (λ k. IsRunOf policy words files earlier later k status old new (wires_of told rule loaded before) (wires_of told rule loaded after) asked)
+run_of_words told rule loaded before after policy words files earlier later units options settings lines None status old new asked named same is was run has = tt
+run_of_words told rule loaded before after policy words files earlier later units options settings lines (Some k) status old new asked named same is was run has = record {
   units = units;
   lines = lines;
   named = named;
-  run = subst (λ (os : RunOptions). IsProgramRun units os (length (map told before)) k status old new (map told before) (map told after)) (sym same)
-      (subst (λ (n : ℕ). IsProgramRun units options n k status old new (map told before) (map told after)) (sym (length-map before told)) run);
+  run = subst (λ (os : RunOptions). IsProgramRun units os (settings_for policy units os (length (map told before))) k status old new (map told before) (map told after)) (sym same)
+      (subst (λ (s : Settings). IsProgramRun units options s k status old new (map told before) (map told after)) (settings_over told policy units options before settings is) run);
   loaded = has;
+  told = was ∙ ap (told_for policy units) (sym same);
 }

@@ -27,7 +27,7 @@ use Rattle.world_rules.specs.Standings.{is_over_run, process_count}
 use Rattle.world_rules.specs.Worlds.{World, home_of, played_in, processes_of}
 use Rattle.world_book.specs.Processes.{IsKnownAs, IsPlayedAs}
 use Rattle.world_book.specs.Promise.{AllStuck, IsKept}
-use Rattle.world_enough.specs.Bound.{IsEnough}
+use Rattle.world_enough.specs.Bound.{IsEnoughWithin, bound_with_singles}
 use Rattle.world_enough.specs.Faultless.{IsFaulty}
 use Rattle.world_facts.specs.Counted.{AllCounted}
 use Rattle.world_facts.specs.Ends as facts
@@ -44,7 +44,7 @@ use Rattle.run_ends.specs.declared.ends.ProcessStanding.TheVariants as standing
 use Rattle.orca_cli.specs.declared.kept.Kept.{Kept}
 use Rattle.orca_cli.specs.Kept.{IsEndOf}
 use Rattle.orca_cli.specs.Rows.{AllEnded, HasGoneWell, HaveTurns, IsBusy, IsEndedOrStuck, KeptRow, LostTooMany, NoneFaulted, ShownRows, SomeBusy, SomeStuck, StandsAt}
-use Rattle.orca_cli.proofs.KeptLemmas.{end_is, get_below}
+use Rattle.kept_copies.proofs.Ends.{end_is, get_below}
 
 -- ---- standings there and back
 
@@ -538,7 +538,7 @@ lost_kept f w k end lacks =
 
 -- ---- each row
 
-pub row_kept : (f : Frame) (w : World) (k : Kept) → AllRead → IsEndOf f w k → EndsStand f w → FinishedEnds f w → ProcessesStand f w → IsKept f w → AllStuck f w → SpentBusy f w → 1 ≤ f.settings.turns → IsEnough f w k.events.items → (s : Standing) → rules.standing f w ≡ s → KeptRow f w k s
+pub row_kept : (f : Frame) (w : World) (k : Kept) → AllRead → IsEndOf f w k → EndsStand f w → FinishedEnds f w → ProcessesStand f w → IsKept f w → AllStuck f w → SpentBusy f w → 1 ≤ f.settings.turns → IsEnoughWithin (bound_with_singles f w) f w k.events.items → (s : Standing) → rules.standing f w ≡ s → KeptRow f w k s
 row_kept f w k read end stand finished processes kept stuck busy a_turn enough (Limit what number) is = (read f w).says (Limit what number) is
 row_kept f w k read end stand finished processes kept stuck busy a_turn enough OutOfTurns is = busy_kept f w k end stand processes kept busy a_turn ((read f w).says OutOfTurns is).1
 row_kept f w k read end stand finished processes kept stuck busy a_turn enough OutOfEvents is = enough.row is
@@ -553,7 +553,7 @@ row_kept f w k read end stand finished processes kept stuck busy a_turn enough G
 -- ---- a faultless run
 
 pub gone_well : (f : Frame) (w : World) (k : Kept) → AllRead → IsEndOf f w k → EndsStand f w → ProcessesStand f w → AllStuck f w
-    → IsEnough f w k.events.items → (IsFaulty k.events.items → ⊥) → HasGoneWell f w k
+    → IsEnoughWithin (bound_with_singles f w) f w k.events.items → (IsFaulty k.events.items → ⊥) → HasGoneWell f w k
 gone_well f w k read end stand processes stuck enough fine =
     let well = enough.well fine in
     record {

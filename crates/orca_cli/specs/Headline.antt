@@ -1,6 +1,6 @@
 -- The headline: what a run keeps and prints, and that its network was really used, in time; and what is so of the wires where nothing is
 -- kept.
-use Rattle.std.specs.Prelude.{◌≡◌, ◌≤◌, ◌⊎◌, ◌+◌, ℕ, suc, List, [], length, map, Option, Some, option_map, slice_get}
+use Rattle.std.specs.Prelude.{◌≡◌, ◌≤◌, ◌⊎◌, ◌+◌, ℕ, suc, List, length, map, Option, Some, option_map, slice_get}
 use Rattle.command_line.specs.declared.request.RunOptions.{RunOptions}
 use Rattle.net_rules.specs.declared.asked.Asked.{Asked}
 use Rattle.net_rules.specs.declared.line.ScriptLine.{ScriptLine}
@@ -31,6 +31,9 @@ use Rattle.orca_cli.specs.declared.kept.Kept.{Kept}
 use Rattle.command_output.specs.declared.statuses.TheConstants.{NO_MEMORY}
 use Rattle.command_files.specs.Sources.{Word}
 use Rattle.orca_answers.specs.Named.{IsNamed}
+use Rattle.replica_choice.specs.declared.policy.Asked as replica
+use Rattle.run_choices.specs.Chosen.{run_settings, told_by_run}
+use Rattle.orca_answers.specs.Choosing.{Chooser}
 use Rattle.orca_cli.specs.Kept.{IsEndOf, IsHistory}
 use Rattle.command_output.specs.Printed.{Ends, EndsAs, Grew}
 use Rattle.orca_cli.specs.Rows.{HasGoneWell, KeptRow, ShownRows}
@@ -38,16 +41,13 @@ use Rattle.orca_cli.specs.Standings.{IsEndingLine, awaited_name, run_said, stand
 
 -- ---- which run it is
 
--- by the numbers of the words, over so many wires, with each object at every member
-abbrev pub settings_of : RunOptions → ℕ → Settings
-settings_of options wires = record {
-  nodes = options.group.nodes;
-  resilience = options.group.resilience;
-  turns = options.turns;
-  events = options.events;
-  wires = wires;
-  choices = [];
-}
+-- its settings, over so many wires: the numbers of the words, with each object where the policy keeps it
+abbrev pub settings_for : Chooser → List Source → RunOptions → ℕ → Settings
+settings_for policy units options wires = run_settings policy.rule policy.told options units wires
+
+-- what the policy tells when it has begun
+abbrev pub told_for : Chooser → List Source → RunOptions → List replica.Asked
+told_for policy units options = told_by_run policy.rule policy.told options units
 
 -- ---- its wires
 
@@ -78,25 +78,25 @@ pub record HaveObeyed (wires : Wires) : Type 0 where
       (wire since : ℕ) (rule : Rule) (told : List Asked) → slice_get wires.rules wire ≡ Some rule → slice_get wires.loaded wire ≡ Some since →
       slice_get wires.told wire ≡ Some told → HasObeyed rule since told
 
--- a run of the program with these units was begun, by these options: the first wire was loaded with these lines, and the wires were asked
+-- a run of the program with these units was begun, by these settings: the first wire was loaded with these lines, and the wires were asked
 -- what some steps of that run ask, and maybe once more about an act
-pub record WasBegun (units : List Source) (options : RunOptions) (lines : List ScriptLine) (old new : Wires) : Type 0 where
+pub record WasBegun (units : List Source) (settings : Settings) (lines : List ScriptLine) (old new : Wires) : Type 0 where
   pub loaded : AreLoaded lines old new
   pub told : HaveToldOn old.told new.told
-  pub asked : WereAskedIn (run_of (performs_of units) (computes_of units) (settings_of options (length old.told))) old.told new.told
+  pub asked : WereAskedIn (run_of (performs_of units) (computes_of units) settings) old.told new.told
 
 -- memory lacked, and the run that the words name was begun
-pub record HasLacked (words : List Word) (files : Option (List File)) (earlier later : List FileRead) (code : ℕ) (old new : Wires) :
-    Type 0 where
+pub record HasLacked (policy : Chooser) (words : List Word) (files : Option (List File)) (earlier later : List FileRead) (code : ℕ)
+    (old new : Wires) : Type 0 where
   pub status : code ≡ NO_MEMORY
   pub units : List Source
   pub lines : List ScriptLine
   pub named : IsNamed words files earlier later units lines
-  pub begun : WasBegun units named.options lines old new
+  pub begun : WasBegun units (settings_for policy units named.options (length old.told)) lines old new
 
 -- nothing is kept: what the wires tell, how they answer, their scripts, and when these were loaded, are as before; or memory lacked
-abbrev pub AreUntouched : List Word → Option (List File) → List FileRead → List FileRead → ℕ → Wires → Wires → Type 0
-AreUntouched words files earlier later status old new = (new ≡ old) ⊎ HasLacked words files earlier later status old new
+abbrev pub AreUntouched : Chooser → List Word → Option (List File) → List FileRead → List FileRead → ℕ → Wires → Wires → Type 0
+AreUntouched policy words files earlier later status old new = (new ≡ old) ⊎ HasLacked policy words files earlier later status old new
 
 -- ---- the run
 
@@ -115,7 +115,8 @@ pub record IsRun (f : Frame) (name : Action → List ℕ) (says : Kept → List 
   pub only : ShownRows f world k
   -- of several limits that are passed it is the first: that before which the lowest member stops, and that of lines behind it
   pub limited : (what : What) (number : ℕ) → limit f world ≡ Some (what, number) → standing f world ≡ Limit what number
-  -- where each fate is Pass, or a Hold for no ticks, and no crash, suspicion or exchange came, a number of events is enough
+  -- where each fate is Pass, or a Hold for no ticks, and no crash, suspicion or exchange came, a number of events is enough, in which an Ask
+  -- and an Answer are reckoned for each call
   pub bounded : (IsFaulty k.events.items → ⊥) → HasGoneWell f world k
   -- once faults have ended, ticks don't pass for long without progress: where no member is outside and at most r crashed, each idle stretch
   -- has at most N + 8 of them
@@ -134,24 +135,27 @@ pub record IsRun (f : Frame) (name : Action → List ℕ) (says : Kept → List 
   pub unused : NoneAskedBehind world.swaps (asked_since before after)
   pub in_time : AreInTime f k.events.items (asked_since before after)
 
--- It is a run of the program with these units, in the source's meaning, by these options. By the program's names its line of a process that
--- is blocked names the operation; what its history writes was printed, and the history and its places where these are asked for: each call
--- that a process comes to next behind a history has its names there. And the text of its history, printed or not, is read back as the
--- history, and is legal
-pub record IsProgramRun (units : List Source) (options : RunOptions) (wires : ℕ) (k : Kept) (status : ℕ) (old new : Option (List ℕ))
-    (before after : List (List Asked)) : Type 0 where
+-- It is a run of the program with these units, in the source's meaning, by these options and settings. By the program's names its line of a
+-- process that is blocked names the operation; what its history writes was printed, and the history and its places where these are asked
+-- for: each call that a process comes to next behind a history has its names there. And the text of its history, printed or not, is read
+-- back as the history, and is legal
+pub record IsProgramRun (units : List Source) (options : RunOptions) (settings : Settings) (k : Kept) (status : ℕ)
+    (old new : Option (List ℕ)) (before after : List (List Asked)) : Type 0 where
   pub names : Names
   pub are : AreNamesOf units names
   pub calls : CallsNamed units names
-  pub run : IsRun (run_of (performs_of units) (computes_of units) (settings_of options wires)) (awaited_name names)
-      (run_said options names) k status old new before after
+  pub run : IsRun (run_of (performs_of units) (computes_of units) settings) (awaited_name names) (run_said options names) k status old new
+      before after
   pub back : ReadsBack (performs_of units) (computes_of units) names k.book.items
 
--- it is the run that the words ask for, of the accepted program whose texts were read
-pub record IsRunOf (words : List Word) (files : Option (List File)) (earlier later : List FileRead) (k : Kept) (status : ℕ)
-    (old new : Option (List ℕ)) (before after : Wires) : Type 0 where
+-- it is the run that the words ask for, of the accepted program whose texts were read, with each object where the policy keeps it, which
+-- tells `asked` now: where no member may be lost it was asked about each site of the program, in order, and else about none
+pub record IsRunOf (policy : Chooser) (words : List Word) (files : Option (List File)) (earlier later : List FileRead) (k : Kept)
+    (status : ℕ) (old new : Option (List ℕ)) (before after : Wires) (asked : List replica.Asked) : Type 0 where
   pub units : List Source
   pub lines : List ScriptLine
   pub named : IsNamed words files earlier later units lines
-  pub run : IsProgramRun units named.options (length before.told) k status old new before.told after.told
+  pub run : IsProgramRun units named.options (settings_for policy units named.options (length before.told)) k status old new before.told
+      after.told
   pub loaded : AreLoaded lines before after
+  pub told : asked ≡ told_for policy units named.options

@@ -1,8 +1,7 @@
 -- What is kept of a run, in plain words: of its history, its processes and its members.
-use Rattle.std.specs.Prelude.{◌≡◌, ◌++◌, ℕ, List, Some, None, MatchOption, true, false, slice_get}
-use Rattle.orca_base.specs.declared.ids.ObjectId.{ObjectId}
+use Rattle.std.specs.Prelude.{◌≡◌, ℕ, List, Some, None, MatchOption, true, false, slice_get}
 use Rattle.orca_base.specs.declared.ids.ProcessNo.{ProcessNo}
-use Rattle.value_core.specs.History.{Legal, Process, object_at, objects_of, processes_of}
+use Rattle.value_core.specs.History.{Legal, Process, processes_of}
 use Rattle.value_core.specs.Lawful.{next_of}
 use Rattle.value_core.specs.Meaning.{Computes, Performs}
 use Rattle.value_core.specs.declared.action.Line.{Line}
@@ -11,12 +10,12 @@ use Rattle.world_rules.specs.Frame.{Frame}
 use Rattle.world_rules.specs.Steps.{Replays}
 use Rattle.world_rules.specs.Worlds.{Book, World, places}
 use Rattle.world_facts.specs.Ends.{StandsBy}
-use Rattle.world_facts.specs.Places.{lines_to}
 use Rattle.world_places.specs.Explained.{AreItsPlaces}
 use Rattle.run_ends.specs.Telling.{AreNodeEnds, AreProcessEnds, on_standing}
 use Rattle.run_ends.specs.declared.ends.NodeEnd.{NodeEnd}
 use Rattle.run_ends.specs.declared.ends.ProcessEnd.{ProcessEnd}
 use Rattle.run_ends.specs.declared.ends.ProcessStanding.TheVariants as standing
+use Rattle.kept_copies.specs.Copies.{HasCopies}
 use Rattle.orca_cli.specs.declared.kept.Kept.{Kept}
 
 -- the kept events lead to this world, and the book, the places of its lines, the members and the processes are this world's
@@ -42,20 +41,13 @@ pub record IsHome (nodes : List NodeEnd) (end : ProcessEnd) : Type 0 where
   pub crashed : end.standing ≡ standing.Crashed → node.crashed ≡ true
   pub busy : end.standing ≡ standing.Busy → node.crashed ≡ false
 
--- a member's copies are the objects after the front of the history whose lines have places up to what it applied
-pub record HasCopies (f : Frame) (w : World) (book : List Line) (end : NodeEnd) : Type 0 where
-  pub front : List Line
-  pub rest : List Line
-  pub splits : book ≡ front ++ rest
-  pub places : front ≡ lines_to end.applied (places f w) book
-  pub copies : (o : ObjectId) → object_at end.copies o ≡ object_at (objects_of f.performs f.computes front) o
-
 -- The kept book is a history of the program. The kept processes are the history's, one by one. Each member's copies are what the history
--- left up to what it applied. Each line was performed at its kept place, and the lines stand in the order of these
+-- left of its objects: of a replicated one what the front left that the member applied, of a single one that it owns what the whole history
+-- left. Each line was performed at its kept place, and the lines stand in the order of these
 pub record IsHistory (f : Frame) (w : World) (k : Kept) : Type 0 where
   pub legal : Legal f.performs f.computes k.book.items
   pub processes : (number : ProcessNo) → MatchOption (slice_get k.processes.items number.0)
       (slice_get (processes_of f.performs f.computes k.book.items) number.0 ≡ None) (IsProcess f.performs f.computes k.book.items number)
   pub homes : (i : ℕ) (end : ProcessEnd) → slice_get k.processes.items i ≡ Some end → IsHome k.nodes.items end
-  pub copies : (m : ℕ) (end : NodeEnd) → slice_get k.nodes.items m ≡ Some end → HasCopies f w k.book.items end
+  pub copies : (m : ℕ) (end : NodeEnd) → slice_get k.nodes.items m ≡ Some end → HasCopies f w k.book.items k.processes.items m end
   pub places : AreItsPlaces f w k.places.items

@@ -1,6 +1,6 @@
 //! The top call.
 
-ghost use Rattle.std.specs.Prelude.{◌≡◌, ◌⊎◌, ◌<◌, ◌≤◌, ◌++◌, List, None, IfNone, IfSome, OnErr, OnOk, Option, Some};
+ghost use Rattle.std.specs.Prelude.{◌≡◌, ◌⊎◌, ◌<◌, ◌≤◌, ◌++◌, List, None, IfNone, IfOk, IfSome, OnErr, OnOk, Option, Some};
 ghost use Rattle.std.specs.Prelude.{length, map, option_map, string_bytes};
 ghost use Rattle.command_line.specs.Asked.{IsRunWithin};
 ghost use Rattle.orca_io.specs.Causes.{Rose};
@@ -12,16 +12,17 @@ ghost use Rattle.history_commands.specs.ReadBack.{ReadsBack};
 ghost use Rattle.history_text.specs.Sound.{AreTables};
 ghost use Rattle.run_loop.specs.Asked.{HaveToldOn, WereAskedIn};
 ghost use Rattle.run_loop.specs.Left.{run_of};
-ghost use Rattle.orca_answers.specs.Choosing.{Chooser, chooser_of};
+ghost use Rattle.orca_answers.specs.Choosing.{WasAskedFirst, chooser_of};
 ghost use Rattle.orca_answers.specs.Endings.{IsAnswer};
 ghost use Rattle.orca_cli.specs.Headline.{AreLoaded, AreUntouched, HaveObeyed, IsProgramRun, IsRun, IsRunOf, WasBegun};
-ghost use Rattle.orca_cli.specs.Headline.{settings_of, wires_of};
+ghost use Rattle.orca_cli.specs.Headline.{settings_for, told_for, wires_of};
 ghost use Rattle.command_files.specs.Sources.{Word};
 ghost use Rattle.orca_answers.specs.Job.{deed_in, named_in, runs, script_names};
 ghost use Rattle.orca_cli.specs.Laws.{RunLaws};
 ghost use Rattle.command_output.specs.Printed.{HasStopped};
 ghost use Rattle.orca_answers.specs.Programs.{units_of};
 ghost use Rattle.orca_cli.specs.Standings.{awaited_name, run_said};
+ghost use Rattle.world_rules.specs.Frame.{AreSettings};
 
 use crate::kept::{Ended, Kept, unkept};
 use crate::report::report;
@@ -32,35 +33,50 @@ use command_output::{FINISHED, NO_MEMORY, READ_FAULT, USAGE, WRITE_FAULT, print_
 use fault_scripts::Script;
 use history_text::{Names, lines_fit};
 use orca_answers::{
-    Job, check_files, choose_files, job_of, linked_program, list_program, machine_of, replay,
-    said_refused, said_unread, said_unscripted, script_of, usage_line, whole,
+    Job, check_files, choose_files, job_of, linked_program, list_program, machine_of,
+    replay_history, said_refused, said_unread, said_unscripted, script_of, usage_line, whole,
 };
-use orca_base::{Items, NoMemory, Refusal};
+use orca_base::{NoMemory, Refusal};
 use orca_io::{Shelf, Sink};
 use program_names::names;
 use replica_choice::Policy;
+use run_choices::run_settings;
 use run_law::run_law;
 use run_loop::{Ran, Settings, run};
 use std::alloc::Global;
 use wires::{Wire, have_obeyed};
 use world_book::legal_book;
-use world_enough::events_are_enough;
+use world_enough::events_are_enough_with_singles;
 use world_facts::{book_by_places, ends_stand, processes_stand, standings_mean, worlds_count};
 use world_idle::{idle_ticks_are_counted, stretches_are_short};
 
-// The settings of a run with these options over these wires: each object is at every member.
-fn settings_of<W: Wire>(alloc: Global, options: RunOptions, wires: &[W]) -> Settings
-    requires { length wires.now ≤ 1000 }
-    ensures { result ≡ settings_of options (length wires.now) }
+// The settings of a run with these options over these wires, with each object where the policy keeps it, which is asked where no member may
+// be lost.
+fn settings_of<W: Wire, P: Policy>(
+    alloc: Global,
+    machine: &CodeMachine<'_>,
+    options: RunOptions,
+    wires: &[W],
+    policy: &mut P,
+) -> Result<Settings, NoMemory>
+    requires options { IsRunWithin options }
+    requires wires { (1 ≤ length wires.now) × (length wires.now ≤ 1000) }
+    ensures settings { IfOk result (λ s.
+        s ≡ settings_for (chooser_of P.rule P.told policy.old) (units_of machine.now) options (length wires.now)) }
+    ensures ranges { IfOk result (λ s. AreSettings s) }
+    ensures told { IfOk result (λ s.
+        P.told policy.new ≡ told_for (chooser_of P.rule P.told policy.old) (units_of machine.now) options) }
+    ensures first { OnErr result ((options.group.resilience ≡ 0) × WasAskedFirst (chooser_of P.rule P.told policy.old)
+        options.group.nodes (units_of machine.now) (P.told policy.new)) }
+    ensures same_rule { P.rule policy.new ≡ P.rule policy.old }
 {
-    Settings {
-        nodes: options.group.nodes,
-        resilience: options.group.resilience,
-        turns: options.turns,
-        events: options.events,
-        wires: wires.len() as u16,
-        choices: Items::new(Vec::new(alloc)),
-    }
+    run_settings(
+        alloc,
+        machine.tables.checked(),
+        options,
+        wires.len() as u16,
+        policy,
+    )
 }
 
 // Loads the first wire with a script.
@@ -82,7 +98,7 @@ fn laws_of_runs(machine: &CodeMachine<'_>)
 {
     book_by_places();
     ends_stand();
-    events_are_enough(machine);
+    events_are_enough_with_singles(machine);
     idle_ticks_are_counted();
     legal_book(machine);
     processes_stand();
@@ -98,23 +114,25 @@ fn run_loaded<K: Sink, W: Wire>(
     machine: &CodeMachine<'_>,
     names: &Names,
     options: RunOptions,
+    settings: Settings,
     out: &mut K,
     wires: &mut [W],
 ) -> Ended
     requires tables { AreTables names.now }
     requires named { HistoriesNamed (units_of machine.now) names.now }
-    requires options { IsRunWithin options }
-    requires wires { (1 ≤ length wires.old) × (length wires.old ≤ 1000) }
+    requires ranges { AreSettings settings }
+    requires turns { settings.turns ≡ options.turns }
+    requires wires { settings.wires ≡ length wires.old }
     ensures none { IfNone result.kept ((result.status ≡ NO_MEMORY) × (K.told out.new ≡ K.told out.old)) }
     ensures kept { IfSome result.kept (λ k. IsRun
-        (run_of (performs_of (units_of machine.now)) (computes_of (units_of machine.now)) (settings_of options (length wires.old)))
+        (run_of (performs_of (units_of machine.now)) (computes_of (units_of machine.now)) settings)
         (awaited_name names.now) (run_said options names.now) k result.status (K.told out.old) (K.told out.new)
         (map W.told wires.old) (map W.told wires.new)) }
     ensures back { IfSome result.kept (λ k.
         ReadsBack (performs_of (units_of machine.now)) (computes_of (units_of machine.now)) names.now k.book.items) }
     ensures told { HaveToldOn (map W.told wires.old) (map W.told wires.new) }
     ensures asked { WereAskedIn
-        (run_of (performs_of (units_of machine.now)) (computes_of (units_of machine.now)) (settings_of options (length wires.old)))
+        (run_of (performs_of (units_of machine.now)) (computes_of (units_of machine.now)) settings)
         (map W.told wires.old) (map W.told wires.new) }
     ensures scripts { map W.rule wires.new ≡ map W.rule wires.old }
     ensures loaded { map W.loaded wires.new ≡ map W.loaded wires.old }
@@ -123,7 +141,6 @@ fn run_loaded<K: Sink, W: Wire>(
     ensures stopped { K.faults out.old < K.faults out.new → HasStopped result.status }
 {
     laws_of_runs(machine);
-    let settings = settings_of(alloc, options, wires);
     let ran = run(alloc, machine, settings, wires);
     let Ran { standing, end } = ran;
     let Some(end) = end else {
@@ -148,17 +165,19 @@ fn run_named<K: Sink, W: Wire>(
     alloc: Global,
     machine: &CodeMachine<'_>,
     options: RunOptions,
+    settings: Settings,
     out: &mut K,
     wires: &mut [W],
 ) -> Ended
-    requires options { IsRunWithin options }
-    requires wires { (1 ≤ length wires.old) × (length wires.old ≤ 1000) }
+    requires ranges { AreSettings settings }
+    requires turns { settings.turns ≡ options.turns }
+    requires wires { settings.wires ≡ length wires.old }
     ensures none { IfNone result.kept ((result.status ≡ NO_MEMORY) × (K.told out.new ≡ K.told out.old)) }
-    ensures kept { IfSome result.kept (λ k. IsProgramRun (units_of machine.now) options (length wires.old) k result.status
+    ensures kept { IfSome result.kept (λ k. IsProgramRun (units_of machine.now) options settings k result.status
         (K.told out.old) (K.told out.new) (map W.told wires.old) (map W.told wires.new)) }
     ensures told { HaveToldOn (map W.told wires.old) (map W.told wires.new) }
     ensures asked { WereAskedIn
-        (run_of (performs_of (units_of machine.now)) (computes_of (units_of machine.now)) (settings_of options (length wires.old)))
+        (run_of (performs_of (units_of machine.now)) (computes_of (units_of machine.now)) settings)
         (map W.told wires.old) (map W.told wires.new) }
     ensures scripts { map W.rule wires.new ≡ map W.rule wires.old }
     ensures loaded { map W.loaded wires.new ≡ map W.loaded wires.old }
@@ -167,7 +186,7 @@ fn run_named<K: Sink, W: Wire>(
     ensures stopped { K.faults out.old < K.faults out.new → HasStopped result.status }
 {
     match names(alloc, machine.tables.checked()) {
-        Ok(names) => run_loaded(alloc, machine, &names, options, out, wires),
+        Ok(names) => run_loaded(alloc, machine, &names, options, settings, out, wires),
         Err(_) => unkept(NO_MEMORY),
     }
 }
@@ -177,33 +196,35 @@ fn run_program<K: Sink, W: Wire>(
     alloc: Global,
     machine: &CodeMachine<'_>,
     options: RunOptions,
+    settings: Settings,
     script: &Script,
     out: &mut K,
     wires: &mut [W],
 ) -> Ended
-    requires options { IsRunWithin options }
-    requires wires { (1 ≤ length wires.old) × (length wires.old ≤ 1000) }
+    requires ranges { AreSettings settings }
+    requires turns { settings.turns ≡ options.turns }
+    requires wires { settings.wires ≡ length wires.old }
     ensures none { IfNone result.kept ((result.status ≡ NO_MEMORY) × (K.told out.new ≡ K.told out.old)) }
-    ensures kept { IfSome result.kept (λ k. IsProgramRun (units_of machine.now) options (length wires.old) k result.status
+    ensures kept { IfSome result.kept (λ k. IsProgramRun (units_of machine.now) options settings k result.status
         (K.told out.old) (K.told out.new) (map W.told wires.old) (map W.told wires.new)) }
     ensures loaded { IfSome result.kept (λ k. AreLoaded script.now
         (wires_of W.told W.rule W.loaded wires.old) (wires_of W.told W.rule W.loaded wires.new)) }
     ensures untouched { IfNone result.kept (
         (wires_of W.told W.rule W.loaded wires.new ≡ wires_of W.told W.rule W.loaded wires.old) ⊎
-        WasBegun (units_of machine.now) options script.now
+        WasBegun (units_of machine.now) settings script.now
         (wires_of W.told W.rule W.loaded wires.old) (wires_of W.told W.rule W.loaded wires.new)) }
     ensures later { K.faults out.old ≤ K.faults out.new }
     ensures failed { result.status ≡ WRITE_FAULT → Rose (K.faults out.old) (K.faults out.new) }
     ensures stopped { K.faults out.old < K.faults out.new → HasStopped result.status }
 {
     match load_first(alloc, script, wires) {
-        Ok(()) => run_named(alloc, machine, options, out, wires),
+        Ok(()) => run_named(alloc, machine, options, settings, out, wires),
         Err(_) => unkept(NO_MEMORY),
     }
 }
 
 // Runs the program in the files with the script in another, or says why not.
-fn run_files<F: Shelf, K: Sink, W: Wire>(
+fn run_files<F: Shelf, K: Sink, W: Wire, P: Policy>(
     alloc: Global,
     options: RunOptions,
     script: Option<&str>,
@@ -211,23 +232,26 @@ fn run_files<F: Shelf, K: Sink, W: Wire>(
     shelf: &mut F,
     out: &mut K,
     wires: &mut [W],
+    policy: &mut P,
 ) -> Ended
     requires options { IsRunWithin options }
     requires wires { (1 ≤ length wires.old) × (length wires.old ≤ 1000) }
-    ensures refused { (policy : Chooser) (words : List Word) →
+    ensures refused { (words : List Word) →
         deed_in words ≡ Some (runs options (option_map (λ f. f.now) script.entry) (map (λ f. f.now) files.now)) →
-        IfNone result.kept (IsAnswer policy words (F.told shelf.old) (F.reads shelf.old) (F.reads shelf.new)
+        IfNone result.kept (IsAnswer (chooser_of P.rule P.told policy.old) words (F.told shelf.old) (F.reads shelf.old) (F.reads shelf.new)
         (StoppedAt (F.faults shelf.old) (F.faults shelf.new) (F.reads shelf.old) (F.reads shelf.new))
-        (K.told out.old) (K.told out.new) result.status policy.told) }
+        (K.told out.old) (K.told out.new) result.status (P.told policy.new)) }
     ensures kept { (words : List Word) →
         deed_in words ≡ Some (runs options (option_map (λ f. f.now) script.entry) (map (λ f. f.now) files.now)) →
-        IfSome result.kept (λ k. IsRunOf words (F.told shelf.old) (F.reads shelf.old) (F.reads shelf.new) k result.status
-        (K.told out.old) (K.told out.new)
-        (wires_of W.told W.rule W.loaded wires.old) (wires_of W.told W.rule W.loaded wires.new)) }
+        IfSome result.kept (λ k. IsRunOf (chooser_of P.rule P.told policy.old) words (F.told shelf.old) (F.reads shelf.old) (F.reads shelf.new)
+        k result.status (K.told out.old) (K.told out.new)
+        (wires_of W.told W.rule W.loaded wires.old) (wires_of W.told W.rule W.loaded wires.new) (P.told policy.new)) }
     ensures untouched { (words : List Word) →
         deed_in words ≡ Some (runs options (option_map (λ f. f.now) script.entry) (map (λ f. f.now) files.now)) →
-        IfNone result.kept (AreUntouched words (F.told shelf.old) (F.reads shelf.old) (F.reads shelf.new) result.status
+        IfNone result.kept (AreUntouched (chooser_of P.rule P.told policy.old) words (F.told shelf.old) (F.reads shelf.old) (F.reads shelf.new)
+        result.status
         (wires_of W.told W.rule W.loaded wires.old) (wires_of W.told W.rule W.loaded wires.new)) }
+    ensures same_rule { P.rule policy.new ≡ P.rule policy.old }
     ensures same { F.told shelf.new ≡ F.told shelf.old }
     ensures read { F.faults shelf.old ≤ F.faults shelf.new }
     ensures asked { HasAsked (F.may_fail shelf.old) (map (λ f. f.now) files.now ++ script_names (option_map (λ f. f.now) script.entry))
@@ -258,7 +282,11 @@ fn run_files<F: Shelf, K: Sink, W: Wire>(
         Err(Refusal::Because { cause }) => return unkept(said_refused(alloc, out, &cause)),
         Err(Refusal::NoMemory) => return unkept(NO_MEMORY),
     };
-    run_program(alloc, &machine, options, &script, out, wires)
+    let settings = match settings_of(alloc, &machine, options, wires, policy) {
+        Ok(settings) => settings,
+        Err(_) => return unkept(NO_MEMORY),
+    };
+    run_program(alloc, &machine, options, settings, &script, out, wires)
 }
 
 // What these wires were asked since their scripts were loaded, they answered by their rules. A call of this function does nothing.
@@ -282,12 +310,12 @@ pub fn orca_main_over<F: Shelf, K: Sink, W: Wire, P: Policy>(
         (F.reads shelf.old) (F.reads shelf.new)
         (StoppedAt (F.faults shelf.old) (F.faults shelf.new) (F.reads shelf.old) (F.reads shelf.new))
         (K.told out.old) (K.told out.new) result.status (P.told policy.new)) }
-    ensures untouched { IfNone result.kept (AreUntouched (map string_bytes words.now) (F.told shelf.old)
+    ensures untouched { IfNone result.kept (AreUntouched (chooser_of P.rule P.told policy.old) (map string_bytes words.now) (F.told shelf.old)
         (F.reads shelf.old) (F.reads shelf.new) result.status
         (wires_of W.told W.rule W.loaded wires.old) (wires_of W.told W.rule W.loaded wires.new)) }
-    ensures headline { IfSome result.kept (λ k. IsRunOf (map string_bytes words.now) (F.told shelf.old)
+    ensures headline { IfSome result.kept (λ k. IsRunOf (chooser_of P.rule P.told policy.old) (map string_bytes words.now) (F.told shelf.old)
         (F.reads shelf.old) (F.reads shelf.new) k result.status (K.told out.old) (K.told out.new)
-        (wires_of W.told W.rule W.loaded wires.old) (wires_of W.told W.rule W.loaded wires.new)) }
+        (wires_of W.told W.rule W.loaded wires.old) (wires_of W.told W.rule W.loaded wires.new) (P.told policy.new)) }
     ensures write_fault { result.status ≡ WRITE_FAULT → Rose (K.faults out.old) (K.faults out.new) }
     ensures stopped { K.faults out.old < K.faults out.new → HasStopped result.status }
     ensures same { F.told shelf.new ≡ F.told shelf.old }
@@ -296,7 +324,6 @@ pub fn orca_main_over<F: Shelf, K: Sink, W: Wire, P: Policy>(
     ensures asked { HasAsked (F.may_fail shelf.old) (named_in (map string_bytes words.now)) (F.reads shelf.old) (F.reads shelf.new) }
     ensures may { F.may_fail shelf.new ≡ F.may_fail shelf.old }
     ensures written { K.faults out.old ≤ K.faults out.new }
-    ensures unasked { IfSome result.kept (λ _. P.told policy.new ≡ P.told policy.old) }
     ensures same_rule { P.rule policy.new ≡ P.rule policy.old }
 {
     match job_of(alloc, words) {
@@ -316,8 +343,8 @@ pub fn orca_main_over<F: Shelf, K: Sink, W: Wire, P: Policy>(
                     files,
                 },
             ),
-        ) => run_files(alloc, options, script, &files, shelf, out, wires),
-        Ok(Some(Job::Replays { history, files })) => unkept(replay(
+        ) => run_files(alloc, options, script, &files, shelf, out, wires, policy),
+        Ok(Some(Job::Replays { history, files })) => unkept(replay_history(
             alloc, history, &files, shelf, out,
         )),
         Ok(None) => unkept(print_ending(out, usage_line(alloc), USAGE)),
@@ -328,7 +355,8 @@ pub fn orca_main_over<F: Shelf, K: Sink, W: Wire, P: Policy>(
 /// Does what the words ask for: `run` runs the accepted program in the files on as many members as they say, over the wires; `check` says
 /// whether the program in the files is accepted; `code` lists its code, with the source's lines or not; `choice` says how often each of its
 /// objects is estimated to be read and written, and where the policy would keep it among as many members; `replay` says whether the history
-/// in a file is one of the accepted program in the others; `--help` and `--version` say what they name. So far no run asks the policy.
+/// in a file is one of the accepted program in the others; `--help` and `--version` say what they name. A run in which no member may be
+/// lost keeps each object where the policy chooses.
 ///
 /// `words` leaves out the program's name; of the wires, from 1 to 1,000, the first is in use at the beginning, and is loaded with the
 /// script of the words, or with the empty one. The status is that of docs/FORMATS.md. Nothing is kept where the words ask for no run, a
@@ -354,7 +382,9 @@ pub fn orca_main<F: Shelf, K: Sink>(
         (map string_bytes words.now) (F.told shelf.old) (F.reads shelf.old) (F.reads shelf.new)
         (StoppedAt (F.faults shelf.old) (F.faults shelf.new) (F.reads shelf.old) (F.reads shelf.new))
         (K.told out.old) (K.told out.new) result.status ((Policy-box policy.new).told policy.new.value)) }
-    ensures untouched { IfNone result.kept (AreUntouched (map string_bytes words.now) (F.told shelf.old)
+    ensures untouched { IfNone result.kept (AreUntouched
+        (chooser_of (λ b. (Policy-box b).rule b.value) (λ b. (Policy-box b).told b.value) policy.old)
+        (map string_bytes words.now) (F.told shelf.old)
         (F.reads shelf.old) (F.reads shelf.new) result.status
         (wires_of (λ b. (Wire-box b).told b.value) (λ b. (Wire-box b).rule b.value) (λ b. (Wire-box b).loaded b.value)
         wires.old.items)
@@ -364,13 +394,17 @@ pub fn orca_main<F: Shelf, K: Sink>(
     // A kept run is one of the program that the words name, whose texts were read: a history of it in the source's meaning, whose replies
     // and copies its members have, and each line of which was performed at its kept place; what it writes was printed, and its own text and
     // its places, where these are asked for; its text is read back and is legal. Its network was really used, by the script that the words
-    // name. `bounded`, `idle` and `counted` of `IsRun` say how many events and how many idle ticks it may have.
-    ensures headline { IfSome result.kept (λ k. IsRunOf (map string_bytes words.now) (F.told shelf.old)
+    // name. `bounded`, `idle` and `counted` of `IsRun` say how many events and how many idle ticks it may have. Where no member may be lost,
+    // each object is where the policy's rule keeps it, which was asked about each site of the program, in order; else it was asked nothing.
+    ensures headline { IfSome result.kept (λ k. IsRunOf
+        (chooser_of (λ b. (Policy-box b).rule b.value) (λ b. (Policy-box b).told b.value) policy.old)
+        (map string_bytes words.now) (F.told shelf.old)
         (F.reads shelf.old) (F.reads shelf.new) k result.status (K.told out.old) (K.told out.new)
         (wires_of (λ b. (Wire-box b).told b.value) (λ b. (Wire-box b).rule b.value) (λ b. (Wire-box b).loaded b.value)
         wires.old.items)
         (wires_of (λ b. (Wire-box b).told b.value) (λ b. (Wire-box b).rule b.value) (λ b. (Wire-box b).loaded b.value)
-        wires.new.items)) }
+        wires.new.items)
+        ((Policy-box policy.new).told policy.new.value)) }
 
     // A write fault is told only where the sink's count of faults rose; and where it rose, that or want of memory is told.
     ensures write_fault { result.status ≡ WRITE_FAULT → Rose (K.faults out.old) (K.faults out.new) }
@@ -393,9 +427,7 @@ pub fn orca_main<F: Shelf, K: Sink>(
         (wires_of (λ b. (Wire-box b).told b.value) (λ b. (Wire-box b).rule b.value) (λ b. (Wire-box b).loaded b.value)
         wires.new.items) }
 
-    // A run asks the policy nothing; and it keeps its rule.
-    ensures unasked { IfSome result.kept (λ _.
-        (Policy-box policy.new).told policy.new.value ≡ (Policy-box policy.old).told policy.old.value) }
+    // The policy keeps its rule.
     ensures same_rule { (Policy-box policy.new).rule policy.new.value ≡ (Policy-box policy.old).rule policy.old.value }
 {
     let ended = orca_main_over(alloc, words, shelf, out, wires, policy);

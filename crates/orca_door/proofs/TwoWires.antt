@@ -56,9 +56,9 @@ record AreStill (after : Wires) : Type 0 where
 still_loaded : (lines : List ScriptLine) (after : Wires) → AreLoaded lines fresh after → AreStill after
 still_loaded lines after h = record { first = h.since; second = h.others.loaded 0; script = h.others.rules 0 }
 
-still_untouched : (words : List Word) (files : Option (List File)) (earlier later : List FileRead) (status : ℕ) (after : Wires) → AreUntouched words files earlier later status fresh after → AreStill after
-still_untouched words files earlier later status after (inl same) = subst AreStill (sym same) (record { first = refl; second = refl; script = refl })
-still_untouched words files earlier later status after (inr lacked) = still_loaded lacked.lines after lacked.begun.loaded
+still_untouched : (policy : Chooser) (words : List Word) (files : Option (List File)) (earlier later : List FileRead) (status : ℕ) (after : Wires) → AreUntouched policy words files earlier later status fresh after → AreStill after
+still_untouched policy words files earlier later status after (inl same) = subst AreStill (sym same) (record { first = refl; second = refl; script = refl })
+still_untouched policy words files earlier later status after (inr lacked) = still_loaded lacked.lines after lacked.begun.loaded
 
 have_answered : (wires : List Wired) → AreTwo wires → AreStill (wired wires) → HaveAnswered (wired wires)
 have_answered wires both = subst (λ (l : List Wired). AreStill (wired l) → HaveAnswered (wired l)) (sym both.are) of_two
@@ -90,29 +90,29 @@ two_made wires is =
     (omega (arith, two), omega (arith, two))
 
 -- there are still two wires
-pub two_left : (words : List Word) (files : Option (List File)) (earlier later : List FileRead) (status : ℕ) (old new : Option (List ℕ)) (kept : Option Kept) (before : Wires) (wires : List Wired) → before ≡ fresh →
-    IfNone kept (AreUntouched words files earlier later status before (wired wires)) → IfSome kept (λ k. IsRunOf words files earlier later k status old new before (wired wires)) → length wires ≡ 2
-two_left words files earlier later status old new kept before wires is untouched ran = sym (length-map wires (λ (w : Wired). w.told)) ∙ by kept untouched ran ∙ ap (λ (w : Wires). length w.told) is
+pub two_left : (policy : Chooser) (words : List Word) (files : Option (List File)) (earlier later : List FileRead) (status : ℕ) (old new : Option (List ℕ)) (told : List Question) (kept : Option Kept) (before : Wires) (wires : List Wired) → before ≡ fresh →
+    IfNone kept (AreUntouched policy words files earlier later status before (wired wires)) → IfSome kept (λ k. IsRunOf policy words files earlier later k status old new before (wired wires) told) → length wires ≡ 2
+two_left policy words files earlier later status old new told kept before wires is untouched ran = sym (length-map wires (λ (w : Wired). w.told)) ∙ by kept untouched ran ∙ ap (λ (w : Wires). length w.told) is
   where
-    by : (kept : Option Kept) → IfNone kept (AreUntouched words files earlier later status before (wired wires)) → IfSome kept (λ k. IsRunOf words files earlier later k status old new before (wired wires)) →
+    by : (kept : Option Kept) → IfNone kept (AreUntouched policy words files earlier later status before (wired wires)) → IfSome kept (λ k. IsRunOf policy words files earlier later k status old new before (wired wires) told) →
         length (map (λ (w : Wired). w.told) wires) ≡ length before.told
     by None (inl same) none = ap (λ (w : Wires). length w.told) same
     by None (inr lacked) none = lacked.begun.told.count
     by (Some k) none run = run.run.run.told.count
 
 pub is_served : (policy : Chooser) (words : List Word) (files : Option (List File)) (earlier later : List FileRead) (stopped : ShelfFault → Word → Type 0) (old new : Option (List ℕ)) (status : ℕ) (told : List Question) (kept : Option Kept) (before : Wires) (wires : List Wired) → before ≡ fresh → AreTwo wires →
-    IfNone kept (IsAnswer policy words files earlier later stopped old new status told) → IfNone kept (AreUntouched words files earlier later status before (wired wires)) → IfSome kept (λ k. IsRunOf words files earlier later k status old new before (wired wires)) → IfSome kept (λ _. told ≡ policy.told) →
+    IfNone kept (IsAnswer policy words files earlier later stopped old new status told) → IfNone kept (AreUntouched policy words files earlier later status before (wired wires)) → IfSome kept (λ k. IsRunOf policy words files earlier later k status old new before (wired wires) told) →
     IsServed policy words files earlier later stopped old new status told
-is_served policy words files earlier later stopped old new status told kept before wires is both answer untouched ran unasked = by kept answer untouched ran unasked
+is_served policy words files earlier later stopped old new status told kept before wires is both answer untouched ran = by kept answer untouched ran
   where
-    by : (kept : Option Kept) → IfNone kept (IsAnswer policy words files earlier later stopped old new status told) → IfNone kept (AreUntouched words files earlier later status before (wired wires)) →
-        IfSome kept (λ k. IsRunOf words files earlier later k status old new before (wired wires)) → IfSome kept (λ _. told ≡ policy.told) → IsServed policy words files earlier later stopped old new status told
-    by None answer untouched none nobody =
-        let same = subst (λ (b : Wires). AreUntouched words files earlier later status b (wired wires)) is untouched in
-        serves.ended (wired wires) (have_answered wires both (still_untouched words files earlier later status (wired wires) same)) answer same
-    by (Some k) none nothing run unasked =
-        let same = subst (λ (b : Wires). IsRunOf words files earlier later k status old new b (wired wires)) is run in
-        serves.ran k (wired wires) (have_answered wires both (still_loaded same.lines (wired wires) same.loaded)) same unasked
+    by : (kept : Option Kept) → IfNone kept (IsAnswer policy words files earlier later stopped old new status told) → IfNone kept (AreUntouched policy words files earlier later status before (wired wires)) →
+        IfSome kept (λ k. IsRunOf policy words files earlier later k status old new before (wired wires) told) → IsServed policy words files earlier later stopped old new status told
+    by None answer untouched none =
+        let same = subst (λ (b : Wires). AreUntouched policy words files earlier later status b (wired wires)) is untouched in
+        serves.ended (wired wires) (have_answered wires both (still_untouched policy words files earlier later status (wired wires) same)) answer same
+    by (Some k) none nothing run =
+        let same = subst (λ (b : Wires). IsRunOf policy words files earlier later k status old new b (wired wires) told) is run in
+        serves.ran k (wired wires) (have_answered wires both (still_loaded same.lines (wired wires) same.loaded)) same
 
 -- where there was no memory for the wires
 pub none_made : (policy : Chooser) (words : List Word) (files : Option (List File)) (reads : List FileRead) (stopped : ShelfFault → Word → Type 0) (old : Option (List ℕ)) (status : ℕ) → status ≡ NO_MEMORY → IsServed policy words files reads reads stopped old old status policy.told

@@ -39,11 +39,11 @@ pub record HaveAnswered (wires : Wires) : Type 0 where
 
 -- Nothing is kept: an ending by its cause with its line, or want of memory, over wires that are as they were made, unless memory lacked for
 -- the run that the words name; and a policy was asked what that ending says. Or a run was kept, and is the one that the words ask for, of
--- the program whose texts were read, and no policy was asked. Either way the wires answered so; where a run was begun, the lines of the
--- first are those that the words name (`AreLoaded` of orca_cli)
+-- the program whose texts were read, with each object where the policy keeps it, which was asked where no member may be lost. Either way the
+-- wires answered so; where a run was begun, the lines of the first are those that the words name (`AreLoaded` of orca_cli)
 pub data IsServed (policy : Chooser) (words : List Word) (files : Option (List File)) (earlier later : List FileRead)
     (stopped : ShelfFault → Word → Type 0) (old new : Option (List ℕ)) (status : ℕ) (told : List Question) : Type 0 where
   ended : (after : Wires) → HaveAnswered after → IsAnswer policy words files earlier later stopped old new status told →
-      AreUntouched words files earlier later status fresh after → IsServed policy words files earlier later stopped old new status told
-  ran : (k : Kept) (after : Wires) → HaveAnswered after → IsRunOf words files earlier later k status old new fresh after →
-      told ≡ policy.told → IsServed policy words files earlier later stopped old new status told
+      AreUntouched policy words files earlier later status fresh after → IsServed policy words files earlier later stopped old new status told
+  ran : (k : Kept) (after : Wires) → HaveAnswered after → IsRunOf policy words files earlier later k status old new fresh after told →
+      IsServed policy words files earlier later stopped old new status told

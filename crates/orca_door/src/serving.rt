@@ -69,7 +69,8 @@ fn served<F: Shelf, K: Sink, P: Policy>(
 ///
 /// `words` leaves out the program's name. The first wire is loaded with the script of the words before a run begins, or with the empty one
 /// where they name none, and answers as that says; the second, to which the script may swap, lets every packet pass and gives no act. The
-/// policy chooses what `choice` prints. Where memory lacks for the wires, that is the status, and nothing is read.
+/// policy chooses what `choice` prints, and where the objects of a run are kept in which no member may be lost. Where memory lacks for the
+/// wires, that is the status, and nothing is read.
 pub fn serve<F: Shelf, K: Sink, P: Policy>(
     alloc: Global,
     words: &[String],
@@ -78,7 +79,7 @@ pub fn serve<F: Shelf, K: Sink, P: Policy>(
     policy: &mut P,
 ) -> u8
     // An ending by its cause, with its line and what the policy was asked for it, or want of memory; or the run that the words ask for,
-    // over wires that answered by their scripts, for which no policy was asked.
+    // over wires that answered by their scripts, with each object where the policy keeps it.
     ensures served { IsServed (chooser_of P.rule P.told policy.old) (map string_bytes words.now) (F.told shelf.old)
         (F.reads shelf.old) (F.reads shelf.new)
         (StoppedAt (F.faults shelf.old) (F.faults shelf.new) (F.reads shelf.old) (F.reads shelf.new))

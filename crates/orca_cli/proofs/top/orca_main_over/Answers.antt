@@ -14,7 +14,7 @@ returns-in-Ok-None-clause-refused g c =
 
 pub returns-in-Ok-Some-Replays-clause-refused : goal.returns-in-Ok-Some-Replays-clause-refused
 returns-in-Ok-Some-Replays-clause-refused g c =
-    rw c.unkept-in-Ok-Some-Replays.ensures (if_none _ _ ((rw c.deref-in-Ok-Some-Replays.ensures.value at c.replay.ensures.said) _ _ (deed_is _ _ _ _ c.in-Ok-Some-Replays.ensures.is c.in-Ok-Some-Replays.field-0-is c.in-Ok-Some-Replays.field-0-0-is)))
+    rw c.unkept-in-Ok-Some-Replays.ensures (if_none _ _ ((rw c.deref-in-Ok-Some-Replays.ensures.value at c.replay_history.ensures.said) _ _ (deed_is _ _ _ _ c.in-Ok-Some-Replays.ensures.is c.in-Ok-Some-Replays.field-0-is c.in-Ok-Some-Replays.field-0-0-is)))
 
 pub returns-in-Ok-Some-Lists-clause-refused : goal.returns-in-Ok-Some-Lists-clause-refused
 returns-in-Ok-Some-Lists-clause-refused g c =
@@ -33,7 +33,7 @@ run_files-requires-clause-options g c = within_is _ _ _ c.in-Ok-Some-Runs.ensure
 
 pub returns-in-Ok-Some-Runs-clause-refused : goal.returns-in-Ok-Some-Runs-clause-refused
 returns-in-Ok-Some-Runs-clause-refused g c =
-    (rw c.deref-in-Ok-Some-Runs.ensures.value at c.run_files.ensures.refused) _ _ (deed_is _ _ _ _ c.in-Ok-Some-Runs.ensures.is c.in-Ok-Some-Runs.field-0-is c.in-Ok-Some-Runs.field-0-0-is)
+    (rw c.deref-in-Ok-Some-Runs.ensures.value at c.run_files.ensures.refused) _ (deed_is _ _ _ _ c.in-Ok-Some-Runs.ensures.is c.in-Ok-Some-Runs.field-0-is c.in-Ok-Some-Runs.field-0-0-is)
 
 pub returns-in-Ok-Some-Runs-clause-untouched : goal.returns-in-Ok-Some-Runs-clause-untouched
 returns-in-Ok-Some-Runs-clause-untouched g c =
@@ -62,7 +62,7 @@ returns-in-Ok-Some-Runs-clause-asked g c =
 
 pub returns-in-Ok-Some-Replays-clause-asked : goal.returns-in-Ok-Some-Replays-clause-asked
 returns-in-Ok-Some-Replays-clause-asked g c =
-    asked_words _ _ _ _ _ (deed_is _ _ _ _ c.in-Ok-Some-Replays.ensures.is c.in-Ok-Some-Replays.field-0-is c.in-Ok-Some-Replays.field-0-0-is) (rw c.deref-in-Ok-Some-Replays.ensures.value at c.replay.ensures.asked)
+    asked_words _ _ _ _ _ (deed_is _ _ _ _ c.in-Ok-Some-Replays.ensures.is c.in-Ok-Some-Replays.field-0-is c.in-Ok-Some-Replays.field-0-0-is) (rw c.deref-in-Ok-Some-Replays.ensures.value at c.replay_history.ensures.asked)
 
 pub returns-in-Ok-Some-Lists-clause-asked : goal.returns-in-Ok-Some-Lists-clause-asked
 returns-in-Ok-Some-Lists-clause-asked g c =
