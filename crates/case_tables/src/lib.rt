@@ -3,7 +3,7 @@
 //! Without words `answer_tables` answers the tables that `tables.txt` names, files of the folder that the program is run in, and with words
 //! those that they name. It prints a line for each: its name, how many cases it has, and how many were answered as wanted; in front of it,
 //! of each that wasn't, what was wanted and what came. A case is a text alone (docs/CASES.md), so that adding one needs no code and no
-//! proof.
+//! proof. A case that is wrong on purpose says what is to be told of it, and so shows that a case can fail.
 //!
 //! What came of a call is told in an `Outcome`, which owns numbers and texts alone. So all of this stands below the product's top, and the
 //! program above, `cases`, hands in who makes the calls (`Calls`) and has nothing else. It promises nothing to others: the gate runs

@@ -1,7 +1,8 @@
 //! Reading cases.
 //!
 //! A case is the lines from its mark `=>` up to the next: the words; the status; the lines that are printed; `--` and what it is about;
-//! lines `++` and `??`; and its files, each behind a line `==`. Whatever stands elsewhere is malformed, and told.
+//! lines `++` and `??`; and its files, each behind a line `==`. Whatever stands elsewhere is malformed, and told. A line `!!` may stand
+//! anywhere: it says nothing of the call.
 
 use crate::case::{Case, Flaw};
 use crate::rows::{Row, row_of};
@@ -77,6 +78,7 @@ fn take<'a, F: Shelf>(
     row: Row<'a>,
 ) -> Result<Part, Flaw> {
     match (draft.part, row) {
+        (part, Row::Told { .. }) => Ok(part),
         (Part::Nothing, Row::Call { words }) => {
             draft.case.words = words_of(alloc, words)?;
             Ok(Part::Words)

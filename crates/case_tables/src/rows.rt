@@ -17,6 +17,8 @@ pub enum Row<'a> {
     Insert { name: &'a str },
     /// `@@ COUNT WHAT`: the same again and again.
     Repeat { text: &'a str },
+    /// `!! END`: the case is wrong on purpose, and what is told of it ends so.
+    Told { end: &'a str },
     /// `## NOTE`: behind a case, and for readers alone.
     Note,
     /// A line of a text.
@@ -25,7 +27,7 @@ pub enum Row<'a> {
     Wrong,
 }
 
-const MARKS: [&str; 8] = ["=>", "--", "++", "??", "==", "<<", "@@", "##"];
+const MARKS: [&str; 9] = ["=>", "--", "++", "??", "==", "<<", "@@", "!!", "##"];
 
 /// What a line is. A mark stands at its beginning, with one space behind it; `=>` alone is a call without words.
 pub fn row_of(line: &str) -> Row<'_> {
@@ -44,6 +46,7 @@ pub fn row_of(line: &str) -> Row<'_> {
         "==" => Row::File { name: text },
         "<<" => Row::Insert { name: text },
         "@@" => Row::Repeat { text },
+        "!!" => Row::Told { end: text },
         "##" => Row::Note,
         _ => text_row(line),
     }

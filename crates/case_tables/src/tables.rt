@@ -101,13 +101,42 @@ fn answer_lines<C: Calls>(
         Ok(case) => judged(rt, calls, &case),
         Err(flaw) => Err(flaw),
     };
+    let told = told_of(first, &answer);
+    if is_wanted(told, wanted_end(lines)) {
+        tally.as_wanted = tally.as_wanted.saturating_add(1);
+        return Ok(());
+    }
+    match told {
+        Some((line, text)) => println!(rt; "{name}:{line}: {text}"),
+        None => println!(rt; "{name}:{first}: nothing is told of what is wrong on purpose"),
+    }
+}
+
+// What is told of a case with this answer, and of which line; nothing where it was answered as wanted.
+fn told_of(first: u32, answer: &Result<Option<String>, Flaw>) -> Option<(u32, &str)> {
     match answer {
-        Ok(None) => {
-            tally.as_wanted = tally.as_wanted.saturating_add(1);
-            Ok(())
+        Ok(None) => None,
+        Ok(Some(other)) => Some((first, other.as_str())),
+        Err(Flaw::Malformed { line, why }) => Some((*line, *why)),
+        Err(Flaw::NoMemory) => Some((first, "no memory")),
+    }
+}
+
+// How what is told of a case ends that is wrong on purpose.
+fn wanted_end<'a>(lines: &[&'a str]) -> Option<&'a str> {
+    for line in lines {
+        if let Row::Told { end } = row_of(line) {
+            return Some(end);
         }
-        Ok(Some(other)) => println!(rt; "{name}:{first}: {other}"),
-        Err(Flaw::Malformed { line, why }) => println!(rt; "{name}:{line}: {why}"),
-        Err(Flaw::NoMemory) => println!(rt; "{name}:{first}: no memory"),
+    }
+    None
+}
+
+// Whether that is told which is to be: nothing, or a text that ends so.
+fn is_wanted(told: Option<(u32, &str)>, end: Option<&str>) -> bool {
+    match (told, end) {
+        (None, None) => true,
+        (Some((_, text)), Some(end)) => text.ends_with(end),
+        _ => false,
     }
 }

@@ -2,7 +2,7 @@
 //!
 //! Places and slices of tokens, the first reason for which a text has none, how expressions are grouped and nesting is counted, and what a
 //! unit prints; each call that may lack memory is made once with ample memory. The first bad token of each production is tried by
-//! `worked_texts`. It stands on the crates from the lexer to the parser of units, and nothing stands on it.
+//! `cases`. It stands on the crates from the lexer to the parser of units, and nothing stands on it.
 #![tactic(auto)]
 
 #[cfg(test)]

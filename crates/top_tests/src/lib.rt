@@ -1,15 +1,12 @@
-//! What the top and the outside do where no clause says it: real files, writers of std, and that there is memory; and the definitions of
-//! command lines and of help, computed on examples.
+//! What the outside does where no clause says it: real files and writers of std; and definitions of the top computed on worked examples: of
+//! command lines, of help, and of histories.
 //!
-//! Tests and rows alone, so that the crates below have none. Nothing stands on it.
+//! What a call of the whole program does is a case of `cases`. Here are the tests of what no such call reaches, and rows alone, so that the
+//! crates below have none. Nothing stands on it.
 #![tactic(auto)]
 
-#[cfg(test)]
-mod commands;
-#[cfg(test)]
-mod memory;
 #[cfg(test)]
 mod outside;
 mod rows;
 
-pub use rows::{command_rows, help_rows};
+pub use rows::{command_rows, help_rows, one_cell_law};

@@ -1,7 +1,7 @@
 use Rattle.std.proofs.Common.{refl}
 use Rattle.std.specs.Fmt.{digits}
 use Rattle.meaning_rules.specs.Loops.{loop}
-use Rattle.acceptance.proofs.rows.one_cell_law.Goals as goal
+use Rattle.top_tests.proofs.rows.one_cell_law.Goals as goal
 
 pub returns-clause-ended : goal.returns-clause-ended
 unfolding loop digits
