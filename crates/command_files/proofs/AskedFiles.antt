@@ -1,13 +1,14 @@
 -- Which files a shelf was asked for, one read after another.
 use Rattle.std.proofs.Common.{◌≡◌, ◌<◌, ◌≤◌, ℕ, suc, length, get_or, drop, ◌||◌, Bool, true, false, true≢false, List, [], ◌∷◌, ◌++◌, map, append_assoc, arith, refl, sym, ap, ◌∙◌, subst}
 use Rattle.std.specs.Borrow.{Bor}
-use Rattle.std.specs.Prelude.{Option, Result, Ok, Err, IsErrOf}
+use Rattle.std.specs.Prelude.{Option, Result, Ok, Err, IfErr, IsErrOf}
 use Rattle.std.proofs.lemmas.List.{map-append}
 use Rattle.orca_front.specs.declared.source.SourceFile.{SourceFile}
 use Rattle.orca_front.specs.Sources.{file_of}
 use Rattle.orca_io.specs.Causes.{counted}
 use Rattle.orca_io.specs.Files.{File}
-use Rattle.orca_io.specs.Reading.{FailedAt, FileRead, HasAsked, IsFront, ReadSince, had, is_failure, some_failed, went}
+use Rattle.orca_io.specs.Reading.{FileRead, HasAsked, IsFront, ReadSince, had, is_failure, some_failed, went}
+use Rattle.command_files.specs.Stopped.{StoppedAt}
 use Rattle.orca_io.specs.Reading as reading
 use Rattle.orca_io.specs.declared.shelf.ShelfFault.{ShelfFault}
 use Rattle.orca_io.specs.declared.shelf.ShelfFault.TheVariants.{Absent, Failed, NoMemory, TooLong}
@@ -57,11 +58,12 @@ asked_one view may_fail name old new r noted sure = record {
 same_most : (a b : ℕ) → a ≡ b → b ≤ a
 same_most a b e = omega (arith, e)
 
-pub failed_one : {V : Type 0} (view : V → List ℕ) (before now : ℕ) (name : Word) (old new : List FileRead) (r : Result V ShelfFault) → now ≡ counted before → ReadSince old new ((name, went view r) ∷ []) → IsErrOf r Failed → FailedAt before now old new name
-failed_one view before now name old new r more noted is = record {
-  rose = same_most now (counted before) more;
+pub stopped_one : {V : Type 0} (view : V → List ℕ) (before now : ℕ) (name : Word) (old new : List FileRead) (r : Result V ShelfFault) → (IsErrOf r Failed → now ≡ counted before) → ReadSince old new ((name, went view r) ∷ []) → IfErr r (λ why. StoppedAt before now old new why name)
+stopped_one view before now name old new (Ok v) more noted = tt
+stopped_one view before now name old new (Err why) more noted = record {
   first = [];
-  ends = subst (λ (x : Result (List ℕ) ShelfFault). ReadSince old new ((name, x) ∷ [])) (ap (went view) is) noted;
+  ends = noted;
+  rose = λ is. same_most now (counted before) (more (ap (λ (w : ShelfFault). Err w) is));
 }
 
 -- ---- files

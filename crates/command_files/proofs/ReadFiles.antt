@@ -16,8 +16,10 @@ use Rattle.orca_front.specs.declared.source.SourceFile.{SourceFile}
 use Rattle.orca_front.specs.Sources.{file_of}
 use Rattle.orca_io.specs.Causes.{Rose}
 use Rattle.orca_io.specs.Files.{File, content_of}
-use Rattle.orca_io.specs.Reading.{FailedAt, FileRead, ReadSince}
-use Rattle.orca_io.specs.declared.shelf.ShelfFault.TheVariants as shelf
+use Rattle.orca_io.specs.Reading.{FileRead, ReadSince}
+use Rattle.command_files.specs.Stopped.{StoppedAt}
+use Rattle.orca_io.specs.declared.shelf.ShelfFault.{ShelfFault}
+use Rattle.orca_io.specs.declared.shelf.ShelfFault.TheVariants as causes
 use Rattle.command_output.specs.declared.statuses.TheConstants.{READ_FAULT, WRITE_FAULT}
 use Rattle.command_files.specs.declared.load_fault.LoadFault.{LoadFault}
 use Rattle.command_files.specs.declared.load_fault.LoadFault.TheVariants as loads
@@ -89,35 +91,35 @@ since_none old = sym (append-nil old)
 pub since_then : (old mid new first more : List FileRead) → ReadSince old mid first → ReadSince mid new more → ReadSince old new (first ++ more)
 since_then old mid new first more one two = two ∙ ap (λ (l : List FileRead). l ++ more) one ∙ append_assoc old first more
 
--- a read failed behind others that didn't
-pub failed_since : (before mid now : ℕ) (old between new first : List FileRead) (file : Word) → mid ≡ before → ReadSince old between first → FailedAt mid now between new file → FailedAt before now old new file
-failed_since before mid now old between new first file same read h = record {
-  rose = subst (λ (n : ℕ). Rose n now) same h.rose;
+-- reading stopped behind others that were read
+pub stopped_since : (before mid now : ℕ) (old between new first : List FileRead) (file : Word) → mid ≡ before → ReadSince old between first → (why : ShelfFault) → StoppedAt mid now between new why file → StoppedAt before now old new why file
+stopped_since before mid now old between new first file same read why h = record {
   first = first ++ h.first;
-  ends = since_then old between new first (h.first ++ (file, Err shelf.Failed) ∷ []) read h.ends ∙ ap (λ (l : List FileRead). old ++ l) (sym (append_assoc first h.first ((file, Err shelf.Failed) ∷ [])));
+  ends = since_then old between new first (h.first ++ (file, Err why) ∷ []) read h.ends ∙ ap (λ (l : List FileRead). old ++ l) (sym (append_assoc first h.first ((file, Err why) ∷ [])));
+  rose = λ is. subst (λ (n : ℕ). Rose n now) same (h.rose is);
 }
 
 -- what was read of a file, over what was so before any was read
-reads_map : (told : Option (List File)) (failed other : Word → Type 0) (name : Word) (x : Result SourceFile (Refusal LoadFault)) → (failed name → other name) → Reads told failed name x → Reads told other name x
-reads_map told failed other name (Ok s) so h = h
-reads_map told failed other name (Err (Because loads.TooMany)) so h = h
-reads_map told failed other name (Err (Because (loads.Absent file))) so h = h
-reads_map told failed other name (Err (Because (loads.TooLong file))) so h = h
-reads_map told failed other name (Err (Because (loads.Failed file))) so h = (h.0, h.1, so h.2)
-reads_map told failed other name (Err NoMemory) so h = h
+reads_map : (told : Option (List File)) (stopped other : ShelfFault → Word → Type 0) (name : Word) (x : Result SourceFile (Refusal LoadFault)) → ((why : ShelfFault) → stopped why name → other why name) → Reads told stopped name x → Reads told other name x
+reads_map told stopped other name (Ok s) so h = h
+reads_map told stopped other name (Err (Because loads.TooMany)) so h = h
+reads_map told stopped other name (Err (Because (loads.Absent file))) so h = (h.0, h.1, so causes.Absent h.2)
+reads_map told stopped other name (Err (Because (loads.TooLong file))) so h = (h.0, h.1, so causes.TooLong h.2)
+reads_map told stopped other name (Err (Because (loads.Failed file))) so h = (h.0, h.1, so causes.Failed h.2)
+reads_map told stopped other name (Err NoMemory) so h = h
 
-pub reads_since : (told old : Option (List File)) (failed other : Word → Type 0) (name : Word) (x y : Result SourceFile (Refusal LoadFault)) → told ≡ old → (failed name → other name) → x ≡ y → Reads told failed name x → Reads old other name y
-reads_since told old failed other name x y same so is h =
+pub reads_since : (told old : Option (List File)) (stopped other : ShelfFault → Word → Type 0) (name : Word) (x y : Result SourceFile (Refusal LoadFault)) → told ≡ old → ((why : ShelfFault) → stopped why name → other why name) → x ≡ y → Reads told stopped name x → Reads old other name y
+reads_since told old stopped other name x y same so is h =
     subst (λ (r : Result SourceFile (Refusal LoadFault)). Reads old other name r) is
-    (subst (λ (t : Option (List File)). Reads t other name x) same (reads_map told failed other name x so h))
+    (subst (λ (t : Option (List File)). Reads t other name x) same (reads_map told stopped other name x so h))
 
 -- why reading stopped there
-pub fault_next : (T : Type 0) (told : Option (List File)) (failed : Word → Type 0) (files : List Word) (name : Word) (r : Refusal LoadFault) → StopsAt told files name → Reads told failed name (Err r) → IfBecause {T = T} (Err r) (IsLoadFault told failed files)
-fault_next T told failed files name (Because (loads.Absent file)) stops h = (subst (StopsAt told files) (sym h.0) stops, subst (IsAbsent told) (sym h.0) h.1)
-fault_next T told failed files name (Because (loads.TooLong file)) stops h = (subst (StopsAt told files) (sym h.0) stops, subst (IsTooLong told SOURCE_BYTES) (sym h.0) h.1)
-fault_next T told failed files name (Because (loads.Failed file)) stops h = (subst (StopsAt told files) (sym h.0) stops, subst (IsThere told) (sym h.0) h.1, subst failed (sym h.0) h.2)
-fault_next T told failed files name (Because loads.TooMany) stops h = absurd h
-fault_next T told failed files name NoMemory stops h = tt
+pub fault_next : (T : Type 0) (told : Option (List File)) (stopped : ShelfFault → Word → Type 0) (files : List Word) (name : Word) (r : Refusal LoadFault) → StopsAt told files name → Reads told stopped name (Err r) → IfBecause {T = T} (Err r) (IsLoadFault told stopped files)
+fault_next T told stopped files name (Because (loads.Absent file)) stops h = (subst (StopsAt told files) (sym h.0) stops, subst (IsAbsent told) (sym h.0) h.1, subst (stopped causes.Absent) (sym h.0) h.2)
+fault_next T told stopped files name (Because (loads.TooLong file)) stops h = (subst (StopsAt told files) (sym h.0) stops, subst (IsTooLong told SOURCE_BYTES) (sym h.0) h.1, subst (stopped causes.TooLong) (sym h.0) h.2)
+fault_next T told stopped files name (Because (loads.Failed file)) stops h = (subst (StopsAt told files) (sym h.0) stops, subst (IsThere told) (sym h.0) h.1, subst (stopped causes.Failed) (sym h.0) h.2)
+fault_next T told stopped files name (Because loads.TooMany) stops h = absurd h
+fault_next T told stopped files name NoMemory stops h = tt
 
 -- all files were read
 pub all_read : (told : Option (List File)) (files : List (Bor Word)) (i : ℕ) (sources : List SourceFile) → length files ≤ MODULES → length files ≤ i → ReadSoFar told files i sources → AreRead told (map (λ (f : Bor Word). f.now) files) (map file_of sources)
@@ -130,18 +132,20 @@ all_read told files i sources few end so_far = record {
 -- ---- the history behind them
 
 -- why a history wasn't read, over what was so before any file was read
-replay_since : (told old : Option (List File)) (failed other : Word → Type 0) (history : Word) (files : List Word) (fault : ReplayFault) → told ≡ old → (failed history → other history) → IsProgramRead old files →
-    IsHistoryFault told failed history fault → IsReplayFault old other history files fault
-replay_since told old failed other history files (replays.Program fault) same so all h = absurd h
-replay_since told old failed other history files (replays.Absent file) same so all h = (all, (h.0, subst (λ (t : Option (List File)). IsAbsent t history) same h.1))
-replay_since told old failed other history files replays.TooLong same so all h = (all, subst (λ (t : Option (List File)). IsTooLong t HISTORY_BYTES history) same h)
-replay_since told old failed other history files (replays.Failed file) same so all h =
-    (all, (h.0, subst (λ (t : Option (List File)). IsThere t history) same h.1, so h.2))
+replay_since : (told old : Option (List File)) (stopped other : ShelfFault → Word → Type 0) (history : Word) (files : List Word) (fault : ReplayFault) → told ≡ old → ((why : ShelfFault) → stopped why history → other why history) → IsProgramRead old files →
+    IsHistoryFault told stopped history fault → IsReplayFault old other history files fault
+replay_since told old stopped other history files (replays.Program fault) same so all h = absurd h
+replay_since told old stopped other history files (replays.Absent file) same so all h =
+    (all, (h.0, subst (λ (t : Option (List File)). IsAbsent t history) same h.1, so causes.Absent h.2))
+replay_since told old stopped other history files replays.TooLong same so all h =
+    (all, (subst (λ (t : Option (List File)). IsTooLong t HISTORY_BYTES history) same h.0, so causes.TooLong h.1))
+replay_since told old stopped other history files (replays.Failed file) same so all h =
+    (all, (h.0, subst (λ (t : Option (List File)). IsThere t history) same h.1, so causes.Failed h.2))
 
-pub history_since : (T U : Type 0) (told old : Option (List File)) (failed other : Word → Type 0) (history : Word) (files : List Word) (r : Refusal ReplayFault) → told ≡ old → (failed history → other history) → IsProgramRead old files →
-    IfBecause {T = T} (Err r) (IsHistoryFault told failed history) → IfBecause {T = U} (Err r) (IsReplayFault old other history files)
-history_since T U told old failed other history files (Because fault) same so all h = replay_since told old failed other history files fault same so all h
-history_since T U told old failed other history files NoMemory same so all h = tt
+pub history_since : (T U : Type 0) (told old : Option (List File)) (stopped other : ShelfFault → Word → Type 0) (history : Word) (files : List Word) (r : Refusal ReplayFault) → told ≡ old → ((why : ShelfFault) → stopped why history → other why history) → IsProgramRead old files →
+    IfBecause {T = T} (Err r) (IsHistoryFault told stopped history) → IfBecause {T = U} (Err r) (IsReplayFault old other history files)
+history_since T U told old stopped other history files (Because fault) same so all h = replay_since told old stopped other history files fault same so all h
+history_since T U told old stopped other history files NoMemory same so all h = tt
 
 -- the count of faults stood still in what came first
 pub quiet_since : (old between new : ℕ) (Q : Type 0) → between ≡ old → (new ≡ between) ⊎ Q → (new ≡ old) ⊎ Q

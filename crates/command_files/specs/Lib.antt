@@ -1,4 +1,5 @@
 pub mod Lines
 pub mod Sources
+pub mod Stopped
 pub mod Loaded
 pub mod Replays

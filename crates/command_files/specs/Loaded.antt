@@ -4,6 +4,8 @@ use Rattle.orca_base.specs.declared.limits.TheConstants.{MODULES, SOURCE_BYTES}
 use Rattle.orca_base.specs.declared.refusal.Refusal.{Refusal}
 use Rattle.orca_base.specs.declared.refusal.Refusal.TheVariants.{Because, NoMemory}
 use Rattle.orca_io.specs.Files.{File, content_of}
+use Rattle.orca_io.specs.declared.shelf.ShelfFault.{ShelfFault}
+use Rattle.orca_io.specs.declared.shelf.ShelfFault.TheVariants as causes
 use Rattle.link_rules.specs.Units.{Source}
 use Rattle.orca_front.specs.declared.fault.FrontFault.{FrontFault}
 use Rattle.orca_front.specs.declared.fault.FrontFault.TheVariants as fronts
@@ -28,17 +30,13 @@ IsThere told file = IfSome told (λ files. IsSome (content_of files file))
 abbrev pub IsTooLong : Option (List File) → ℕ → List ℕ → Type 0
 IsTooLong told limit file = IfSome told (λ files. (text : List ℕ) × (content_of files file ≡ Some text) × (limit < length text))
 
--- no file's read failed
-abbrev pub Never : Word → Type 0
-Never file = ⊥
-
--- There are more files than a program may have modules. Or reading stopped at a file: it isn't there, it is too long, or it is there and
--- can't be read, where its read failed
-abbrev pub IsLoadFault : Option (List File) → (Word → Type 0) → List Word → LoadFault → Type 0
-IsLoadFault told failed files TooMany = MODULES < length files
-IsLoadFault told failed files (Absent file) = StopsAt told files file.now × IsAbsent told file.now
-IsLoadFault told failed files (TooLong file) = StopsAt told files file.now × IsTooLong told SOURCE_BYTES file.now
-IsLoadFault told failed files (Failed file) = StopsAt told files file.now × IsThere told file.now × failed file.now
+-- There are more files than a program may have modules. Or reading stopped at a file, which was asked for last: it isn't there, it is too
+-- long, or it is there and its read failed
+abbrev pub IsLoadFault : Option (List File) → (ShelfFault → Word → Type 0) → List Word → LoadFault → Type 0
+IsLoadFault told stopped files TooMany = MODULES < length files
+IsLoadFault told stopped files (Absent file) = StopsAt told files file.now × IsAbsent told file.now × stopped causes.Absent file.now
+IsLoadFault told stopped files (TooLong file) = StopsAt told files file.now × IsTooLong told SOURCE_BYTES file.now × stopped causes.TooLong file.now
+IsLoadFault told stopped files (Failed file) = StopsAt told files file.now × IsThere told file.now × stopped causes.Failed file.now
 
 abbrev pub load_status : LoadFault → ℕ
 load_status TooMany = LIMIT
@@ -58,13 +56,13 @@ IsFailed (Failed file) = Unit {0}
 IsFailed fault = ⊥
 
 -- what was read of one file, or why nothing was
-abbrev pub Reads : Option (List File) → (Word → Type 0) → List ℕ → Result SourceFile (Refusal LoadFault) → Type 0
-Reads told failed name (Ok s) = (s.name.now ≡ name) × IsRead told SOURCE_BYTES (file_of s)
-Reads told failed name (Err (Because TooMany)) = ⊥
-Reads told failed name (Err (Because (Absent file))) = (file.now ≡ name) × IsAbsent told name
-Reads told failed name (Err (Because (TooLong file))) = (file.now ≡ name) × IsTooLong told SOURCE_BYTES name
-Reads told failed name (Err (Because (Failed file))) = (file.now ≡ name) × IsThere told name × failed name
-Reads told failed name (Err NoMemory) = Unit {0}
+abbrev pub Reads : Option (List File) → (ShelfFault → Word → Type 0) → List ℕ → Result SourceFile (Refusal LoadFault) → Type 0
+Reads told stopped name (Ok s) = (s.name.now ≡ name) × IsRead told SOURCE_BYTES (file_of s)
+Reads told stopped name (Err (Because TooMany)) = ⊥
+Reads told stopped name (Err (Because (Absent file))) = (file.now ≡ name) × IsAbsent told name × stopped causes.Absent name
+Reads told stopped name (Err (Because (TooLong file))) = (file.now ≡ name) × IsTooLong told SOURCE_BYTES name × stopped causes.TooLong name
+Reads told stopped name (Err (Because (Failed file))) = (file.now ≡ name) × IsThere told name × stopped causes.Failed name
+Reads told stopped name (Err NoMemory) = Unit {0}
 
 -- ---- the program in files
 

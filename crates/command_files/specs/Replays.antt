@@ -2,6 +2,8 @@
 use Rattle.std.specs.Prelude.{◌≡◌, ℕ, List, Option, codes}
 use Rattle.orca_base.specs.declared.limits.TheConstants.{HISTORY_BYTES}
 use Rattle.orca_io.specs.Files.{File}
+use Rattle.orca_io.specs.declared.shelf.ShelfFault.{ShelfFault}
+use Rattle.orca_io.specs.declared.shelf.ShelfFault.TheVariants as causes
 use Rattle.orca_front.specs.Lines.{limit_line}
 use Rattle.command_output.specs.declared.statuses.TheConstants.{ABSENT, LIMIT, READ_FAULT}
 use Rattle.command_files.specs.declared.replay_fault.ReplayFault.{ReplayFault}
@@ -18,17 +20,17 @@ HasRead told history files sources text = AreRead told files sources × IsRead t
 abbrev pub IsProgramRead : Option (List File) → List Word → Type 0
 IsProgramRead told files = (sources : List File) × AreRead told files sources
 
--- the history isn't there, or is longer than one may be, or is there and can't be read, where its read failed
-abbrev pub IsHistoryFault : Option (List File) → (Word → Type 0) → Word → ReplayFault → Type 0
-IsHistoryFault told failed history (Absent file) = (file.now ≡ history) × IsAbsent told history
-IsHistoryFault told failed history TooLong = IsTooLong told HISTORY_BYTES history
-IsHistoryFault told failed history (Failed file) = (file.now ≡ history) × IsThere told history × failed history
-IsHistoryFault told failed history (Program fault) = ⊥
+-- the history, which was asked for last, isn't there, or is longer than one may be, or is there and its read failed
+abbrev pub IsHistoryFault : Option (List File) → (ShelfFault → Word → Type 0) → Word → ReplayFault → Type 0
+IsHistoryFault told stopped history (Absent file) = (file.now ≡ history) × IsAbsent told history × stopped causes.Absent history
+IsHistoryFault told stopped history TooLong = IsTooLong told HISTORY_BYTES history × stopped causes.TooLong history
+IsHistoryFault told stopped history (Failed file) = (file.now ≡ history) × IsThere told history × stopped causes.Failed history
+IsHistoryFault told stopped history (Program fault) = ⊥
 
 -- a file of the program wasn't read; or all were, and the history wasn't
-abbrev pub IsReplayFault : Option (List File) → (Word → Type 0) → Word → List Word → ReplayFault → Type 0
-IsReplayFault told failed history files (Program fault) = IsLoadFault told failed files fault
-IsReplayFault told failed history files fault = IsProgramRead told files × IsHistoryFault told failed history fault
+abbrev pub IsReplayFault : Option (List File) → (ShelfFault → Word → Type 0) → Word → List Word → ReplayFault → Type 0
+IsReplayFault told stopped history files (Program fault) = IsLoadFault told stopped files fault
+IsReplayFault told stopped history files fault = IsProgramRead told files × IsHistoryFault told stopped history fault
 
 abbrev pub replay_status : ReplayFault → ℕ
 replay_status (Program fault) = load_status fault

@@ -1,9 +1,10 @@
 //! One file.
 
-ghost use Rattle.std.specs.Prelude.{◌≡◌, ◌≤◌, ◌∷◌, [], IfOk, IfSome, IsErrOf, Ok, vec_len};
+ghost use Rattle.std.specs.Prelude.{◌≡◌, ◌≤◌, ◌∷◌, [], IfErr, IfOk, IfSome, IsErrOf, Ok, vec_len};
 ghost use Rattle.orca_io.specs.Causes.{counted};
 ghost use Rattle.orca_io.specs.Files.{FitsContent, content_of};
-ghost use Rattle.orca_io.specs.Reading.{FailedAt, HasAsked, ReadSince};
+ghost use Rattle.orca_io.specs.Reading.{HasAsked, ReadSince};
+ghost use Rattle.command_files.specs.Stopped.{StoppedAt};
 
 use orca_io::{Shelf, ShelfFault};
 use std::alloc::Global;
@@ -20,8 +21,8 @@ pub fn read_file<F: Shelf>(
     ensures later { F.faults shelf.old ≤ F.faults shelf.new }
     ensures failed { IsErrOf result ShelfFault.Failed → F.faults shelf.new ≡ counted (F.faults shelf.old) }
     ensures quiet { (IsErrOf result ShelfFault.Failed → ⊥) → F.faults shelf.new ≡ F.faults shelf.old }
-    ensures failed_at { IsErrOf result ShelfFault.Failed →
-        FailedAt (F.faults shelf.old) (F.faults shelf.new) (F.reads shelf.old) (F.reads shelf.new) name.now }
+    ensures stopped { IfErr result (λ why.
+        StoppedAt (F.faults shelf.old) (F.faults shelf.new) (F.reads shelf.old) (F.reads shelf.new) why name.now) }
     ensures within { IfOk result (λ v. vec_len v ≤ limit) }
     ensures had { IfOk result (λ v. ReadSince (F.reads shelf.old) (F.reads shelf.new) ((name.now, Ok v.items) ∷ [])) }
     ensures asked { HasAsked (F.may_fail shelf.old) (name.now ∷ []) (F.reads shelf.old) (F.reads shelf.new) }

@@ -3,7 +3,8 @@
 ghost use Rattle.std.specs.Prelude.{◌≡◌, ◌⊎◌, ◌≤◌, ◌∷◌, ◌++◌, [], Ok, map, IfOk};
 ghost use Rattle.orca_base.specs.Refusal.{IfBecause, MatchRefusal};
 ghost use Rattle.orca_base.specs.declared.limits.TheConstants.{HISTORY_BYTES};
-ghost use Rattle.orca_io.specs.Reading.{FailedAt, HasAsked, ReadSince, had};
+ghost use Rattle.orca_io.specs.Reading.{HasAsked, ReadSince, had};
+ghost use Rattle.command_files.specs.Stopped.{StoppedAt};
 ghost use Rattle.orca_front.specs.Sources.{file_of};
 ghost use Rattle.command_files.specs.Replays.{HasRead, IsHistoryFault, IsReplayFault, IsUnreadable};
 ghost use Rattle.command_files.specs.Sources.{IsRead};
@@ -31,7 +32,7 @@ fn history_in<'a, F: Shelf>(
 ) -> Result<Vec<u8>, Refusal<ReplayFault<'a>>>
     ensures read { IfOk result (λ text. IsRead (F.told shelf.old) HISTORY_BYTES (file.now, text.items)) }
     ensures refused { IfBecause result (IsHistoryFault (F.told shelf.old)
-        (FailedAt (F.faults shelf.old) (F.faults shelf.new) (F.reads shelf.old) (F.reads shelf.new)) file.now) }
+        (StoppedAt (F.faults shelf.old) (F.faults shelf.new) (F.reads shelf.old) (F.reads shelf.new)) file.now) }
     ensures quiet { (F.faults shelf.new ≡ F.faults shelf.old) ⊎ MatchRefusal result (λ _. ⊥) IsUnreadable }
     ensures same { F.told shelf.new ≡ F.told shelf.old }
     ensures later { F.faults shelf.old ≤ F.faults shelf.new }
@@ -59,7 +60,7 @@ pub fn replay_files<'a, F: Shelf>(
     ensures read { IfOk result (λ r.
         HasRead (F.told shelf.old) history.now (map (λ f. f.now) files.now) (map file_of r.sources.items) r.history.items) }
     ensures refused { IfBecause result (IsReplayFault (F.told shelf.old)
-        (FailedAt (F.faults shelf.old) (F.faults shelf.new) (F.reads shelf.old) (F.reads shelf.new))
+        (StoppedAt (F.faults shelf.old) (F.faults shelf.new) (F.reads shelf.old) (F.reads shelf.new))
         history.now (map (λ f. f.now) files.now)) }
     ensures quiet { (F.faults shelf.new ≡ F.faults shelf.old) ⊎ MatchRefusal result (λ _. ⊥) IsUnreadable }
     ensures same { F.told shelf.new ≡ F.told shelf.old }

@@ -2,7 +2,8 @@
 
 ghost use Rattle.std.specs.Prelude.{◌≡◌, ◌⊎◌, ◌≤◌, ◌∷◌, [], map, IfOk};
 ghost use Rattle.orca_base.specs.Refusal.{IfBecause, MatchRefusal};
-ghost use Rattle.orca_io.specs.Reading.{FailedAt, HasAsked, ReadSince, had};
+ghost use Rattle.orca_io.specs.Reading.{HasAsked, ReadSince, had};
+ghost use Rattle.command_files.specs.Stopped.{StoppedAt};
 ghost use Rattle.orca_front.specs.Sources.{file_of};
 ghost use Rattle.command_files.specs.Loaded.{IsFailed, IsLoadFault, Reads};
 ghost use Rattle.command_files.specs.Sources.{AreRead};
@@ -21,7 +22,7 @@ fn source<'a, F: Shelf>(
     name: &'a str,
 ) -> Result<SourceFile<'a>, Refusal<LoadFault<'a>>>
     ensures reads { Reads (F.told shelf.old)
-        (FailedAt (F.faults shelf.old) (F.faults shelf.new) (F.reads shelf.old) (F.reads shelf.new)) name.now result }
+        (StoppedAt (F.faults shelf.old) (F.faults shelf.new) (F.reads shelf.old) (F.reads shelf.new)) name.now result }
     ensures same { F.told shelf.new ≡ F.told shelf.old }
     ensures later { F.faults shelf.old ≤ F.faults shelf.new }
     ensures quiet { (F.faults shelf.new ≡ F.faults shelf.old) ⊎ MatchRefusal result (λ _. ⊥) IsFailed }
@@ -47,7 +48,7 @@ pub fn sources<'a, F: Shelf>(
 ) -> Result<Vec<SourceFile<'a>>, Refusal<LoadFault<'a>>>
     ensures read { IfOk result (λ s. AreRead (F.told shelf.old) (map (λ f. f.now) files.now) (map file_of s.items)) }
     ensures refused { IfBecause result (IsLoadFault (F.told shelf.old)
-        (FailedAt (F.faults shelf.old) (F.faults shelf.new) (F.reads shelf.old) (F.reads shelf.new))
+        (StoppedAt (F.faults shelf.old) (F.faults shelf.new) (F.reads shelf.old) (F.reads shelf.new))
         (map (λ f. f.now) files.now)) }
     ensures quiet { (F.faults shelf.new ≡ F.faults shelf.old) ⊎ MatchRefusal result (λ _. ⊥) IsFailed }
     ensures same { F.told shelf.new ≡ F.told shelf.old }

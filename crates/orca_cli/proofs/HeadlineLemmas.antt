@@ -1,5 +1,5 @@
 -- What a run leaves is what the headline says of it: from the run that was driven, the law of runs, and what was printed.
-use Rattle.std.proofs.Common.{◌≡◌, ◌∙◌, ◌≤◌, ◌⊎◌, inl, inr, ℕ, zero, true, false, List, [], ◌∷◌, get_or, length, map, set, Option, Some, None, IfNone, IfSome, Result, Ok, Err, OnErr, OnOk, suc, ap, sym, subst, refl, arith}
+use Rattle.std.proofs.Common.{◌≡◌, ◌∙◌, ◌≤◌, ◌⊎◌, inl, inr, ℕ, zero, true, false, List, [], ◌∷◌, get_or, length, map, set, Option, Some, None, IfNone, IfSome, Result, Ok, Err, OnErr, suc, ap, sym, subst, refl, arith}
 use Rattle.std.specs.Prelude.{option_map, slice_get}
 use Rattle.std.specs.List.{All}
 use Rattle.std.proofs.lemmas.List.{length-map}
@@ -34,7 +34,8 @@ use Rattle.run_loop.proofs.Telling.{kept_at}
 use Rattle.meaning_rules.specs.Meanings.{computes_of, performs_of}
 use Rattle.orca_cli.specs.declared.kept.Kept.{Kept}
 use Rattle.command_output.specs.declared.statuses.TheConstants.{NO_MEMORY}
-use Rattle.orca_cli.specs.Headline.{AreLoaded, AreUntouched, HaveObeyed, IsNamed, IsRun, IsProgramRun, IsRunOf, KeepRules, WasBegun, Wires, settings_of, wires_of}
+use Rattle.orca_answers.specs.Named.{IsNamed}
+use Rattle.orca_cli.specs.Headline.{AreLoaded, AreUntouched, HaveObeyed, IsRun, IsProgramRun, IsRunOf, KeepRules, WasBegun, Wires, settings_of, wires_of}
 use Rattle.command_files.specs.Sources.{Word}
 use Rattle.orca_cli.specs.Kept.{IsEndOf}
 use Rattle.orca_cli.specs.Rows.{KeptRow}
@@ -154,10 +155,6 @@ pub some_is : {T : Type 0} (o : Option T) (x : T) (P : T → Type 0) → o ≡ S
 some_is o x P is h = subst (λ (o : Option _). IfSome o P) is h
 
 -- of a result
-pub ok_both : {T E A B C : Type 0} (r : Result T E) → (A → B → C) → OnOk r A → OnOk r B → OnOk r C
-ok_both (Ok x) so a b = so a b
-ok_both (Err e) so a b = tt
-
 pub err_both : {T E A B C : Type 0} (r : Result T E) → (A → B → C) → OnErr r A → OnErr r B → OnErr r C
 err_both (Ok x) so a b = tt
 err_both (Err e) so a b = so a b

@@ -10,7 +10,7 @@ use Rattle.value_core.specs.declared.action.Line.{Line}
 use Rattle.value_core.specs.declared.action.Reply.{Reply}
 use Rattle.value_core.specs.Datum.{Data}
 use Rattle.value_core.specs.History as history
-use Rattle.value_core.specs.History.{Objects, Process, object_at, objects_of}
+use Rattle.value_core.specs.History.{Process, object_at}
 use Rattle.value_core.specs.Lawful.{next_of}
 use Rattle.value_core.specs.declared.meaning.Doing.{Doing}
 use Rattle.orca_base.specs.declared.ids.TextNo.{TextNo}

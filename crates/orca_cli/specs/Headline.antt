@@ -1,11 +1,11 @@
 -- The headline: what a run keeps and prints, and that its network was really used, in time; and what is so of the wires where nothing is
 -- kept.
-use Rattle.std.specs.Prelude.{◌≡◌, ◌≤◌, ◌⊎◌, ◌+◌, ◌++◌, ℕ, suc, List, [], length, map, Option, Some, option_map, slice_get}
+use Rattle.std.specs.Prelude.{◌≡◌, ◌≤◌, ◌⊎◌, ◌+◌, ℕ, suc, List, [], length, map, Option, Some, option_map, slice_get}
 use Rattle.command_line.specs.declared.request.RunOptions.{RunOptions}
 use Rattle.net_rules.specs.declared.asked.Asked.{Asked}
 use Rattle.net_rules.specs.declared.line.ScriptLine.{ScriptLine}
 use Rattle.orca_io.specs.Files.{File}
-use Rattle.orca_io.specs.Reading.{FileRead, ReadSince, had}
+use Rattle.orca_io.specs.Reading.{FileRead}
 use Rattle.link_rules.specs.Units.{Source}
 use Rattle.meaning_rules.specs.Meanings.{computes_of, performs_of}
 use Rattle.program_names.specs.Naming.{AreNamesOf, CallsNamed}
@@ -30,12 +30,10 @@ use Rattle.run_loop.specs.Left.{run_of}
 use Rattle.orca_cli.specs.declared.kept.Kept.{Kept}
 use Rattle.command_output.specs.declared.statuses.TheConstants.{NO_MEMORY}
 use Rattle.command_files.specs.Sources.{Word}
-use Rattle.orca_cli.specs.Job.{deed_in, runs}
+use Rattle.orca_answers.specs.Named.{IsNamed}
 use Rattle.orca_cli.specs.Kept.{IsEndOf, IsHistory}
 use Rattle.command_output.specs.Printed.{Ends, EndsAs, Grew}
-use Rattle.orca_cli.specs.Programs.{IsProgram}
 use Rattle.orca_cli.specs.Rows.{HasGoneWell, KeptRow, ShownRows}
-use Rattle.orca_cli.specs.Scripts.{IsScriptOf, script_read}
 use Rattle.orca_cli.specs.Standings.{IsEndingLine, awaited_name, run_said, standing_status}
 
 -- ---- which run it is
@@ -50,19 +48,6 @@ settings_of options wires = record {
   wires = wires;
   choices = [];
 }
-
--- The words ask for the run of the accepted program in files, whose units are these, by these options; and the script in the file that they
--- name, where they name one, has these lines. Of a shelf that told the reads `old` before and tells `new`, the texts of that program were
--- read, and behind them that of the script, and nothing else
-pub record IsNamed (words : List Word) (told : Option (List File)) (old new : List FileRead) (units : List Source)
-    (lines : List ScriptLine) : Type 0 where
-  pub options : RunOptions
-  pub script : Option Word
-  pub files : List Word
-  pub asked : deed_in words ≡ Some (runs options script files)
-  pub program : IsProgram told files units
-  pub script_has : IsScriptOf told script lines
-  pub read : ReadSince old new (map had program.loaded.0 ++ script_read told script lines script_has)
 
 -- ---- its wires
 

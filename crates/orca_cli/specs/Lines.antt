@@ -1,37 +1,10 @@
--- The lines that the program says where it ends, and the line that an action writes (docs/FORMATS.md, The program).
+-- The lines with which a run ends otherwise than by its program (docs/FORMATS.md, The program).
 use Rattle.std.specs.Prelude.{ℕ, List, [], ◌∷◌, ◌++◌, codes}
 use Rattle.std.specs.Fmt.{decimal}
-use Rattle.fault_scripts.specs.declared.error.ScriptError.{ScriptError}
-use Rattle.fault_scripts.specs.declared.error.ScriptError.TheVariants.{BadNumber, UnknownWord}
 use Rattle.orca_base.specs.declared.fault.FaultKind.{FaultKind}
 use Rattle.orca_base.specs.declared.what.What.{What}
 use Rattle.orca_base.specs.declared.what.What.TheVariants as what
 use Rattle.history_text.specs.Spelling.{fault_name}
-use Rattle.value_core.specs.Datum.{Data}
-use Rattle.value_core.specs.History.{string_first}
-
-abbrev pub usage_line : List ℕ
-usage_line =
-    codes "usage: orca check FILE... | run [OPTIONS] FILE... | code FILE... | choice [--nodes N] FILE... | replay HISTORY FILE... | make [OPTIONS] NUMBER" ++ 10 ∷ []
-
--- the program in the files is accepted
-abbrev pub ok_line : List ℕ
-ok_line = codes "ok" ++ 10 ∷ []
-
--- the string that is the first argument, and a line feed
-abbrev pub line_with : Data → List ℕ
-line_with args = string_first args ++ 10 ∷ []
-
--- ---- where a script is none
-
-abbrev pub script_said : ℕ → List ℕ → List ℕ
-script_said line said = codes "orca: script line " ++ decimal line ++ (codes ": " ++ said ++ 10 ∷ [])
-
-abbrev pub script_line : ScriptError → List ℕ
-script_line (UnknownWord line) = script_said line (codes "unknown word")
-script_line (BadNumber line) = script_said line (codes "bad number")
-
--- ---- where a run ends otherwise than by its program
 
 abbrev pub faulted_line : ℕ → FaultKind → List ℕ
 faulted_line process kind = codes "orca: process " ++ decimal process ++ (codes " faulted: " ++ fault_name kind ++ 10 ∷ [])

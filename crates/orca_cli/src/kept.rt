@@ -1,5 +1,7 @@
 //! What a run leaves.
 
+ghost use Rattle.std.specs.Prelude.{◌≡◌, None};
+
 use run_loop::{NodeEnd, PlaceNote, ProcessEnd, Step};
 use value_core::Line;
 
@@ -19,4 +21,11 @@ pub struct Kept {
 pub struct Ended {
     pub status: u8,
     pub kept: Option<Kept>,
+}
+
+/// The end with a status where nothing is kept.
+pub(crate) fn unkept(status: u8) -> Ended
+    ensures { result ≡ record { status = status; kept = None } }
+{
+    Ended { status, kept: None }
 }

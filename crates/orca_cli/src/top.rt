@@ -1,52 +1,41 @@
 //! The top call.
 
-ghost use Rattle.std.specs.Prelude.{◌≡◌, ◌⊎◌, ◌<◌, ◌≤◌, ◌++◌, ℕ, List, None, IfNone, IfSome, OnErr, OnOk, Option, Some};
+ghost use Rattle.std.specs.Prelude.{◌≡◌, ◌⊎◌, ◌<◌, ◌≤◌, ◌++◌, List, None, IfNone, IfSome, OnErr, OnOk, Option, Some};
 ghost use Rattle.std.specs.Prelude.{length, map, option_map, string_bytes};
 ghost use Rattle.command_line.specs.Asked.{IsRunWithin};
-ghost use Rattle.orca_base.specs.Refusal.{IfBecause};
 ghost use Rattle.orca_io.specs.Causes.{Rose};
-ghost use Rattle.orca_io.specs.Files.{File};
-ghost use Rattle.orca_io.specs.Reading.{FailedAt, FileRead, HasAsked, ReadSince, had};
-ghost use Rattle.link_rules.specs.Units.{Source};
-ghost use Rattle.accepted_law.specs.Limits.{IsWithinLimits};
+ghost use Rattle.orca_io.specs.Reading.{HasAsked};
+ghost use Rattle.command_files.specs.Stopped.{StoppedAt};
 ghost use Rattle.meaning_rules.specs.Meanings.{computes_of, performs_of};
-ghost use Rattle.orca_front.specs.Sources.{IsAccepted, file_of};
 ghost use Rattle.program_names.specs.Naming.{HistoriesNamed};
 ghost use Rattle.history_commands.specs.ReadBack.{ReadsBack};
 ghost use Rattle.history_text.specs.Sound.{AreTables};
 ghost use Rattle.run_loop.specs.Asked.{HaveToldOn, WereAskedIn};
 ghost use Rattle.run_loop.specs.Left.{run_of};
-ghost use Rattle.orca_cli.specs.Choosing.{Chooser, chooser_of};
-ghost use Rattle.orca_cli.specs.Endings.{IsAnswer};
+ghost use Rattle.orca_answers.specs.Choosing.{Chooser, chooser_of};
+ghost use Rattle.orca_answers.specs.Endings.{IsAnswer};
 ghost use Rattle.orca_cli.specs.Headline.{AreLoaded, AreUntouched, HaveObeyed, IsProgramRun, IsRun, IsRunOf, WasBegun};
 ghost use Rattle.orca_cli.specs.Headline.{settings_of, wires_of};
 ghost use Rattle.command_files.specs.Sources.{Word};
-ghost use Rattle.orca_cli.specs.Job.{checks, deed_in, files_in, named_in, runs, script_in, script_names};
+ghost use Rattle.orca_answers.specs.Job.{deed_in, named_in, runs, script_names};
 ghost use Rattle.orca_cli.specs.Laws.{RunLaws};
 ghost use Rattle.command_output.specs.Printed.{HasStopped};
-ghost use Rattle.orca_cli.specs.Scripts.{IsScriptFault, IsUnreadable};
-ghost use Rattle.orca_cli.specs.Programs.{IsProgramFault, units_of};
+ghost use Rattle.orca_answers.specs.Programs.{units_of};
 ghost use Rattle.orca_cli.specs.Standings.{awaited_name, run_said};
-ghost use Rattle.command_files.specs.Sources.{AreRead};
 
-use crate::choice::choose_files;
-use crate::ending::{nothing, said, said_refused, said_unread};
-use crate::job::{Job, job_of};
-use crate::kept::{Ended, Kept};
-use crate::lines::{ok_line, usage_line, whole};
-use crate::listing::list_program;
-use crate::program::{ProgramFault, judged, linked_program, machine_of};
-use crate::replay::replay;
+use crate::kept::{Ended, Kept, unkept};
 use crate::report::report;
-use crate::script::{ScriptFault, script_of};
+use code_machine::CodeMachine;
 use command_files::sources;
 use command_line::RunOptions;
-use command_output::{FINISHED, NO_MEMORY, READ_FAULT, USAGE, WRITE_FAULT};
-use code_machine::CodeMachine;
+use command_output::{FINISHED, NO_MEMORY, READ_FAULT, USAGE, WRITE_FAULT, print_ending};
 use fault_scripts::Script;
 use history_text::{Names, lines_fit};
+use orca_answers::{
+    Job, check_files, choose_files, job_of, linked_program, list_program, machine_of, replay,
+    said_refused, said_unread, said_unscripted, script_of, usage_line, whole,
+};
 use orca_base::{Items, NoMemory, Refusal};
-use orca_front::SourceFile;
 use orca_io::{Shelf, Sink};
 use program_names::names;
 use replica_choice::Policy;
@@ -58,66 +47,6 @@ use world_book::legal_book;
 use world_enough::events_are_enough;
 use world_facts::{book_by_places, ends_stand, processes_stand, standings_mean, worlds_count};
 use world_idle::{idle_ticks_are_counted, stretches_are_short};
-
-// Whether sources are an accepted program, or why not.
-fn judged_sources(alloc: Global, files: &[SourceFile<'_>]) -> Result<(), Refusal<ProgramFault>>
-    ensures accepted { OnOk result ((units : List Source) × IsAccepted (map file_of files.now) units × IsWithinLimits units) }
-    ensures refused { IfBecause result (IsProgramFault (map file_of files.now)) }
-{
-    match linked_program(alloc, files) {
-        Ok(program) => judged(alloc, &program),
-        Err(refusal) => Err(refusal),
-    }
-}
-
-// Says whether the program in the files is accepted, or why not.
-fn check_files<F: Shelf, K: Sink>(
-    alloc: Global,
-    files: &[&str],
-    shelf: &mut F,
-    out: &mut K,
-) -> Ended
-    ensures none { result.kept ≡ None }
-    ensures said { (policy : Chooser) (words : List Word) → deed_in words ≡ Some (checks (map (λ f. f.now) files.now)) →
-        IsAnswer policy words (F.told shelf.old) (F.reads shelf.old) (F.reads shelf.new)
-        (FailedAt (F.faults shelf.old) (F.faults shelf.new) (F.reads shelf.old) (F.reads shelf.new))
-        (K.told out.old) (K.told out.new) result.status policy.told }
-    ensures same { F.told shelf.new ≡ F.told shelf.old }
-    ensures read { F.faults shelf.old ≤ F.faults shelf.new }
-    ensures asked { HasAsked (F.may_fail shelf.old) (map (λ f. f.now) files.now) (F.reads shelf.old) (F.reads shelf.new) }
-    ensures may { F.may_fail shelf.new ≡ F.may_fail shelf.old }
-    ensures read_fault { F.faults shelf.old < F.faults shelf.new → (result.status ≡ READ_FAULT) ⊎ HasStopped result.status }
-    ensures later { K.faults out.old ≤ K.faults out.new }
-    ensures failed { result.status ≡ WRITE_FAULT → Rose (K.faults out.old) (K.faults out.new) }
-    ensures stopped { K.faults out.old < K.faults out.new → HasStopped result.status }
-{
-    let sources = match sources(alloc, shelf, files) {
-        Ok(sources) => sources,
-        Err(Refusal::Because { cause }) => return said_unread(alloc, out, cause),
-        Err(Refusal::NoMemory) => return nothing(),
-    };
-    match judged_sources(alloc, &sources) {
-        Ok(()) => said(out, ok_line(alloc), FINISHED),
-        Err(Refusal::Because { cause }) => said_refused(alloc, out, &cause),
-        Err(Refusal::NoMemory) => nothing(),
-    }
-}
-
-// Prints why the script of a run wasn't had.
-fn said_unscripted<K: Sink>(alloc: Global, out: &mut K, fault: ScriptFault<'_>) -> Ended
-    ensures none { result.kept ≡ None }
-    ensures said { (policy : Chooser) (words : List Word) (told : Option (List File)) (before now : ℕ) (old new : List FileRead)
-        (between : List FileRead) (files : List Word) (sources : List File) (script : Word) →
-        files_in words ≡ Some files → AreRead told files sources → ReadSince old between (map had sources) →
-        script_in words ≡ Some script → IsScriptFault told between new (FailedAt before now old new) script fault.entry →
-        IsAnswer policy words told old new (FailedAt before now old new) (K.told out.old) (K.told out.new) result.status policy.told }
-    ensures status { IsUnreadable fault.entry → (result.status ≡ READ_FAULT) ⊎ HasStopped result.status }
-    ensures later { K.faults out.old ≤ K.faults out.new }
-    ensures failed { result.status ≡ WRITE_FAULT → Rose (K.faults out.old) (K.faults out.new) }
-    ensures stopped { K.faults out.old < K.faults out.new → HasStopped result.status }
-{
-    said(out, fault.line(alloc), fault.status())
-}
 
 // The settings of a run with these options over these wires: each object is at every member.
 fn settings_of<W: Wire>(alloc: Global, options: RunOptions, wires: &[W]) -> Settings
@@ -198,7 +127,7 @@ fn run_loaded<K: Sink, W: Wire>(
     let ran = run(alloc, machine, settings, wires);
     let Ran { standing, end } = ran;
     let Some(end) = end else {
-        return nothing();
+        return unkept(NO_MEMORY);
     };
     lines_fit(names, &end.book);
     let status = report(alloc, out, names, options, standing, &end);
@@ -239,7 +168,7 @@ fn run_named<K: Sink, W: Wire>(
 {
     match names(alloc, machine.tables.checked()) {
         Ok(names) => run_loaded(alloc, machine, &names, options, out, wires),
-        Err(_) => nothing(),
+        Err(_) => unkept(NO_MEMORY),
     }
 }
 
@@ -269,7 +198,7 @@ fn run_program<K: Sink, W: Wire>(
 {
     match load_first(alloc, script, wires) {
         Ok(()) => run_named(alloc, machine, options, out, wires),
-        Err(_) => nothing(),
+        Err(_) => unkept(NO_MEMORY),
     }
 }
 
@@ -288,7 +217,7 @@ fn run_files<F: Shelf, K: Sink, W: Wire>(
     ensures refused { (policy : Chooser) (words : List Word) →
         deed_in words ≡ Some (runs options (option_map (λ f. f.now) script.entry) (map (λ f. f.now) files.now)) →
         IfNone result.kept (IsAnswer policy words (F.told shelf.old) (F.reads shelf.old) (F.reads shelf.new)
-        (FailedAt (F.faults shelf.old) (F.faults shelf.new) (F.reads shelf.old) (F.reads shelf.new))
+        (StoppedAt (F.faults shelf.old) (F.faults shelf.new) (F.reads shelf.old) (F.reads shelf.new))
         (K.told out.old) (K.told out.new) result.status policy.told) }
     ensures kept { (words : List Word) →
         deed_in words ≡ Some (runs options (option_map (λ f. f.now) script.entry) (map (λ f. f.now) files.now)) →
@@ -311,23 +240,23 @@ fn run_files<F: Shelf, K: Sink, W: Wire>(
 {
     let sources = match sources(alloc, shelf, files) {
         Ok(sources) => sources,
-        Err(Refusal::Because { cause }) => return said_unread(alloc, out, cause),
-        Err(Refusal::NoMemory) => return nothing(),
+        Err(Refusal::Because { cause }) => return unkept(said_unread(alloc, out, cause)),
+        Err(Refusal::NoMemory) => return unkept(NO_MEMORY),
     };
     let script = match script_of(alloc, shelf, script) {
         Ok(script) => script,
-        Err(Refusal::Because { cause }) => return said_unscripted(alloc, out, cause),
-        Err(Refusal::NoMemory) => return nothing(),
+        Err(Refusal::Because { cause }) => return unkept(said_unscripted(alloc, out, cause)),
+        Err(Refusal::NoMemory) => return unkept(NO_MEMORY),
     };
     let program = match linked_program(alloc, &sources) {
         Ok(program) => program,
-        Err(Refusal::Because { cause }) => return said_refused(alloc, out, &cause),
-        Err(Refusal::NoMemory) => return nothing(),
+        Err(Refusal::Because { cause }) => return unkept(said_refused(alloc, out, &cause)),
+        Err(Refusal::NoMemory) => return unkept(NO_MEMORY),
     };
     let machine = match machine_of(alloc, &program) {
         Ok(machine) => machine,
-        Err(Refusal::Because { cause }) => return said_refused(alloc, out, &cause),
-        Err(Refusal::NoMemory) => return nothing(),
+        Err(Refusal::Because { cause }) => return unkept(said_refused(alloc, out, &cause)),
+        Err(Refusal::NoMemory) => return unkept(NO_MEMORY),
     };
     run_program(alloc, &machine, options, &script, out, wires)
 }
@@ -351,7 +280,7 @@ pub fn orca_main_over<F: Shelf, K: Sink, W: Wire, P: Policy>(
     requires wires { (1 ≤ length wires.old) × (length wires.old ≤ 1000) }
     ensures refused { IfNone result.kept (IsAnswer (chooser_of P.rule P.told policy.old) (map string_bytes words.now) (F.told shelf.old)
         (F.reads shelf.old) (F.reads shelf.new)
-        (FailedAt (F.faults shelf.old) (F.faults shelf.new) (F.reads shelf.old) (F.reads shelf.new))
+        (StoppedAt (F.faults shelf.old) (F.faults shelf.new) (F.reads shelf.old) (F.reads shelf.new))
         (K.told out.old) (K.told out.new) result.status (P.told policy.new)) }
     ensures untouched { IfNone result.kept (AreUntouched (map string_bytes words.now) (F.told shelf.old)
         (F.reads shelf.old) (F.reads shelf.new) result.status
@@ -371,12 +300,14 @@ pub fn orca_main_over<F: Shelf, K: Sink, W: Wire, P: Policy>(
     ensures same_rule { P.rule policy.new ≡ P.rule policy.old }
 {
     match job_of(alloc, words) {
-        Ok(Some(Job::Says { text })) => said(out, whole(alloc, text), FINISHED),
-        Ok(Some(Job::Checks { files })) => check_files(alloc, &files, shelf, out),
-        Ok(Some(Job::Lists { what, files })) => list_program(alloc, what, &files, shelf, out),
-        Ok(Some(Job::Chooses { nodes, files })) => choose_files(
+        Ok(Some(Job::Says { text })) => unkept(print_ending(out, whole(alloc, text), FINISHED)),
+        Ok(Some(Job::Checks { files })) => unkept(check_files(alloc, &files, shelf, out)),
+        Ok(Some(Job::Lists { what, files })) => unkept(list_program(
+            alloc, what, &files, shelf, out,
+        )),
+        Ok(Some(Job::Chooses { nodes, files })) => unkept(choose_files(
             alloc, nodes, &files, shelf, out, policy,
-        ),
+        )),
         Ok(
             Some(
                 Job::Runs {
@@ -386,9 +317,11 @@ pub fn orca_main_over<F: Shelf, K: Sink, W: Wire, P: Policy>(
                 },
             ),
         ) => run_files(alloc, options, script, &files, shelf, out, wires),
-        Ok(Some(Job::Replays { history, files })) => replay(alloc, history, &files, shelf, out),
-        Ok(None) => said(out, usage_line(alloc), USAGE),
-        Err(_) => nothing(),
+        Ok(Some(Job::Replays { history, files })) => unkept(replay(
+            alloc, history, &files, shelf, out,
+        )),
+        Ok(None) => unkept(print_ending(out, usage_line(alloc), USAGE)),
+        Err(_) => unkept(NO_MEMORY),
     }
 }
 
@@ -419,7 +352,7 @@ pub fn orca_main<F: Shelf, K: Sink>(
     ensures refused { IfNone result.kept (IsAnswer
         (chooser_of (λ b. (Policy-box b).rule b.value) (λ b. (Policy-box b).told b.value) policy.old)
         (map string_bytes words.now) (F.told shelf.old) (F.reads shelf.old) (F.reads shelf.new)
-        (FailedAt (F.faults shelf.old) (F.faults shelf.new) (F.reads shelf.old) (F.reads shelf.new))
+        (StoppedAt (F.faults shelf.old) (F.faults shelf.new) (F.reads shelf.old) (F.reads shelf.new))
         (K.told out.old) (K.told out.new) result.status ((Policy-box policy.new).told policy.new.value)) }
     ensures untouched { IfNone result.kept (AreUntouched (map string_bytes words.now) (F.told shelf.old)
         (F.reads shelf.old) (F.reads shelf.new) result.status

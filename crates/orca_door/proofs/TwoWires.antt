@@ -9,13 +9,14 @@ use Rattle.net_rules.specs.declared.asked.Asked.{Asked}
 use Rattle.net_rules.specs.declared.asked.Asked.TheVariants.{Act, Packet}
 use Rattle.net_rules.specs.declared.line.ScriptLine.{ScriptLine}
 use Rattle.orca_io.specs.Files.{File}
+use Rattle.orca_io.specs.declared.shelf.ShelfFault.{ShelfFault}
 use Rattle.orca_io.specs.Reading.{FileRead}
 use Rattle.command_files.specs.Sources.{Word}
 use Rattle.command_output.specs.declared.statuses.TheConstants.{NO_MEMORY}
 use Rattle.replica_choice.specs.declared.policy.Asked.{Asked as Question}
 use Rattle.orca_cli.specs.declared.kept.Kept.{Kept}
-use Rattle.orca_cli.specs.Choosing.{Chooser}
-use Rattle.orca_cli.specs.Endings.{IsAnswer}
+use Rattle.orca_answers.specs.Choosing.{Chooser}
+use Rattle.orca_answers.specs.Endings.{IsAnswer}
 use Rattle.orca_cli.specs.Headline.{AreLoaded, AreUntouched, IsRunOf, Wires}
 use Rattle.wires.specs.Wired.{Rule, Wired, by_script, plain, scripted}
 use Rattle.orca_door.specs.Obeying.{AreTwo}
@@ -99,13 +100,13 @@ two_left words files earlier later status old new kept before wires is untouched
     by None (inr lacked) none = lacked.begun.told.count
     by (Some k) none run = run.run.run.told.count
 
-pub is_served : (policy : Chooser) (words : List Word) (files : Option (List File)) (earlier later : List FileRead) (failed : Word → Type 0) (old new : Option (List ℕ)) (status : ℕ) (told : List Question) (kept : Option Kept) (before : Wires) (wires : List Wired) → before ≡ fresh → AreTwo wires →
-    IfNone kept (IsAnswer policy words files earlier later failed old new status told) → IfNone kept (AreUntouched words files earlier later status before (wired wires)) → IfSome kept (λ k. IsRunOf words files earlier later k status old new before (wired wires)) → IfSome kept (λ _. told ≡ policy.told) →
-    IsServed policy words files earlier later failed old new status told
-is_served policy words files earlier later failed old new status told kept before wires is both answer untouched ran unasked = by kept answer untouched ran unasked
+pub is_served : (policy : Chooser) (words : List Word) (files : Option (List File)) (earlier later : List FileRead) (stopped : ShelfFault → Word → Type 0) (old new : Option (List ℕ)) (status : ℕ) (told : List Question) (kept : Option Kept) (before : Wires) (wires : List Wired) → before ≡ fresh → AreTwo wires →
+    IfNone kept (IsAnswer policy words files earlier later stopped old new status told) → IfNone kept (AreUntouched words files earlier later status before (wired wires)) → IfSome kept (λ k. IsRunOf words files earlier later k status old new before (wired wires)) → IfSome kept (λ _. told ≡ policy.told) →
+    IsServed policy words files earlier later stopped old new status told
+is_served policy words files earlier later stopped old new status told kept before wires is both answer untouched ran unasked = by kept answer untouched ran unasked
   where
-    by : (kept : Option Kept) → IfNone kept (IsAnswer policy words files earlier later failed old new status told) → IfNone kept (AreUntouched words files earlier later status before (wired wires)) →
-        IfSome kept (λ k. IsRunOf words files earlier later k status old new before (wired wires)) → IfSome kept (λ _. told ≡ policy.told) → IsServed policy words files earlier later failed old new status told
+    by : (kept : Option Kept) → IfNone kept (IsAnswer policy words files earlier later stopped old new status told) → IfNone kept (AreUntouched words files earlier later status before (wired wires)) →
+        IfSome kept (λ k. IsRunOf words files earlier later k status old new before (wired wires)) → IfSome kept (λ _. told ≡ policy.told) → IsServed policy words files earlier later stopped old new status told
     by None answer untouched none nobody =
         let same = subst (λ (b : Wires). AreUntouched words files earlier later status b (wired wires)) is untouched in
         serves.ended (wired wires) (have_answered wires both (still_untouched words files earlier later status (wired wires) same)) answer same
@@ -114,6 +115,6 @@ is_served policy words files earlier later failed old new status told kept befor
         serves.ran k (wired wires) (have_answered wires both (still_loaded same.lines (wired wires) same.loaded)) same unasked
 
 -- where there was no memory for the wires
-pub none_made : (policy : Chooser) (words : List Word) (files : Option (List File)) (reads : List FileRead) (failed : Word → Type 0) (old : Option (List ℕ)) (status : ℕ) → status ≡ NO_MEMORY → IsServed policy words files reads reads failed old old status policy.told
-none_made policy words files reads failed old status lacked =
+pub none_made : (policy : Chooser) (words : List Word) (files : Option (List File)) (reads : List FileRead) (stopped : ShelfFault → Word → Type 0) (old : Option (List ℕ)) (status : ℕ) → status ≡ NO_MEMORY → IsServed policy words files reads reads stopped old old status policy.told
+none_made policy words files reads stopped old status lacked =
     serves.ended fresh (record { first = []; second = []; lines = []; told = refl; rules = refl; answered = tt; passed = tt }) (inr (lacked, refl, inl refl)) (inl refl)

@@ -5,12 +5,13 @@ use Rattle.net_rules.specs.Answered.{Answered}
 use Rattle.net_rules.specs.declared.asked.Asked.{Asked}
 use Rattle.net_rules.specs.declared.line.ScriptLine.{ScriptLine}
 use Rattle.orca_io.specs.Files.{File}
+use Rattle.orca_io.specs.declared.shelf.ShelfFault.{ShelfFault}
 use Rattle.orca_io.specs.Reading.{FileRead}
 use Rattle.command_files.specs.Sources.{Word}
 use Rattle.replica_choice.specs.declared.policy.Asked.{Asked as Question}
 use Rattle.orca_cli.specs.declared.kept.Kept.{Kept}
-use Rattle.orca_cli.specs.Choosing.{Chooser}
-use Rattle.orca_cli.specs.Endings.{IsAnswer}
+use Rattle.orca_answers.specs.Choosing.{Chooser}
+use Rattle.orca_answers.specs.Endings.{IsAnswer}
 use Rattle.orca_cli.specs.Headline.{AreUntouched, IsRunOf, Wires, wires_of}
 use Rattle.wires.specs.Wired.{Wired, by_script, plain, scripted}
 
@@ -41,8 +42,8 @@ pub record HaveAnswered (wires : Wires) : Type 0 where
 -- the program whose texts were read, and no policy was asked. Either way the wires answered so; where a run was begun, the lines of the
 -- first are those that the words name (`AreLoaded` of orca_cli)
 pub data IsServed (policy : Chooser) (words : List Word) (files : Option (List File)) (earlier later : List FileRead)
-    (failed : Word → Type 0) (old new : Option (List ℕ)) (status : ℕ) (told : List Question) : Type 0 where
-  ended : (after : Wires) → HaveAnswered after → IsAnswer policy words files earlier later failed old new status told →
-      AreUntouched words files earlier later status fresh after → IsServed policy words files earlier later failed old new status told
+    (stopped : ShelfFault → Word → Type 0) (old new : Option (List ℕ)) (status : ℕ) (told : List Question) : Type 0 where
+  ended : (after : Wires) → HaveAnswered after → IsAnswer policy words files earlier later stopped old new status told →
+      AreUntouched words files earlier later status fresh after → IsServed policy words files earlier later stopped old new status told
   ran : (k : Kept) (after : Wires) → HaveAnswered after → IsRunOf words files earlier later k status old new fresh after →
-      told ≡ policy.told → IsServed policy words files earlier later failed old new status told
+      told ≡ policy.told → IsServed policy words files earlier later stopped old new status told

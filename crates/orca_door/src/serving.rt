@@ -3,9 +3,10 @@
 ghost use Rattle.std.specs.Prelude.{◌≡◌, ◌⊎◌, ◌<◌, ◌≤◌, IfOk, length, map, string_bytes};
 ghost use Rattle.command_output.specs.Printed.{HasStopped};
 ghost use Rattle.orca_io.specs.Causes.{Rose};
-ghost use Rattle.orca_io.specs.Reading.{FailedAt, HasAsked};
-ghost use Rattle.orca_cli.specs.Choosing.{chooser_of};
-ghost use Rattle.orca_cli.specs.Job.{named_in};
+ghost use Rattle.orca_io.specs.Reading.{HasAsked};
+ghost use Rattle.command_files.specs.Stopped.{StoppedAt};
+ghost use Rattle.orca_answers.specs.Choosing.{chooser_of};
+ghost use Rattle.orca_answers.specs.Job.{named_in};
 ghost use Rattle.orca_door.specs.Obeying.{AreTwo};
 ghost use Rattle.orca_door.specs.Served.{IsServed, fresh, wired};
 
@@ -47,7 +48,7 @@ fn served<F: Shelf, K: Sink, P: Policy>(
     requires { wired wires.old ≡ fresh }
     ensures served { IsServed (chooser_of P.rule P.told policy.old) (map string_bytes words.now) (F.told shelf.old)
         (F.reads shelf.old) (F.reads shelf.new)
-        (FailedAt (F.faults shelf.old) (F.faults shelf.new) (F.reads shelf.old) (F.reads shelf.new))
+        (StoppedAt (F.faults shelf.old) (F.faults shelf.new) (F.reads shelf.old) (F.reads shelf.new))
         (K.told out.old) (K.told out.new) result (P.told policy.new) }
     ensures write_fault { result ≡ WRITE_FAULT → Rose (K.faults out.old) (K.faults out.new) }
     ensures stopped { K.faults out.old < K.faults out.new → HasStopped result }
@@ -80,7 +81,7 @@ pub fn serve<F: Shelf, K: Sink, P: Policy>(
     // over wires that answered by their scripts, for which no policy was asked.
     ensures served { IsServed (chooser_of P.rule P.told policy.old) (map string_bytes words.now) (F.told shelf.old)
         (F.reads shelf.old) (F.reads shelf.new)
-        (FailedAt (F.faults shelf.old) (F.faults shelf.new) (F.reads shelf.old) (F.reads shelf.new))
+        (StoppedAt (F.faults shelf.old) (F.faults shelf.new) (F.reads shelf.old) (F.reads shelf.new))
         (K.told out.old) (K.told out.new) result (P.told policy.new) }
 
     // A write fault is told only where the sink's count of faults rose; and where it rose, that or want of memory is told.

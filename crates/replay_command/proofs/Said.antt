@@ -2,6 +2,7 @@
 use Rattle.std.proofs.Common.{◌≡◌, ℕ, List, Option, inl, inr, subst}
 use Rattle.std.specs.Prelude.{Result, Ok, Err, IfOk, OnErr}
 use Rattle.orca_io.specs.Files.{File}
+use Rattle.orca_io.specs.declared.shelf.ShelfFault.{ShelfFault}
 use Rattle.command_output.specs.declared.statuses.TheConstants.{NO_MEMORY}
 use Rattle.command_output.specs.Printed.{Ends, EndsAs, Grew}
 use Rattle.command_files.specs.Sources.{Word}
@@ -17,15 +18,15 @@ use Rattle.replay_command.specs.Endings as because
 use Rattle.replay_command.specs.Endings.{IsReplayAnswer, IsReplayEnding}
 
 -- an ending's line was printed, or there was no memory for it
-pub answer_of : {L E : Type 0} (bytes : L → List ℕ) (line : Result L E) (told : Option (List File)) (failed : Word → Type 0) (history : Word) (files : List Word) (old new : Option (List ℕ)) (wanted status : ℕ) (text : List ℕ) →
+pub answer_of : {L E : Type 0} (bytes : L → List ℕ) (line : Result L E) (told : Option (List File)) (stopped : ShelfFault → Word → Type 0) (history : Word) (files : List Word) (old new : Option (List ℕ)) (wanted status : ℕ) (text : List ℕ) →
     IfOk line (λ l. bytes l ≡ text) → IfOk line (λ l. Grew old new (Ends wanted status (bytes l))) → OnErr line ((status ≡ NO_MEMORY) × (new ≡ old)) → EndsAs wanted status →
-    IsReplayEnding told failed history files wanted text → IsReplayAnswer told failed history files old new status
-answer_of bytes (Ok l) told failed history files old new wanted status text is grew silent ends ending = inl (wanted, text, ending, ends, subst (λ (t : List ℕ). Grew old new (Ends wanted status t)) is grew)
-answer_of bytes (Err e) told failed history files old new wanted status text is grew silent ends ending = inr silent
+    IsReplayEnding told stopped history files wanted text → IsReplayAnswer told stopped history files old new status
+answer_of bytes (Ok l) told stopped history files old new wanted status text is grew silent ends ending = inl (wanted, text, ending, ends, subst (λ (t : List ℕ). Grew old new (Ends wanted status t)) is grew)
+answer_of bytes (Err e) told stopped history files old new wanted status text is grew silent ends ending = inr silent
 
 -- what was said of the history is an ending of the command
-pub judged_so : (told : Option (List File)) (failed : Word → Type 0) (history : Word) (files : List Word) (sources : List File) (text : List ℕ) (units : List Source) (names : Names) (old new : Option (List ℕ)) (status : ℕ) →
-    HasRead told history files sources text → IsAccepted sources units → IsWithinLimits units → AreNamesOf units names → IsSaid (performs_of units) (computes_of units) names text old new status → IsReplayAnswer told failed history files old new status
-judged_so told failed history files sources text units names old new status read accepted within are (inl said) =
+pub judged_so : (told : Option (List File)) (stopped : ShelfFault → Word → Type 0) (history : Word) (files : List Word) (sources : List File) (text : List ℕ) (units : List Source) (names : Names) (old new : Option (List ℕ)) (status : ℕ) →
+    HasRead told history files sources text → IsAccepted sources units → IsWithinLimits units → AreNamesOf units names → IsSaid (performs_of units) (computes_of units) names text old new status → IsReplayAnswer told stopped history files old new status
+judged_so told stopped history files sources text units names old new status read accepted within are (inl said) =
     inl (answer_status said.0, answer_line said.0, because.judged sources text units names said.0 read accepted within are said.1, said.2, said.3)
-judged_so told failed history files sources text units names old new status read accepted within are (inr silent) = inr silent
+judged_so told stopped history files sources text units names old new status read accepted within are (inr silent) = inr silent

@@ -4,6 +4,7 @@
 use Rattle.std.specs.Prelude.{◌≡◌, ◌⊎◌, ℕ, List, Option, codes}
 use Rattle.orca_base.specs.declared.limits.TheConstants.{CODE_LENGTH, PARAMETERS}
 use Rattle.orca_io.specs.Files.{File}
+use Rattle.orca_io.specs.declared.shelf.ShelfFault.{ShelfFault}
 use Rattle.link_rules.specs.Units.{Source}
 use Rattle.accepted_law.specs.Limits.{IsWithinLimits}
 use Rattle.orca_front.specs.declared.fault.FrontFault.{FrontFault}
@@ -31,23 +32,23 @@ passed_line limit.CodeLength = limit_line (codes "code length") CODE_LENGTH
 
 -- A file wasn't read. All were, and the texts of the program are none that is accepted; or they are one, and it passes a limit; or it keeps
 -- within the limits, and this is what is said of the history's text by the source's meaning and names
-pub data IsReplayEnding (told : Option (List File)) (failed : Word → Type 0) (history : Word) (files : List Word) : ℕ → List ℕ →
+pub data IsReplayEnding (told : Option (List File)) (stopped : ShelfFault → Word → Type 0) (history : Word) (files : List Word) : ℕ → List ℕ →
     Type 0 where
-  unread : (fault : ReplayFault) → IsReplayFault told failed history files fault →
-      IsReplayEnding told failed history files (replay_status fault) (replay_line fault)
+  unread : (fault : ReplayFault) → IsReplayFault told stopped history files fault →
+      IsReplayEnding told stopped history files (replay_status fault) (replay_line fault)
   refused : (sources : List File) (text : List ℕ) (fault : FrontFault) → HasRead told history files sources text → IsFault sources fault →
-      IsReplayEnding told failed history files (front_status fault) (fault_line fault)
+      IsReplayEnding told stopped history files (front_status fault) (fault_line fault)
   limited : (sources : List File) (text : List ℕ) (units : List Source) (passed : PassedLimit) → HasRead told history files sources text →
-      IsAccepted sources units → Passes units passed → IsReplayEnding told failed history files LIMIT (passed_line passed)
+      IsAccepted sources units → Passes units passed → IsReplayEnding told stopped history files LIMIT (passed_line passed)
   judged : (sources : List File) (text : List ℕ) (units : List Source) (names : Names) (answer : Answer) →
       HasRead told history files sources text → IsAccepted sources units → IsWithinLimits units → AreNamesOf units names →
       IsToldOf (performs_of units) (computes_of units) names text answer →
-      IsReplayEnding told failed history files (answer_status answer) (answer_line answer)
+      IsReplayEnding told stopped history files (answer_status answer) (answer_line answer)
 
 -- the answer of `replay`: an ending whose line was printed, or a front of the line where the write failed or memory lacked; or nothing at all,
 -- for want of memory
-abbrev pub IsReplayAnswer : Option (List File) → (Word → Type 0) → Word → List Word → Option (List ℕ) → Option (List ℕ) → ℕ → Type 0
-IsReplayAnswer told failed history files old new status =
-    ((wanted : ℕ) × (line : List ℕ) × IsReplayEnding told failed history files wanted line × EndsAs wanted status ×
+abbrev pub IsReplayAnswer : Option (List File) → (ShelfFault → Word → Type 0) → Word → List Word → Option (List ℕ) → Option (List ℕ) → ℕ → Type 0
+IsReplayAnswer told stopped history files old new status =
+    ((wanted : ℕ) × (line : List ℕ) × IsReplayEnding told stopped history files wanted line × EndsAs wanted status ×
     Grew old new (Ends wanted status line))
     ⊎ ((status ≡ NO_MEMORY) × (new ≡ old))

@@ -4,7 +4,8 @@ ghost use Rattle.std.specs.Prelude.{◌≡◌, ◌<◌, ◌≤◌, ℕ, List, Op
 ghost use Rattle.orca_base.specs.declared.limits.TheConstants.{HISTORY_BYTES};
 ghost use Rattle.orca_io.specs.Causes.{Rose};
 ghost use Rattle.orca_io.specs.Files.{File};
-ghost use Rattle.orca_io.specs.Reading.{FailedAt, FileRead};
+ghost use Rattle.orca_io.specs.Reading.{FileRead};
+ghost use Rattle.command_files.specs.Stopped.{StoppedAt};
 ghost use Rattle.link_rules.specs.Units.{source};
 ghost use Rattle.accepted_law.specs.Limits.{IsWithinLimits};
 ghost use Rattle.orca_front.specs.Sources.{IsAccepted};
@@ -40,7 +41,7 @@ pub fn judge<P: Processor, K: Sink>(
     requires fits { length text.now ≤ HISTORY_BYTES }
     ensures said { (told : Option (List File)) (before now : ℕ) (old new : List FileRead) (history : Word) (files : List Word)
         (sources : List File) → HasRead told history files sources text.now → IsAccepted sources (map source checked.now.program.now.units.items) →
-        IsReplayAnswer told (FailedAt before now old new) history files (K.told out.old) (K.told out.new) result }
+        IsReplayAnswer told (StoppedAt before now old new) history files (K.told out.old) (K.told out.new) result }
     ensures later { K.faults out.old ≤ K.faults out.new }
     ensures failed { result ≡ WRITE_FAULT → Rose (K.faults out.old) (K.faults out.new) }
     ensures stopped { K.faults out.old < K.faults out.new → HasStopped result }

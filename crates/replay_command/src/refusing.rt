@@ -3,7 +3,8 @@
 ghost use Rattle.std.specs.Prelude.{◌≡◌, ◌⊎◌, ◌<◌, ◌≤◌, ℕ, List, Option};
 ghost use Rattle.orca_io.specs.Causes.{Rose};
 ghost use Rattle.orca_io.specs.Files.{File};
-ghost use Rattle.orca_io.specs.Reading.{FailedAt, FileRead};
+ghost use Rattle.orca_io.specs.Reading.{FileRead};
+ghost use Rattle.command_files.specs.Stopped.{StoppedAt};
 ghost use Rattle.link_rules.specs.Units.{Source};
 ghost use Rattle.orca_front.specs.Sources.{IsAccepted, IsFault};
 ghost use Rattle.program_limits.specs.Passed.{Passes};
@@ -23,8 +24,8 @@ use std::alloc::Global;
 /// Says why the files weren't read, and gives the status.
 pub fn say_unread<K: Sink>(alloc: Global, out: &mut K, fault: ReplayFault<'_>) -> u8
     ensures said { (told : Option (List File)) (before now : ℕ) (old new : List FileRead) (history : Word) (files : List Word) →
-        IsReplayFault told (FailedAt before now old new) history files fault.entry →
-        IsReplayAnswer told (FailedAt before now old new) history files (K.told out.old) (K.told out.new) result }
+        IsReplayFault told (StoppedAt before now old new) history files fault.entry →
+        IsReplayAnswer told (StoppedAt before now old new) history files (K.told out.old) (K.told out.new) result }
 
     // A read fault is told, unless its line couldn't be.
     ensures status { IsUnreadable fault.entry → (result ≡ READ_FAULT) ⊎ HasStopped result }
@@ -39,7 +40,7 @@ pub fn say_unread<K: Sink>(alloc: Global, out: &mut K, fault: ReplayFault<'_>) -
 pub fn say_refused<K: Sink>(alloc: Global, out: &mut K, fault: &FrontFault) -> u8
     ensures said { (told : Option (List File)) (before now : ℕ) (old new : List FileRead) (history : Word) (files : List Word)
         (sources : List File) (text : List ℕ) → HasRead told history files sources text → IsFault sources fault.now →
-        IsReplayAnswer told (FailedAt before now old new) history files (K.told out.old) (K.told out.new) result }
+        IsReplayAnswer told (StoppedAt before now old new) history files (K.told out.old) (K.told out.new) result }
     ensures later { K.faults out.old ≤ K.faults out.new }
     ensures failed { result ≡ WRITE_FAULT → Rose (K.faults out.old) (K.faults out.new) }
     ensures stopped { K.faults out.old < K.faults out.new → HasStopped result }
@@ -51,7 +52,7 @@ pub fn say_refused<K: Sink>(alloc: Global, out: &mut K, fault: &FrontFault) -> u
 pub fn say_limited<K: Sink>(alloc: Global, out: &mut K, passed: PassedLimit) -> u8
     ensures said { (told : Option (List File)) (before now : ℕ) (old new : List FileRead) (history : Word) (files : List Word)
         (sources : List File) (text : List ℕ) (units : List Source) → HasRead told history files sources text → IsAccepted sources units → Passes units passed →
-        IsReplayAnswer told (FailedAt before now old new) history files (K.told out.old) (K.told out.new) result }
+        IsReplayAnswer told (StoppedAt before now old new) history files (K.told out.old) (K.told out.new) result }
     ensures later { K.faults out.old ≤ K.faults out.new }
     ensures failed { result ≡ WRITE_FAULT → Rose (K.faults out.old) (K.faults out.new) }
     ensures stopped { K.faults out.old < K.faults out.new → HasStopped result }

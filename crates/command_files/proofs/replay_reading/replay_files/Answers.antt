@@ -1,7 +1,8 @@
 use Rattle.std.proofs.Common.{map}
 use Rattle.orca_front.specs.Sources.{file_of}
-use Rattle.orca_io.specs.Reading.{FailedAt, had}
-use Rattle.command_files.proofs.ReadFiles.{failed_since, history_since, only_left, quiet_on, quiet_since, read_since}
+use Rattle.orca_io.specs.Reading.{had}
+use Rattle.command_files.specs.Stopped.{StoppedAt}
+use Rattle.command_files.proofs.ReadFiles.{stopped_since, history_since, only_left, quiet_on, quiet_since, read_since}
 use Rattle.command_files.proofs.AskedFiles.{asked_behind, asked_more}
 use Rattle.command_files.proofs.replay_reading.replay_files.Goals as goal
 
@@ -19,8 +20,8 @@ returns-in-Err-clause-refused g c =
     let old = g.F.Shelf.reads c.args.shelf.now in
     let between = g.F.Shelf.reads c.sources.new.shelf in
     let new = g.F.Shelf.reads c.history_in.new.shelf in
-    history_since _ _ _ _ (FailedAt mid now between new) (FailedAt before now old new) c.args.history.now _ c.in-Err.refusal c.sources.ensures.same
-    (failed_since before mid now old between new (map had (map file_of c.in-Ok.sources.items)) c.args.history.now (only_left c.in-Ok.ensures.quiet) c.in-Ok.ensures.had) (map file_of c.in-Ok.sources.items, c.in-Ok.ensures.read) c.in-Err.ensures.refused
+    history_since _ _ _ _ (StoppedAt mid now between new) (StoppedAt before now old new) c.args.history.now _ c.in-Err.refusal c.sources.ensures.same
+    (stopped_since before mid now old between new (map had (map file_of c.in-Ok.sources.items)) c.args.history.now (only_left c.in-Ok.ensures.quiet) c.in-Ok.ensures.had) (map file_of c.in-Ok.sources.items, c.in-Ok.ensures.read) c.in-Err.ensures.refused
 
 pub returns-in-Err-clause-quiet : goal.returns-in-Err-clause-quiet
 returns-in-Err-clause-quiet g c = quiet_on _ _ _ _ _ c.in-Err.refusal (only_left c.in-Ok.ensures.quiet) c.in-Err.ensures.quiet

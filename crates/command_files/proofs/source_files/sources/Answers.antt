@@ -2,9 +2,10 @@ use Rattle.std.proofs.Common.{◌∙◌, List, [], append-nil, get_or, map, refl
 use Rattle.std.specs.Borrow.{Bor}
 use Rattle.orca_front.specs.declared.source.SourceFile.{SourceFile}
 use Rattle.command_files.specs.Sources.{Word}
-use Rattle.command_files.proofs.ReadFiles.{ReadSoFar, all_read, failed_since, fault_next, none_read, only_left, reads_more, reads_since, since_none, stops_next}
+use Rattle.command_files.proofs.ReadFiles.{ReadSoFar, all_read, stopped_since, fault_next, none_read, only_left, reads_more, reads_since, since_none, stops_next}
 use Rattle.orca_front.specs.Sources.{file_of}
-use Rattle.orca_io.specs.Reading.{FailedAt, ReadSince, had}
+use Rattle.orca_io.specs.Reading.{ReadSince, had}
+use Rattle.command_files.specs.Stopped.{StoppedAt}
 use Rattle.command_files.proofs.AskedFiles.{asked_all, asked_next, asked_none, since_more}
 use Rattle.command_files.proofs.source_files.sources.Goals as goal
 
@@ -44,8 +45,8 @@ returns-in-Err-clause-refused g c =
     let new = g.F.Shelf.reads c.source.new.shelf in
     fault_next _ (g.F.Shelf.told c.args.shelf.now) _ _ (get_or c.args.files.now c.files.file-index none).now c.in-Err.refusal
     (stops_next (g.F.Shelf.told c.args.shelf.now) c.args.files.now c.files.file-index (get_or c.args.files.now c.files.file-index none) none c.files.sources.items c.if-files.false c.files-test.true refl so_far.read)
-    (reads_since (g.F.Shelf.told c.files.shelf) (g.F.Shelf.told c.args.shelf.now) (FailedAt mid now between new) (FailedAt before now old new) (get_or c.args.files.now c.files.file-index none).now _ _ so_far.same
-    (failed_since before mid now old between new (map had (map file_of c.files.sources.items)) (get_or c.args.files.now c.files.file-index none).now so_far.quiet so_far.had) c.in-Err.is c.source.ensures.reads)
+    (reads_since (g.F.Shelf.told c.files.shelf) (g.F.Shelf.told c.args.shelf.now) (StoppedAt mid now between new) (StoppedAt before now old new) (get_or c.args.files.now c.files.file-index none).now _ _ so_far.same
+    (stopped_since before mid now old between new (map had (map file_of c.files.sources.items)) (get_or c.args.files.now c.files.file-index none).now so_far.quiet so_far.had) c.in-Err.is c.source.ensures.reads)
 
 pub returns-clause-read : goal.returns-clause-read
 returns-clause-read g c = all_read (g.F.Shelf.told c.args.shelf.now) c.args.files.now c.files.file-index c.files.sources.items c.if-files.false c.files-test.false c.files.invariant.read

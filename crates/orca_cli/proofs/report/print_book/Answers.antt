@@ -1,6 +1,6 @@
 use Rattle.std.proofs.Common.{◌∙◌}
 use Rattle.std.proofs.lemmas.Result.{err_from_is_err_and}
-use Rattle.orca_cli.proofs.CliLemmas.{grew_line, grew_line_fault}
+use Rattle.orca_cli.proofs.PrintLemmas.{grew_line, grew_line_fault}
 use Rattle.orca_cli.proofs.report.print_book.Goals as goal
 
 pub returns-in_err-put_some-clause-wrote : goal.returns-in_err-put_some-clause-wrote

@@ -3,7 +3,7 @@ use Rattle.meaning_rules.specs.Meanings.{computes_of, performs_of}
 use Rattle.world_rules.specs.declared.settings.Settings.{Settings}
 use Rattle.run_loop.specs.Asked.{WereAskedIn}
 use Rattle.run_loop.specs.Left.{HasRun, run_of}
-use Rattle.orca_cli.specs.Programs.{units_of}
+use Rattle.orca_answers.specs.Programs.{units_of}
 use Rattle.orca_cli.specs.Standings.{awaited_name, run_said}
 use Rattle.orca_cli.proofs.HeadlineLemmas.{book_back, book_printable, is_run_by, ranges_as, some_is}
 use Rattle.orca_cli.proofs.top.run_loaded.Goals as goal

@@ -8,7 +8,7 @@ use Rattle.run_loop.proofs.Ending.{asked_nothing}
 use Rattle.run_loop.proofs.Telling.{tells_itself}
 use Rattle.run_loop.specs.Left.{run_of}
 use Rattle.orca_cli.specs.Headline.{settings_of}
-use Rattle.orca_cli.specs.Programs.{units_of}
+use Rattle.orca_answers.specs.Programs.{units_of}
 use Rattle.orca_cli.proofs.HeadlineLemmas.{program_run}
 use Rattle.orca_cli.proofs.top.run_named.Goals as goal
 

@@ -1,7 +1,7 @@
 use Rattle.std.proofs.Common.{inl, inr}
 use Rattle.orca_cli.specs.Headline.{AreLoaded, wires_of}
-use Rattle.orca_cli.specs.Programs.{units_of}
-use Rattle.orca_cli.proofs.CliLemmas.{if_none}
+use Rattle.orca_answers.specs.Programs.{units_of}
+use Rattle.orca_answers.proofs.AnswerLemmas.{if_none}
 use Rattle.orca_cli.proofs.HeadlineLemmas.{begun_so, if_some, still_loaded}
 use Rattle.orca_cli.proofs.top.run_program.Goals as goal
 

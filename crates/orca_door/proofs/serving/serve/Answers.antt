@@ -1,6 +1,6 @@
 use Rattle.std.proofs.Common.{refl}
 use Rattle.command_files.proofs.AskedFiles.{asked_none}
-use Rattle.orca_cli.specs.Choosing.{chooser_of}
+use Rattle.orca_answers.specs.Choosing.{chooser_of}
 use Rattle.orca_door.proofs.TwoWires.{none_made}
 use Rattle.orca_door.proofs.serving.serve.Goals as goal
 

@@ -1,4 +1,4 @@
-use Rattle.orca_io.specs.Reading.{FailedAt}
+use Rattle.command_files.specs.Stopped.{StoppedAt}
 use Rattle.orca_front.specs.Lines.{fault_line}
 use Rattle.command_files.proofs.ReadFiles.{refused_status}
 use Rattle.command_files.specs.Loaded.{front_status}
@@ -11,4 +11,4 @@ print_ending-requires g c = rw c.front_status.ensures (refused_status c.args.fau
 
 pub returns-clause-said : goal.returns-clause-said
 returns-clause-said g c = λ told before now old new history files sources text read is.
-    answer_of (λ l. l.items) c.fault_line.result told (FailedAt before now old new) history files _ _ (front_status c.args.fault.now) _ (fault_line c.args.fault.now) c.fault_line.ensures (rw c.front_status.ensures at c.print_ending.ensures.printed) c.print_ending.ensures.silent (rw c.front_status.ensures at c.print_ending.ensures.status) (because.refused sources text c.args.fault.now read is)
+    answer_of (λ l. l.items) c.fault_line.result told (StoppedAt before now old new) history files _ _ (front_status c.args.fault.now) _ (fault_line c.args.fault.now) c.fault_line.ensures (rw c.front_status.ensures at c.print_ending.ensures.printed) c.print_ending.ensures.silent (rw c.front_status.ensures at c.print_ending.ensures.status) (because.refused sources text c.args.fault.now read is)

@@ -1,0 +1,9 @@
+pub mod AnswerLemmas
+pub mod FilesOnce
+pub mod TextsOnce
+pub mod ScriptsOnce
+pub mod SameReads
+pub mod ProgramsOnce
+pub mod NamesOnce
+pub mod ReplaysOnce
+pub mod EndingsOnce

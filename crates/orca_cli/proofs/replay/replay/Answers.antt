@@ -1,5 +1,0 @@
-use Rattle.orca_cli.proofs.CliLemmas.{replayed_so}
-use Rattle.orca_cli.proofs.replay.replay.Goals as goal
-
-pub returns-clause-said : goal.returns-clause-said
-returns-clause-said g c = λ policy words asked. replayed_so policy words _ _ _ _ _ _ _ _ _ asked c.replayed.ensures.said
