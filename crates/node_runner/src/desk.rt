@@ -1,6 +1,9 @@
 //! What workers serve.
 
-use orca_base::{NoMemory, ProcessNo};
+ghost use Rattle.std.specs.Prelude.{◌≡◌, Ok};
+ghost use Rattle.node_runner.specs.declared.desk.Offer.TheVariants as offer;
+
+use orca_base::ProcessNo;
 use std::sync::Wait;
 
 /// What a desk offers.
@@ -30,21 +33,36 @@ impl Gate for OpenGate {
 }
 
 /// Hands out work, and takes it back.
+///
+/// Whoever serves a desk, whichever it is, can neither make nor let go what it hands out: work goes to `run_work` alone, what that computes
+/// to `put_and_take` alone, and a failure to `stop` alone. So all that was handed out comes back, or the desk is stopped.
 pub trait Desk {
+    ghost use Rattle.std.specs.Prelude.{ℕ};
+
     /// A burst to be computed.
-    type Work: Drop + Send;
+    type Work: Send;
 
     /// What was computed.
-    type Finished: Drop + Send;
+    type Finished: Send;
 
-    /// Takes the next work for a worker that prefers this member's processes. Where memory lacks the desk is to be stopped.
-    fn take_work<R: Wait>(&self, rt: &R, home: u8) -> Result<Offer<Self::Work>, NoMemory>;
+    /// That memory lacked, for which the desk is to be stopped.
+    type Failure: Send;
+
+    /// What is so once a worker of this home was told that the work is over.
+    ghost is_over: { Self → ℕ → Type 0 };
+
+    /// What is so once the desk was stopped.
+    ghost is_stopped: { Self → Type 0 };
+
+    /// Takes the next work for a worker that prefers this member's processes.
+    fn take_work<R: Wait>(&self, rt: &R, home: u8) -> Result<Offer<Self::Work>, Self::Failure>
+        ensures over { result ≡ Ok offer.Over → is_over self.now home };
 
     /// The process whose burst it is.
     fn process_of(&self, work: &Self::Work) -> ProcessNo;
 
     /// Computes it, with no lock held.
-    fn run_work(&self, work: Self::Work) -> Result<Self::Finished, NoMemory>;
+    fn run_work(&self, work: Self::Work) -> Result<Self::Finished, Self::Failure>;
 
     /// Puts what was computed, and takes the next work as `take_work` does, with nothing between the two.
     fn put_and_take<R: Wait>(
@@ -52,11 +70,13 @@ pub trait Desk {
         rt: &R,
         done: Self::Finished,
         home: u8,
-    ) -> Result<Offer<Self::Work>, NoMemory>;
+    ) -> Result<Offer<Self::Work>, Self::Failure>
+        ensures over { result ≡ Ok offer.Over → is_over self.now home };
 
     /// Waits until there may be work.
     fn wait<R: Wait>(&self, rt: &R);
 
-    /// After it `take_work` hands out nothing, and answers want of memory where the run isn't over.
-    fn stop<R: Wait>(&self, rt: &R);
+    /// After it `take_work` hands out nothing, and fails where the run isn't over.
+    fn stop<R: Wait>(&self, rt: &R, failure: Self::Failure)
+        ensures { is_stopped self.now };
 }

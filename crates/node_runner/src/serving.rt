@@ -1,6 +1,7 @@
 //! A worker's loop.
 
-ghost use Rattle.std.specs.Prelude.{◌<◌, ◌≡◌, ◌%◌};
+ghost use Rattle.std.specs.Prelude.{◌≡◌, ◌<◌, ◌%◌, ℕ, Ok, OnErr, OnOk, length, slice_index_or};
+ghost use Rattle.node_runner.specs.declared.desk.Offer.TheVariants as offer;
 
 use crate::desk::{Desk, Gate, Offer};
 use orca_base::NoMemory;
@@ -15,7 +16,10 @@ pub fn serve<R: Wait, D: Desk, G: Gate>(
     desk: &D,
     gate: &G,
     home: u8,
-) -> Result<(), NoMemory> {
+) -> Result<(), NoMemory>
+    ensures over { OnOk result (D.is_over desk.now home) }
+    ensures stopped { OnErr result (D.is_stopped desk.now) }
+{
     let mut offered = desk.take_work(rt, home);
     'works: for _ in rt.forever() {
         offered = match offered {
@@ -26,8 +30,8 @@ pub fn serve<R: Wait, D: Desk, G: Gate>(
                 desk.take_work(rt, home)
             }
             Ok(Offer::Work { work }) => compute(rt, desk, gate, home, work),
-            Err(_) => {
-                desk.stop(rt);
+            Err(failure) => {
+                desk.stop(rt, failure);
                 return Err(NoMemory);
             }
         };
@@ -42,10 +46,14 @@ fn compute<R: Wait, D: Desk, G: Gate>(
     gate: &G,
     home: u8,
     work: D::Work,
-) -> Result<Offer<D::Work>, NoMemory> {
+) -> Result<Offer<D::Work>, D::Failure>
+    ensures over { result ≡ Ok offer.Over → D.is_over desk.now home }
+{
     gate.before_run(desk.process_of(&work));
-    let done = desk.run_work(work)?;
-    desk.put_and_take(rt, done, home)
+    match desk.run_work(work) {
+        Ok(done) => desk.put_and_take(rt, done, home),
+        Err(failure) => Err(failure),
+    }
 }
 
 // The member whose processes a worker prefers.
@@ -66,6 +74,8 @@ pub fn serve_all<R: Threads + Wait + Sync, D: Desk + Sync, G: Gate + Sync>(
     slots: &mut [Result<(), NoMemory>],
 )
     requires { 0 < nodes }
+    ensures over { (w : ℕ) (d : _) → w < length slots.old → OnOk (slice_index_or slots.new w d) (D.is_over desk.now (w % nodes)) }
+    ensures stopped { (w : ℕ) (d : _) → w < length slots.old → OnErr (slice_index_or slots.new w d) (D.is_stopped desk.now) }
 {
     let workers = slots.len();
     if workers == 0 {
@@ -77,6 +87,8 @@ pub fn serve_all<R: Threads + Wait + Sync, D: Desk + Sync, G: Gate + Sync>(
         workers,
         &|worker: usize, slot: &mut Result<(), NoMemory>|
             requires { 0 < nodes }
+            ensures over { OnOk slot.new (D.is_over desk.entry.now (worker % nodes)) }
+            ensures stopped { OnErr slot.new (D.is_stopped desk.entry.now) }
         {
             *slot = serve(rt, desk, gate, home_of(worker, nodes));
         },
