@@ -1,5 +1,5 @@
 -- What a run leaves is what the headline says of it: from the run that was driven, the law of runs, and what was printed.
-use Rattle.std.proofs.Common.{◌≡◌, ◌∙◌, ◌≤◌, ◌⊎◌, inl, inr, ℕ, zero, true, false, List, [], ◌∷◌, get_or, length, map, set, Option, Some, None, IfNone, IfSome, Result, Ok, Err, OnErr, suc, ap, sym, subst, refl, arith}
+use Rattle.std.proofs.Common.{◌≡◌, ◌∙◌, ◌≤◌, ◌⊎◌, inl, inr, ℕ, zero, List, [], ◌∷◌, get_or, length, map, set, Option, Some, None, IfNone, IfSome, Result, Ok, Err, OnErr, suc, ap, sym, subst, refl, arith}
 use Rattle.std.specs.Prelude.{option_and_then, option_map, slice_get}
 use Rattle.std.specs.List.{All}
 use Rattle.std.proofs.lemmas.List.{length-map}
@@ -20,6 +20,8 @@ use Rattle.history_commands.specs.ReadBack.{ReadsBack}
 use Rattle.history_commands.proofs.Answering.{printable, reads_back}
 use Rattle.wires.specs.Wired.{HasObeyed, Rule, with_script}
 use Rattle.world_book.specs.Sounding.{RunsSound}
+use Rattle.world_facts.specs.Replicated.{AllReplicated}
+use Rattle.world_enough.specs.Bound.{IsEnough}
 use Rattle.world_rules.specs.declared.settings.Settings.{Settings}
 use Rattle.world_rules.specs.declared.standing.Standing.{Standing}
 use Rattle.world_rules.specs.declared.standing.Standing.TheVariants.{Going}
@@ -78,10 +80,11 @@ is_run f name says end standing status old new before after laws settings h told
     let stand = laws.ends f w in
     let processes = laws.stand f end.steps.items w left.replays in
     let some = settings.some in
-    let enough = laws.enough f refl refl settings end.steps.items w h.first in
+    let enough = laws.enough_with_singles f refl refl settings end.steps.items w h.first in
+    let replicated : AllReplicated f → IsEnough f w end.steps.items = λ all. laws.enough f refl refl settings all end.steps.items w h.first in
     let row : KeptRow f w k (rules.standing f w) =
     row_kept f w k laws.read is stand (laws.finished f end.steps.items w left.replays) processes left.kept left.stuck
-    (laws.spent f refl refl settings end.steps.items w left.replays) settings.a_turn enough (rules.standing f w) refl in
+    (laws.spent f refl refl settings end.steps.items w left.replays) settings.a_turn enough replicated (rules.standing f w) refl in
     record {
       world = w;
       end = is;
@@ -90,7 +93,7 @@ is_run f name says end standing status old new before after laws settings h told
       row = row;
       only = rows_shown f w k laws.count laws.read is stand processes settings.a_turn;
       limited = λ what number passed. ap (rules.after_limit f w) passed;
-      bounded = gone_well f w k laws.read is stand processes left.stuck enough;
+      bounded = gone_well f w k laws.read is stand processes left.stuck enough replicated;
       counted = laws.ticks f end.steps.items w left.replays;
       idle = λ stretch idle few inside. laws.idle f refl refl settings end.steps.items stretch w idle few inside;
       ends = said.ends;

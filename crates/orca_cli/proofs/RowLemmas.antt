@@ -27,9 +27,10 @@ use Rattle.world_rules.specs.Standings.{is_over_run, process_count}
 use Rattle.world_rules.specs.Worlds.{World, home_of, played_in, processes_of}
 use Rattle.world_book.specs.Processes.{IsKnownAs, IsPlayedAs}
 use Rattle.world_book.specs.Promise.{AllStuck, IsKept}
-use Rattle.world_enough.specs.Bound.{IsEnoughWithin, bound_with_singles}
+use Rattle.world_enough.specs.Bound.{IsEnough, IsEnoughWithin, bound_with_singles}
 use Rattle.world_enough.specs.Faultless.{IsFaulty}
 use Rattle.world_facts.specs.Counted.{AllCounted}
+use Rattle.world_facts.specs.Replicated.{AllReplicated}
 use Rattle.world_facts.specs.Ends as facts
 use Rattle.world_facts.specs.Ends.{EndsStand, FinishedEnds, Stand, end_at, end_crashed, end_living, end_of, end_over, process_end, turns_in}
 use Rattle.world_facts.specs.Processes.{IsPlayed, ProcessesStand, is_last}
@@ -538,25 +539,26 @@ lost_kept f w k end lacks =
 
 -- ---- each row
 
-pub row_kept : (f : Frame) (w : World) (k : Kept) → AllRead → IsEndOf f w k → EndsStand f w → FinishedEnds f w → ProcessesStand f w → IsKept f w → AllStuck f w → SpentBusy f w → 1 ≤ f.settings.turns → IsEnoughWithin (bound_with_singles f w) f w k.events.items → (s : Standing) → rules.standing f w ≡ s → KeptRow f w k s
-row_kept f w k read end stand finished processes kept stuck busy a_turn enough (Limit what number) is = (read f w).says (Limit what number) is
-row_kept f w k read end stand finished processes kept stuck busy a_turn enough OutOfTurns is = busy_kept f w k end stand processes kept busy a_turn ((read f w).says OutOfTurns is).1
-row_kept f w k read end stand finished processes kept stuck busy a_turn enough OutOfEvents is = enough.row is
-row_kept f w k read end stand finished processes kept stuck busy a_turn enough NoGroup is = let row = (read f w).says NoGroup is in (lost_kept f w k end row.3, row.3)
-row_kept f w k read end stand finished processes kept stuck busy a_turn enough Faulted is = faulted_kept f w k end stand is
-row_kept f w k read end stand finished processes kept stuck busy a_turn enough Blocked is =
+pub row_kept : (f : Frame) (w : World) (k : Kept) → AllRead → IsEndOf f w k → EndsStand f w → FinishedEnds f w → ProcessesStand f w → IsKept f w → AllStuck f w → SpentBusy f w → 1 ≤ f.settings.turns → IsEnoughWithin (bound_with_singles f w) f w k.events.items → (AllReplicated f → IsEnough f w k.events.items) → (s : Standing) → rules.standing f w ≡ s → KeptRow f w k s
+row_kept f w k read end stand finished processes kept stuck busy a_turn enough replicated (Limit what number) is = (read f w).says (Limit what number) is
+row_kept f w k read end stand finished processes kept stuck busy a_turn enough replicated OutOfTurns is = busy_kept f w k end stand processes kept busy a_turn ((read f w).says OutOfTurns is).1
+row_kept f w k read end stand finished processes kept stuck busy a_turn enough replicated OutOfEvents is = (enough.row is, λ all. (replicated all).row is)
+row_kept f w k read end stand finished processes kept stuck busy a_turn enough replicated NoGroup is = let row = (read f w).says NoGroup is in (lost_kept f w k end row.3, row.3)
+row_kept f w k read end stand finished processes kept stuck busy a_turn enough replicated Faulted is = faulted_kept f w k end stand is
+row_kept f w k read end stand finished processes kept stuck busy a_turn enough replicated Blocked is =
     let row = (read f w).says Blocked is in
     blocked_kept f w k end stand processes is row.1 (((read f w).over).1 row.1) stuck row.2
-row_kept f w k read end stand finished processes kept stuck busy a_turn enough Finished is = let row = (read f w).says Finished is in ended_kept f w k end stand processes is finished row.1
-row_kept f w k read end stand finished processes kept stuck busy a_turn enough Going is = tt
+row_kept f w k read end stand finished processes kept stuck busy a_turn enough replicated Finished is = let row = (read f w).says Finished is in ended_kept f w k end stand processes is finished row.1
+row_kept f w k read end stand finished processes kept stuck busy a_turn enough replicated Going is = tt
 
 -- ---- a faultless run
 
 pub gone_well : (f : Frame) (w : World) (k : Kept) → AllRead → IsEndOf f w k → EndsStand f w → ProcessesStand f w → AllStuck f w
-    → IsEnoughWithin (bound_with_singles f w) f w k.events.items → (IsFaulty k.events.items → ⊥) → HasGoneWell f w k
-gone_well f w k read end stand processes stuck enough fine =
+    → IsEnoughWithin (bound_with_singles f w) f w k.events.items → (AllReplicated f → IsEnough f w k.events.items) → (IsFaulty k.events.items → ⊥) → HasGoneWell f w k
+gone_well f w k read end stand processes stuck enough replicated fine =
     let well = enough.well fine in
     record {
       well = well;
+      replicated = λ all. (replicated all).well fine;
       stuck = λ over i e at. ended_or_stuck f w k end stand processes over (((read f w).over).1 over) stuck well.lives i e at e.standing refl;
     }

@@ -2,7 +2,7 @@
 use Rattle.value_core.specs.Meaning.{Computes, Performs}
 use Rattle.run_law.specs.Spent.{AllSpentBusy}
 use Rattle.world_book.specs.Sounding.{RunsSound}
-use Rattle.world_enough.specs.Bound.{EventsAreEnoughWithSingles}
+use Rattle.world_enough.specs.Bound.{EventsAreEnough, EventsAreEnoughWithSingles}
 use Rattle.world_facts.specs.Counted.{AllCounted}
 use Rattle.world_facts.specs.Ends.{AllEndsStand, FinishedRunsEnd}
 use Rattle.world_facts.specs.Places.{AllPlaced}
@@ -24,6 +24,7 @@ pub record RunLaws (p : Performs) (q : Computes) : Type 0 where
   pub read : AllRead
   pub count : AllCounted
   pub sound : RunsSound p q
-  pub enough : EventsAreEnoughWithSingles p q
+  pub enough : EventsAreEnough p q
+  pub enough_with_singles : EventsAreEnoughWithSingles p q
   pub idle : IdleStretchesAreShort p q
   pub ticks : IdleTicksAreCounted

@@ -13,7 +13,8 @@ use Rattle.world_rules.specs.Frame.{Frame}
 use Rattle.world_rules.specs.Worlds.{World}
 use Rattle.world_facts.specs.Rows.{IsLimited, IsOver, IsUnlimited, LacksGroup, MayGoOn, is_limit}
 use Rattle.world_rules.specs.Standings as rules
-use Rattle.world_enough.specs.Bound.{GoesWellWithin, OutOfEventsWithin, bound_with_singles}
+use Rattle.world_facts.specs.Replicated.{AllReplicated}
+use Rattle.world_enough.specs.Bound.{GoesWell, GoesWellWithin, OutOfEventsRow, OutOfEventsWithin, bound_with_singles}
 use Rattle.run_ends.specs.declared.ends.NodeEnd.{NodeEnd}
 use Rattle.run_ends.specs.declared.ends.ProcessEnd.{ProcessEnd}
 use Rattle.run_ends.specs.declared.ends.ProcessStanding.{ProcessStanding}
@@ -68,7 +69,8 @@ LostTooMany f k = f.settings.resilience < count_by (λ (n : NodeEnd). n.crashed 
 abbrev pub KeptRow : Frame → World → Kept → Standing → Type 0
 KeptRow f w k (Limit what number) = IsLimited f w what number
 KeptRow f w k OutOfTurns = SomeBusy f k
-KeptRow f w k OutOfEvents = OutOfEventsWithin (bound_with_singles f w) f w k.events.items
+KeptRow f w k OutOfEvents =
+    OutOfEventsWithin (bound_with_singles f w) f w k.events.items × (AllReplicated f → OutOfEventsRow f w k.events.items)
 KeptRow f w k NoGroup = LostTooMany f k × LacksGroup f w
 KeptRow f w k Faulted = (i : ℕ) × (fault : FaultKind) × StandsAt k i (standing.Faulted fault)
 KeptRow f w k Blocked = NoneFaulted k × SomeStuck f k
@@ -106,9 +108,10 @@ IsEndedOrStuck f k i standing.Busy = ⊥
 IsEndedOrStuck f k i standing.Crashed = ⊥
 
 -- it goes well: no tick, no more events than its bound, by which each call may cost an Ask and an Answer, but for one where it is out of
--- turns or at a limit, and a group; it is out of events only where no more than its bound were stated. And where it is over each process
--- ended or is stuck
+-- turns or at a limit, and a group; it is out of events only where no more than its bound were stated. So it does by the bound without
+-- these where no object is single. And where it is over each process ended or is stuck
 pub record HasGoneWell (f : Frame) (w : World) (k : Kept) : Type 0 where
   pub well : GoesWellWithin (bound_with_singles f w) f w k.events.items
+  pub replicated : AllReplicated f → GoesWell f w k.events.items
   pub stuck :
       IsOver f w → (i : ProcessNo) (end : ProcessEnd) → slice_get k.processes.items i.0 ≡ Some end → IsEndedOrStuck f k i end.standing

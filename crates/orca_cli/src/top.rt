@@ -46,7 +46,7 @@ use run_loop::{Ran, Settings, run};
 use std::alloc::Global;
 use wires::{Wire, have_obeyed};
 use world_book::legal_book;
-use world_enough::events_are_enough_with_singles;
+use world_enough::{events_are_enough, events_are_enough_with_singles};
 use world_facts::{book_by_places, ends_stand, processes_stand, standings_mean, worlds_count};
 use world_idle::{idle_ticks_are_counted, stretches_are_short};
 
@@ -98,6 +98,7 @@ fn laws_of_runs(machine: &CodeMachine<'_>)
 {
     book_by_places();
     ends_stand();
+    events_are_enough(machine);
     events_are_enough_with_singles(machine);
     idle_ticks_are_counted();
     legal_book(machine);

@@ -11,7 +11,8 @@ returns c = record {
   read = c.standings_mean.ensures;
   count = c.worlds_count.ensures.counted;
   sound = c.legal_book.ensures.sound;
-  enough = c.events_are_enough_with_singles.ensures;
+  enough = c.events_are_enough.ensures;
+  enough_with_singles = c.events_are_enough_with_singles.ensures;
   idle = c.stretches_are_short.ensures.short;
   ticks = c.idle_ticks_are_counted.ensures;
 }
