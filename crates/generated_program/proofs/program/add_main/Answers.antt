@@ -1,0 +1,10 @@
+use Rattle.std.proofs.Common.{List, ◌++◌, ◌∙◌, ap, map}
+use Rattle.std.specs.Prelude.{string_bytes, ℕ}
+use Rattle.generated_program.proofs.Loops.{main_is}
+use Rattle.generated_program.proofs.program.add_main.Goals as goal
+
+pub returns : goal.returns
+returns c =
+    c.in_ok-add_lines.ensures
+    ∙ ap (λ (l : List (List ℕ)). map string_bytes c.args.lines.now.items ++ l)
+    (main_is c.args.workers c.as_str.result.now c.as_str-2.result.now (c.as_str.ensures.value ∙ c.in_ok-forking.ensures.ok) (c.as_str-2.ensures.value ∙ c.in_ok-taking.ensures.ok))
