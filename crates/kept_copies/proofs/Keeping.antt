@@ -1,5 +1,5 @@
 -- Each kept copy is what the history left of its object, by whether that is single, and by whose it is.
-use Rattle.std.proofs.Common.{◌≡◌, ◌∙◌, ◌==◌, ◌<◌, ◌≤◌, ℕ, Bool, true, false, List, length, Option, Some, None, ap, sym, subst, refl, arith}
+use Rattle.std.proofs.Common.{◌≡◌, ◌∙◌, ◌==◌, ℕ, Bool, true, false, List, Option, Some, None, ap, sym, subst, refl, arith}
 use Rattle.std.specs.Prelude.{slice_get}
 use Rattle.std.proofs.lemmas.Bool.{eq-eqb, eqb-true}
 use Rattle.std.proofs.lemmas.Option.{slice_get_past, slice_get_within}
@@ -21,7 +21,7 @@ use Rattle.world_facts.specs.Places.{IsPlaced, book_behind, lines_to}
 use Rattle.run_ends.specs.Telling.{AreNodeEnds, AreProcessEnds, IsNodeEnd}
 use Rattle.run_ends.specs.declared.ends.NodeEnd.{NodeEnd}
 use Rattle.run_ends.specs.declared.ends.ProcessEnd.{ProcessEnd}
-use Rattle.kept_copies.specs.Copies.{HasCopies, is_owner, is_single, kept_copy, kept_of, owned_by, single_by}
+use Rattle.kept_copies.specs.Copies.{HasCopies, is_owner, is_single, kept_of, owned_by, single_by}
 use Rattle.kept_copies.proofs.Ends.{count_is, end_is, get_below, past_end}
 
 or_none : (x : Option Instance) → or_else x None ≡ x
@@ -126,7 +126,7 @@ copies_in f w kept placed stand ends are m end is =
           is.copies o
           ∙ of_either f w kept o m (singles_in f w o) refl (is_owner ends m o) (λ single. owner_is f w kept o ends are stand m single)
           ∙ ap (λ (b : Bool). kept_of b (is_owner ends m o) (object_at (objects_of f.performs f.computes (applied_book f w m)) o)
-            (object_at (objects_of f.performs f.computes (Book f w)) o)) (sym (single_is f w kept o));
+          (object_at (objects_of f.performs f.computes (Book f w)) o)) (sym (single_is f w kept o));
     }
 
 pub copies_kept : (f : Frame) (w : World) → IsKept f w → IsPlaced f w → EndsStand f w → (book : List Line) → book ≡ Book f w → (ends : List ProcessEnd) → AreProcessEnds f w ends →
