@@ -26,5 +26,5 @@ pub use laws::endings_law;
 pub use lines::{usage_line, whole};
 pub use listing::{Listed, list_program};
 pub use program::{ProgramFault, linked_program, machine_of};
-pub use replay::replay;
+pub use replay::replay_history;
 pub use script::{ScriptFault, script_of};

@@ -83,7 +83,7 @@ fn replayed<F: Shelf, K: Sink>(
 }
 
 /// Says whether the history in a file is one of the program in others, or why that can't be said. Nothing is kept.
-pub fn replay<F: Shelf, K: Sink>(
+pub fn replay_history<F: Shelf, K: Sink>(
     alloc: Global,
     history: &str,
     files: &[&str],

@@ -1,10 +1,16 @@
--- The lines with which a run ends otherwise than by its program (docs/FORMATS.md, The program).
+-- The lines with which a run ends otherwise than by its program, and the line that an action writes (docs/FORMATS.md, The program).
 use Rattle.std.specs.Prelude.{ℕ, List, [], ◌∷◌, ◌++◌, codes}
 use Rattle.std.specs.Fmt.{decimal}
 use Rattle.orca_base.specs.declared.fault.FaultKind.{FaultKind}
 use Rattle.orca_base.specs.declared.what.What.{What}
 use Rattle.orca_base.specs.declared.what.What.TheVariants as what
 use Rattle.history_text.specs.Spelling.{fault_name}
+use Rattle.value_core.specs.Datum.{Data}
+use Rattle.value_core.specs.History.{string_first}
+
+-- the string that is the first argument, and a line feed
+abbrev pub line_with : Data → List ℕ
+line_with args = string_first args ++ 10 ∷ []
 
 abbrev pub faulted_line : ℕ → FaultKind → List ℕ
 faulted_line process kind = codes "orca: process " ++ decimal process ++ (codes " faulted: " ++ fault_name kind ++ 10 ∷ [])

@@ -33,8 +33,8 @@ use command_output::{FINISHED, NO_MEMORY, READ_FAULT, USAGE, WRITE_FAULT, print_
 use fault_scripts::Script;
 use history_text::{Names, lines_fit};
 use orca_answers::{
-    Job, check_files, choose_files, job_of, linked_program, list_program, machine_of, replay,
-    said_refused, said_unread, said_unscripted, script_of, usage_line, whole,
+    Job, check_files, choose_files, job_of, linked_program, list_program, machine_of,
+    replay_history, said_refused, said_unread, said_unscripted, script_of, usage_line, whole,
 };
 use orca_base::{NoMemory, Refusal};
 use orca_io::{Shelf, Sink};
@@ -70,7 +70,13 @@ fn settings_of<W: Wire, P: Policy>(
         options.group.nodes (units_of machine.now) (P.told policy.new)) }
     ensures same_rule { P.rule policy.new ≡ P.rule policy.old }
 {
-    run_settings(alloc, machine.tables.checked(), options, wires.len() as u16, policy)
+    run_settings(
+        alloc,
+        machine.tables.checked(),
+        options,
+        wires.len() as u16,
+        policy,
+    )
 }
 
 // Loads the first wire with a script.
@@ -338,7 +344,7 @@ pub fn orca_main_over<F: Shelf, K: Sink, W: Wire, P: Policy>(
                 },
             ),
         ) => run_files(alloc, options, script, &files, shelf, out, wires, policy),
-        Ok(Some(Job::Replays { history, files })) => unkept(replay(
+        Ok(Some(Job::Replays { history, files })) => unkept(replay_history(
             alloc, history, &files, shelf, out,
         )),
         Ok(None) => unkept(print_ending(out, usage_line(alloc), USAGE)),

@@ -43,7 +43,7 @@ returns-in-Err-clause-refused g c =
     let old = g.F.Shelf.reads c.args.shelf.now in
     let between = g.F.Shelf.reads c.files.shelf in
     let new = g.F.Shelf.reads c.source.new.shelf in
-    fault_next _ (g.F.Shelf.told c.args.shelf.now) _ _ (get_or c.args.files.now c.files.file-index none).now c.in-Err.refusal
+    fault_next _ (g.F.Shelf.told c.args.shelf.now) (StoppedAt before now old new) _ (get_or c.args.files.now c.files.file-index none).now c.in-Err.refusal
     (stops_next (g.F.Shelf.told c.args.shelf.now) c.args.files.now c.files.file-index (get_or c.args.files.now c.files.file-index none) none c.files.sources.items c.if-files.false c.files-test.true refl so_far.read)
     (reads_since (g.F.Shelf.told c.files.shelf) (g.F.Shelf.told c.args.shelf.now) (StoppedAt mid now between new) (StoppedAt before now old new) (get_or c.args.files.now c.files.file-index none).now _ _ so_far.same
     (stopped_since before mid now old between new (map had (map file_of c.files.sources.items)) (get_or c.args.files.now c.files.file-index none).now so_far.quiet so_far.had) c.in-Err.is c.source.ensures.reads)

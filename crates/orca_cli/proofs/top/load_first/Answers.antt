@@ -1,5 +1,6 @@
 use Rattle.run_loop.proofs.Telling.{kept_at}
-use Rattle.orca_cli.proofs.HeadlineLemmas.{err_both, loaded_first, ok_both, wires_kept}
+use Rattle.orca_answers.proofs.AnswerLemmas.{ok_both}
+use Rattle.orca_cli.proofs.HeadlineLemmas.{err_both, loaded_first, wires_kept}
 use Rattle.orca_cli.proofs.top.load_first.Goals as goal
 
 pub returns-clause-loaded : goal.returns-clause-loaded

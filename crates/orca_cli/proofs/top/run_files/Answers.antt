@@ -6,7 +6,7 @@ use Rattle.orca_answers.specs.Scripts.{IsUnreadable}
 use Rattle.command_files.proofs.AskedFiles.{asked_behind, asked_more}
 use Rattle.command_files.proofs.ReadFiles.{stopped_since, only_left, since_then}
 use Rattle.orca_answers.specs.Programs.{units_of}
-use Rattle.orca_answers.proofs.AnswerLemmas.{files_run, has_script, if_none, script_map, unscripted_run}
+use Rattle.orca_answers.proofs.AnswerLemmas.{files_run, has_script, script_map, unscripted_run}
 use Rattle.world_rules.specs.declared.settings.Settings.{Settings}
 use Rattle.run_choices.proofs.Resilience.{asked_some}
 use Rattle.orca_answers.specs.Choosing.{chooser_of}
@@ -16,9 +16,8 @@ use Rattle.orca_cli.proofs.top.run_files.Goals as goal
 pub returns-in-Err-Because-clause-refused : goal.returns-in-Err-Because-clause-refused
 returns-in-Err-Because-clause-refused g c = λ words asked.
     let policy = chooser_of g.P.Policy.rule g.P.Policy.told c.args.policy.now in
-    rw c.unkept.ensures (if_none _ _
-    (c.said_unread.ensures.said policy words (g.F.Shelf.told c.args.shelf.now) (g.F.Shelf.faults c.args.shelf.now) (g.F.Shelf.faults c.sources.new.shelf) (g.F.Shelf.reads c.args.shelf.now) (g.F.Shelf.reads c.sources.new.shelf) (map (λ f. f.now) c.args.files.now)
-    (files_run words _ c.args.options _ asked) (rw c.in-Err-Because.field-0-is (rw c.in-Err-Because.field-0-is at c.in-Err-Because.ensures.refused))))
+    rw c.unkept.ensures (c.said_unread.ensures.said policy words (g.F.Shelf.told c.args.shelf.now) (g.F.Shelf.faults c.args.shelf.now) (g.F.Shelf.faults c.sources.new.shelf) (g.F.Shelf.reads c.args.shelf.now) (g.F.Shelf.reads c.sources.new.shelf) (map (λ f. f.now) c.args.files.now)
+    (files_run words _ c.args.options _ asked) (rw c.in-Err-Because.field-0-is (rw c.in-Err-Because.field-0-is at c.in-Err-Because.ensures.refused)))
 
 pub returns-in-Err-Because-script_of-clause-refused : goal.returns-in-Err-Because-script_of-clause-refused
 returns-in-Err-Because-script_of-clause-refused g c = λ words asked.
@@ -31,11 +30,10 @@ returns-in-Err-Because-script_of-clause-refused g c = λ words asked.
     let between = g.F.Shelf.reads c.sources.new.shelf in
     let new = g.F.Shelf.reads c.script_of.new.shelf in
     let quiet = only_left c.in-Ok.ensures.quiet in
-    rw c.unkept-in-Err-Because-script_of.ensures (if_none _ _
-    (unscripted_run words _ c.args.options _ told between new (StoppedAt mid now between new) c.in-Err-Because-script_of.cause _ asked
+    rw c.unkept-in-Err-Because-script_of.ensures (unscripted_run words _ c.args.options _ told between new (StoppedAt mid now between new) c.in-Err-Because-script_of.cause _ asked
     (rw (c.sources.ensures.same, c.in-Err-Because-script_of.field-0-is) at c.in-Err-Because-script_of.ensures.refused)
     (λ name named fault. c.said_unscripted.ensures.said policy words told before now old new between (map (λ f. f.now) c.args.files.now) (map file_of c.in-Ok.sources.items) name (files_run words _ c.args.options _ asked) c.in-Ok.ensures.read c.in-Ok.ensures.had named
-    (rw c.in-Err-Because-script_of.field-0-is (script_map told between new (StoppedAt mid now between new) (StoppedAt before now old new) name c.in-Err-Because-script_of.cause (stopped_since before mid now old between new _ name quiet c.in-Ok.ensures.had) fault)))))
+    (rw c.in-Err-Because-script_of.field-0-is (script_map told between new (StoppedAt mid now between new) (StoppedAt before now old new) name c.in-Err-Because-script_of.cause (stopped_since before mid now old between new _ name quiet c.in-Ok.ensures.had) fault))))
 
 pub returns-in-Err-Because-script_of-clause-read_fault : goal.returns-in-Err-Because-script_of-clause-read_fault
 returns-in-Err-Because-script_of-clause-read_fault g c = λ rose.
@@ -49,22 +47,20 @@ pub returns-in-Err-Because-linked_program-clause-refused : goal.returns-in-Err-B
 returns-in-Err-Because-linked_program-clause-refused g c = λ words asked.
     let policy = chooser_of g.P.Policy.rule g.P.Policy.told c.args.policy.now in
     let told = g.F.Shelf.told c.args.shelf.now in
-    rw c.unkept-in-Err-Because-linked_program.ensures (if_none _ _
-    (c.said_refused.ensures.said policy words told (g.F.Shelf.faults c.args.shelf.now) (g.F.Shelf.faults c.script_of.new.shelf) (g.F.Shelf.reads c.args.shelf.now) (g.F.Shelf.reads c.script_of.new.shelf) (map (λ f. f.now) c.args.files.now) (map file_of c.in-Ok.sources.items)
+    rw c.unkept-in-Err-Because-linked_program.ensures (c.said_refused.ensures.said policy words told (g.F.Shelf.faults c.args.shelf.now) (g.F.Shelf.faults c.script_of.new.shelf) (g.F.Shelf.reads c.args.shelf.now) (g.F.Shelf.reads c.script_of.new.shelf) (map (λ f. f.now) c.args.files.now) (map file_of c.in-Ok.sources.items)
     (files_run words _ c.args.options _ asked) c.in-Ok.ensures.read (has_script words _ _ c.args.options _ c.in-Ok-script_of.script (map file_of c.in-Ok.sources.items) _ (g.F.Shelf.reads c.sources.new.shelf) _ asked c.in-Ok.ensures.had (rw c.sources.ensures.same at c.in-Ok-script_of.ensures.had))
-    (rw c.in-Err-Because-linked_program.field-0-is (rw (c.deref.ensures.value, c.in-Err-Because-linked_program.field-0-is) at c.in-Err-Because-linked_program.ensures.refused))))
+    (rw c.in-Err-Because-linked_program.field-0-is (rw (c.deref.ensures.value, c.in-Err-Because-linked_program.field-0-is) at c.in-Err-Because-linked_program.ensures.refused)))
 
 pub returns-in-Err-Because-machine_of-clause-refused : goal.returns-in-Err-Because-machine_of-clause-refused
 returns-in-Err-Because-machine_of-clause-refused g c = λ words asked.
     let policy = chooser_of g.P.Policy.rule g.P.Policy.told c.args.policy.now in
     let told = g.F.Shelf.told c.args.shelf.now in
-    rw c.unkept-in-Err-Because-machine_of.ensures (if_none _ _
-    (c.said_refused-in-Err-Because-machine_of.ensures.said policy words told (g.F.Shelf.faults c.args.shelf.now) (g.F.Shelf.faults c.script_of.new.shelf) (g.F.Shelf.reads c.args.shelf.now) (g.F.Shelf.reads c.script_of.new.shelf) (map (λ f. f.now) c.args.files.now) (map file_of c.in-Ok.sources.items)
+    rw c.unkept-in-Err-Because-machine_of.ensures (c.said_refused-in-Err-Because-machine_of.ensures.said policy words told (g.F.Shelf.faults c.args.shelf.now) (g.F.Shelf.faults c.script_of.new.shelf) (g.F.Shelf.reads c.args.shelf.now) (g.F.Shelf.reads c.script_of.new.shelf) (map (λ f. f.now) c.args.files.now) (map file_of c.in-Ok.sources.items)
     (files_run words _ c.args.options _ asked) c.in-Ok.ensures.read (has_script words _ _ c.args.options _ c.in-Ok-script_of.script (map file_of c.in-Ok.sources.items) _ (g.F.Shelf.reads c.sources.new.shelf) _ asked c.in-Ok.ensures.had (rw c.sources.ensures.same at c.in-Ok-script_of.ensures.had))
-    (rw c.in-Err-Because-machine_of.field-0-is (rw c.in-Err-Because-machine_of.field-0-is at c.in-Err-Because-machine_of.ensures.refused (map file_of c.in-Ok.sources.items) (rw c.deref.ensures.value at c.in-Ok-linked_program.ensures.program)))))
+    (rw c.in-Err-Because-machine_of.field-0-is (rw c.in-Err-Because-machine_of.field-0-is at c.in-Err-Because-machine_of.ensures.refused (map file_of c.in-Ok.sources.items) (rw c.deref.ensures.value at c.in-Ok-linked_program.ensures.program))))
 
-pub returns-in-Err-settings_of-clause-refused : goal.returns-in-Err-settings_of-clause-refused
-returns-in-Err-settings_of-clause-refused g c = λ words asked.
+pub returns-in-Err-clause-refused : goal.returns-in-Err-clause-refused
+returns-in-Err-clause-refused g c = λ words asked.
     let policy = chooser_of g.P.Policy.rule g.P.Policy.told c.args.policy.now in
     let told = g.F.Shelf.told c.args.shelf.now in
     let old = g.F.Shelf.reads c.args.shelf.now in
@@ -76,7 +72,7 @@ returns-in-Err-settings_of-clause-refused g c = λ words asked.
     let accepted = subst (IsAccepted sources) (sym c.in-Ok-machine_of.ensures.of) (c.in-Ok-machine_of.ensures.accepted sources are) in
     let script = rw c.sources.ensures.same at c.in-Ok-script_of.ensures.had in
     let had_script = has_script words _ _ c.args.options _ c.in-Ok-script_of.script sources old between new asked c.in-Ok.ensures.had script in
-    rw c.unkept-in-Err-settings_of.ensures (if_none _ _ (inr (refl, refl, run_asked policy words _ c.args.options _ told sources (units_of machine) old new _ asked c.in-Ok.ensures.read accepted machine.within had_script (inr c.in-Err-settings_of.ensures.first))))
+    rw c.unkept-in-Err.ensures (inr (refl, refl, run_asked policy words _ c.args.options _ told sources (units_of machine) old new _ asked c.in-Ok.ensures.read accepted machine.within had_script (inr c.in-Err.ensures.first)))
 
 pub returns-clause-refused : goal.returns-clause-refused
 returns-clause-refused g c = λ words asked.
@@ -178,8 +174,8 @@ pub returns-in-Err-NoMemory-machine_of-clause-asked : goal.returns-in-Err-NoMemo
 returns-in-Err-NoMemory-machine_of-clause-asked g c =
     asked_behind _ _ _ _ _ (map file_of c.in-Ok.sources.items) _ _ _ c.sources.ensures.may c.in-Ok.ensures.read c.in-Ok.ensures.had c.script_of.ensures.asked
 
-pub returns-in-Err-settings_of-clause-asked : goal.returns-in-Err-settings_of-clause-asked
-returns-in-Err-settings_of-clause-asked g c =
+pub returns-in-Err-clause-asked : goal.returns-in-Err-clause-asked
+returns-in-Err-clause-asked g c =
     asked_behind _ _ _ _ _ (map file_of c.in-Ok.sources.items) _ _ _ c.sources.ensures.may c.in-Ok.ensures.read c.in-Ok.ensures.had c.script_of.ensures.asked
 
 pub returns-clause-asked : goal.returns-clause-asked
