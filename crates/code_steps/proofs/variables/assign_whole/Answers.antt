@@ -1,4 +1,4 @@
-use Rattle.std.proofs.Common.{[], pos, refl, ◌∙◌}
+use Rattle.std.proofs.Common.{[], pos, ◌∙◌}
 use Rattle.std.proofs.lemmas.Result.{IfOk-weaker}
 use Rattle.value_core.specs.Datum as datum
 use Rattle.value_core.specs.View.{datum_of}

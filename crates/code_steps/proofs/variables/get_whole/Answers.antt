@@ -1,4 +1,4 @@
-use Rattle.std.proofs.Common.{[], ◌∷◌, ap, refl, sym, ◌∙◌}
+use Rattle.std.proofs.Common.{◌∷◌, ap, sym, ◌∙◌}
 use Rattle.value_core.specs.View.{datum_of}
 use Rattle.code_steps.proofs.Setting.{gets_none, gets_slot}
 use Rattle.code_steps.proofs.variables.get_whole.Goals as goal

@@ -1,9 +1,6 @@
-use Rattle.std.proofs.Common.{List, [], ap, ◌∙◌, subst}
+use Rattle.std.proofs.Common.{ap}
 use Rattle.std.proofs.lemmas.Result.{IfOk-weaker}
 use Rattle.value_core.specs.View.{datum_of}
-use Rattle.meaning_rules.specs.Variables.{store}
-use Rattle.code_rules.specs.Machine.{to}
-use Rattle.frame_variables.specs.declared.steps.Step.{Step}
 use Rattle.frame_variables.specs.Gives.{path_of, state_of}
 use Rattle.code_steps.proofs.Setting.{puts_changed}
 use Rattle.code_steps.proofs.variables.put_whole.Goals as goal
