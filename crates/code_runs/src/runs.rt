@@ -13,6 +13,7 @@ use std::alloc::Global;
 
 // Whether an instruction that did this ends a run with so many turns left: all but a step, and a turn with which another one is left.
 // That one is counted.
+#[inline(always)]
 fn halts(effect: &Effect, left: &mut u64) -> bool
     ensures halts { result ≡ true → (left.new ≡ left.old) × ((c : machine.Config) → IsHalt (effect_in effect.now c) left.old) }
     ensures goes { result ≡ false → (code : machine.Code) (c d : machine.Config) (e : machine.Effect) (left' : ℕ) →

@@ -1,5 +1,5 @@
 -- Slots that get a small value.
-use Rattle.std.proofs.Common.{◌≡◌, ℕ, ℤ, zero, suc, Bool, true, false, List, [], ◌∷◌, MatchBool, Option, Some, None, Ok, Err, refl, sym, ap, ◌∙◌}
+use Rattle.std.proofs.Common.{◌≡◌, ℕ, ℤ, zero, suc, Bool, true, false, List, [], ◌∷◌, MatchBool, Option, Some, None, Ok, Err, Result, refl, sym, ap, ◌∙◌}
 use Rattle.std.specs.Prelude.{if◌then◌else◌, nat_le, ok_or, slice_get, slice_set}
 use Rattle.orca_base.specs.declared.fault.FaultKind.TheVariants.{IndexOutside, TooLarge}
 use Rattle.orca_base.specs.declared.limits.TheConstants.{VALUE_SIZE}
@@ -10,7 +10,17 @@ use Rattle.meaning_rules.specs.Operators.{and_then, fitting, integer_in}
 use Rattle.meaning_rules.specs.States.{State, Out, Goes, Stops, after, gives}
 use Rattle.meaning_rules.specs.Variables.{changed_at, store, stored}
 use Rattle.value_paths.specs.declared.step.Step.{Step as ValueStep}
-use Rattle.code_rules.specs.Machine.{at_state}
+use Rattle.value_paths.specs.Paths.{part_at}
+use Rattle.value_paths.specs.declared.step.Step.TheVariants.{Index}
+use Rattle.frame_variables.specs.Gives.{Gives}
+use Rattle.frame_variables.specs.declared.stop.Stop.{Stop}
+use Rattle.code_rules.specs.Instructions as rules
+use Rattle.code_rules.specs.Machine.{Code, Config, Effect, act, at_state, indices, into, next, on_out, on_result, on_top, pops, pushes, read, steps_by, to, Stuck}
+use Rattle.code_steps.specs.declared.advance.Advance.{Advance}
+use Rattle.code_steps.specs.declared.advance.Advance.TheVariants as advance
+use Rattle.code_steps.specs.Moves.{effect_of, holding}
+use Rattle.code_steps.specs.Passing.{Changes, Stores}
+use Rattle.code_steps.proofs.Arriving.{changed, pushed_on}
 
 -- where there is no such slot nothing is set
 pub no_slot : (xs : List Datum) (slot : ℕ) (v : Datum) → slice_get xs slot ≡ None → slice_set xs slot v ≡ xs
@@ -49,6 +59,59 @@ there false slot xs is h = absurd cc
 pub not_there : (b : Bool) (slot : ℕ) (xs : List Datum) → b ≡ false → MatchBool b ((x : Datum) × (slice_get xs slot ≡ Some x)) (slice_get xs slot ≡ None) → slice_get xs slot ≡ None
 not_there true slot xs is h = absurd cc
 not_there false slot xs is h = h
+
+-- ---- variables
+
+-- the value of a variable is pushed, where there is one
+pub gets_slot : (code : Code) (home : Config) (slot : ℕ) (old new locals : List Datum) (x : Datum) → slice_get locals slot ≡ Some x → new ≡ x ∷ old →
+    act code (Some (rules.Get slot [])) (holding home old locals) ≡ effect_of home advance.Next new locals
+gets_slot code home slot old new locals x is top =
+    ap (λ (o : Option Datum). on_result (and_then (ok_or o IndexOutside) (part_at [])) (λ y. pushes (holding home old locals) old y locals)) is
+    ∙ pushed_on home x old old new locals locals advance.Next refl top
+
+pub gets_none : (code : Code) (home : Config) (slot : ℕ) (old locals : List Datum) → slice_get locals slot ≡ None →
+    act code (Some (rules.Get slot [])) (holding home old locals) ≡ effect_of home (advance.Fails IndexOutside) old locals
+gets_none code home slot old locals is =
+    ap (λ (o : Option Datum). on_result (and_then (ok_or o IndexOutside) (part_at [])) (λ y. pushes (holding home old locals) old y locals)) is
+
+-- an element's value is, by the index on top
+pub gets_element : (code : Code) (home : Config) (slot : ℕ) (low : ℤ) (old st locals : List Datum) (x : Datum) → old ≡ x ∷ st →
+    act code (Some (rules.Get slot (rules.ByIndex low ∷ []))) (holding home old locals) ≡
+    on_result (read slot (Index low (integer_in x) ∷ []) locals) (λ y. pushes (holding home old locals) st y locals)
+gets_element code home slot low old st locals x is =
+    ap (λ w. pops 1 w [] (λ xs stack. on_result (read slot (steps_by (rules.ByIndex low ∷ []) xs) locals) (λ y. pushes (holding home old locals) stack y locals))) is
+
+pub gets_no_element : (code : Code) (home : Config) (slot : ℕ) (low : ℤ) (old locals : List Datum) → old ≡ [] →
+    act code (Some (rules.Get slot (rules.ByIndex low ∷ []))) (holding home old locals) ≡ Stuck
+gets_no_element code home slot low old locals is =
+    ap (λ w. pops 1 w [] (λ xs stack. on_result (read slot (steps_by (rules.ByIndex low ∷ []) xs) locals) (λ y. pushes (holding home old locals) stack y locals))) is
+
+-- the value on top goes to the element that the index beneath names
+pub assigns_element : (code : Code) (home : Config) (slot : ℕ) (low : ℤ) (old mid st locals : List Datum) (x i : Datum) → old ≡ x ∷ mid → mid ≡ i ∷ st →
+    act code (Some (rules.Put slot (rules.ByIndex low ∷ []))) (holding home old locals) ≡
+    on_out (store (to slot (Index low (integer_in i) ∷ [])) x (at_state locals)) (λ _ after. next (holding home old locals) st after)
+assigns_element code home slot low old mid st locals x i is below =
+    ap (λ w. on_top w (λ y rest. pops 1 rest [] (λ xs stack. into store slot (steps_by (rules.ByIndex low ∷ []) xs) y (holding home old locals) stack))) is
+    ∙ ap (λ w. pops 1 w [] (λ xs stack. into store slot (steps_by (rules.ByIndex low ∷ []) xs) x (holding home old locals) stack)) below
+
+pub assigns_no_element : (code : Code) (home : Config) (slot : ℕ) (low : ℤ) (old mid locals : List Datum) (x : Datum) → old ≡ x ∷ mid → mid ≡ [] →
+    act code (Some (rules.Put slot (rules.ByIndex low ∷ []))) (holding home old locals) ≡ Stuck
+assigns_no_element code home slot low old mid locals x is below =
+    ap (λ w. on_top w (λ y rest. pops 1 rest [] (λ xs stack. into store slot (steps_by (rules.ByIndex low ∷ []) xs) y (holding home old locals) stack))) is
+    ∙ ap (λ w. pops 1 w [] (λ xs stack. into store slot (steps_by (rules.ByIndex low ∷ []) xs) x (holding home old locals) stack)) below
+
+-- the value on top goes to one
+pub assigns_slot : (code : Code) (home : Config) (slot : ℕ) (old st locals : List Datum) (x : Datum) → old ≡ x ∷ st →
+    act code (Some (rules.Put slot [])) (holding home old locals) ≡ on_out (store (to slot []) x (at_state locals)) (λ _ after. next (holding home old locals) st after)
+assigns_slot code home slot old st locals x is =
+    ap (λ w. on_top w (λ y rest. pops (indices []) rest [] (λ xs stack. into store slot (steps_by [] xs) y (holding home old locals) stack))) is
+
+pub puts_changed : (slot : ℕ) (path : List ValueStep) (v : Datum) (locals : List Datum) (s1 s2 : State) (a : Advance) (change : Result (Unit {0}) Stop) → path ≡ [] → s1 ≡ at_state locals →
+    Gives (λ u. u) change s2 (store (record { slot = slot; path = path }) v s1) → Changes change a → Stores slot v locals a s2.frame
+puts_changed slot path v locals s1 s2 a change bare clear h is home old st =
+    let go : Unit {0} → List Datum → Effect = λ u after. next (holding home old locals) st after in
+    ap (λ (p : List ValueStep). on_out (store (to slot p) v (at_state locals)) go) (sym bare)
+    ∙ changed home old st st locals a s1 s2 clear change (store (to slot path) v) h is
 
 -- ---- loops
 

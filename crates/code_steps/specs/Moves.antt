@@ -1,5 +1,5 @@
 -- What an instruction does inside of its body, in the definitions' words.
-use Rattle.std.specs.Prelude.{◌≡◌, ℕ, ◌+◌, ◌<◌, ◌^◌, Bool, true, false, List, Option, Some, None, slice_get, if◌then◌else◌}
+use Rattle.std.specs.Prelude.{◌≡◌, ◌+◌, ◌<◌, ◌^◌, Bool, true, false, List, Option, Some, None, slice_get, if◌then◌else◌}
 use Rattle.value_core.specs.Datum.{Datum}
 use Rattle.code_rules.specs.Instructions as rules
 use Rattle.code_rules.specs.Instructions.{Instr, Make, Call, Return, End}

@@ -1,5 +1,5 @@
 -- What is passed, and where it comes from.
-use Rattle.std.specs.Prelude.{◌≡◌, ℕ, Bool, List, ◌∷◌, Option, Some, None, option_map, Result, Ok, Err}
+use Rattle.std.specs.Prelude.{◌≡◌, ℕ, Bool, List, [], ◌∷◌, Option, Some, None, option_map, Result, Ok, Err}
 use Rattle.std.specs.Borrow.{Bor}
 use Rattle.orca_base.specs.declared.fault.FaultKind.{FaultKind}
 use Rattle.orca_base.specs.declared.ids.KindNo.{KindNo}
@@ -10,11 +10,12 @@ use Rattle.value_core.specs.View.{datum_of}
 use Rattle.value_core.specs.declared.value.Value.{Value}
 use Rattle.meaning_rules.specs.Calls.{Passed as RulePassed}
 use Rattle.meaning_rules.specs.Expressions.{result}
+use Rattle.meaning_rules.specs.Variables.{store}
 use Rattle.frame_variables.specs.declared.stop.Stop.{Stop}
 use Rattle.frame_variables.specs.declared.steps.Passed.{Passed}
 use Rattle.frame_variables.specs.Gives.{passed_of}
 use Rattle.code_rules.specs.Instructions.{Instr, Shape, Make}
-use Rattle.code_rules.specs.Machine.{Code, Config, Effect, Stuck, act, short, take_args, take_one}
+use Rattle.code_rules.specs.Machine.{Code, Config, Effect, Stuck, act, at_state, next, on_out, short, take_args, take_one, to}
 use Rattle.code_steps.specs.declared.advance.Advance.{Advance}
 use Rattle.code_steps.specs.declared.advance.Advance.TheVariants as advance
 use Rattle.code_steps.specs.Moves.{effect_of, holding, told}
@@ -44,6 +45,11 @@ Makes process kind count slot stack locals a locals' =
 abbrev pub Changes : Result (Unit {0}) Stop → Advance → Type 0
 Changes (Ok u) a = a ≡ advance.Next
 Changes (Err why) a = told why ≡ Some a
+
+-- a value is stored in a slot, whatever operands are left
+abbrev pub Stores : ℕ → Datum → List Datum → Advance → List Datum → Type 0
+Stores slot x locals a locals' = (home : Config) (old st : List Datum) →
+    on_out (store (to slot []) x (at_state locals)) (λ _ after. next (holding home old locals) st after) ≡ effect_of home a st locals'
 
 -- a value that was made is pushed, or it is why none was
 abbrev pub Pushes : Result Value Stop → List Datum → Advance → List Datum → Type 0

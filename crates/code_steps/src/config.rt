@@ -80,6 +80,7 @@ pub fn failed(stop: Stop) -> Result<Effect, NoMemory>
 }
 
 /// The run goes on where an instruction inside of its body leads.
+#[inline(always)]
 pub fn follow(advance: Advance, config: &mut Config<'_>) -> Effect
     requires { config.old.pc + 1 < 2 ^ 64 }
     ensures { effect_in result (config_of config.new) ≡

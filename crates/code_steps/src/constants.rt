@@ -14,7 +14,7 @@ ghost use Rattle.code_steps.specs.Moves.{Moves};
 use crate::advance::Advance;
 use crate::operands::Operands;
 use crate::paths::pop_path;
-use crate::pushing::{push_found, push_made};
+use crate::pushing::{copied, push_found, push_made};
 use emitted_code::Mark;
 use frame_variables::{Stop, fitting, part};
 use orca_base::{NoMemory, Text};
@@ -22,10 +22,11 @@ use std::alloc::Global;
 use value_core::{TextValue, Value};
 
 /// A value.
+#[inline(always)]
 pub fn push(alloc: Global, value: &Value, stack: &mut Operands) -> Result<Advance, NoMemory>
     ensures { IfOk result (λ a. (locals : List Datum) → Moves (rules.Push (datum_of value.now)) stack.old locals a stack.new locals) }
 {
-    stack.push(value.copy(alloc)?)?;
+    stack.push(copied(alloc, value)?)?;
     Ok(Advance::Next)
 }
 

@@ -24,6 +24,7 @@ use std::alloc::Global;
 ///
 /// # Errors
 /// Want of memory.
+#[inline(always)]
 pub fn advance(
     alloc: Global,
     instr: &Instr<'_>,

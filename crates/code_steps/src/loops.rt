@@ -108,6 +108,7 @@ pub fn count(
 }
 
 /// A counted loop goes on with the next number, back at an address, or both bounds are popped.
+#[inline(always)]
 pub fn count_up(
     alloc: Global,
     slot: usize,

@@ -1,6 +1,6 @@
 //! What is pushed where it was made or found.
 
-ghost use Rattle.std.specs.Prelude.{IfOk};
+ghost use Rattle.std.specs.Prelude.{◌≡◌, IfOk};
 ghost use Rattle.code_steps.specs.Passing.{Pushes, PushesFound};
 
 use crate::advance::{Advance, stopped};
@@ -10,10 +10,26 @@ use orca_base::{FaultKind, NoMemory};
 use std::alloc::Global;
 use value_core::Value;
 
+/// A value once more, whose lists are shared.
+///
+/// # Errors
+/// Want of memory.
+#[inline(always)]
+pub fn copied(alloc: Global, value: &Value) -> Result<Value, NoMemory>
+    ensures { IfOk result (λ v. v ≡ value.now) }
+{
+    match value {
+        Value::Int(number) => Ok(Value::Int(*number)),
+        Value::Truth(truth) => Ok(Value::Truth(*truth)),
+        _ => value.copy(alloc),
+    }
+}
+
 /// A value that was made is pushed, or it is why none was.
 ///
 /// # Errors
 /// Want of memory.
+#[inline(always)]
 pub fn push_made(made: Result<Value, Stop>, stack: &mut Operands) -> Result<Advance, NoMemory>
     ensures { IfOk result (λ a. Pushes made stack.old a stack.new) }
 {

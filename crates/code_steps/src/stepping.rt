@@ -16,6 +16,7 @@ use orca_base::NoMemory;
 use std::alloc::Global;
 
 // Whether an instruction calls a body, or leaves one.
+#[inline(always)]
 fn leaves_body(instr: &Instr<'_>) -> bool
     ensures { result ≡ leaves_body (instr_of instr.now) }
 {
@@ -47,6 +48,7 @@ fn transfer(
 }
 
 // An instruction.
+#[inline(always)]
 fn act(
     alloc: Global,
     code: &Emitted<'_>,
@@ -76,6 +78,7 @@ fn act(
 ///
 /// # Errors
 /// Want of memory.
+#[inline(always)]
 pub fn step(alloc: Global, code: &Emitted<'_>, config: &mut Config<'_>) -> Result<Effect, NoMemory>
     ensures { HasRoomAt (program_seen code.now) (config_of config.old) → IfOk result (λ e.
         machine.step (program_seen code.now) (config_of config.old) ≡ effect_in e (config_of config.new)) }

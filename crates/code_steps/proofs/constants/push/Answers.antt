@@ -8,4 +8,4 @@ pub returns : goal.returns
 returns c = λ locals code home.
     let old = c.args.stack.now in
     pushed_on home (datum_of c.args.value.now) old old c.push.new.self locals locals advance.Next refl
-    (c.in_ok-push.ensures {u = tt} ∙ ap (λ v. datum_of v ∷ old) (c.in_ok-copy.ensures {u = tt}))
+    (c.in_ok-push.ensures {u = tt} ∙ ap (λ v. datum_of v ∷ old) (c.in_ok-copied.ensures {u = tt}))

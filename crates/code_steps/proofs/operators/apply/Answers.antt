@@ -29,5 +29,5 @@ returns c =
     let y = datum_of c.in-Some.right in
     IfOk-weaker c.push_made.result _ _
     (λ a h locals code home. applies code home old mid st locals x c.args.operator y (c.in-Some.ensures {u = tt}) (c.in-Some-pop.ensures {u = tt})
-    ∙ made home old st c.push_made.new.stack locals a c.applied.result (applied c.args.operator x y) c.applied.ensures h)
+    ∙ made home old st c.push_made.new.stack locals a c.outcome.result (applied c.args.operator x y) c.outcome.ensures h)
     c.push_made.ensures

@@ -2,7 +2,7 @@ use Rattle.std.proofs.Common.{ap, ◌∙◌}
 use Rattle.std.proofs.lemmas.Result.{IfOk-weaker}
 use Rattle.code_rules.specs.Machine as machine
 use Rattle.emitted_code.specs.Views.{instr_of, program_seen}
-use Rattle.code_steps.specs.Bodies.{config_of, number_of}
+use Rattle.code_steps.specs.Bodies.{config_of}
 use Rattle.code_steps.proofs.stepping.step.Goals as goal
 
 pub returns-in-Some : goal.returns-in-Some

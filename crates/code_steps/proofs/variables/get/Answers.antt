@@ -1,34 +1,22 @@
-use Rattle.std.proofs.Common.{List, [], true, pos, sym, subst, ◌∙◌}
-use Rattle.std.proofs.lemmas.Result.{IfOk-weaker}
-use Rattle.value_core.specs.Datum as datum
-use Rattle.code_rules.specs.Machine.{read}
-use Rattle.emitted_code.specs.Views.{marks_of}
-use Rattle.frame_variables.specs.declared.steps.Step.{Step}
-use Rattle.frame_variables.specs.Gives.{path_of}
-use Rattle.code_steps.specs.Pops.{PopsPath}
-use Rattle.code_steps.proofs.Popping.{has_path, no_path}
-use Rattle.code_steps.proofs.Arriving.{found}
-use Rattle.code_steps.proofs.Taken.{gets, gets_not}
+use Rattle.std.proofs.Common.{ℤ, List, [], ◌∷◌, ap, rules as basic, subst, sym, ◌∙◌}
+use Rattle.std.proofs.lemmas.Int.{to_z-of_z}
+use Rattle.std.specs.Int.{w128}
+use mir.Val.{SFits}
+use Rattle.std.specs.Prelude.{IfOk}
+use Rattle.code_rules.specs.Instructions.{Mark}
+use Rattle.code_rules.specs.Instructions as rules
+use Rattle.code_steps.specs.Moves.{Moves}
 use Rattle.code_steps.proofs.variables.get.Goals as goal
 
-pub returns-in_default : goal.returns-in_default
-returns-in_default c = λ code home.
-    let old = c.args.stack.now in
-    let marks = marks_of c.args.marks.now in
-    let st = c.pop_path.new.stack in
-    gets_not code home c.args.slot marks old old st c.args.run.now.frame [] (datum.int (pos 0))
-    (no_path c.in_ok-path.field-0 marks old st (c.in_ok-path.ensures {u = tt}) c.in_default.is)
+pub returns-then-is_whole : goal.returns-then-is_whole
+returns-then-is_whole c =
+    subst (λ (ms : List Mark). IfOk c.get_whole.result (λ a. Moves (rules.Get c.args.slot ms) c.args.stack.now c.args.run.now.frame a c.get_whole.new.stack c.args.run.now.frame))
+    (sym (c.is_whole.ensures c.if-is_whole.true)) c.get_whole.ensures
 
-pub returns : goal.returns
-returns c =
-    let old = c.args.stack.now in
-    let marks = marks_of c.args.marks.now in
-    let locals = c.args.run.now.frame in
-    let st = c.pop_path.new.stack in
-    let new = c.push_found.new.stack in
-    let path = path_of c.deref.result.now in
-    let taken = subst (λ (s : List Step). PopsPath marks old true st (path_of s)) (sym c.deref.ensures.value) (has_path c.in_ok-path.field-0 marks old st (c.in_ok-path.ensures {u = tt}) c.in-Some.path c.in-Some.is) in
-    IfOk-weaker c.push_found.result _ _
-    (λ a p code home. gets code home c.args.slot marks old old st locals path (datum.int (pos 0)) taken
-    ∙ found home old st new locals a c.find.result (read c.args.slot path locals) p c.find.ensures)
-    c.push_found.ensures
+pub returns-in-Some : goal.returns-in-Some
+returns-in-Some c =
+    let low = c.in-Some.low in
+    let fits : SFits w128 low = search basic in
+    let same = c.in-Some.ensures {u = tt} ∙ ap (λ (l : ℤ). rules.ByIndex l ∷ []) (sym (to_z-of_z w128 low fits)) in
+    subst (λ (ms : List Mark). IfOk c.get_element.result (λ a. Moves (rules.Get c.args.slot ms) c.args.stack.now c.args.run.now.frame a c.get_element.new.stack c.args.run.now.frame))
+    (sym same) c.get_element.ensures
