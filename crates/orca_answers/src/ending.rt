@@ -1,20 +1,21 @@
 //! How the program ends where it says a line, and runs nothing.
 
-ghost use Rattle.std.specs.Prelude.{◌≡◌, ◌≢◌, ◌⊎◌, ◌<◌, ◌≤◌, ℕ, List, Option, Some};
+ghost use Rattle.std.specs.Prelude.{◌≡◌, ◌≢◌, ◌⊎◌, ◌<◌, ◌≤◌, ℕ, List, Option, Some, map};
 ghost use Rattle.orca_io.specs.Causes.{Rose};
 ghost use Rattle.orca_io.specs.Files.{File};
-ghost use Rattle.orca_io.specs.Reading.{FileRead};
+ghost use Rattle.orca_io.specs.Reading.{FileRead, ReadSince, had};
 ghost use Rattle.command_files.specs.Stopped.{StoppedAt};
 ghost use Rattle.command_files.specs.Loaded.{IsFailed, IsLoadFault};
 ghost use Rattle.command_files.specs.Sources.{AreRead, Word};
 ghost use Rattle.command_output.specs.Printed.{HasStopped};
 ghost use Rattle.orca_answers.specs.Choosing.{Chooser};
 ghost use Rattle.orca_answers.specs.Endings.{IsAnswer};
-ghost use Rattle.orca_answers.specs.Job.{files_in};
+ghost use Rattle.orca_answers.specs.Job.{files_in, script_in};
 ghost use Rattle.orca_answers.specs.Programs.{IsProgramFault};
-ghost use Rattle.orca_answers.specs.Scripts.{HasScriptSince};
+ghost use Rattle.orca_answers.specs.Scripts.{HasScriptSince, IsScriptFault, IsUnreadable};
 
 use crate::program::ProgramFault;
+use crate::script::ScriptFault;
 use command_files::LoadFault;
 use command_output::{FINISHED, READ_FAULT, WRITE_FAULT, print_ending};
 use orca_io::Sink;

@@ -6,27 +6,27 @@ use Rattle.orca_cli.proofs.top.orca_main_over.Goals as goal
 
 pub returns-in-Ok-Some-Says-clause-refused : goal.returns-in-Ok-Some-Says-clause-refused
 returns-in-Ok-Some-Says-clause-refused g c =
-    if_none _ _ (answer_of (λ l. l.items) c.whole.result _ _ _ _ _ _ _ _ 0 _ c.in-Ok-Some-Says.text.now c.whole.ensures c.said.ensures.printed c.said.ensures.silent c.said.ensures.status (because.said c.in-Ok-Some-Says.text.now (deed_is _ _ _ _ c.in-Ok-Some-Says.ensures.is c.in-Ok-Some-Says.field-0-is c.in-Ok-Some-Says.field-0-0-is)))
+    rw c.unkept.ensures (if_none _ _ (answer_of (λ l. l.items) c.whole.result _ _ _ _ _ _ _ _ 0 _ c.in-Ok-Some-Says.text.now c.whole.ensures c.print_ending.ensures.printed c.print_ending.ensures.silent c.print_ending.ensures.status (because.said c.in-Ok-Some-Says.text.now (deed_is _ _ _ _ c.in-Ok-Some-Says.ensures.is c.in-Ok-Some-Says.field-0-is c.in-Ok-Some-Says.field-0-0-is))))
 
 pub returns-in-Ok-None-clause-refused : goal.returns-in-Ok-None-clause-refused
 returns-in-Ok-None-clause-refused g c =
-    if_none _ _ (answer_of (λ l. l.items) c.usage_line.result _ _ _ _ _ _ _ _ 2 _ lines.usage_line c.usage_line.ensures c.said-in-Ok-None.ensures.printed c.said-in-Ok-None.ensures.silent c.said-in-Ok-None.ensures.status (because.usage (deed_none _ _ c.in-Ok-None.ensures.is c.in-Ok-None.field-0-is)))
+    rw c.unkept-in-Ok-None.ensures (if_none _ _ (answer_of (λ l. l.items) c.usage_line.result _ _ _ _ _ _ _ _ 2 _ lines.usage_line c.usage_line.ensures c.print_ending-in-Ok-None.ensures.printed c.print_ending-in-Ok-None.ensures.silent c.print_ending-in-Ok-None.ensures.status (because.usage (deed_none _ _ c.in-Ok-None.ensures.is c.in-Ok-None.field-0-is))))
 
 pub returns-in-Ok-Some-Replays-clause-refused : goal.returns-in-Ok-Some-Replays-clause-refused
 returns-in-Ok-Some-Replays-clause-refused g c =
-    if_none _ _ ((rw c.deref-in-Ok-Some-Replays.ensures.value at c.replay.ensures.said) _ _ (deed_is _ _ _ _ c.in-Ok-Some-Replays.ensures.is c.in-Ok-Some-Replays.field-0-is c.in-Ok-Some-Replays.field-0-0-is))
+    rw c.unkept-in-Ok-Some-Replays.ensures (if_none _ _ ((rw c.deref-in-Ok-Some-Replays.ensures.value at c.replay.ensures.said) _ _ (deed_is _ _ _ _ c.in-Ok-Some-Replays.ensures.is c.in-Ok-Some-Replays.field-0-is c.in-Ok-Some-Replays.field-0-0-is)))
 
 pub returns-in-Ok-Some-Lists-clause-refused : goal.returns-in-Ok-Some-Lists-clause-refused
 returns-in-Ok-Some-Lists-clause-refused g c =
-    if_none _ _ ((rw c.deref-in-Ok-Some-Lists.ensures.value at c.list_program.ensures.said) _ _ (deed_is _ _ _ _ c.in-Ok-Some-Lists.ensures.is c.in-Ok-Some-Lists.field-0-is c.in-Ok-Some-Lists.field-0-0-is))
+    rw c.unkept-in-Ok-Some-Lists.ensures (if_none _ _ ((rw c.deref-in-Ok-Some-Lists.ensures.value at c.list_program.ensures.said) _ _ (deed_is _ _ _ _ c.in-Ok-Some-Lists.ensures.is c.in-Ok-Some-Lists.field-0-is c.in-Ok-Some-Lists.field-0-0-is)))
 
 pub returns-in-Ok-Some-Checks-clause-refused : goal.returns-in-Ok-Some-Checks-clause-refused
 returns-in-Ok-Some-Checks-clause-refused g c =
-    if_none _ _ ((rw c.deref.ensures.value at c.check_files.ensures.said) _ _ (deed_is _ _ _ _ c.in-Ok-Some-Checks.ensures.is c.in-Ok-Some-Checks.field-0-is c.in-Ok-Some-Checks.field-0-0-is))
+    rw c.unkept-in-Ok-Some-Checks.ensures (if_none _ _ ((rw c.deref.ensures.value at c.check_files.ensures.said) _ _ (deed_is _ _ _ _ c.in-Ok-Some-Checks.ensures.is c.in-Ok-Some-Checks.field-0-is c.in-Ok-Some-Checks.field-0-0-is)))
 
 pub returns-in-Ok-Some-Chooses-clause-refused : goal.returns-in-Ok-Some-Chooses-clause-refused
 returns-in-Ok-Some-Chooses-clause-refused g c =
-    if_none _ _ ((rw c.deref-in-Ok-Some-Chooses.ensures.value at c.choose_files.ensures.said) _ (deed_is _ _ _ _ c.in-Ok-Some-Chooses.ensures.is c.in-Ok-Some-Chooses.field-0-is c.in-Ok-Some-Chooses.field-0-0-is))
+    rw c.unkept-in-Ok-Some-Chooses.ensures (if_none _ _ ((rw c.deref-in-Ok-Some-Chooses.ensures.value at c.choose_files.ensures.said) _ (deed_is _ _ _ _ c.in-Ok-Some-Chooses.ensures.is c.in-Ok-Some-Chooses.field-0-is c.in-Ok-Some-Chooses.field-0-0-is)))
 
 pub run_files-requires-clause-options : goal.run_files-requires-clause-options
 run_files-requires-clause-options g c = within_is _ _ _ c.in-Ok-Some-Runs.ensures.within c.in-Ok-Some-Runs.field-0-is c.in-Ok-Some-Runs.field-0-0-is

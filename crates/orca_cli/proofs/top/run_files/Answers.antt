@@ -12,9 +12,9 @@ use Rattle.orca_cli.proofs.top.run_files.Goals as goal
 
 pub returns-in-Err-Because-clause-refused : goal.returns-in-Err-Because-clause-refused
 returns-in-Err-Because-clause-refused g c = λ policy words asked.
-    if_none _ _
+    rw c.unkept.ensures (if_none _ _
     (c.said_unread.ensures.said policy words (g.F.Shelf.told c.args.shelf.now) (g.F.Shelf.faults c.args.shelf.now) (g.F.Shelf.faults c.sources.new.shelf) (g.F.Shelf.reads c.args.shelf.now) (g.F.Shelf.reads c.sources.new.shelf) (map (λ f. f.now) c.args.files.now)
-    (files_run words _ c.args.options _ asked) (rw c.in-Err-Because.field-0-is (rw c.in-Err-Because.field-0-is at c.in-Err-Because.ensures.refused)))
+    (files_run words _ c.args.options _ asked) (rw c.in-Err-Because.field-0-is (rw c.in-Err-Because.field-0-is at c.in-Err-Because.ensures.refused))))
 
 pub returns-in-Err-Because-script_of-clause-refused : goal.returns-in-Err-Because-script_of-clause-refused
 returns-in-Err-Because-script_of-clause-refused g c = λ policy words asked.
@@ -26,35 +26,35 @@ returns-in-Err-Because-script_of-clause-refused g c = λ policy words asked.
     let between = g.F.Shelf.reads c.sources.new.shelf in
     let new = g.F.Shelf.reads c.script_of.new.shelf in
     let quiet = only_left c.in-Ok.ensures.quiet in
-    if_none _ _
+    rw c.unkept-in-Err-Because-script_of.ensures (if_none _ _
     (unscripted_run words _ c.args.options _ told between new (StoppedAt mid now between new) c.in-Err-Because-script_of.cause _ asked
     (rw (c.sources.ensures.same, c.in-Err-Because-script_of.field-0-is) at c.in-Err-Because-script_of.ensures.refused)
     (λ name named fault. c.said_unscripted.ensures.said policy words told before now old new between (map (λ f. f.now) c.args.files.now) (map file_of c.in-Ok.sources.items) name (files_run words _ c.args.options _ asked) c.in-Ok.ensures.read c.in-Ok.ensures.had named
-    (rw c.in-Err-Because-script_of.field-0-is (script_map told between new (StoppedAt mid now between new) (StoppedAt before now old new) name c.in-Err-Because-script_of.cause (stopped_since before mid now old between new _ name quiet c.in-Ok.ensures.had) fault))))
+    (rw c.in-Err-Because-script_of.field-0-is (script_map told between new (StoppedAt mid now between new) (StoppedAt before now old new) name c.in-Err-Because-script_of.cause (stopped_since before mid now old between new _ name quiet c.in-Ok.ensures.had) fault)))))
 
 pub returns-in-Err-Because-script_of-clause-read_fault : goal.returns-in-Err-Because-script_of-clause-read_fault
 returns-in-Err-Because-script_of-clause-read_fault g c = λ rose.
     let quiet = only_left c.in-Ok.ensures.quiet in
-    ⊎_elim
+    rw c.unkept-in-Err-Because-script_of.ensures (⊎_elim
     (λ (same : g.F.Shelf.faults c.script_of.new.shelf ≡ g.F.Shelf.faults c.sources.new.shelf). absurd (omega (arith, rose, same, quiet)))
     (λ (failed : IsUnreadable c.in-Err-Because-script_of.cause). c.said_unscripted.ensures.status (rw c.in-Err-Because-script_of.field-0-is failed))
-    (rw c.in-Err-Because-script_of.field-0-is at c.in-Err-Because-script_of.ensures.quiet)
+    (rw c.in-Err-Because-script_of.field-0-is at c.in-Err-Because-script_of.ensures.quiet))
 
 pub returns-in-Err-Because-linked_program-clause-refused : goal.returns-in-Err-Because-linked_program-clause-refused
 returns-in-Err-Because-linked_program-clause-refused g c = λ policy words asked.
     let told = g.F.Shelf.told c.args.shelf.now in
-    if_none _ _
+    rw c.unkept-in-Err-Because-linked_program.ensures (if_none _ _
     (c.said_refused.ensures.said policy words told (g.F.Shelf.faults c.args.shelf.now) (g.F.Shelf.faults c.script_of.new.shelf) (g.F.Shelf.reads c.args.shelf.now) (g.F.Shelf.reads c.script_of.new.shelf) (map (λ f. f.now) c.args.files.now) (map file_of c.in-Ok.sources.items)
     (files_run words _ c.args.options _ asked) c.in-Ok.ensures.read (has_script words _ _ c.args.options _ c.in-Ok-script_of.script (map file_of c.in-Ok.sources.items) _ (g.F.Shelf.reads c.sources.new.shelf) _ asked c.in-Ok.ensures.had (rw c.sources.ensures.same at c.in-Ok-script_of.ensures.had))
-    (rw c.in-Err-Because-linked_program.field-0-is (rw (c.deref.ensures.value, c.in-Err-Because-linked_program.field-0-is) at c.in-Err-Because-linked_program.ensures.refused)))
+    (rw c.in-Err-Because-linked_program.field-0-is (rw (c.deref.ensures.value, c.in-Err-Because-linked_program.field-0-is) at c.in-Err-Because-linked_program.ensures.refused))))
 
 pub returns-in-Err-Because-machine_of-clause-refused : goal.returns-in-Err-Because-machine_of-clause-refused
 returns-in-Err-Because-machine_of-clause-refused g c = λ policy words asked.
     let told = g.F.Shelf.told c.args.shelf.now in
-    if_none _ _
+    rw c.unkept-in-Err-Because-machine_of.ensures (if_none _ _
     (c.said_refused-in-Err-Because-machine_of.ensures.said policy words told (g.F.Shelf.faults c.args.shelf.now) (g.F.Shelf.faults c.script_of.new.shelf) (g.F.Shelf.reads c.args.shelf.now) (g.F.Shelf.reads c.script_of.new.shelf) (map (λ f. f.now) c.args.files.now) (map file_of c.in-Ok.sources.items)
     (files_run words _ c.args.options _ asked) c.in-Ok.ensures.read (has_script words _ _ c.args.options _ c.in-Ok-script_of.script (map file_of c.in-Ok.sources.items) _ (g.F.Shelf.reads c.sources.new.shelf) _ asked c.in-Ok.ensures.had (rw c.sources.ensures.same at c.in-Ok-script_of.ensures.had))
-    (rw c.in-Err-Because-machine_of.field-0-is (rw c.in-Err-Because-machine_of.field-0-is at c.in-Err-Because-machine_of.ensures.refused (map file_of c.in-Ok.sources.items) (rw c.deref.ensures.value at c.in-Ok-linked_program.ensures.program))))
+    (rw c.in-Err-Because-machine_of.field-0-is (rw c.in-Err-Because-machine_of.field-0-is at c.in-Err-Because-machine_of.ensures.refused (map file_of c.in-Ok.sources.items) (rw c.deref.ensures.value at c.in-Ok-linked_program.ensures.program)))))
 
 pub returns-clause-refused : goal.returns-clause-refused
 returns-clause-refused g c = λ policy words asked. none_as c.run_program.result.kept (λ lacked. inr (lacked.0, lacked.1, inl refl)) c.run_program.ensures.none
