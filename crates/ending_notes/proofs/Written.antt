@@ -1,5 +1,5 @@
 -- What was written is a note, a front of one, or nothing.
-use Rattle.std.proofs.Common.{◌≡◌, ◌⊎◌, List, [], ◌++◌, take, drop, Option, Some, None, ℕ, refl, sym, ◌∙◌, inl, inr, take-append-drop}
+use Rattle.std.proofs.Common.{List, [], take, drop, Option, Some, None, ℕ, refl, sym, ◌∙◌, inl, inr, take-append-drop}
 use Rattle.std.specs.Prelude.{Result, Ok, Err}
 use Rattle.std.proofs.lemmas.List.{append-nil}
 use Rattle.orca_io.specs.Files.{File}
