@@ -21,6 +21,12 @@ STATUSES = [
     "The history isn't one of the program. The line that is printed says at which of its lines it breaks.",
     "The script is none. The line that is printed says which of its lines is wrong.",
 ]
+NOTES = [
+    "A process whose member crashes, or is left out, isn't waited for, and what it would still have written is never printed; that holds of "
+    "`OrcaMain`, too, which runs on member 0. So where a script crashes member 0, a run may print nothing and end with 0.",
+    "Behind the line of a refusal a note stands on standard error: the line of the text with a mark under the place, and what is asked there. "
+    "It changes neither the status nor standard output; `2>/dev/null` leaves it out.",
+]
 EXAMPLES = [
     ("run examples/one.orca", "Runs a program on three members."),
     ("run --nodes 5 --resilience 2 --script examples/lost.faults examples/one.orca", "Runs it on five, with the faults of a script."),
@@ -87,6 +93,10 @@ def lines(program):
     yield from (".SH OPTIONS", *option_rows(program.options), '.SH "EXIT STATUS"')
     for number, where in enumerate(STATUSES):
         yield from (".TP", f"\\fB{number}\\fR", prose(where))
+    yield ".SH NOTES"
+    for number, note in enumerate(NOTES):
+        yield from [".PP"] * bool(number)
+        yield prose(note)
     yield ".SH EXAMPLES"
     for words, text in EXAMPLES:
         yield from (".TP", f"\\fB{plain('orca ' + words)}\\fR", prose(text))

@@ -1,10 +1,11 @@
 //! What standard error is told behind a command: the note on how it ended, of its status, its words and the texts that were read.
 //!
-//! `main` will use `ending_note` and `not_text_note`. Where texts were refused it judges them once more, by the calls that refused them
-//! (`linked` and `accepted` of orca_front, `within_limits`, `read_script`): what the note says is true of the texts that it is given
-//! (`IsEndingNote`). Which word of a command line is wrong it looks for by itself, and no clause says that it finds it. It prints nothing.
+//! The floor above uses `write_note`. Where texts were refused they are judged once more, by
+//! the calls that refused them (`linked` and `accepted` of orca_front, `within_limits`, `read_script`): what a note says is true of the texts
+//! that it is given (`IsEndingNote`), and there is one unless none is owed (`IsUnowed`). Which word of a command line is wrong it looks for by
+//! itself: that there is a note is a clause, and that it names the right word none. It knows no standard output.
 //!
-//! Its main clause is `told` of `ending_note`.
+//! Its main clauses are `told` and `owed` of `ending_note`, and that of `write_note`.
 #![tactic(auto)]
 
 mod ending;
@@ -12,6 +13,7 @@ mod named;
 mod programs;
 mod scripts;
 mod usage;
+mod writing;
 
 pub use ending::ending_note;
-pub use usage::not_text_note;
+pub use writing::write_note;

@@ -1,5 +1,9 @@
 //! Which files a command line names.
 
+ghost use Rattle.std.specs.Prelude.{◌≡◌, IfOk, Some, map, option_map, string_bytes};
+ghost use Rattle.command_line.specs.Asked.{asked_of};
+ghost use Rattle.ending_notes.specs.Endings.{count_of, program_files};
+
 use command_line::{Request, read_words};
 use orca_base::{NoMemory, Refusal};
 use std::alloc::Global;
@@ -12,24 +16,46 @@ pub struct NamedFiles {
     pub history: bool,
 }
 
-/// What the words name; none where they are no command that reads files.
-pub fn files_named(alloc: Global, words: &[String]) -> Result<Option<NamedFiles>, NoMemory> {
-    let request = match read_words(alloc, words) {
-        Ok(request) => request,
-        Err(Refusal::Because { .. }) => return Ok(None),
-        Err(Refusal::NoMemory) => return Err(NoMemory),
-    };
-    let (files, script, history) = match &request {
-        Request::Check { files } | Request::Code { files, .. } | Request::Choice { files, .. } => {
-            (files.len(), false, false)
-        }
-        Request::Run { files, script, .. } => (files.len(), script.is_some(), false),
-        Request::Replay { files, .. } => (files.len(), false, true),
-        _ => return Ok(None),
-    };
-    Ok(Some(NamedFiles {
+// So many files of a program alone.
+fn alone(files: usize) -> Option<NamedFiles>
+    ensures { option_map (λ n. n.files) result ≡ Some files }
+{
+    Some(NamedFiles {
         files,
-        script,
-        history,
-    }))
+        script: false,
+        history: false,
+    })
+}
+
+// What a request names; none where it is of no command that reads a program.
+fn named(request: &Request<'_>) -> Option<NamedFiles>
+    ensures { option_map (λ n. n.files) result ≡ count_of (asked_of request.now) }
+{
+    match request {
+        Request::Check { files } | Request::Code { files, .. } | Request::Choice { files, .. } => {
+            alone(files.len())
+        }
+        Request::Run { files, script, .. } => Some(NamedFiles {
+            files: files.len(),
+            script: script.is_some(),
+            history: false,
+        }),
+        Request::Replay { files, .. } => Some(NamedFiles {
+            files: files.len(),
+            script: false,
+            history: true,
+        }),
+        _ => None,
+    }
+}
+
+/// What the words name; none where they are no command that reads a program.
+pub fn files_named(alloc: Global, words: &[String]) -> Result<Option<NamedFiles>, NoMemory>
+    ensures { IfOk result (λ o. option_map (λ n. n.files) o ≡ program_files (map string_bytes words.now)) }
+{
+    match read_words(alloc, words) {
+        Ok(request) => Ok(named(&request)),
+        Err(Refusal::Because { .. }) => Ok(None),
+        Err(Refusal::NoMemory) => Err(NoMemory),
+    }
 }

@@ -1,9 +1,9 @@
 //! Which word of a command line is wrong.
 //!
-//! `read_words` says only that words are no command. This goes over them from the left, by the tables of docs/FORMATS.md, and tells the
-//! first word that doesn't fit. It decides nothing: where it finds no fault, no word is named.
+//! `read_words` says only that words are no command. This goes over them from the left, by the options of the commands that are built
+//! (docs/FORMATS.md, Words), and tells the first word that doesn't fit.
 
-ghost use Rattle.std.specs.Prelude.{◌≡◌, ℕ, [], IfOk, IfSome, List, None};
+ghost use Rattle.std.specs.Prelude.{◌≡◌, ℕ, [], IfOk, List, None};
 ghost use Rattle.refusal_notes.specs.Notes.{note_of};
 ghost use Rattle.refusal_notes.specs.declared.cause.Cause.TheVariants.{Usage};
 ghost use Rattle.refusal_notes.specs.declared.cause.UsageRule.{UsageRule};
@@ -28,15 +28,16 @@ enum Takes {
     Number { least: u64, most: u64 },
 }
 
-const COMMANDS: [&str; 7] = ["check", "run", "code", "choice", "replay", "make", "join"];
+// The commands that are built, and the others.
+const BUILT: [&str; 5] = ["check", "run", "code", "choice", "replay"];
 
-const PACKETS_LOST: u64 = 100;
+const NOT_BUILT: [&str; 2] = ["make", "join"];
 
-// The options, the commands that have them, and what they take.
-const OPTIONS: [(&str, &[&str], Takes); 11] = [
+// The options, the commands that are built and have them, and what they take.
+const OPTIONS: [(&str, &[&str], Takes); 9] = [
     (
         "--nodes",
-        &["run", "choice", "make", "join"],
+        &["run", "choice"],
         Takes::Number {
             least: 1,
             most: NODES as u64,
@@ -44,7 +45,7 @@ const OPTIONS: [(&str, &[&str], Takes); 11] = [
     ),
     (
         "--resilience",
-        &["run", "make", "join"],
+        &["run"],
         Takes::Number {
             least: 0,
             most: RESILIENCE as u64,
@@ -52,7 +53,7 @@ const OPTIONS: [(&str, &[&str], Takes); 11] = [
     ),
     (
         "--workers",
-        &["run", "make"],
+        &["run"],
         Takes::Number {
             least: 1,
             most: WORKERS as u64,
@@ -74,26 +75,10 @@ const OPTIONS: [(&str, &[&str], Takes); 11] = [
             most: EVENTS,
         },
     ),
-    ("--script", &["run", "join"], Takes::Text),
+    ("--script", &["run"], Takes::Text),
     ("--history", &["run"], Takes::Nothing),
     ("--explain", &["run"], Takes::Nothing),
-    (
-        "--lose",
-        &["make"],
-        Takes::Number {
-            least: 0,
-            most: PACKETS_LOST,
-        },
-    ),
-    ("--source", &["code", "make"], Takes::Nothing),
-    (
-        "--at",
-        &["join"],
-        Takes::Number {
-            least: 0,
-            most: EVENTS,
-        },
-    ),
+    ("--source", &["code"], Takes::Nothing),
 ];
 
 // What this option of the command takes, where it has it.
@@ -104,6 +89,19 @@ fn taken(command: &str, option: &str) -> Option<Takes> {
         }
     }
     None
+}
+
+// Whether a word is an option, or looks like one: a dash alone is a name.
+fn is_option(word: &str) -> bool {
+    word.len() > 1 && word.starts_with('-')
+}
+
+// The name of an option, and its value where that stands behind `=`.
+fn parted(word: &str) -> (&str, Option<&str>) {
+    match word.split_once('=') {
+        Some((option, value)) => (option, Some(value)),
+        None => (word, None),
+    }
 }
 
 // Whether a word is a number of this range, in decimal digits.
@@ -130,21 +128,32 @@ fn wrong_value<'a>(option: &'a str, takes: Takes, value: Option<&'a str>) -> Opt
     Some(WrongWord { rule, word })
 }
 
-// What is wrong with a word that is an option, with its value behind `=` where it has that, and which value it waits for.
+// What is wrong with the word behind an option that waits for its value.
+fn wrong_waited<'a>(option: &'a str, takes: Takes, word: &'a str) -> Option<WrongWord<'a>> {
+    let value = if is_option(word) { None } else { Some(word) };
+    wrong_value(option, takes, value)
+}
+
+// Whether one of these words is this option.
+fn has_option(words: &[String], option: &str) -> bool {
+    words.iter().any(|word| parted(word.as_str()).0 == option)
+}
+
+// What is wrong with a word that is an option, behind these words, with its value where that stands behind `=`; and which value it waits for.
 fn wrong_option<'a>(
     command: &str,
+    before: &[String],
     word: &'a str,
 ) -> Result<Option<(&'a str, Takes)>, WrongWord<'a>> {
-    let (option, value) = match word.split_once('=') {
-        Some((option, value)) => (option, Some(value)),
-        None => (word, None),
-    };
+    let (option, value) = parted(word);
     let Some(takes) = taken(command, option) else {
-        return Err(WrongWord {
-            rule: UsageRule::UnknownOption,
-            word: option,
-        });
+        let rule = UsageRule::UnknownOption;
+        return Err(WrongWord { rule, word: option });
     };
+    if has_option(before, option) {
+        let rule = UsageRule::Repeated;
+        return Err(WrongWord { rule, word: option });
+    }
     if value.is_none() && !matches!(takes, Takes::Nothing) {
         return Ok(Some((option, takes)));
     }
@@ -159,103 +168,110 @@ fn needed(command: &str) -> usize {
     if command == "replay" { 2 } else { 1 }
 }
 
+// What is wrong with the words of a command as a whole, where so many are no options.
+fn wrong_whole<'a>(command: &str, others: usize) -> WrongWord<'a> {
+    let rule = if others < needed(command) {
+        UsageRule::MissingFile
+    } else if command == "run" {
+        UsageRule::TooFewMembers
+    } else {
+        UsageRule::Unclear
+    };
+    WrongWord { rule, word: "" }
+}
+
 // The first word behind the command's that is wrong.
-fn wrong_behind<'a>(command: &str, words: &'a [String]) -> Option<WrongWord<'a>> {
+fn wrong_behind<'a>(command: &str, words: &'a [String]) -> WrongWord<'a> {
     let mut waiting = None;
     let mut options_end = false;
     let mut others = 0usize;
-    for word in words {
+    for (place, word) in words.iter().enumerate() {
         let word = word.as_str();
         if let Some((option, takes)) = waiting {
-            if let Some(found) = wrong_value(option, takes, Some(word)) {
-                return Some(found);
+            if let Some(found) = wrong_waited(option, takes, word) {
+                return found;
             }
             waiting = None;
-        } else if options_end || !word.starts_with('-') {
+        } else if options_end || !is_option(word) {
             others = others.saturating_add(1);
         } else if word == "--" {
             options_end = true;
         } else {
-            match wrong_option(command, word) {
+            match wrong_option(command, &words[..place], word) {
                 Ok(option) => waiting = option,
-                Err(found) => return Some(found),
+                Err(found) => return found,
             }
         }
     }
-    if let Some((option, takes)) = waiting {
-        return wrong_value(option, takes, None);
+    if let Some((option, _)) = waiting {
+        let rule = UsageRule::MissingValue;
+        return WrongWord { rule, word: option };
     }
-    if others < needed(command) {
-        return Some(WrongWord {
-            rule: UsageRule::MissingFile,
-            word: "",
-        });
-    }
-    None
+    wrong_whole(command, others)
 }
 
 // What is wrong with words that are no command, as far as it is one word.
-fn wrong_word(words: &[String]) -> Option<WrongWord<'_>> {
+fn wrong_word(words: &[String]) -> WrongWord<'_> {
     let [command, behind @ ..] = words else {
-        return Some(WrongWord {
-            rule: UsageRule::NoCommand,
-            word: "",
-        });
+        let rule = UsageRule::NoCommand;
+        return WrongWord { rule, word: "" };
     };
     let command = command.as_str();
-    if !COMMANDS.contains(&command) {
-        return Some(WrongWord {
-            rule: UsageRule::UnknownCommand,
+    if NOT_BUILT.contains(&command) {
+        let rule = UsageRule::NotBuilt;
+        return WrongWord {
+            rule,
             word: command,
-        });
+        };
+    }
+    if !BUILT.contains(&command) {
+        let rule = UsageRule::UnknownCommand;
+        return WrongWord {
+            rule,
+            word: command,
+        };
     }
     wrong_behind(command, behind)
 }
 
-// What isn't built of what a request asks for.
-fn not_built<'a>(request: &Request<'_>, words: &'a [String]) -> Option<WrongWord<'a>> {
-    let word = match request {
-        Request::Run { .. } => "--workers",
-        _ => words.first()?.as_str(),
-    };
-    Some(WrongWord {
-        rule: UsageRule::NotBuilt,
-        word,
-    })
+// What isn't built of what a request asks for: an option of a run, or the command.
+fn not_built<'a>(request: &Request<'_>, words: &'a [String]) -> WrongWord<'a> {
+    let rule = UsageRule::NotBuilt;
+    if let Request::Run { .. } = request {
+        return WrongWord {
+            rule,
+            word: "--workers",
+        };
+    }
+    match words.first() {
+        Some(word) => WrongWord {
+            rule,
+            word: word.as_str(),
+        },
+        None => WrongWord {
+            rule: UsageRule::NoCommand,
+            word: "",
+        },
+    }
 }
 
-/// The note on words that are no command, or that ask for what isn't built; none where no word is found that is wrong.
-pub fn usage_note(alloc: Global, words: &[String]) -> Result<Option<Vec<u8>>, NoMemory>
-    ensures { IfOk result (λ o. IfSome o (λ v. (rule : UsageRule) × (subject : List ℕ) × (v.items ≡ note_of (Usage rule) subject None))) }
+/// The note on words that are no command, or that ask for what isn't built.
+pub fn usage_note(alloc: Global, words: &[String]) -> Result<Vec<u8>, NoMemory>
+    ensures { IfOk result (λ v. (rule : UsageRule) × (subject : List ℕ) × (v.items ≡ note_of (Usage rule) subject None)) }
 {
     let found = match read_words(alloc, words) {
         Ok(request) => not_built(&request, words),
         Err(Refusal::Because { .. }) => wrong_word(words),
         Err(Refusal::NoMemory) => return Err(NoMemory),
     };
-    let Some(found) = found else {
-        return Ok(None);
-    };
-    let note = note(
-        alloc,
-        Cause::Usage { rule: found.rule },
-        found.word.as_bytes(),
-        None,
-    )?;
-    Ok(Some(note))
+    let cause = Cause::Usage { rule: found.rule };
+    note(alloc, cause, found.word.as_bytes(), None)
 }
 
 /// The note on words of which one isn't UTF-8.
-pub fn not_text_note(alloc: Global) -> Result<Option<Vec<u8>>, NoMemory>
-    ensures { IfOk result (λ o. IfSome o (λ v. v.items ≡ note_of (Usage UsageRule.NotUtf8) [] None)) }
+pub fn not_text_note(alloc: Global) -> Result<Vec<u8>, NoMemory>
+    ensures { IfOk result (λ v. v.items ≡ note_of (Usage UsageRule.NotUtf8) [] None) }
 {
-    let note = note(
-        alloc,
-        Cause::Usage {
-            rule: UsageRule::NotUtf8,
-        },
-        &[],
-        None,
-    )?;
-    Ok(Some(note))
+    let rule = UsageRule::NotUtf8;
+    note(alloc, Cause::Usage { rule }, &[], None)
 }

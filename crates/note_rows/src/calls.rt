@@ -108,7 +108,8 @@ fn usage(word: &str) -> UsageRule {
         "too-few-members" => UsageRule::TooFewMembers,
         "missing-file" => UsageRule::MissingFile,
         "needless-word" => UsageRule::NeedlessWord,
-        _ => UsageRule::NotUtf8,
+        "not-utf8" => UsageRule::NotUtf8,
+        _ => UsageRule::Unclear,
     }
 }
 
@@ -148,8 +149,11 @@ fn cause_in(call: &Call<'_>) -> Cause {
         "script" if second == "unknown-word" => Cause::Script {
             rule: ScriptRule::UnknownWord,
         },
-        "script" => Cause::Script {
+        "script" if second == "bad-number" => Cause::Script {
             rule: ScriptRule::BadNumber,
+        },
+        "script" => Cause::Script {
+            rule: ScriptRule::CarriageReturn,
         },
         "no-such-member" => Cause::NoSuchMember,
         "history" => Cause::History { part: part(second) },

@@ -47,6 +47,7 @@ limit_number what.HistoryLines = 8
 abbrev pub script_number : ScriptRule → ℕ
 script_number script.UnknownWord = 0
 script_number script.BadNumber = 1
+script_number script.CarriageReturn = 2
 
 abbrev pub part_number : HistoryPart → ℕ
 part_number part.Form = 0
@@ -79,6 +80,7 @@ usage_number usage.TooFewMembers = 8
 usage_number usage.MissingFile = 9
 usage_number usage.NeedlessWord = 10
 usage_number usage.NotUtf8 = 11
+usage_number usage.Unclear = 12
 
 -- the sentences of a cause, with `@` for what they speak of
 abbrev pub text_of : Cause → List ℕ

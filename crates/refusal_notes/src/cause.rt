@@ -70,6 +70,8 @@ pub enum Hint {
 pub enum ScriptRule {
     UnknownWord,
     BadNumber,
+    /// The line ends in a carriage return.
+    CarriageReturn,
 }
 
 /// What is wrong with a line of a history.
@@ -110,4 +112,6 @@ pub enum UsageRule {
     NeedlessWord,
     /// A word isn't UTF-8.
     NotUtf8,
+    /// It is none of these.
+    Unclear,
 }

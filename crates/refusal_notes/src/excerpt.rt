@@ -56,9 +56,9 @@ fn behind_line(text: &[u8]) -> &[u8]
     behind(text, line_length(text) + 1)
 }
 
-// The line with this number; an empty one where there is none.
+/// The line with this number, counted from 1, without its line feed; an empty one where there is none.
 #[tactic(auto, using(crate::proofs::Lines::behind_next))]
-fn line_at(text: &[u8], number: u32) -> &[u8]
+pub fn line_at(text: &[u8], number: u32) -> &[u8]
     ensures { result.now ≡ excerpts.line_at number text.now }
 {
     let lines_before = number.saturating_sub(1);

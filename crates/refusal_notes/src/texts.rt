@@ -131,12 +131,14 @@ pub const TWO_MAINS: &str =
      used. (linking rule 1)";
 
 /// The lines of scripts, in the order of `ScriptRule`.
-pub const SCRIPTS: [&str; 2] = [
+pub const SCRIPTS: [&str; 3] = [
     "A word of this line is unknown, is missing or is one too many, the line isn't UTF-8, or it is a second one of `seed`. A line \
      is `drop KIND N`, `twice KIND N`, `hold KIND N TICKS`, `cut KIND N BYTES`, where N may be `all`, `crash MEMBER KIND N`, \
      `suspect MEMBER KIND N`, `swap KIND N` or `seed NUMBER PERCENT`.",
     "A number is missing in this line, isn't written in 1 to 19 digits, or is out of its range: packets count from 1, members go \
      from 0 to 15, and PERCENT from 0 to 100.",
+    "This line ends in a carriage return and a line feed, as Windows ends lines; in a script it ends in a line feed alone. Save the file \
+     with such lines.",
 ];
 
 /// A member that isn't there.
@@ -200,7 +202,7 @@ pub const MAIN_LOST: &str =
      and what it would still have written is missing above.";
 
 /// What is wrong with words, in the order of `UsageRule`.
-pub const USAGE: [&str; 12] = [
+pub const USAGE: [&str; 13] = [
     "A command is missing. `orca --help` lists the commands.",
     "@ is no command. `orca --help` lists the commands, and says which are built.",
     "@ isn't built yet. `orca --help` says what is.",
@@ -213,6 +215,7 @@ pub const USAGE: [&str; 12] = [
     "A word is missing: the files of the program, a history or a number. `orca COMMAND --help` says what the command takes.",
     "@ is one word too many. `orca COMMAND --help` says what the command takes.",
     "A word isn't UTF-8. Give the file another name.",
+    "These words are no command. `orca --help` lists the commands, and `orca COMMAND --help` says what one takes.",
 ];
 
 // The text with this number, from 0.

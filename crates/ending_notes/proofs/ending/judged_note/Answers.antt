@@ -1,9 +1,8 @@
-use Rattle.std.proofs.Common.{inl}
-use Rattle.ending_notes.proofs.Told.{program_told}
+use Rattle.std.proofs.Common.{sym}
+use Rattle.ending_notes.specs.Endings as ends
+use Rattle.ending_notes.proofs.Told.{noted}
 use Rattle.ending_notes.proofs.ending.judged_note.Goals as goal
 
-pub returns-in-1 : goal.returns-in-1
-returns-in-1 c = program_told (λ v. v.items) c.refused_note.result c.args.status c.args.files.now (inl c.in-1.is) c.in-Some.named.files c.refused_note.ensures
-
-pub returns-in-11 : goal.returns-in-11
-returns-in-11 c = c.limits_note.ensures c.args.status c.in-11.is
+pub returns-clause-told : goal.returns-clause-told
+returns-clause-told c =
+    noted c.refused_note.result (λ v note. ends.program c.requires c.in-Some.named.files (sym (rw c.in-Some.is at c.in_ok-named.ensures)) note) c.refused_note.ensures.told
