@@ -24,8 +24,6 @@ STATUSES = [
 NOTES = [
     "A process whose member crashes, or is left out, isn't waited for, and what it would still have written is never printed; that holds of "
     "`OrcaMain`, too, which runs on member 0. So where a script crashes member 0, a run may print nothing and end with 0.",
-    "Behind the line of a refusal a note stands on standard error: the line of the text with a mark under the place, and what is asked there. "
-    "It changes neither the status nor standard output; `2>/dev/null` leaves it out.",
 ]
 EXAMPLES = [
     ("run examples/one.orca", "Runs a program on three members."),
