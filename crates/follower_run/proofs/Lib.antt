@@ -1,0 +1,14 @@
+pub mod Results
+pub mod Given
+pub mod Spelled
+pub mod Releasing
+pub mod Loading
+pub mod Asking
+pub mod Standing
+pub mod Posting
+pub mod Going
+pub mod Sounding
+pub mod Coming
+pub mod Rounding
+pub mod Travelling
+pub mod Joining
