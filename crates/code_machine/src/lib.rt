@@ -3,8 +3,7 @@
 //!
 //! The floors above use `CodeMachine`, made of a checked program that keeps within the limits. It meets `Performer` and `Processor` of
 //! value_core with the meanings of the program's sources, `performs_of` and `computes_of` of meaning_rules, and what fits is that of
-//! meaning_rules too. Nothing else of a machine's is promised, nor what it keeps of a process (`CodeState`). So it can stand wherever the
-//! tree machine does.
+//! meaning_rules too. Nothing else of a machine's is promised, nor what it keeps of a process (`CodeState`). Runs and replays go on it.
 //!
 //! It stands on code_units, which compiles the program; on code_runs, which runs the code; on access_analysis, for the classes of
 //! operations; on program_limits; on the law of code_rules, that the program's code means its sources; on code_numbers, by which its

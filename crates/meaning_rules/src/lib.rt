@@ -3,8 +3,8 @@
 //!
 //! The floors above use `performs_of` and `computes_of` of specs/Meanings.antt, the two records over which histories are defined, and
 //! what these are made of: `eval` and `run`, by recursion on the syntax, `calls`, by recursion on the levels of calls that are left, and
-//! `loop`, by recursion on a number above the turns that are left. The evaluator, the compiler and the classes of operations are proved
-//! against these definitions. The specs stand in reading order in specs/Lib.antt.
+//! `loop`, by recursion on a number above the turns that are left. Compiled code, what is done to variables and the classes of operations are
+//! proved against these definitions. The specs stand in reading order in specs/Lib.antt.
 //!
 //! **Names.** A phrase is evaluated in the scope of `type_rules` that its types come from. The frame has a value for each name of that
 //! scope, in the scope's order: parameters, variables, an object's fields, and in front of these the variables of the loops that are
