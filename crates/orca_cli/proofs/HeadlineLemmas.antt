@@ -220,18 +220,19 @@ settings_over told policy units options wires settings is = is ∙ ap (settings_
 
 -- where nothing of it is kept
 pub untouched_run : {W K : Type 0} (A : Type 0) (told : W → List Asked) (rule : W → Rule) (loaded : W → ℕ) (before after : List W) (policy : Chooser) (words : List Word) (files : Option (List File)) (earlier later : List FileRead) (units : List Source) (options : RunOptions) (settings : Settings)
-    (lines : List ScriptLine) (o : Option K) (status : ℕ) (named : IsNamed words files earlier later units lines) → named.options ≡ options → settings ≡ settings_for policy units options (length before) → IfNone o ((status ≡ NO_MEMORY) × A)
+    (lines : List ScriptLine) (o : Option K) (status : ℕ) (asked : List replica.Asked) (named : IsNamed words files earlier later units lines) → named.options ≡ options → settings ≡ settings_for policy units options (length before) → asked ≡ told_for policy units options → IfNone o ((status ≡ NO_MEMORY) × A)
     → IfNone o ((wires_of told rule loaded after ≡ wires_of told rule loaded before) ⊎ WasBegun units settings lines (wires_of told rule loaded before) (wires_of told rule loaded after))
-    → IfNone o (AreUntouched policy words files earlier later status (wires_of told rule loaded before) (wires_of told rule loaded after))
-untouched_run A told rule loaded before after policy words files earlier later units options settings lines (Some k) status named same is lacked begun = tt
-untouched_run A told rule loaded before after policy words files earlier later units options settings lines None status named same is lacked (inl kept) = inl kept
-untouched_run A told rule loaded before after policy words files earlier later units options settings lines None status named same is lacked (inr begun) = inr (record {
+    → IfNone o (AreUntouched policy words files earlier later status (wires_of told rule loaded before) (wires_of told rule loaded after) asked)
+untouched_run A told rule loaded before after policy words files earlier later units options settings lines (Some k) status asked named same is told_is lacked begun = tt
+untouched_run A told rule loaded before after policy words files earlier later units options settings lines None status asked named same is told_is lacked (inl kept) = inl kept
+untouched_run A told rule loaded before after policy words files earlier later units options settings lines None status asked named same is told_is lacked (inr begun) = inr (record {
   status = lacked.0;
   units = units;
   lines = lines;
   named = named;
   begun = subst (λ (s : Settings). WasBegun units s lines (wires_of told rule loaded before) (wires_of told rule loaded after))
       (settings_over told policy units options before settings is ∙ ap (λ (os : RunOptions). settings_for policy units os (length (map told before))) (sym same)) begun;
+  told = told_is ∙ ap (λ (os : RunOptions). told_for policy units os) (sym same);
 })
 
 -- what the policy was asked for it

@@ -75,8 +75,8 @@ pub record AreLoaded (lines : List ScriptLine) (old new : Wires) : Type 0 where
 -- each wire answered what it was asked since its script was loaded as its rule says
 pub record HaveObeyed (wires : Wires) : Type 0 where
   pub each :
-      (wire since : ℕ) (rule : Rule) (told : List Asked) → slice_get wires.rules wire ≡ Some rule → slice_get wires.loaded wire ≡ Some since →
-      slice_get wires.told wire ≡ Some told → HasObeyed rule since told
+      (wire since : ℕ) (rule : Rule) (told : List Asked) → slice_get wires.rules wire ≡ Some rule →
+      slice_get wires.loaded wire ≡ Some since → slice_get wires.told wire ≡ Some told → HasObeyed rule since told
 
 -- a run of the program with these units was begun, by these settings: the first wire was loaded with these lines, and the wires were asked
 -- what some steps of that run ask, and maybe once more about an act
@@ -85,18 +85,21 @@ pub record WasBegun (units : List Source) (settings : Settings) (lines : List Sc
   pub told : HaveToldOn old.told new.told
   pub asked : WereAskedIn (run_of (performs_of units) (computes_of units) settings) old.told new.told
 
--- memory lacked, and the run that the words name was begun
+-- memory lacked, and the run that the words name was begun, for which the policy had been asked all that it is asked: it tells `asked` now
 pub record HasLacked (policy : Chooser) (words : List Word) (files : Option (List File)) (earlier later : List FileRead) (code : ℕ)
-    (old new : Wires) : Type 0 where
+    (old new : Wires) (asked : List replica.Asked) : Type 0 where
   pub status : code ≡ NO_MEMORY
   pub units : List Source
   pub lines : List ScriptLine
   pub named : IsNamed words files earlier later units lines
   pub begun : WasBegun units (settings_for policy units named.options (length old.told)) lines old new
+  pub told : asked ≡ told_for policy units named.options
 
 -- nothing is kept: what the wires tell, how they answer, their scripts, and when these were loaded, are as before; or memory lacked
-abbrev pub AreUntouched : Chooser → List Word → Option (List File) → List FileRead → List FileRead → ℕ → Wires → Wires → Type 0
-AreUntouched policy words files earlier later status old new = (new ≡ old) ⊎ HasLacked policy words files earlier later status old new
+abbrev pub AreUntouched :
+    Chooser → List Word → Option (List File) → List FileRead → List FileRead → ℕ → Wires → Wires → List replica.Asked → Type 0
+AreUntouched policy words files earlier later status old new asked =
+    (new ≡ old) ⊎ HasLacked policy words files earlier later status old new asked
 
 -- ---- the run
 
@@ -115,8 +118,8 @@ pub record IsRun (f : Frame) (name : Action → List ℕ) (says : Kept → List 
   pub only : ShownRows f world k
   -- of several limits that are passed it is the first: that before which the lowest member stops, and that of lines behind it
   pub limited : (what : What) (number : ℕ) → limit f world ≡ Some (what, number) → standing f world ≡ Limit what number
-  -- where each fate is Pass, or a Hold for no ticks, and no crash, suspicion or exchange came, a number of events is enough, in which an Ask
-  -- and an Answer are reckoned for each call
+  -- where each fate is Pass, or a Hold for no ticks, and no crash, suspicion or exchange came, a number of events is enough, in which an
+  -- Ask and an Answer are reckoned for each call
   pub bounded : (IsFaulty k.events.items → ⊥) → HasGoneWell f world k
   -- once faults have ended, ticks don't pass for long without progress: where no member is outside and at most r crashed, each idle stretch
   -- has at most N + 8 of them

@@ -42,8 +42,8 @@ pub record IsHome (nodes : List NodeEnd) (end : ProcessEnd) : Type 0 where
   pub busy : end.standing ≡ standing.Busy → node.crashed ≡ false
 
 -- The kept book is a history of the program. The kept processes are the history's, one by one. Each member's copies are what the history
--- left of its objects: of a replicated one what the front left that the member applied, of a single one that it owns what the whole history
--- left. Each line was performed at its kept place, and the lines stand in the order of these
+-- left of its objects: of a replicated one what the front left that the member applied, of a single one that it owns, once it applied its
+-- make, what the whole history left. Each line was performed at its kept place, and the lines stand in the order of these
 pub record IsHistory (f : Frame) (w : World) (k : Kept) : Type 0 where
   pub legal : Legal f.performs f.computes k.book.items
   pub processes : (number : ProcessNo) → MatchOption (slice_get k.processes.items number.0)

@@ -109,7 +109,7 @@ IsEndedOrStuck f k i standing.Crashed = ⊥
 
 -- it goes well: no tick, no more events than its bound, by which each call may cost an Ask and an Answer, but for one where it is out of
 -- turns or at a limit, and a group; it is out of events only where no more than its bound were stated. So it does by the bound without
--- these where no object is single. And where it is over each process ended or is stuck
+-- these where no site is chosen single. And where it is over each process ended or is stuck
 pub record HasGoneWell (f : Frame) (w : World) (k : Kept) : Type 0 where
   pub well : GoesWellWithin (bound_with_singles f w) f w k.events.items
   pub replicated : AllReplicated f → GoesWell f w k.events.items

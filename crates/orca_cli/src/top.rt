@@ -244,14 +244,14 @@ fn run_files<F: Shelf, K: Sink, W: Wire, P: Policy>(
         (K.told out.old) (K.told out.new) result.status (P.told policy.new)) }
     ensures kept { (words : List Word) →
         deed_in words ≡ Some (runs options (option_map (λ f. f.now) script.entry) (map (λ f. f.now) files.now)) →
-        IfSome result.kept (λ k. IsRunOf (chooser_of P.rule P.told policy.old) words (F.told shelf.old) (F.reads shelf.old) (F.reads shelf.new)
-        k result.status (K.told out.old) (K.told out.new)
+        IfSome result.kept (λ k. IsRunOf (chooser_of P.rule P.told policy.old) words (F.told shelf.old) (F.reads shelf.old)
+        (F.reads shelf.new) k result.status (K.told out.old) (K.told out.new)
         (wires_of W.told W.rule W.loaded wires.old) (wires_of W.told W.rule W.loaded wires.new) (P.told policy.new)) }
     ensures untouched { (words : List Word) →
         deed_in words ≡ Some (runs options (option_map (λ f. f.now) script.entry) (map (λ f. f.now) files.now)) →
-        IfNone result.kept (AreUntouched (chooser_of P.rule P.told policy.old) words (F.told shelf.old) (F.reads shelf.old) (F.reads shelf.new)
-        result.status
-        (wires_of W.told W.rule W.loaded wires.old) (wires_of W.told W.rule W.loaded wires.new)) }
+        IfNone result.kept (AreUntouched (chooser_of P.rule P.told policy.old) words (F.told shelf.old) (F.reads shelf.old)
+        (F.reads shelf.new) result.status
+        (wires_of W.told W.rule W.loaded wires.old) (wires_of W.told W.rule W.loaded wires.new) (P.told policy.new)) }
     ensures same_rule { P.rule policy.new ≡ P.rule policy.old }
     ensures same { F.told shelf.new ≡ F.told shelf.old }
     ensures read { F.faults shelf.old ≤ F.faults shelf.new }
@@ -311,11 +311,11 @@ pub fn orca_main_over<F: Shelf, K: Sink, W: Wire, P: Policy>(
         (F.reads shelf.old) (F.reads shelf.new)
         (StoppedAt (F.faults shelf.old) (F.faults shelf.new) (F.reads shelf.old) (F.reads shelf.new))
         (K.told out.old) (K.told out.new) result.status (P.told policy.new)) }
-    ensures untouched { IfNone result.kept (AreUntouched (chooser_of P.rule P.told policy.old) (map string_bytes words.now) (F.told shelf.old)
-        (F.reads shelf.old) (F.reads shelf.new) result.status
-        (wires_of W.told W.rule W.loaded wires.old) (wires_of W.told W.rule W.loaded wires.new)) }
-    ensures headline { IfSome result.kept (λ k. IsRunOf (chooser_of P.rule P.told policy.old) (map string_bytes words.now) (F.told shelf.old)
-        (F.reads shelf.old) (F.reads shelf.new) k result.status (K.told out.old) (K.told out.new)
+    ensures untouched { IfNone result.kept (AreUntouched (chooser_of P.rule P.told policy.old) (map string_bytes words.now)
+        (F.told shelf.old) (F.reads shelf.old) (F.reads shelf.new) result.status
+        (wires_of W.told W.rule W.loaded wires.old) (wires_of W.told W.rule W.loaded wires.new) (P.told policy.new)) }
+    ensures headline { IfSome result.kept (λ k. IsRunOf (chooser_of P.rule P.told policy.old) (map string_bytes words.now)
+        (F.told shelf.old) (F.reads shelf.old) (F.reads shelf.new) k result.status (K.told out.old) (K.told out.new)
         (wires_of W.told W.rule W.loaded wires.old) (wires_of W.told W.rule W.loaded wires.new) (P.told policy.new)) }
     ensures write_fault { result.status ≡ WRITE_FAULT → Rose (K.faults out.old) (K.faults out.new) }
     ensures stopped { K.faults out.old < K.faults out.new → HasStopped result.status }
@@ -374,10 +374,10 @@ pub fn orca_main<F: Shelf, K: Sink>(
 ) -> Ended
     requires wires { (1 ≤ length wires.old.items) × (length wires.old.items ≤ 1000) }
 
-    // Nothing is kept: an ending by its cause, with its line, or want of memory; and where that tells choices, the policy was asked about
-    // each site of that program, in order, or about so many from the front where memory lacked before, and else about nothing. What the
-    // wires tell, their scripts, and when these were loaded, are as before, unless memory lacked for the run that the words name: then that
-    // may have been begun.
+    // Nothing is kept: an ending by its cause, with its line, or want of memory. Where that tells choices, the policy was asked about each
+    // site of that program, in order, or about so many from the front where memory lacked before; it may have been asked so for a run, too,
+    // for which memory lacked; and else about nothing. What the wires tell, their scripts, and when these were loaded, are as before, unless
+    // memory lacked for the run that the words name: then that may have been begun, once the policy had been asked all that it is asked.
     ensures refused { IfNone result.kept (IsAnswer
         (chooser_of (λ b. (Policy-box b).rule b.value) (λ b. (Policy-box b).told b.value) policy.old)
         (map string_bytes words.now) (F.told shelf.old) (F.reads shelf.old) (F.reads shelf.new)
@@ -390,13 +390,15 @@ pub fn orca_main<F: Shelf, K: Sink>(
         (wires_of (λ b. (Wire-box b).told b.value) (λ b. (Wire-box b).rule b.value) (λ b. (Wire-box b).loaded b.value)
         wires.old.items)
         (wires_of (λ b. (Wire-box b).told b.value) (λ b. (Wire-box b).rule b.value) (λ b. (Wire-box b).loaded b.value)
-        wires.new.items)) }
+        wires.new.items)
+        ((Policy-box policy.new).told policy.new.value)) }
 
     // A kept run is one of the program that the words name, whose texts were read: a history of it in the source's meaning, whose replies
     // and copies its members have, and each line of which was performed at its kept place; what it writes was printed, and its own text and
     // its places, where these are asked for; its text is read back and is legal. Its network was really used, by the script that the words
-    // name. `bounded`, `idle` and `counted` of `IsRun` say how many events and how many idle ticks it may have. Where no member may be lost,
-    // each object is where the policy's rule keeps it, which was asked about each site of the program, in order; else it was asked nothing.
+    // name. `bounded`, `idle` and `counted` of `IsRun` say how many events and how many idle ticks it may have. Where no member may be
+    // lost, each object is where the policy's rule keeps it, which was asked about each site of the program, in order; else it was asked
+    // nothing.
     ensures headline { IfSome result.kept (λ k. IsRunOf
         (chooser_of (λ b. (Policy-box b).rule b.value) (λ b. (Policy-box b).told b.value) policy.old)
         (map string_bytes words.now) (F.told shelf.old)

@@ -56,9 +56,9 @@ record AreStill (after : Wires) : Type 0 where
 still_loaded : (lines : List ScriptLine) (after : Wires) → AreLoaded lines fresh after → AreStill after
 still_loaded lines after h = record { first = h.since; second = h.others.loaded 0; script = h.others.rules 0 }
 
-still_untouched : (policy : Chooser) (words : List Word) (files : Option (List File)) (earlier later : List FileRead) (status : ℕ) (after : Wires) → AreUntouched policy words files earlier later status fresh after → AreStill after
-still_untouched policy words files earlier later status after (inl same) = subst AreStill (sym same) (record { first = refl; second = refl; script = refl })
-still_untouched policy words files earlier later status after (inr lacked) = still_loaded lacked.lines after lacked.begun.loaded
+still_untouched : (policy : Chooser) (words : List Word) (files : Option (List File)) (earlier later : List FileRead) (status : ℕ) (after : Wires) (told : List Question) → AreUntouched policy words files earlier later status fresh after told → AreStill after
+still_untouched policy words files earlier later status after told (inl same) = subst AreStill (sym same) (record { first = refl; second = refl; script = refl })
+still_untouched policy words files earlier later status after told (inr lacked) = still_loaded lacked.lines after lacked.begun.loaded
 
 have_answered : (wires : List Wired) → AreTwo wires → AreStill (wired wires) → HaveAnswered (wired wires)
 have_answered wires both = subst (λ (l : List Wired). AreStill (wired l) → HaveAnswered (wired l)) (sym both.are) of_two
@@ -91,25 +91,25 @@ two_made wires is =
 
 -- there are still two wires
 pub two_left : (policy : Chooser) (words : List Word) (files : Option (List File)) (earlier later : List FileRead) (status : ℕ) (old new : Option (List ℕ)) (told : List Question) (kept : Option Kept) (before : Wires) (wires : List Wired) → before ≡ fresh →
-    IfNone kept (AreUntouched policy words files earlier later status before (wired wires)) → IfSome kept (λ k. IsRunOf policy words files earlier later k status old new before (wired wires) told) → length wires ≡ 2
+    IfNone kept (AreUntouched policy words files earlier later status before (wired wires) told) → IfSome kept (λ k. IsRunOf policy words files earlier later k status old new before (wired wires) told) → length wires ≡ 2
 two_left policy words files earlier later status old new told kept before wires is untouched ran = sym (length-map wires (λ (w : Wired). w.told)) ∙ by kept untouched ran ∙ ap (λ (w : Wires). length w.told) is
   where
-    by : (kept : Option Kept) → IfNone kept (AreUntouched policy words files earlier later status before (wired wires)) → IfSome kept (λ k. IsRunOf policy words files earlier later k status old new before (wired wires) told) →
+    by : (kept : Option Kept) → IfNone kept (AreUntouched policy words files earlier later status before (wired wires) told) → IfSome kept (λ k. IsRunOf policy words files earlier later k status old new before (wired wires) told) →
         length (map (λ (w : Wired). w.told) wires) ≡ length before.told
     by None (inl same) none = ap (λ (w : Wires). length w.told) same
     by None (inr lacked) none = lacked.begun.told.count
     by (Some k) none run = run.run.run.told.count
 
 pub is_served : (policy : Chooser) (words : List Word) (files : Option (List File)) (earlier later : List FileRead) (stopped : ShelfFault → Word → Type 0) (old new : Option (List ℕ)) (status : ℕ) (told : List Question) (kept : Option Kept) (before : Wires) (wires : List Wired) → before ≡ fresh → AreTwo wires →
-    IfNone kept (IsAnswer policy words files earlier later stopped old new status told) → IfNone kept (AreUntouched policy words files earlier later status before (wired wires)) → IfSome kept (λ k. IsRunOf policy words files earlier later k status old new before (wired wires) told) →
+    IfNone kept (IsAnswer policy words files earlier later stopped old new status told) → IfNone kept (AreUntouched policy words files earlier later status before (wired wires) told) → IfSome kept (λ k. IsRunOf policy words files earlier later k status old new before (wired wires) told) →
     IsServed policy words files earlier later stopped old new status told
 is_served policy words files earlier later stopped old new status told kept before wires is both answer untouched ran = by kept answer untouched ran
   where
-    by : (kept : Option Kept) → IfNone kept (IsAnswer policy words files earlier later stopped old new status told) → IfNone kept (AreUntouched policy words files earlier later status before (wired wires)) →
+    by : (kept : Option Kept) → IfNone kept (IsAnswer policy words files earlier later stopped old new status told) → IfNone kept (AreUntouched policy words files earlier later status before (wired wires) told) →
         IfSome kept (λ k. IsRunOf policy words files earlier later k status old new before (wired wires) told) → IsServed policy words files earlier later stopped old new status told
     by None answer untouched none =
-        let same = subst (λ (b : Wires). AreUntouched policy words files earlier later status b (wired wires)) is untouched in
-        serves.ended (wired wires) (have_answered wires both (still_untouched policy words files earlier later status (wired wires) same)) answer same
+        let same = subst (λ (b : Wires). AreUntouched policy words files earlier later status b (wired wires) told) is untouched in
+        serves.ended (wired wires) (have_answered wires both (still_untouched policy words files earlier later status (wired wires) told same)) answer same
     by (Some k) none nothing run =
         let same = subst (λ (b : Wires). IsRunOf policy words files earlier later k status old new b (wired wires) told) is run in
         serves.ran k (wired wires) (have_answered wires both (still_loaded same.lines (wired wires) same.loaded)) same

@@ -44,6 +44,7 @@ pub record HaveAnswered (wires : Wires) : Type 0 where
 pub data IsServed (policy : Chooser) (words : List Word) (files : Option (List File)) (earlier later : List FileRead)
     (stopped : ShelfFault → Word → Type 0) (old new : Option (List ℕ)) (status : ℕ) (told : List Question) : Type 0 where
   ended : (after : Wires) → HaveAnswered after → IsAnswer policy words files earlier later stopped old new status told →
-      AreUntouched policy words files earlier later status fresh after → IsServed policy words files earlier later stopped old new status told
+      AreUntouched policy words files earlier later status fresh after told →
+      IsServed policy words files earlier later stopped old new status told
   ran : (k : Kept) (after : Wires) → HaveAnswered after → IsRunOf policy words files earlier later k status old new fresh after told →
       IsServed policy words files earlier later stopped old new status told

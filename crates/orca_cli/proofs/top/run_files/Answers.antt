@@ -126,7 +126,7 @@ returns-clause-untouched g c = λ words asked.
     let are = rw c.deref.ensures.value at c.in-Ok-linked_program.ensures.program in
     let accepted = subst (IsAccepted sources) (sym c.in-Ok-machine_of.ensures.of) (c.in-Ok-machine_of.ensures.accepted sources are) in
     let script = rw c.sources.ensures.same at c.in-Ok-script_of.ensures.had in
-    untouched_run _ g.W.Wire.told g.W.Wire.rule g.W.Wire.loaded c.args.wires.now c.run_program.new.wires policy words told old new (units_of machine) c.args.options c.in-Ok-settings_of.settings c.in-Ok-script_of.script c.run_program.result.kept c.run_program.result.status
+    untouched_run _ g.W.Wire.told g.W.Wire.rule g.W.Wire.loaded c.args.wires.now c.run_program.new.wires policy words told old new (units_of machine) c.args.options c.in-Ok-settings_of.settings c.in-Ok-script_of.script c.run_program.result.kept c.run_program.result.status _
     (record {
       options = c.args.options;
       script = _;
@@ -136,7 +136,7 @@ returns-clause-untouched g c = λ words asked.
       script_has = script.0;
       read = since_then old between new (map had sources) _ c.in-Ok.ensures.had script.1;
     })
-    refl c.in-Ok-settings_of.ensures.settings c.run_program.ensures.none c.run_program.ensures.untouched
+    refl c.in-Ok-settings_of.ensures.settings c.in-Ok-settings_of.ensures.told c.run_program.ensures.none c.run_program.ensures.untouched
 
 pub run_program-requires-clause-turns : goal.run_program-requires-clause-turns
 run_program-requires-clause-turns g c = ap (λ (s : Settings). s.turns) c.in-Ok-settings_of.ensures.settings
