@@ -20,6 +20,9 @@ struct WrongWord<'a> {
     word: &'a str,
 }
 
+// The most packets that `make` loses.
+const MOST_LOST: u64 = 100;
+
 // What an option takes.
 #[derive(Clone, Copy)]
 enum Takes {
@@ -29,15 +32,15 @@ enum Takes {
 }
 
 // The commands that are built, and the others.
-const BUILT: [&str; 5] = ["check", "run", "code", "choice", "replay"];
+const BUILT: [&str; 6] = ["check", "run", "code", "choice", "replay", "make"];
 
-const NOT_BUILT: [&str; 2] = ["make", "join"];
+const NOT_BUILT: [&str; 1] = ["join"];
 
 // The options, the commands that are built and have them, and what they take.
-const OPTIONS: [(&str, &[&str], Takes); 9] = [
+const OPTIONS: [(&str, &[&str], Takes); 10] = [
     (
         "--nodes",
-        &["run", "choice"],
+        &["run", "choice", "make"],
         Takes::Number {
             least: 1,
             most: NODES as u64,
@@ -45,7 +48,7 @@ const OPTIONS: [(&str, &[&str], Takes); 9] = [
     ),
     (
         "--resilience",
-        &["run"],
+        &["run", "make"],
         Takes::Number {
             least: 0,
             most: RESILIENCE as u64,
@@ -53,7 +56,7 @@ const OPTIONS: [(&str, &[&str], Takes); 9] = [
     ),
     (
         "--workers",
-        &["run"],
+        &["run", "make"],
         Takes::Number {
             least: 1,
             most: WORKERS as u64,
@@ -78,7 +81,15 @@ const OPTIONS: [(&str, &[&str], Takes); 9] = [
     ("--script", &["run"], Takes::Text),
     ("--history", &["run"], Takes::Nothing),
     ("--explain", &["run"], Takes::Nothing),
-    ("--source", &["code"], Takes::Nothing),
+    (
+        "--lose",
+        &["make"],
+        Takes::Number {
+            least: 0,
+            most: MOST_LOST,
+        },
+    ),
+    ("--source", &["code", "make"], Takes::Nothing),
 ];
 
 // What this option of the command takes, where it has it.
@@ -168,11 +179,29 @@ fn needed(command: &str) -> usize {
     if command == "replay" { 2 } else { 1 }
 }
 
+// Whether a command takes no more words than it needs that are no options.
+fn is_full(command: &str, others: usize) -> bool {
+    command == "make" && others >= needed(command)
+}
+
+// What is wrong with a word that is no option, behind so many others.
+fn wrong_other<'a>(command: &str, others: usize, word: &'a str) -> Option<WrongWord<'a>> {
+    if is_full(command, others) {
+        let rule = UsageRule::NeedlessWord;
+        return Some(WrongWord { rule, word });
+    }
+    if command == "make" && !is_number(word, 0, u64::MAX) {
+        let rule = UsageRule::Unclear;
+        return Some(WrongWord { rule, word: "" });
+    }
+    None
+}
+
 // What is wrong with the words of a command as a whole, where so many are no options.
 fn wrong_whole<'a>(command: &str, others: usize) -> WrongWord<'a> {
     let rule = if others < needed(command) {
         UsageRule::MissingFile
-    } else if command == "run" {
+    } else if command == "run" || command == "make" {
         UsageRule::TooFewMembers
     } else {
         UsageRule::Unclear
@@ -193,6 +222,9 @@ fn wrong_behind<'a>(command: &str, words: &'a [String]) -> WrongWord<'a> {
             }
             waiting = None;
         } else if options_end || !is_option(word) {
+            if let Some(found) = wrong_other(command, others, word) {
+                return found;
+            }
             others = others.saturating_add(1);
         } else if word == "--" {
             options_end = true;
@@ -237,7 +269,7 @@ fn wrong_word(words: &[String]) -> WrongWord<'_> {
 // What isn't built of what a request asks for: an option of a run, or the command.
 fn not_built<'a>(request: &Request<'_>, words: &'a [String]) -> WrongWord<'a> {
     let rule = UsageRule::NotBuilt;
-    if let Request::Run { .. } = request {
+    if matches!(request, Request::Run { .. } | Request::Make { .. }) {
         return WrongWord {
             rule,
             word: "--workers",

@@ -262,7 +262,7 @@ replayed_so policy words told earlier later stopped old new status history files
 pub first_asked : (words : List Word) (told : Option (List File)) (policy : Chooser) (nodes : ℕ) (files : List Word) (sources : List File) (old new : List FileRead) (asked : List Asked) → deed_in words ≡ Some (chooses nodes files) → AreRead told files sources → ReadSince old new (map had sources)
     → (asked ≡ policy.told) ⊎ ((units : List Source) × IsAccepted sources units × IsWithinLimits units × WasAskedFirst policy nodes units asked) → WasAskedSome policy words told old new asked
 first_asked words told policy nodes files sources old new asked is read since (inl same) = inl same
-first_asked words told policy nodes files sources old new asked is read since (inr some) = inr (record {
+first_asked words told policy nodes files sources old new asked is read since (inr some) = inr (inl (record {
   nodes = nodes;
   files = files;
   units = some.0;
@@ -270,7 +270,7 @@ first_asked words told policy nodes files sources old new asked is read since (i
   program = record { loaded = (sources, read, some.1); within = some.2 };
   read = chooses_none words told files nodes sources old new is since;
   first = some.3;
-})
+}))
 
 -- what is so of each refusal is so of its cause
 pub begun_none : (T : Type 0) {E : Type 0} (e : Refusal E) (P : Type 0) → P → IfBecause {T = T} (Err e) (λ _. P)

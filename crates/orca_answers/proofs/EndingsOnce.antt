@@ -24,7 +24,7 @@ use Rattle.orca_answers.specs.Choosing.{Chooser, told_all}
 use Rattle.orca_answers.specs.Endings as because
 use Rattle.orca_answers.specs.Endings.{IsEnding}
 use Rattle.orca_answers.specs.Named.{IsNamed}
-use Rattle.orca_answers.specs.Job.{Deed, checks, chooses, deed_in, files_of, lists, replays, runs, says, script_of}
+use Rattle.orca_answers.specs.Job.{Deed, checks, chooses, deed_in, files_of, lists, makes, replays, runs, says, script_of}
 use Rattle.orca_answers.specs.Listings.{IsListed, IsSameText}
 use Rattle.orca_answers.specs.Lines.{ok_line, usage_line}
 use Rattle.orca_answers.specs.Programs.{IsProgram, IsProgramFault, IsProgramSince, program_line, program_status}
@@ -59,6 +59,7 @@ is_check (Some (lists what files)) = ⊥
 is_check (Some (chooses nodes files)) = ⊥
 is_check (Some (runs options script files)) = ⊥
 is_check (Some (replays history files)) = ⊥
+is_check (Some (makes options number)) = ⊥
 
 -- two texts that are printed for what is done are the same, but for notes (`IsSameText`)
 abbrev IsSameBy : Option Deed → List ℕ → List ℕ → Type 0
@@ -82,6 +83,7 @@ EndsBy policy shelf (Some (lists what files)) one a told = (ProgramEnds shelf fi
 EndsBy policy shelf (Some (chooses nodes files)) one a told = (ProgramEnds shelf files None ⊥ one a × (told ≡ policy.told)) ⊎ IsChosenAt policy shelf nodes files one a told
 EndsBy policy shelf (Some (runs options script files)) one a told = ProgramEnds shelf files script ⊥ one a × (told ≡ policy.told)
 EndsBy policy shelf (Some (replays history files)) one a told = IsReplayEnding (Some shelf) Never history files one a × (told ≡ policy.told)
+EndsBy policy shelf (Some (makes options number)) one a told = ⊥
 
 abbrev files_by : Option Deed → Option (List Word)
 files_by deed = option_and_then files_of deed
@@ -97,6 +99,7 @@ by_files policy shelf (Some (lists what others)) files one a has ends = (inl (su
 by_files policy shelf (Some (chooses nodes others)) files one a has ends = inl (subst (λ (fs : List Word). ProgramEnds shelf fs None ⊥ one a) (sym (some_same others files has)) ends, refl)
 by_files policy shelf (Some (runs options script others)) files one a has ends = (subst (λ (fs : List Word). ProgramEnds shelf fs script ⊥ one a) (sym (some_same others files has)) ends, refl)
 by_files policy shelf (Some (replays history others)) files one a has ends = absurd (some_apart files (sym has))
+by_files policy shelf (Some (makes options number)) files one a has ends = absurd (some_apart files (sym has))
 
 by_deed : (policy : Chooser) (words : List Word) (shelf : List File) (old new : List FileRead) (deed : Option Deed) (one : ℕ) (a : List ℕ) (told : List Asked) → deed_in words ≡ deed → IsEnding policy words (Some shelf) old new Never one a told → EndsBy policy shelf deed one a told
 by_deed policy words shelf old new deed one a told is (because.said text asked) = subst (λ (d : Option Deed). EndsBy policy shelf d FINISHED text policy.told) (sym asked ∙ is) (refl, refl, refl)
@@ -213,6 +216,7 @@ ends_once tables policy shelf (Some (runs options script files)) one two a b tol
     alike (Some (runs options script files)) policy one two a b told other (program_ends_once shelf files script ⊥ one two a b h.0 k.0) h.1 k.1
 ends_once tables policy shelf (Some (replays history files)) one two a b told other h k =
     alike (Some (replays history files)) policy one two a b told other (replay_once tables shelf history files one two a b h.0 k.0) h.1 k.1
+ends_once tables policy shelf (Some (makes options number)) one two a b told other h k = absurd h
 
 pub ending_once : GiveTables → (policy : Chooser) (words : List Word) (shelf : List File) (old new was now : List FileRead) (one two : ℕ) (a b : List ℕ) (told other : List Asked) → IsEnding policy words (Some shelf) old new Never one a told →
     IsEnding policy words (Some shelf) was now Never two b other → (one ≡ two) × IsSameText words a b × (told ≡ other)

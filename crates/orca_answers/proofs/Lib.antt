@@ -7,3 +7,5 @@ pub mod ProgramsOnce
 pub mod NamesOnce
 pub mod ReplaysOnce
 pub mod EndingsOnce
+pub mod MadeOnce
+pub mod Showing

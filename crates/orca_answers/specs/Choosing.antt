@@ -9,7 +9,9 @@ use Rattle.replica_choice.specs.declared.policy.Asked.{Asked}
 use Rattle.replica_choice.specs.Asking.{AsksFirst, Rule, questions}
 use Rattle.choice_command.specs.Lines.{choice_lines, program_choices}
 use Rattle.command_files.specs.Sources.{Word}
-use Rattle.orca_answers.specs.Job.{Deed, checks, chooses, deed_in, lists, replays, runs, says}
+use Rattle.net_rules.specs.declared.line.ScriptLine.{ScriptLine}
+use Rattle.orca_answers.specs.Job.{Deed, checks, chooses, deed_in, lists, makes, replays, runs, says}
+use Rattle.orca_answers.specs.Made.{IsMade}
 use Rattle.orca_answers.specs.Programs.{IsProgram}
 use Rattle.orca_answers.specs.Scripts.{HasScriptSince}
 
@@ -37,7 +39,7 @@ pub record AreChosen (policy : Chooser) (nodes : ℕ) (units : List Source) (tex
 
 -- ---- for which words it is asked
 
--- among how many members it is asked about the program in which files: for `choice`, and for a run in which no member may be lost
+-- among how many members it is asked about the program in which files: for `choice`, and for a run of it in which no member may be lost
 abbrev pub asking : Deed → Option (ℕ × List Word)
 asking (says text) = None
 asking (checks files) = None
@@ -45,6 +47,7 @@ asking (lists what files) = None
 asking (chooses nodes files) = Some (nodes, files)
 asking (runs options script files) = if options.group.resilience == 0 then Some (options.group.nodes, files) else None
 asking (replays history files) = None
+asking (makes options number) = None
 
 abbrev pub asking_in : List Word → Option (ℕ × List Word)
 asking_in words = option_and_then asking (deed_in words)
@@ -63,6 +66,15 @@ pub record WasAskedFront (policy : Chooser) (words : List Word) (told : Option (
   pub read : HasScriptSince told words earlier later program.loaded.0
   pub first : WasAskedFirst policy nodes units new
 
+-- or of the program that is made of the number in the words, for the run of which they ask, in which no member may be lost
+pub record WasAskedMade (policy : Chooser) (words : List Word) (earlier later : List FileRead) (new : List Asked) : Type 0 where
+  pub units : List Source
+  pub lines : List ScriptLine
+  pub made : IsMade words earlier later units lines
+  pub none : made.options.group.resilience ≡ 0
+  pub first : WasAskedFirst policy made.options.group.nodes units new
+
 -- or nothing
 abbrev pub WasAskedSome : Chooser → List Word → Option (List File) → List FileRead → List FileRead → List Asked → Type 0
-WasAskedSome policy words told earlier later new = (new ≡ policy.told) ⊎ WasAskedFront policy words told earlier later new
+WasAskedSome policy words told earlier later new =
+    (new ≡ policy.told) ⊎ WasAskedFront policy words told earlier later new ⊎ WasAskedMade policy words earlier later new

@@ -23,12 +23,13 @@ use Rattle.orca_answers.specs.Programs.{IsProgramFault, IsProgramSince, program_
 use Rattle.orca_answers.specs.Scripts.{HasScriptSince, IsScriptFault, script_fault_line, script_status}
 use Rattle.command_files.specs.Sources.{AreRead}
 
--- The words ask for help or for the version; they are no command, or ask for what isn't built. They ask for a check, a listing, the choices
--- or a run of the program in files, and these weren't read; or they were, and the script of the run wasn't, or is none; or that is one, and
--- their texts are no accepted program. They ask for a check of one that is, or that it is listed, or what this policy chooses for its
--- sites. They ask whether a history is one of a program, and `replay` ends so. The texts of a program that is judged, but by `replay`, and
--- that of the script behind them, are those that a shelf's reads since gave, which told `earlier` before and tell `later` now. Where choices
--- are told, the policy was asked about each site of that program, and else about nothing
+-- The words ask for help, for the version or for the text of the program that is made of a number; they are no command, or ask for what
+-- isn't built. They ask for a check, a listing, the choices or a run of the program in files, and these weren't read; or they were, and the
+-- script of the run wasn't, or is none; or that is one, and their texts are no accepted program. They ask for a check of one that is, or
+-- that it is listed, or what this policy chooses for its sites. They ask whether a history is one of a program, and `replay` ends so. The
+-- texts of a program that is judged, but by `replay`, and that of the script behind them, are those that a shelf's reads since gave, which
+-- told `earlier` before and tell `later` now. Where choices are told, the policy was asked about each site of that program, and else about
+-- nothing
 pub data IsEnding (policy : Chooser) (words : List Word) (told : Option (List File)) (earlier later : List FileRead)
     (stopped : ShelfFault → Word → Type 0) : ℕ → List ℕ → List Asked → Type 0 where
   said : (text : List ℕ) → deed_in words ≡ Some (says text) → IsEnding policy words told earlier later stopped FINISHED text policy.told

@@ -6,3 +6,4 @@ pub mod Listings
 pub mod Choosing
 pub mod Endings
 pub mod Named
+pub mod Made

@@ -1,11 +1,11 @@
 //! What the program does for its words, as far as it is built.
 
 ghost use Rattle.std.specs.Prelude.{◌≡◌, map, option_map, string_bytes, IfOk, IfSome};
-ghost use Rattle.command_line.specs.Asked.{IsRunWithin, IsWithin, asked_of};
-ghost use Rattle.orca_answers.specs.Job.{IsDeedWithin, built, deed_in, deed_of, is_run_built, run_built};
+ghost use Rattle.command_line.specs.Asked.{IsMakeWithin, IsRunWithin, IsWithin, asked_of};
+ghost use Rattle.orca_answers.specs.Job.{IsDeedWithin, built, deed_in, deed_of, is_make_built, is_run_built, make_built, run_built};
 
 use crate::listing::Listed;
-use command_line::{Request, RunOptions, help, read_words, version};
+use command_line::{MakeOptions, Request, RunOptions, help, read_words, version};
 use orca_base::{NoMemory, Refusal};
 use std::alloc::Global;
 
@@ -40,6 +40,15 @@ pub enum Job<'a> {
     Replays {
         history: &'a str,
         files: Vec<&'a str>,
+    },
+    /// It says the text of the program that is made of this number, and no more.
+    Shows {
+        number: u64,
+    },
+    /// It runs the program that is made of this number, with these options.
+    Makes {
+        options: MakeOptions,
+        number: u64,
     },
 }
 
@@ -78,6 +87,7 @@ fn job_built<'a>(request: Request<'a>) -> Option<Job<'a>>
             files,
         } => run_built(options, script, files),
         Request::Replay { history, files } => Some(Job::Replays { history, files }),
+        Request::Make { options, number } => make_built(options, number),
         other => {
             drop(other);
             None
@@ -111,6 +121,28 @@ fn run_built<'a>(
             script,
             files,
         })
+    } else {
+        None
+    }
+}
+
+// Whether runs of programs that are made of numbers are built with these options, as those of files are.
+fn is_make_built(options: MakeOptions) -> bool
+    ensures { result ≡ is_make_built options }
+{
+    options.workers == USUAL_WORKERS
+}
+
+// The program that is made of a number where that is asked for, and else its run, where that is built.
+fn make_built<'a>(options: MakeOptions, number: u64) -> Option<Job<'a>>
+    requires { IsMakeWithin options }
+    ensures is { option_map deed_of result ≡ make_built options number }
+    ensures within { IfSome result (λ job. IsDeedWithin (deed_of job)) }
+{
+    if options.source {
+        Some(Job::Shows { number })
+    } else if is_make_built(options) {
+        Some(Job::Makes { options, number })
     } else {
         None
     }

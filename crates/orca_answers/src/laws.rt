@@ -4,6 +4,7 @@ ghost use Rattle.std.specs.Prelude.{◌≡◌, ℕ, List, Option, Some};
 ghost use Rattle.net_rules.specs.declared.line.ScriptLine.{ScriptLine};
 ghost use Rattle.orca_io.specs.Files.{File};
 ghost use Rattle.orca_io.specs.Reading.{FileRead};
+ghost use Rattle.orca_io.specs.declared.shelf.ShelfFault.{ShelfFault};
 ghost use Rattle.orca_io.specs.declared.shelf.ShelfFault.TheVariants.{Failed};
 ghost use Rattle.command_files.specs.Stopped.{Never, StoppedAt};
 ghost use Rattle.link_rules.specs.Units.{Source};
@@ -14,6 +15,7 @@ ghost use Rattle.orca_answers.specs.Endings.{IsEnding};
 ghost use Rattle.orca_answers.specs.Named.{IsNamed};
 ghost use Rattle.orca_answers.specs.Job.{chooses, deed_in};
 ghost use Rattle.orca_answers.specs.Listings.{IsSameText};
+ghost use Rattle.orca_answers.specs.Made.{IsMade};
 ghost use Rattle.orca_answers.specs.Programs.{IsProgram, IsProgramSince};
 
 use program_names::names_law;
@@ -28,6 +30,8 @@ use program_names::names_law;
 /// - `read`: so they do by what was read, whether files are told or not.
 /// - `program`: by the texts that were read the program is one.
 /// - `quiet`: where no file's read failed, an ending is one without a fault.
+/// - `made`: they name one run of a program that is made of a number at most, by its program and its script.
+/// - `alone`: where they name one they have no ending, and name no run of files.
 pub fn endings_law()
     ensures once { (policy : Chooser) (words : List Word) (files : List File) (old new was now : List FileRead) (one two : ℕ)
         (a b : List ℕ) (asked other : List Asked) → IsEnding policy words (Some files) old new Never one a asked →
@@ -51,6 +55,12 @@ pub fn endings_law()
         (one : ℕ) (a : List ℕ) (asked : List Asked) → ((file : Word) → StoppedAt before now old new Failed file → ⊥) →
         IsEnding policy words told old new (StoppedAt before now old new) one a asked →
         IsEnding policy words told old new Never one a asked }
+    ensures made { (words : List Word) (old new was now : List FileRead) (units others : List Source) (lines more : List ScriptLine) →
+        IsMade words old new units lines → IsMade words was now others more → (units ≡ others) × (lines ≡ more) }
+    ensures alone { (policy : Chooser) (words : List Word) (told other : Option (List File)) (old new was now : List FileRead)
+        (stopped : ShelfFault → Word → Type 0) (units others : List Source) (lines more : List ScriptLine) (one : ℕ) (a : List ℕ)
+        (asked : List Asked) → IsMade words old new units lines →
+        (IsEnding policy words told was now stopped one a asked → ⊥) × (IsNamed words other was now others more → ⊥) }
 {
     names_law();
 }

@@ -34,8 +34,8 @@ use Rattle.run_loop.specs.Left.{HasRun, run_of}
 use Rattle.run_loop.proofs.Telling.{kept_at}
 use Rattle.meaning_rules.specs.Meanings.{computes_of, performs_of}
 use Rattle.orca_cli.specs.declared.kept.Kept.{Kept}
+use Rattle.orca_cli.specs.declared.printing.Printing.{Printing}
 use Rattle.command_output.specs.declared.statuses.TheConstants.{NO_MEMORY}
-use Rattle.orca_answers.specs.Named.{IsNamed}
 use Rattle.orca_cli.specs.Headline.{AreLoaded, AreUntouched, HaveObeyed, IsRun, IsProgramRun, IsRunOf, KeepRules, WasBegun, Wires, settings_for, told_for, wires_of}
 use Rattle.command_files.specs.Sources.{Word}
 use Rattle.command_files.specs.Sources.{AreRead}
@@ -46,11 +46,12 @@ use Rattle.orca_answers.specs.Job.{deed_in, runs}
 use Rattle.orca_answers.specs.Scripts.{HasScriptSince}
 use Rattle.run_choices.proofs.Resilience.{then_none}
 use Rattle.orca_cli.specs.Kept.{IsEndOf}
+use Rattle.orca_cli.specs.Made.{IsRunNamed, said}
 use Rattle.orca_cli.specs.Rows.{KeptRow}
 use Rattle.orca_cli.specs.Laws.{RunLaws}
 use Rattle.command_output.specs.Printed.{Ends, EndsAs, Grew}
-use Rattle.orca_cli.specs.Said.{ending_line}
-use Rattle.orca_cli.specs.Standings.{awaited_name, run_said, standing_status}
+use Rattle.orca_cli.specs.Said.{ending_line, kept_of}
+use Rattle.orca_cli.specs.Standings.{awaited_name, standing_status}
 use Rattle.program_names.specs.Naming.{AreNamesOf, CallsNamed}
 use Rattle.orca_cli.proofs.KeptLemmas.{history_kept}
 use Rattle.orca_cli.proofs.LowestLemmas.{ending_is}
@@ -58,17 +59,13 @@ use Rattle.orca_cli.proofs.RowLemmas.{gone_well, row_kept, rows_shown}
 
 -- ---- the run
 
--- what is kept is all that the run leaves
-abbrev pub kept_of : RunEnd → Kept
-kept_of end = record { book = end.book; places = end.places; events = end.steps; nodes = end.nodes; processes = end.processes }
-
 -- what was printed, by how the run stands
-pub record IsTold (name : Action → List ℕ) (says : Kept → List ℕ → List ℕ) (turns : ℕ) (end : RunEnd) (standing : Standing) (status : ℕ) (old new : Option (List ℕ)) : Type 0 where
+pub record IsTold (name : Action → List ℕ) (says : Standing → ℕ → Kept → List ℕ → List ℕ) (turns : ℕ) (end : RunEnd) (standing : Standing) (status : ℕ) (old new : Option (List ℕ)) : Type 0 where
   pub ends : EndsAs (standing_status standing) status
   pub lacked : standing ≡ Going → status ≡ NO_MEMORY
-  pub printed : Grew old new (Ends (standing_status standing) status (says (kept_of end) (ending_line name turns standing end.processes.items)))
+  pub printed : Grew old new (Ends (standing_status standing) status (says standing end.longest (kept_of end) (ending_line name turns standing end.processes.items)))
 
-pub is_run : (f : Frame) (name : Action → List ℕ) (says : Kept → List ℕ → List ℕ) (end : RunEnd) (standing : Standing) (status : ℕ) (old new : Option (List ℕ)) (before after : List (List Asked))
+pub is_run : (f : Frame) (name : Action → List ℕ) (says : Standing → ℕ → Kept → List ℕ → List ℕ) (end : RunEnd) (standing : Standing) (status : ℕ) (old new : Option (List ℕ)) (before after : List (List Asked))
     → RunLaws f.performs f.computes → AreSettings f.settings → HasRun f standing before after end → HaveToldOn before after → IsTold name says f.settings.turns end standing status old new
     → IsRun f name says (kept_of end) status old new before after
 is_run f name says end standing status old new before after laws settings h told printed =
@@ -76,7 +73,7 @@ is_run f name says end standing status old new before after laws settings h told
     let left = h.left in
     let k : Kept = kept_of end in
     let is : IsEndOf f w k = record { replays = left.replays; book = left.book; places = left.places; nodes = left.nodes; processes = left.processes } in
-    let said : IsTold name says f.settings.turns end (rules.standing f w) status old new = subst (λ (s : Standing). IsTold name says f.settings.turns end s status old new) left.stands printed in
+    let is_said : IsTold name says f.settings.turns end (rules.standing f w) status old new = subst (λ (s : Standing). IsTold name says f.settings.turns end s status old new) left.stands printed in
     let stand = laws.ends f w in
     let processes = laws.stand f end.steps.items w left.replays in
     let some = settings.some in
@@ -96,11 +93,11 @@ is_run f name says end standing status old new before after laws settings h told
       bounded = gone_well f w k laws.read is stand processes left.stuck enough replicated;
       counted = laws.ticks f end.steps.items w left.replays;
       idle = λ stretch idle few inside. laws.idle f refl refl settings end.steps.items stretch w idle few inside;
-      ends = said.ends;
-      lacked = said.lacked;
+      ends = is_said.ends;
+      lacked = is_said.lacked;
       line = ending_line name f.settings.turns (rules.standing f w) k.processes.items;
       line_is = ending_is f w k name (rules.standing f w) row;
-      printed = said.printed;
+      printed = subst (λ (n : ℕ). Grew old new (Ends (standing_status (rules.standing f w)) status (says (rules.standing f w) n k (ending_line name f.settings.turns (rules.standing f w) k.processes.items)))) left.longest is_said.printed;
       told = told;
       used = subst (λ (s : Standing). WereUsedSo s f end.steps.items w (asked_since before after)) left.stands h.used;
       unused = h.unused;
@@ -108,7 +105,7 @@ is_run f name says end standing status old new before after laws settings h told
     }
 
 -- by the turns of the words
-pub is_run_by : (p : Performs) (q : Computes) (turns : ℕ) (settings : Settings) (name : Action → List ℕ) (says : Kept → List ℕ → List ℕ) (end : RunEnd) (standing : Standing) (status : ℕ) (old new : Option (List ℕ)) (before after : List (List Asked))
+pub is_run_by : (p : Performs) (q : Computes) (turns : ℕ) (settings : Settings) (name : Action → List ℕ) (says : Standing → ℕ → Kept → List ℕ → List ℕ) (end : RunEnd) (standing : Standing) (status : ℕ) (old new : Option (List ℕ)) (before after : List (List Asked))
     → RunLaws p q → settings.turns ≡ turns → AreSettings settings → HasRun (run_of p q settings) standing before after end → HaveToldOn before after → IsTold name says turns end standing status old new
     → IsRun (run_of p q settings) name says (kept_of end) status old new before after
 is_run_by p q turns settings name says end standing status old new before after laws same ranges h told printed =
@@ -133,11 +130,11 @@ module _ (p : Performs) (q : Computes) (settings : Settings) (names : Names) (st
   book_back are = reads_back p q names end.book.items are book_legal
 
 -- by the program's names
-pub program_run : (units : List Source) (options : RunOptions) (settings : Settings) (names : Names) (o : Option Kept) (status : ℕ) (old new : Option (List ℕ)) (before after : List (List Asked)) → AreNamesOf units names → CallsNamed units names
-    → IfSome o (λ k. IsRun (run_of (performs_of units) (computes_of units) settings) (awaited_name names) (run_said options names) k status old new before after)
-    → IfSome o (λ k. ReadsBack (performs_of units) (computes_of units) names k.book.items) → IfSome o (λ k. IsProgramRun units options settings k status old new before after)
-program_run units options settings names None status old new before after are calls run back = tt
-program_run units options settings names (Some k) status old new before after are calls run back = record { names = names; are = are; calls = calls; run = run; back = back }
+pub program_run : (units : List Source) (says : Names → Standing → ℕ → Kept → List ℕ → List ℕ) (settings : Settings) (names : Names) (o : Option Kept) (status : ℕ) (old new : Option (List ℕ)) (before after : List (List Asked)) → AreNamesOf units names → CallsNamed units names
+    → IfSome o (λ k. IsRun (run_of (performs_of units) (computes_of units) settings) (awaited_name names) (says names) k status old new before after)
+    → IfSome o (λ k. ReadsBack (performs_of units) (computes_of units) names k.book.items) → IfSome o (λ k. IsProgramRun units says settings k status old new before after)
+program_run units says settings names None status old new before after are calls run back = tt
+program_run units says settings names (Some k) status old new before after are calls run back = record { names = names; are = are; calls = calls; run = run; back = back }
 
 -- of what there is
 pub some_is : {T : Type 0} (o : Option T) (x : T) (P : T → Type 0) → o ≡ Some x → IfSome o P → P x
@@ -219,20 +216,21 @@ settings_over : {W : Type 0} (told : W → List Asked) (policy : Chooser) (units
 settings_over told policy units options wires settings is = is ∙ ap (settings_for policy units options) (sym (length-map wires told))
 
 -- where nothing of it is kept
-pub untouched_run : {W K : Type 0} (A : Type 0) (told : W → List Asked) (rule : W → Rule) (loaded : W → ℕ) (before after : List W) (policy : Chooser) (words : List Word) (files : Option (List File)) (earlier later : List FileRead) (units : List Source) (options : RunOptions) (settings : Settings)
-    (lines : List ScriptLine) (o : Option K) (status : ℕ) (asked : List replica.Asked) (named : IsNamed words files earlier later units lines) → named.options ≡ options → settings ≡ settings_for policy units options (length before) → asked ≡ told_for policy units options → IfNone o ((status ≡ NO_MEMORY) × A)
+pub untouched_run : {W K : Type 0} (A : Type 0) (told : W → List Asked) (rule : W → Rule) (loaded : W → ℕ) (before after : List W) (policy : Chooser) (words : List Word) (files : Option (List File)) (earlier later : List FileRead) (units : List Source) (options : RunOptions) (printing : Printing) (settings : Settings)
+    (lines : List ScriptLine) (o : Option K) (status : ℕ) (asked : List replica.Asked) → IsRunNamed words files earlier later units lines options printing → settings ≡ settings_for policy units options (length before) → asked ≡ told_for policy units options → IfNone o ((status ≡ NO_MEMORY) × A)
     → IfNone o ((wires_of told rule loaded after ≡ wires_of told rule loaded before) ⊎ WasBegun units settings lines (wires_of told rule loaded before) (wires_of told rule loaded after))
     → IfNone o (AreUntouched policy words files earlier later status (wires_of told rule loaded before) (wires_of told rule loaded after) asked)
-untouched_run A told rule loaded before after policy words files earlier later units options settings lines (Some k) status asked named same is told_is lacked begun = tt
-untouched_run A told rule loaded before after policy words files earlier later units options settings lines None status asked named same is told_is lacked (inl kept) = inl kept
-untouched_run A told rule loaded before after policy words files earlier later units options settings lines None status asked named same is told_is lacked (inr begun) = inr (record {
+untouched_run A told rule loaded before after policy words files earlier later units options printing settings lines (Some k) status asked named is told_is lacked begun = tt
+untouched_run A told rule loaded before after policy words files earlier later units options printing settings lines None status asked named is told_is lacked (inl kept) = inl kept
+untouched_run A told rule loaded before after policy words files earlier later units options printing settings lines None status asked named is told_is lacked (inr begun) = inr (record {
   status = lacked.0;
   units = units;
   lines = lines;
+  options = options;
+  printing = printing;
   named = named;
-  begun = subst (λ (s : Settings). WasBegun units s lines (wires_of told rule loaded before) (wires_of told rule loaded after))
-      (settings_over told policy units options before settings is ∙ ap (λ (os : RunOptions). settings_for policy units os (length (map told before))) (sym same)) begun;
-  told = told_is ∙ ap (λ (os : RunOptions). told_for policy units os) (sym same);
+  begun = subst (λ (s : Settings). WasBegun units s lines (wires_of told rule loaded before) (wires_of told rule loaded after)) (settings_over told policy units options before settings is) begun;
+  told = told_is;
 })
 
 -- what the policy was asked for it
@@ -240,7 +238,7 @@ pub run_asked : (policy : Chooser) (words files : List Word) (options : RunOptio
     → AreRead told files sources → IsAccepted sources units → IsWithinLimits units → HasScriptSince told words old new sources
     → (asked ≡ policy.told) ⊎ ((options.group.resilience ≡ 0) × WasAskedFirst policy options.group.nodes units asked) → WasAskedSome policy words told old new asked
 run_asked policy words files options script told sources units old new asked is read accepted within has (inl same) = inl same
-run_asked policy words files options script told sources units old new asked is read accepted within has (inr some) = inr (record {
+run_asked policy words files options script told sources units old new asked is read accepted within has (inr some) = inr (inl (record {
   nodes = options.group.nodes;
   files = files;
   units = units;
@@ -248,7 +246,7 @@ run_asked policy words files options script told sources units old new asked is 
   program = record { loaded = (sources, read, accepted); within = within };
   read = has;
   first = some.1;
-})
+}))
 
 pub if_some : {T : Type 0} (o : Option T) (P : T → Type 0) → ((x : T) → P x) → IfSome o P
 if_some None P h = tt
@@ -258,18 +256,19 @@ pub none_as : {T A B : Type 0} (o : Option T) → (A → B) → IfNone o A → I
 none_as None so a = so a
 none_as (Some x) so a = tt
 
-pub run_of_words : {W : Type 0} (told : W → List Asked) (rule : W → Rule) (loaded : W → ℕ) (before after : List W) (policy : Chooser) (words : List Word) (files : Option (List File)) (earlier later : List FileRead) (units : List Source) (options : RunOptions) (settings : Settings)
-    (lines : List ScriptLine) (o : Option Kept) (status : ℕ) (old new : Option (List ℕ)) (asked : List replica.Asked) (named : IsNamed words files earlier later units lines) → named.options ≡ options → settings ≡ settings_for policy units options (length before) → asked ≡ told_for policy units options
-    → IfSome o (λ k. IsProgramRun units options settings k status old new (map told before) (map told after))
+pub run_of_words : {W : Type 0} (told : W → List Asked) (rule : W → Rule) (loaded : W → ℕ) (before after : List W) (policy : Chooser) (words : List Word) (files : Option (List File)) (earlier later : List FileRead) (units : List Source) (options : RunOptions) (printing : Printing) (settings : Settings)
+    (lines : List ScriptLine) (o : Option Kept) (status : ℕ) (old new : Option (List ℕ)) (asked : List replica.Asked) → IsRunNamed words files earlier later units lines options printing → settings ≡ settings_for policy units options (length before) → asked ≡ told_for policy units options
+    → IfSome o (λ k. IsProgramRun units (said printing options) settings k status old new (map told before) (map told after))
     → IfSome o (λ k. AreLoaded lines (wires_of told rule loaded before) (wires_of told rule loaded after))
     → IfSome o (λ k. IsRunOf policy words files earlier later k status old new (wires_of told rule loaded before) (wires_of told rule loaded after) asked)
-run_of_words told rule loaded before after policy words files earlier later units options settings lines None status old new asked named same is was run has = tt
-run_of_words told rule loaded before after policy words files earlier later units options settings lines (Some k) status old new asked named same is was run has = record {
+run_of_words told rule loaded before after policy words files earlier later units options printing settings lines None status old new asked named is was run has = tt
+run_of_words told rule loaded before after policy words files earlier later units options printing settings lines (Some k) status old new asked named is was run has = record {
   units = units;
   lines = lines;
+  options = options;
+  printing = printing;
   named = named;
-  run = subst (λ (os : RunOptions). IsProgramRun units os (settings_for policy units os (length (map told before))) k status old new (map told before) (map told after)) (sym same)
-      (subst (λ (s : Settings). IsProgramRun units options s k status old new (map told before) (map told after)) (settings_over told policy units options before settings is) run);
+  run = subst (λ (s : Settings). IsProgramRun units (said printing options) s k status old new (map told before) (map told after)) (settings_over told policy units options before settings is) run;
   loaded = has;
-  told = was ∙ ap (told_for policy units) (sym same);
+  told = was;
 }

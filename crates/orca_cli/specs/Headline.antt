@@ -15,6 +15,7 @@ use Rattle.history_text.specs.declared.names.Names.{Names}
 use Rattle.wires.specs.Wired.{HasObeyed, Rule, with_script}
 use Rattle.world_rules.specs.declared.settings.Settings.{Settings}
 use Rattle.orca_base.specs.declared.what.What.{What}
+use Rattle.world_rules.specs.declared.standing.Standing.{Standing}
 use Rattle.world_rules.specs.declared.standing.Standing.TheVariants.{Going, Limit}
 use Rattle.world_rules.specs.declared.event.Step.{Step}
 use Rattle.world_rules.specs.Frame.{Frame}
@@ -24,20 +25,22 @@ use Rattle.world_enough.specs.Faultless.{IsFaulty}
 use Rattle.world_idle.specs.Counting.{HaveCounted}
 use Rattle.world_idle.specs.Faults.{crashes_in, ticks_in}
 use Rattle.world_idle.specs.Stretches.{AllInside, IsIdleStretch}
+use Rattle.world_facts.specs.Logs.{longest_log}
 use Rattle.world_facts.specs.Rows.{ReadsStanding}
 use Rattle.run_loop.specs.Asked.{AreInTime, HaveToldOn, NoneAskedBehind, WereAskedIn, WereUsedSo, asked_since}
 use Rattle.run_loop.specs.Left.{run_of}
 use Rattle.orca_cli.specs.declared.kept.Kept.{Kept}
+use Rattle.orca_cli.specs.declared.printing.Printing.{Printing}
 use Rattle.command_output.specs.declared.statuses.TheConstants.{NO_MEMORY}
 use Rattle.command_files.specs.Sources.{Word}
-use Rattle.orca_answers.specs.Named.{IsNamed}
 use Rattle.replica_choice.specs.declared.policy.Asked as replica
 use Rattle.run_choices.specs.Chosen.{run_settings, told_by_run}
 use Rattle.orca_answers.specs.Choosing.{Chooser}
 use Rattle.orca_cli.specs.Kept.{IsEndOf, IsHistory}
+use Rattle.orca_cli.specs.Made.{IsRunNamed, said}
 use Rattle.command_output.specs.Printed.{Ends, EndsAs, Grew}
 use Rattle.orca_cli.specs.Rows.{HasGoneWell, KeptRow, ShownRows}
-use Rattle.orca_cli.specs.Standings.{IsEndingLine, awaited_name, run_said, standing_status}
+use Rattle.orca_cli.specs.Standings.{IsEndingLine, awaited_name, standing_status}
 
 -- ---- which run it is
 
@@ -91,9 +94,11 @@ pub record HasLacked (policy : Chooser) (words : List Word) (files : Option (Lis
   pub status : code ≡ NO_MEMORY
   pub units : List Source
   pub lines : List ScriptLine
-  pub named : IsNamed words files earlier later units lines
-  pub begun : WasBegun units (settings_for policy units named.options (length old.told)) lines old new
-  pub told : asked ≡ told_for policy units named.options
+  pub options : RunOptions
+  pub printing : Printing
+  pub named : IsRunNamed words files earlier later units lines options printing
+  pub begun : WasBegun units (settings_for policy units options (length old.told)) lines old new
+  pub told : asked ≡ told_for policy units options
 
 -- nothing is kept: what the wires tell, how they answer, their scripts, and when these were loaded, are as before; or memory lacked
 abbrev pub AreUntouched :
@@ -104,11 +109,11 @@ AreUntouched policy words files earlier later status old new asked =
 -- ---- the run
 
 -- What is kept is the end of the run to which its events lead, and a history with its processes and copies. How that run stands is read off
--- what is kept (`row`, `only`), in both directions off its world (`reads`), and gives the status. What is said of that world and of what
--- is kept, with the line of the standing, was printed; where a write failed or memory lacked, a front of it was. And the wires, which told
--- `before` and tell `after`, were used in the run; one that was never in use was asked nothing; and each question about an act was put to
--- the wire in use, in the world before the event of its number, or before the one that would come next
-pub record IsRun (f : Frame) (name : Action → List ℕ) (says : Kept → List ℕ → List ℕ) (k : Kept) (status : ℕ)
+-- what is kept (`row`, `only`), in both directions off its world (`reads`), and gives the status. What is said of how it stands, of how many
+-- entries the longest log has and of what is kept, with the line of the standing, was printed; where a write failed or memory lacked, a front
+-- of it was. And the wires, which told `before` and tell `after`, were used in the run; one that was never in use was asked nothing; and each
+-- question about an act was put to the wire in use, in the world before the event of its number, or before the one that would come next
+pub record IsRun (f : Frame) (name : Action → List ℕ) (says : Standing → ℕ → Kept → List ℕ → List ℕ) (k : Kept) (status : ℕ)
     (old new : Option (List ℕ)) (before after : List (List Asked)) : Type 0 where
   pub world : World
   pub end : IsEndOf f world k
@@ -132,33 +137,35 @@ pub record IsRun (f : Frame) (name : Action → List ℕ) (says : Kept → List 
   pub lacked : standing f world ≡ Going → status ≡ NO_MEMORY
   pub line : List ℕ
   pub line_is : IsEndingLine name f.settings.turns (standing f world) k.processes.items line
-  pub printed : Grew old new (Ends (standing_status (standing f world)) status (says k line))
+  pub printed :
+      Grew old new (Ends (standing_status (standing f world)) status (says (standing f world) (longest_log f world) k line))
   pub told : HaveToldOn before after
   pub used : WereUsedSo (standing f world) f k.events.items world (asked_since before after)
   pub unused : NoneAskedBehind world.swaps (asked_since before after)
   pub in_time : AreInTime f k.events.items (asked_since before after)
 
--- It is a run of the program with these units, in the source's meaning, by these options and settings. By the program's names its line of a
--- process that is blocked names the operation; what its history writes was printed, and the history and its places where these are asked
--- for: each call that a process comes to next behind a history has its names there. And the text of its history, printed or not, is read
--- back as the history, and is legal
-pub record IsProgramRun (units : List Source) (options : RunOptions) (settings : Settings) (k : Kept) (status : ℕ)
-    (old new : Option (List ℕ)) (before after : List (List Asked)) : Type 0 where
+-- It is a run of the program with these units, in the source's meaning, by these settings. By the program's names its line of a process that
+-- is blocked names the operation, and what is said of it was printed: each call that a process comes to next behind a history has its names
+-- there. And the text of its history, printed or not, is read back as the history, and is legal
+pub record IsProgramRun (units : List Source) (says : Names → Standing → ℕ → Kept → List ℕ → List ℕ) (settings : Settings) (k : Kept)
+    (status : ℕ) (old new : Option (List ℕ)) (before after : List (List Asked)) : Type 0 where
   pub names : Names
   pub are : AreNamesOf units names
   pub calls : CallsNamed units names
-  pub run : IsRun (run_of (performs_of units) (computes_of units) settings) (awaited_name names) (run_said options names) k status old new
-      before after
+  pub run : IsRun (run_of (performs_of units) (computes_of units) settings) (awaited_name names) (says names) k status old new before after
   pub back : ReadsBack (performs_of units) (computes_of units) names k.book.items
 
--- it is the run that the words ask for, of the accepted program whose texts were read, with each object where the policy keeps it, which
--- tells `asked` now: where no member may be lost it was asked about each site of the program, in order, and else about none
+-- It is the run that the words ask for, of the accepted program whose texts were read, or by `make` of the one that is made of a number, and
+-- what such a run prints was printed; with each object where the policy keeps it, which tells `asked` now: where no member may be lost it was
+-- asked about each site of the program, in order, and else about none
 pub record IsRunOf (policy : Chooser) (words : List Word) (files : Option (List File)) (earlier later : List FileRead) (k : Kept)
     (status : ℕ) (old new : Option (List ℕ)) (before after : Wires) (asked : List replica.Asked) : Type 0 where
   pub units : List Source
   pub lines : List ScriptLine
-  pub named : IsNamed words files earlier later units lines
-  pub run : IsProgramRun units named.options (settings_for policy units named.options (length before.told)) k status old new before.told
+  pub options : RunOptions
+  pub printing : Printing
+  pub named : IsRunNamed words files earlier later units lines options printing
+  pub run : IsProgramRun units (said printing options) (settings_for policy units options (length before.told)) k status old new before.told
       after.told
   pub loaded : AreLoaded lines before after
-  pub told : asked ≡ told_for policy units named.options
+  pub told : asked ≡ told_for policy units options

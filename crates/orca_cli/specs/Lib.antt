@@ -5,3 +5,4 @@ pub mod Laws
 pub mod Kept
 pub mod Rows
 pub mod Headline
+pub mod Made

@@ -1,5 +1,5 @@
--- What the functions of report.rt say to each other: the line of a standing, as processes are gone through. That it is the line of the lowest
--- process is said without them (`IsEndingLine` of Standings.antt).
+-- What the functions of report.rt say to each other: the line of a standing, as processes are gone through, and what is kept. That it is the
+-- line of the lowest process is said without them (`IsEndingLine` of Standings.antt).
 use Rattle.std.specs.Prelude.{ℕ, suc, List, [], ◌∷◌, Option, None, Some}
 use Rattle.orca_base.specs.declared.fault.FaultKind.{FaultKind}
 use Rattle.orca_front.specs.Lines.{limit_line}
@@ -7,6 +7,8 @@ use Rattle.value_core.specs.declared.action.Action.{Action}
 use Rattle.world_rules.specs.declared.standing.Standing.{Standing}
 use Rattle.world_rules.specs.declared.standing.Standing.TheVariants.{Limit, OutOfTurns, OutOfEvents, NoGroup, Faulted, Blocked, Finished, Going}
 use Rattle.run_ends.specs.declared.ends.ProcessEnd.{ProcessEnd}
+use Rattle.run_ends.specs.declared.ends.RunEnd.{RunEnd}
+use Rattle.orca_cli.specs.declared.kept.Kept.{Kept}
 use Rattle.orca_cli.specs.Lines.{blocked_line, events_line, faulted_line, no_group_line, turns_line, what_name}
 use Rattle.orca_cli.specs.Standings.{awaited_of, fault_of, spent_of}
 
@@ -53,3 +55,8 @@ ending_line name turns OutOfTurns ends = spent_said (first_spent turns ends)
 ending_line name turns (Limit what number) ends = limit_line (what_name what) number
 ending_line name turns Finished ends = []
 ending_line name turns Going ends = []
+
+-- ---- what is kept of all that a run leaves
+
+abbrev pub kept_of : RunEnd → Kept
+kept_of end = record { book = end.book; places = end.places; events = end.steps; nodes = end.nodes; processes = end.processes }

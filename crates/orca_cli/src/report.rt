@@ -8,7 +8,8 @@ ghost use Rattle.history_text.specs.Sound.{AreTables, IsPrintable};
 ghost use Rattle.world_rules.specs.declared.standing.Standing.TheVariants.{Going};
 ghost use Rattle.orca_cli.specs.Lines.{line_with};
 ghost use Rattle.command_output.specs.Printed.{Ends, EndsAs, Grew, HasStopped, WroteOf};
-ghost use Rattle.orca_cli.specs.Said.{ending_line, fault_said, first_faulted, first_spent, first_waiting, spent_said, wait_said};
+ghost use Rattle.orca_cli.specs.Made.{made_said, said};
+ghost use Rattle.orca_cli.specs.Said.{ending_line, fault_said, first_faulted, first_spent, first_waiting, kept_of, spent_said, wait_said};
 ghost use Rattle.orca_cli.specs.Standings.{awaited_name, awaited_of, fault_of, history_said, places_said, run_status, standing_status};
 
 use crate::lines::{
@@ -16,6 +17,7 @@ use crate::lines::{
 };
 use crate::names::awaited_name;
 use crate::places::print_places;
+use crate::printing::Printing;
 use command_line::RunOptions;
 use command_output::{
     BLOCKED, FAULTED, FINISHED, LIMIT, NO_GROUP, NO_MEMORY, OUT_OF_EVENTS, OUT_OF_TURNS,
@@ -23,19 +25,20 @@ use command_output::{
 };
 use history_commands::print_lines;
 use history_text::Names;
+use make_command::{Summary, print_made};
 use orca_base::{FaultKind, KindNo, NoMemory};
 use orca_io::{Sink, SinkFault};
 use run_loop::{ProcessEnd, ProcessStanding, RunEnd, Standing};
 use std::alloc::Global;
 use value_core::{Action, Line, Parts, Value};
 
-/// Prints what a run's history writes, one put a line, behind it the history and the places of its lines, where these are asked for, and
-/// the line of its standing, up to the first put that fails; and gives the status.
+/// Prints what is to be printed of a run, up to the first put that fails, and gives the status.
 pub fn report<K: Sink>(
     alloc: Global,
     out: &mut K,
     names: &Names,
     options: RunOptions,
+    printing: Printing,
     standing: Standing,
     end: &RunEnd,
 ) -> u8
@@ -44,15 +47,67 @@ pub fn report<K: Sink>(
     ensures ends { EndsAs (standing_status standing) result }
     ensures lacked { standing ≡ Going → result ≡ NO_MEMORY }
     ensures printed { Grew (K.told out.old) (K.told out.new) (Ends (standing_status standing) result
-        (output_of end.now.book.items ++ (history_said options.history names.now end.now.book.items
-        ++ (places_said options.explain end.now.book.items end.now.places.items
-        ++ ending_line (awaited_name names.now) options.turns standing end.now.processes.items)))) }
+        (said printing options names.now standing end.now.longest (kept_of end.now)
+        (ending_line (awaited_name names.now) options.turns standing end.now.processes.items))) }
     ensures later { K.faults out.old ≤ K.faults out.new }
     ensures failed { result ≡ WRITE_FAULT → Rose (K.faults out.old) (K.faults out.new) }
     ensures stopped { K.faults out.old < K.faults out.new → HasStopped result }
 {
-    let printed = print_run(alloc, out, names, options, standing, end);
+    let printed = print_as(alloc, out, names, options, printing, standing, end);
     run_status(standing, printed)
+}
+
+// Prints what is to be printed of a run.
+fn print_as<K: Sink>(
+    alloc: Global,
+    out: &mut K,
+    names: &Names,
+    options: RunOptions,
+    printing: Printing,
+    standing: Standing,
+    end: &RunEnd,
+) -> Result<(), SinkFault>
+    requires tables { AreTables names.now }
+    requires lines { All (IsPrintable names.now) end.now.book.items }
+    ensures wrote { Grew (K.told out.old) (K.told out.new) (WroteOf result
+        (said printing options names.now standing end.now.longest (kept_of end.now)
+        (ending_line (awaited_name names.now) options.turns standing end.now.processes.items))) }
+    ensures later { K.faults out.old ≤ K.faults out.new }
+    ensures failed { IsErrOf result SinkFault.Failed → Rose (K.faults out.old) (K.faults out.new) }
+    ensures quiet { OnOk result (K.faults out.new ≡ K.faults out.old) }
+{
+    match printing {
+        Printing::Output => print_run(alloc, out, names, options, standing, end),
+        Printing::Summary { number } => print_summary(
+            alloc, out, names, options.turns, number, standing, end,
+        ),
+    }
+}
+
+// Prints the summary of the program that was made of a number, where the run has finished, and else the line of the standing.
+fn print_summary<K: Sink>(
+    alloc: Global,
+    out: &mut K,
+    names: &Names,
+    turns: u64,
+    number: u64,
+    standing: Standing,
+    end: &RunEnd,
+) -> Result<(), SinkFault>
+    ensures wrote { Grew (K.told out.old) (K.told out.new) (WroteOf result (made_said number standing end.now.longest (kept_of end.now)
+        (ending_line (awaited_name names.now) turns standing end.now.processes.items))) }
+    ensures later { K.faults out.old ≤ K.faults out.new }
+    ensures failed { IsErrOf result SinkFault.Failed → Rose (K.faults out.old) (K.faults out.new) }
+    ensures quiet { OnOk result (K.faults out.new ≡ K.faults out.old) }
+{
+    let line = ending_line(alloc, names, turns, standing, &end.processes)?;
+    let summary = Summary {
+        number,
+        processes: end.processes.len(),
+        entries: end.longest,
+        book: &end.book,
+    };
+    print_made(alloc, out, standing, &summary, line)
 }
 
 // The status of a run that stands so, of which so much was printed.
@@ -82,7 +137,7 @@ fn standing_status(standing: Standing) -> u8
     }
 }
 
-// Prints what the history writes, and what is said behind it.
+// Prints what the history writes, one put a line, and what is said behind it.
 fn print_run<K: Sink>(
     alloc: Global,
     out: &mut K,

@@ -19,12 +19,15 @@ ghost use Rattle.orca_cli.specs.Headline.{settings_for, told_for, wires_of};
 ghost use Rattle.command_files.specs.Sources.{Word};
 ghost use Rattle.orca_answers.specs.Job.{deed_in, named_in, runs, script_names};
 ghost use Rattle.orca_cli.specs.Laws.{RunLaws};
+ghost use Rattle.orca_cli.specs.Made.{said};
 ghost use Rattle.command_output.specs.Printed.{HasStopped};
 ghost use Rattle.orca_answers.specs.Programs.{units_of};
-ghost use Rattle.orca_cli.specs.Standings.{awaited_name, run_said};
+ghost use Rattle.orca_cli.specs.Standings.{awaited_name};
 ghost use Rattle.world_rules.specs.Frame.{AreSettings};
 
 use crate::kept::{Ended, Kept, unkept};
+use crate::making::run_made;
+use crate::printing::Printing;
 use crate::report::report;
 use code_machine::CodeMachine;
 use command_files::sources;
@@ -34,7 +37,8 @@ use fault_scripts::Script;
 use history_text::{Names, lines_fit};
 use orca_answers::{
     Job, check_files, choose_files, job_of, linked_program, list_program, machine_of,
-    replay_history, said_refused, said_unread, said_unscripted, script_of, usage_line, whole,
+    replay_history, said_refused, said_unread, said_unscripted, script_of, show_program, usage_line,
+    whole,
 };
 use orca_base::{NoMemory, Refusal};
 use orca_io::{Shelf, Sink};
@@ -50,9 +54,9 @@ use world_enough::{events_are_enough, events_are_enough_with_singles};
 use world_facts::{book_by_places, ends_stand, processes_stand, standings_mean, worlds_count};
 use world_idle::{idle_ticks_are_counted, stretches_are_short};
 
-// The settings of a run with these options over these wires, with each object where the policy keeps it, which is asked where no member may
-// be lost.
-fn settings_of<W: Wire, P: Policy>(
+/// The settings of a run with these options over these wires, with each object where the policy keeps it, which is asked where no member may
+/// be lost.
+pub(crate) fn settings_of<W: Wire, P: Policy>(
     alloc: Global,
     machine: &CodeMachine<'_>,
     options: RunOptions,
@@ -115,6 +119,7 @@ fn run_loaded<K: Sink, W: Wire>(
     machine: &CodeMachine<'_>,
     names: &Names,
     options: RunOptions,
+    printing: Printing,
     settings: Settings,
     out: &mut K,
     wires: &mut [W],
@@ -127,7 +132,7 @@ fn run_loaded<K: Sink, W: Wire>(
     ensures none { IfNone result.kept ((result.status ≡ NO_MEMORY) × (K.told out.new ≡ K.told out.old)) }
     ensures kept { IfSome result.kept (λ k. IsRun
         (run_of (performs_of (units_of machine.now)) (computes_of (units_of machine.now)) settings)
-        (awaited_name names.now) (run_said options names.now) k result.status (K.told out.old) (K.told out.new)
+        (awaited_name names.now) (said printing options names.now) k result.status (K.told out.old) (K.told out.new)
         (map W.told wires.old) (map W.told wires.new)) }
     ensures back { IfSome result.kept (λ k.
         ReadsBack (performs_of (units_of machine.now)) (computes_of (units_of machine.now)) names.now k.book.items) }
@@ -148,7 +153,7 @@ fn run_loaded<K: Sink, W: Wire>(
         return unkept(NO_MEMORY);
     };
     lines_fit(names, &end.book);
-    let status = report(alloc, out, names, options, standing, &end);
+    let status = report(alloc, out, names, options, printing, standing, &end);
     Ended {
         status,
         kept: Some(Kept {
@@ -166,6 +171,7 @@ fn run_named<K: Sink, W: Wire>(
     alloc: Global,
     machine: &CodeMachine<'_>,
     options: RunOptions,
+    printing: Printing,
     settings: Settings,
     out: &mut K,
     wires: &mut [W],
@@ -174,7 +180,7 @@ fn run_named<K: Sink, W: Wire>(
     requires turns { settings.turns ≡ options.turns }
     requires wires { settings.wires ≡ length wires.old }
     ensures none { IfNone result.kept ((result.status ≡ NO_MEMORY) × (K.told out.new ≡ K.told out.old)) }
-    ensures kept { IfSome result.kept (λ k. IsProgramRun (units_of machine.now) options settings k result.status
+    ensures kept { IfSome result.kept (λ k. IsProgramRun (units_of machine.now) (said printing options) settings k result.status
         (K.told out.old) (K.told out.new) (map W.told wires.old) (map W.told wires.new)) }
     ensures told { HaveToldOn (map W.told wires.old) (map W.told wires.new) }
     ensures asked { WereAskedIn
@@ -187,16 +193,19 @@ fn run_named<K: Sink, W: Wire>(
     ensures stopped { K.faults out.old < K.faults out.new → HasStopped result.status }
 {
     match names(alloc, machine.tables.checked()) {
-        Ok(names) => run_loaded(alloc, machine, &names, options, settings, out, wires),
+        Ok(names) => run_loaded(
+            alloc, machine, &names, options, printing, settings, out, wires,
+        ),
         Err(_) => unkept(NO_MEMORY),
     }
 }
 
-// Runs a program with this script, and tells what came of it. Where memory lacks for the script, the wires are as before.
-fn run_program<K: Sink, W: Wire>(
+/// Runs a program with this script, and tells what came of it. Where memory lacks for the script, the wires are as before.
+pub(crate) fn run_program<K: Sink, W: Wire>(
     alloc: Global,
     machine: &CodeMachine<'_>,
     options: RunOptions,
+    printing: Printing,
     settings: Settings,
     script: &Script,
     out: &mut K,
@@ -206,7 +215,7 @@ fn run_program<K: Sink, W: Wire>(
     requires turns { settings.turns ≡ options.turns }
     requires wires { settings.wires ≡ length wires.old }
     ensures none { IfNone result.kept ((result.status ≡ NO_MEMORY) × (K.told out.new ≡ K.told out.old)) }
-    ensures kept { IfSome result.kept (λ k. IsProgramRun (units_of machine.now) options settings k result.status
+    ensures kept { IfSome result.kept (λ k. IsProgramRun (units_of machine.now) (said printing options) settings k result.status
         (K.told out.old) (K.told out.new) (map W.told wires.old) (map W.told wires.new)) }
     ensures loaded { IfSome result.kept (λ k. AreLoaded script.now
         (wires_of W.told W.rule W.loaded wires.old) (wires_of W.told W.rule W.loaded wires.new)) }
@@ -219,7 +228,7 @@ fn run_program<K: Sink, W: Wire>(
     ensures stopped { K.faults out.old < K.faults out.new → HasStopped result.status }
 {
     match load_first(alloc, script, wires) {
-        Ok(()) => run_named(alloc, machine, options, settings, out, wires),
+        Ok(()) => run_named(alloc, machine, options, printing, settings, out, wires),
         Err(_) => unkept(NO_MEMORY),
     }
 }
@@ -287,7 +296,16 @@ fn run_files<F: Shelf, K: Sink, W: Wire, P: Policy>(
         Ok(settings) => settings,
         Err(_) => return unkept(NO_MEMORY),
     };
-    run_program(alloc, &machine, options, settings, &script, out, wires)
+    run_program(
+        alloc,
+        &machine,
+        options,
+        Printing::Output,
+        settings,
+        &script,
+        out,
+        wires,
+    )
 }
 
 // What these wires were asked since their scripts were loaded, they answered by their rules. A call of this function does nothing.
@@ -348,6 +366,10 @@ pub fn orca_main_over<F: Shelf, K: Sink, W: Wire, P: Policy>(
         Ok(Some(Job::Replays { history, files })) => unkept(replay_history(
             alloc, history, &files, shelf, out,
         )),
+        Ok(Some(Job::Shows { number })) => unkept(show_program(alloc, number, out)),
+        Ok(Some(Job::Makes { options, number })) => run_made(
+            alloc, options, number, out, wires, policy,
+        ),
         Ok(None) => unkept(print_ending(out, usage_line(alloc), USAGE)),
         Err(_) => unkept(NO_MEMORY),
     }
@@ -356,14 +378,14 @@ pub fn orca_main_over<F: Shelf, K: Sink, W: Wire, P: Policy>(
 /// Does what the words ask for: `run` runs the accepted program in the files on as many members as they say, over the wires; `check` says
 /// whether the program in the files is accepted; `code` lists its code, with the source's lines or not; `choice` says how often each of its
 /// objects is estimated to be read and written, and where the policy would keep it among as many members; `replay` says whether the history
-/// in a file is one of the accepted program in the others; `--help` and `--version` say what they name. A run in which no member may be
-/// lost keeps each object where the policy chooses.
+/// in a file is one of the accepted program in the others; `make` makes a program of a number and runs it, or says its text; `--help` and
+/// `--version` say what they name. A run in which no member may be lost keeps each object where the policy chooses.
 ///
 /// `words` leaves out the program's name; of the wires, from 1 to 1,000, the first is in use at the beginning, and is loaded with the
-/// script of the words, or with the empty one. The status is that of docs/FORMATS.md. Nothing is kept where the words ask for no run, a
+/// script of the words, with that of the losses of `make`, or with the empty one. The status is that of docs/FORMATS.md. Nothing is kept where the words ask for no run, a
 /// file wasn't read, the script is none, or the texts are no accepted program; nor, maybe, where memory lacked. Each refusal prints its
 /// line; a run prints what its history writes, behind that the history and the places of its lines, where the words ask for these, and the
-/// line of how it ended.
+/// line of how it ended; `make` prints the summary of its run, or that line.
 pub fn orca_main<F: Shelf, K: Sink>(
     alloc: Global,
     words: &[String],
@@ -393,10 +415,10 @@ pub fn orca_main<F: Shelf, K: Sink>(
         wires.new.items)
         ((Policy-box policy.new).told policy.new.value)) }
 
-    // A kept run is one of the program that the words name, whose texts were read: a history of it in the source's meaning, whose replies
-    // and copies its members have, and each line of which was performed at its kept place; what it writes was printed, and its own text and
-    // its places, where these are asked for; its text is read back and is legal. Its network was really used, by the script that the words
-    // name. `bounded`, `idle` and `counted` of `IsRun` say how many events and how many idle ticks it may have. Where no member may be
+    // A kept run is one of the program that the words name, whose texts were read, or that `make` makes of their number: a history of it in
+    // the source's meaning, whose replies and copies its members have, and each line of which was performed at its kept place; what it
+    // writes was printed, and its own text and its places, where these are asked for, or of `make` the summary; its text is read back and is
+    // legal. Its network was really used, by the script that the words name, or by that of the losses. `bounded`, `idle` and `counted` of `IsRun` say how many events and how many idle ticks it may have. Where no member may be
     // lost, each object is where the policy's rule keeps it, which was asked about each site of the program, in order; else it was asked
     // nothing.
     ensures headline { IfSome result.kept (λ k. IsRunOf

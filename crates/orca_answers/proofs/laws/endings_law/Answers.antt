@@ -1,5 +1,6 @@
 use Rattle.command_files.specs.Stopped.{StoppedAt}
 use Rattle.orca_answers.proofs.EndingsOnce.{chosen_told, ending_apart, ending_once, ending_quiet, named_once, program_read, read_once}
+use Rattle.orca_answers.proofs.MadeOnce.{made_once, made_unended, made_unnamed}
 use Rattle.orca_answers.proofs.laws.endings_law.Goals as goal
 
 pub returns-clause-once : goal.returns-clause-once
@@ -23,3 +24,13 @@ returns-clause-program c = λ told other old new names units others one two. pro
 
 pub returns-clause-quiet : goal.returns-clause-quiet
 returns-clause-quiet c = λ policy words told before now old new one a asked never h. ending_quiet policy words told old new (StoppedAt before now old new) never one a asked h
+
+pub returns-clause-made : goal.returns-clause-made
+returns-clause-made c = λ words old new was now units others lines more one two. made_once words old new was now units others lines more one two
+
+pub returns-clause-alone : goal.returns-clause-alone
+returns-clause-alone c = λ policy words told other old new was now stopped units others lines more one a asked made.
+    (
+      λ ending. made_unended words old new units lines made policy told was now stopped one a asked ending,
+      λ named. made_unnamed words old new units lines made other was now others more named,
+    )

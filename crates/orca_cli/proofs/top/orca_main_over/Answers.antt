@@ -43,6 +43,31 @@ pub returns-in-Ok-Some-Runs-clause-headline : goal.returns-in-Ok-Some-Runs-claus
 returns-in-Ok-Some-Runs-clause-headline g c =
     (rw c.deref-in-Ok-Some-Runs.ensures.value at c.run_files.ensures.kept) _ (deed_is _ _ _ _ c.in-Ok-Some-Runs.ensures.is c.in-Ok-Some-Runs.field-0-is c.in-Ok-Some-Runs.field-0-0-is)
 
+pub returns-in-Ok-Some-Shows-clause-refused : goal.returns-in-Ok-Some-Shows-clause-refused
+returns-in-Ok-Some-Shows-clause-refused g c =
+    rw c.unkept-in-Ok-Some-Shows.ensures (c.show_program.ensures.said _ _ _ _ _ _ (deed_is _ _ _ _ c.in-Ok-Some-Shows.ensures.is c.in-Ok-Some-Shows.field-0-is c.in-Ok-Some-Shows.field-0-0-is))
+
+pub run_made-requires-clause-options : goal.run_made-requires-clause-options
+run_made-requires-clause-options g c = within_is _ _ _ c.in-Ok-Some-Makes.ensures.within c.in-Ok-Some-Makes.field-0-is c.in-Ok-Some-Makes.field-0-0-is
+
+pub returns-in-Ok-Some-Makes-clause-refused : goal.returns-in-Ok-Some-Makes-clause-refused
+returns-in-Ok-Some-Makes-clause-refused g c =
+    c.run_made.ensures.refused _ _ _ _ (deed_is _ _ _ _ c.in-Ok-Some-Makes.ensures.is c.in-Ok-Some-Makes.field-0-is c.in-Ok-Some-Makes.field-0-0-is)
+
+pub returns-in-Ok-Some-Makes-clause-untouched : goal.returns-in-Ok-Some-Makes-clause-untouched
+returns-in-Ok-Some-Makes-clause-untouched g c =
+    c.run_made.ensures.untouched _ _ _ (deed_is _ _ _ _ c.in-Ok-Some-Makes.ensures.is c.in-Ok-Some-Makes.field-0-is c.in-Ok-Some-Makes.field-0-0-is)
+
+pub returns-in-Ok-Some-Makes-clause-headline : goal.returns-in-Ok-Some-Makes-clause-headline
+returns-in-Ok-Some-Makes-clause-headline g c =
+    c.run_made.ensures.kept _ _ _ (deed_is _ _ _ _ c.in-Ok-Some-Makes.ensures.is c.in-Ok-Some-Makes.field-0-is c.in-Ok-Some-Makes.field-0-0-is)
+
+pub returns-in-Ok-Some-Shows-clause-asked : goal.returns-in-Ok-Some-Shows-clause-asked
+returns-in-Ok-Some-Shows-clause-asked g c = asked_none _ _ _
+
+pub returns-in-Ok-Some-Makes-clause-asked : goal.returns-in-Ok-Some-Makes-clause-asked
+returns-in-Ok-Some-Makes-clause-asked g c = asked_none _ _ _
+
 pub returns-in-Ok-Some-Says-clause-asked : goal.returns-in-Ok-Some-Says-clause-asked
 returns-in-Ok-Some-Says-clause-asked g c = asked_none _ _ _
 

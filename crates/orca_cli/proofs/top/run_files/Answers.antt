@@ -10,6 +10,8 @@ use Rattle.orca_answers.proofs.AnswerLemmas.{files_run, has_script, script_map, 
 use Rattle.world_rules.specs.declared.settings.Settings.{Settings}
 use Rattle.run_choices.proofs.Resilience.{asked_some}
 use Rattle.orca_answers.specs.Choosing.{chooser_of}
+use Rattle.orca_cli.specs.declared.printing.Printing.TheVariants.{Output}
+use Rattle.orca_cli.specs.Made.{by_run}
 use Rattle.orca_cli.proofs.HeadlineLemmas.{none_as, run_asked, run_of_words, untouched_run}
 use Rattle.orca_cli.proofs.top.run_files.Goals as goal
 
@@ -102,8 +104,8 @@ returns-clause-kept g c = λ words asked.
     let are = rw c.deref.ensures.value at c.in-Ok-linked_program.ensures.program in
     let accepted = subst (IsAccepted sources) (sym c.in-Ok-machine_of.ensures.of) (c.in-Ok-machine_of.ensures.accepted sources are) in
     let script = rw c.sources.ensures.same at c.in-Ok-script_of.ensures.had in
-    run_of_words g.W.Wire.told g.W.Wire.rule g.W.Wire.loaded c.args.wires.now c.run_program.new.wires policy words told old new (units_of machine) c.args.options c.in-Ok-settings_of.settings c.in-Ok-script_of.script c.run_program.result.kept c.run_program.result.status _ _ _
-    (record {
+    run_of_words g.W.Wire.told g.W.Wire.rule g.W.Wire.loaded c.args.wires.now c.run_program.new.wires policy words told old new (units_of machine) c.args.options Output c.in-Ok-settings_of.settings c.in-Ok-script_of.script c.run_program.result.kept c.run_program.result.status _ _ _
+    (by_run (record {
       options = c.args.options;
       script = _;
       files = _;
@@ -111,8 +113,8 @@ returns-clause-kept g c = λ words asked.
       program = record { loaded = (sources, c.in-Ok.ensures.read, accepted); within = machine.within };
       script_has = script.0;
       read = since_then old between new (map had sources) _ c.in-Ok.ensures.had script.1;
-    })
-    refl c.in-Ok-settings_of.ensures.settings c.in-Ok-settings_of.ensures.told c.run_program.ensures.kept c.run_program.ensures.loaded
+    }))
+    c.in-Ok-settings_of.ensures.settings c.in-Ok-settings_of.ensures.told c.run_program.ensures.kept c.run_program.ensures.loaded
 
 pub returns-clause-untouched : goal.returns-clause-untouched
 returns-clause-untouched g c = λ words asked.
@@ -126,8 +128,8 @@ returns-clause-untouched g c = λ words asked.
     let are = rw c.deref.ensures.value at c.in-Ok-linked_program.ensures.program in
     let accepted = subst (IsAccepted sources) (sym c.in-Ok-machine_of.ensures.of) (c.in-Ok-machine_of.ensures.accepted sources are) in
     let script = rw c.sources.ensures.same at c.in-Ok-script_of.ensures.had in
-    untouched_run _ g.W.Wire.told g.W.Wire.rule g.W.Wire.loaded c.args.wires.now c.run_program.new.wires policy words told old new (units_of machine) c.args.options c.in-Ok-settings_of.settings c.in-Ok-script_of.script c.run_program.result.kept c.run_program.result.status _
-    (record {
+    untouched_run _ g.W.Wire.told g.W.Wire.rule g.W.Wire.loaded c.args.wires.now c.run_program.new.wires policy words told old new (units_of machine) c.args.options Output c.in-Ok-settings_of.settings c.in-Ok-script_of.script c.run_program.result.kept c.run_program.result.status _
+    (by_run (record {
       options = c.args.options;
       script = _;
       files = _;
@@ -135,8 +137,8 @@ returns-clause-untouched g c = λ words asked.
       program = record { loaded = (sources, c.in-Ok.ensures.read, accepted); within = machine.within };
       script_has = script.0;
       read = since_then old between new (map had sources) _ c.in-Ok.ensures.had script.1;
-    })
-    refl c.in-Ok-settings_of.ensures.settings c.in-Ok-settings_of.ensures.told c.run_program.ensures.none c.run_program.ensures.untouched
+    }))
+    c.in-Ok-settings_of.ensures.settings c.in-Ok-settings_of.ensures.told c.run_program.ensures.none c.run_program.ensures.untouched
 
 pub run_program-requires-clause-turns : goal.run_program-requires-clause-turns
 run_program-requires-clause-turns g c = ap (λ (s : Settings). s.turns) c.in-Ok-settings_of.ensures.settings

@@ -2,7 +2,8 @@ use Rattle.std.proofs.Common.{map}
 use Rattle.meaning_rules.specs.Meanings.{computes_of, performs_of}
 use Rattle.run_loop.specs.Left.{HasRun, run_of}
 use Rattle.orca_answers.specs.Programs.{units_of}
-use Rattle.orca_cli.specs.Standings.{awaited_name, run_said}
+use Rattle.orca_cli.specs.Made.{said}
+use Rattle.orca_cli.specs.Standings.{awaited_name}
 use Rattle.orca_cli.proofs.HeadlineLemmas.{book_back, book_printable, is_run_by, some_is}
 use Rattle.orca_cli.proofs.top.run_loaded.Goals as goal
 
@@ -40,7 +41,7 @@ returns-clause-kept g c =
     let before = map g.W.Wire.told c.args.wires.now in
     let after = map g.W.Wire.told c.run-ran.new.wires in
     let says = c.report-status.ensures in
-    is_run_by (performs_of units) (computes_of units) c.args.options.turns c.args.settings (awaited_name c.args.names.now) (run_said c.args.options c.args.names.now) c.in-Some.end c.run-ran.result.standing c.report-status.result
+    is_run_by (performs_of units) (computes_of units) c.args.options.turns c.args.settings (awaited_name c.args.names.now) (said c.args.printing c.args.options c.args.names.now) c.in-Some.end c.run-ran.result.standing c.report-status.result
     (g.K.Sink.told c.args.out.now) (g.K.Sink.told c.report-status.new.out) before after
     c.laws_of_runs.ensures c.requires.turns c.requires.ranges
     (some_is c.run-ran.result.end c.in-Some.end (HasRun (run_of (performs_of units) (computes_of units) c.args.settings) c.run-ran.result.standing before after) c.in-Some.is

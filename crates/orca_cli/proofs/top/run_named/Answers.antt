@@ -8,6 +8,7 @@ use Rattle.run_loop.proofs.Ending.{asked_nothing}
 use Rattle.run_loop.proofs.Telling.{tells_itself}
 use Rattle.run_loop.specs.Left.{run_of}
 use Rattle.orca_answers.specs.Programs.{units_of}
+use Rattle.orca_cli.specs.Made.{said}
 use Rattle.orca_cli.proofs.HeadlineLemmas.{program_run}
 use Rattle.orca_cli.proofs.top.run_named.Goals as goal
 
@@ -21,7 +22,7 @@ run_loaded-requires-clause-named g c =
 pub returns-in-Ok-clause-kept : goal.returns-in-Ok-clause-kept
 returns-in-Ok-clause-kept g c =
     let lent = ap sources c.checked.ensures in
-    program_run (units_of c.args.machine.now) c.args.options c.args.settings c.in-Ok.names c.run_loaded.result.kept c.run_loaded.result.status _ _ (map g.W.Wire.told c.args.wires.now) (map g.W.Wire.told c.run_loaded.new.wires)
+    program_run (units_of c.args.machine.now) (said c.args.printing c.args.options) c.args.settings c.in-Ok.names c.run_loaded.result.kept c.run_loaded.result.status _ _ (map g.W.Wire.told c.args.wires.now) (map g.W.Wire.told c.run_loaded.new.wires)
     (subst (λ (us : List Source). AreNamesOf us c.in-Ok.names) lent c.in-Ok.ensures.are)
     (subst (λ (us : List Source). CallsNamed us c.in-Ok.names) lent (c.in-Ok.ensures.calls (subst IsWithinLimits (sym lent) c.args.machine.now.within)))
     c.run_loaded.ensures.kept c.run_loaded.ensures.back
