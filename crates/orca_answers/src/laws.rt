@@ -4,7 +4,6 @@ ghost use Rattle.std.specs.Prelude.{◌≡◌, ℕ, List, Option, Some};
 ghost use Rattle.net_rules.specs.declared.line.ScriptLine.{ScriptLine};
 ghost use Rattle.orca_io.specs.Files.{File};
 ghost use Rattle.orca_io.specs.Reading.{FileRead};
-ghost use Rattle.orca_io.specs.declared.shelf.ShelfFault.{ShelfFault};
 ghost use Rattle.orca_io.specs.declared.shelf.ShelfFault.TheVariants.{Failed};
 ghost use Rattle.command_files.specs.Stopped.{Never, StoppedAt};
 ghost use Rattle.link_rules.specs.Units.{Source};
@@ -57,10 +56,11 @@ pub fn endings_law()
         IsEnding policy words told old new Never one a asked }
     ensures made { (words : List Word) (old new was now : List FileRead) (units others : List Source) (lines more : List ScriptLine) →
         IsMade words old new units lines → IsMade words was now others more → (units ≡ others) × (lines ≡ more) }
-    ensures alone { (policy : Chooser) (words : List Word) (told other : Option (List File)) (old new was now : List FileRead)
-        (stopped : ShelfFault → Word → Type 0) (units others : List Source) (lines more : List ScriptLine) (one : ℕ) (a : List ℕ)
+    ensures alone { (policy : Chooser) (words : List Word) (told other : Option (List File)) (before after : ℕ)
+        (old new was now : List FileRead) (units others : List Source) (lines more : List ScriptLine) (one : ℕ) (a : List ℕ)
         (asked : List Asked) → IsMade words old new units lines →
-        (IsEnding policy words told was now stopped one a asked → ⊥) × (IsNamed words other was now others more → ⊥) }
+        (IsEnding policy words told was now (StoppedAt before after was now) one a asked → ⊥)
+        × (IsNamed words other was now others more → ⊥) }
 {
     names_law();
 }

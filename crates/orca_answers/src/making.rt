@@ -4,10 +4,10 @@ ghost use Rattle.std.specs.Prelude.{◌≡◌, ◌<◌, ◌≤◌, ◌∷◌, []
 ghost use Rattle.orca_io.specs.Causes.{Rose};
 ghost use Rattle.orca_io.specs.Files.{File};
 ghost use Rattle.orca_io.specs.Reading.{FileRead};
-ghost use Rattle.orca_io.specs.declared.shelf.ShelfFault.{ShelfFault};
 ghost use Rattle.link_rules.specs.Units.{source};
 ghost use Rattle.orca_front.specs.Sources.{AreUnits, IsAccepted, file_of};
 ghost use Rattle.command_files.specs.Sources.{Word};
+ghost use Rattle.command_files.specs.Stopped.{StoppedAt};
 ghost use Rattle.command_output.specs.Printed.{HasStopped};
 ghost use Rattle.generated_program.specs.Program.{program_file, program_text};
 ghost use Rattle.orca_answers.specs.Choosing.{Chooser};
@@ -29,9 +29,9 @@ use std::slice;
 
 /// Says the text of the program that is made of a number (docs/FORMATS.md, The generated program), one put a line. Nothing is kept.
 pub fn show_program<K: Sink>(alloc: Global, number: u64, out: &mut K) -> u8
-    ensures said { (policy : Chooser) (words : List Word) (told : Option (List File)) (old new : List FileRead)
-        (stopped : ShelfFault → Word → Type 0) → deed_in words ≡ Some (says (program_text number)) →
-        IsAnswer policy words told old new stopped (K.told out.old) (K.told out.new) result policy.told }
+    ensures said { (policy : Chooser) (words : List Word) (told : Option (List File)) (before now : ℕ) (old new : List FileRead) →
+        deed_in words ≡ Some (says (program_text number)) →
+        IsAnswer policy words told old new (StoppedAt before now old new) (K.told out.old) (K.told out.new) result policy.told }
     ensures later { K.faults out.old ≤ K.faults out.new }
     ensures failed { result ≡ WRITE_FAULT → Rose (K.faults out.old) (K.faults out.new) }
     ensures stopped { K.faults out.old < K.faults out.new → HasStopped result }

@@ -1,13 +1,13 @@
 //! The run of a program that is made of a number.
 
-ghost use Rattle.std.specs.Prelude.{◌≡◌, ◌<◌, ◌≤◌, List, IfNone, IfSome, Option, Some, length};
+ghost use Rattle.std.specs.Prelude.{◌≡◌, ◌<◌, ◌≤◌, ℕ, List, IfNone, IfSome, Option, Some, length};
 ghost use Rattle.command_line.specs.Asked.{IsMakeWithin};
 ghost use Rattle.command_files.specs.Sources.{Word};
+ghost use Rattle.command_files.specs.Stopped.{StoppedAt};
 ghost use Rattle.command_output.specs.Printed.{HasStopped};
 ghost use Rattle.orca_io.specs.Causes.{Rose};
 ghost use Rattle.orca_io.specs.Files.{File};
 ghost use Rattle.orca_io.specs.Reading.{FileRead};
-ghost use Rattle.orca_io.specs.declared.shelf.ShelfFault.{ShelfFault};
 ghost use Rattle.orca_answers.specs.Choosing.{chooser_of};
 ghost use Rattle.orca_answers.specs.Endings.{IsAnswer};
 ghost use Rattle.orca_answers.specs.Job.{deed_in, makes};
@@ -37,9 +37,9 @@ pub fn run_made<K: Sink, W: Wire, P: Policy>(
 ) -> Ended
     requires options { IsMakeWithin options }
     requires wires { (1 ≤ length wires.old) × (length wires.old ≤ 1000) }
-    ensures refused { (words : List Word) (told : Option (List File)) (reads : List FileRead) (stopped : ShelfFault → Word → Type 0) →
+    ensures refused { (words : List Word) (told : Option (List File)) (before now : ℕ) (reads : List FileRead) →
         deed_in words ≡ Some (makes options number) →
-        IfNone result.kept (IsAnswer (chooser_of P.rule P.told policy.old) words told reads reads stopped
+        IfNone result.kept (IsAnswer (chooser_of P.rule P.told policy.old) words told reads reads (StoppedAt before now reads reads)
         (K.told out.old) (K.told out.new) result.status (P.told policy.new)) }
     ensures kept { (words : List Word) (told : Option (List File)) (reads : List FileRead) → deed_in words ≡ Some (makes options number) →
         IfSome result.kept (λ k. IsRunOf (chooser_of P.rule P.told policy.old) words told reads reads

@@ -18,7 +18,7 @@ pub made_machine-requires : goal.made_machine-requires
 made_machine-requires g c = (c.args.number, subst (λ (f : File). AreUnits (f ∷ []) (map source c.in-Ok-made_program.program.units.items)) c.in-Ok.ensures.source c.in-Ok-made_program.ensures)
 
 pub returns-in-Err-settings_of-clause-refused : goal.returns-in-Err-settings_of-clause-refused
-returns-in-Err-settings_of-clause-refused g c = λ words told reads stopped asked.
+returns-in-Err-settings_of-clause-refused g c = λ words told before now reads asked.
     let policy = chooser_of g.P.Policy.rule g.P.Policy.told c.args.policy.now in
     let job = c.in-Ok.job in
     let machine = c.in-Ok-made_machine.machine in
@@ -26,7 +26,7 @@ returns-in-Err-settings_of-clause-refused g c = λ words told reads stopped aske
     rw c.unkept-in-Err-settings_of.ensures (inr (refl, refl, made_asked words told reads c.args.options c.args.number job.options (file_of job.source) job.script _ (units_of machine) asked c.in-Ok.ensures.source c.in-Ok.ensures.script c.in-Ok.ensures.options c.in-Ok-made_machine.ensures.of accepted machine.within policy _ (inr c.in-Err-settings_of.ensures.first)))
 
 pub returns-clause-refused : goal.returns-clause-refused
-returns-clause-refused g c = λ words told reads stopped asked.
+returns-clause-refused g c = λ words told before now reads asked.
     let policy = chooser_of g.P.Policy.rule g.P.Policy.told c.args.policy.now in
     let job = c.in-Ok.job in
     let machine = c.in-Ok-made_machine.machine in

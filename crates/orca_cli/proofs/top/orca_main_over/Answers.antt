@@ -45,14 +45,14 @@ returns-in-Ok-Some-Runs-clause-headline g c =
 
 pub returns-in-Ok-Some-Shows-clause-refused : goal.returns-in-Ok-Some-Shows-clause-refused
 returns-in-Ok-Some-Shows-clause-refused g c =
-    rw c.unkept-in-Ok-Some-Shows.ensures (c.show_program.ensures.said _ _ _ _ _ _ (deed_is _ _ _ _ c.in-Ok-Some-Shows.ensures.is c.in-Ok-Some-Shows.field-0-is c.in-Ok-Some-Shows.field-0-0-is))
+    rw c.unkept-in-Ok-Some-Shows.ensures (c.show_program.ensures.said _ _ _ _ _ _ _ (deed_is _ _ _ _ c.in-Ok-Some-Shows.ensures.is c.in-Ok-Some-Shows.field-0-is c.in-Ok-Some-Shows.field-0-0-is))
 
 pub run_made-requires-clause-options : goal.run_made-requires-clause-options
 run_made-requires-clause-options g c = within_is _ _ _ c.in-Ok-Some-Makes.ensures.within c.in-Ok-Some-Makes.field-0-is c.in-Ok-Some-Makes.field-0-0-is
 
 pub returns-in-Ok-Some-Makes-clause-refused : goal.returns-in-Ok-Some-Makes-clause-refused
 returns-in-Ok-Some-Makes-clause-refused g c =
-    c.run_made.ensures.refused _ _ _ _ (deed_is _ _ _ _ c.in-Ok-Some-Makes.ensures.is c.in-Ok-Some-Makes.field-0-is c.in-Ok-Some-Makes.field-0-0-is)
+    c.run_made.ensures.refused _ _ _ _ _ (deed_is _ _ _ _ c.in-Ok-Some-Makes.ensures.is c.in-Ok-Some-Makes.field-0-is c.in-Ok-Some-Makes.field-0-0-is)
 
 pub returns-in-Ok-Some-Makes-clause-untouched : goal.returns-in-Ok-Some-Makes-clause-untouched
 returns-in-Ok-Some-Makes-clause-untouched g c =
