@@ -55,8 +55,7 @@ pub made_once : (words : List Word) (old new was now : List FileRead) (us vs : L
 made_once words old new was now us vs lines more m n =
     let same : Some (makes m.options m.number) ≡ Some (makes n.options n.number) = sym m.asked ∙ n.asked in
     let number : m.number ≡ n.number = ap number_by same in
-    let lost : m.options.lose ≡ n.options.lose = ap lost_by same in
-    (
+    let lost : m.options.lose ≡ n.options.lose = ap lost_by same in (
       same_program (program_file m.number ∷ []) us vs m.accepted (subst (λ (k : ℕ). IsAccepted (program_file k ∷ []) vs) (sym number) n.accepted),
       m.script ∙ ap losses lost ∙ sym n.script,
     )

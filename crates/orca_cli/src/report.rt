@@ -79,7 +79,13 @@ fn print_as<K: Sink>(
     match printing {
         Printing::Output => print_run(alloc, out, names, options, standing, end),
         Printing::Summary { number } => print_summary(
-            alloc, out, names, options.turns, number, standing, end,
+            alloc,
+            out,
+            names,
+            options.turns,
+            number,
+            standing,
+            end,
         ),
     }
 }

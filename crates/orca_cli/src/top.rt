@@ -37,8 +37,8 @@ use fault_scripts::Script;
 use history_text::{Names, lines_fit};
 use orca_answers::{
     Job, check_files, choose_files, job_of, linked_program, list_program, machine_of,
-    replay_history, said_refused, said_unread, said_unscripted, script_of, show_program, usage_line,
-    whole,
+    replay_history, said_refused, said_unread, said_unscripted, script_of, show_program,
+    usage_line, whole,
 };
 use orca_base::{NoMemory, Refusal};
 use orca_io::{Shelf, Sink};

@@ -29,8 +29,7 @@ pub returns-clause-made : goal.returns-clause-made
 returns-clause-made c = λ words old new was now units others lines more one two. made_once words old new was now units others lines more one two
 
 pub returns-clause-alone : goal.returns-clause-alone
-returns-clause-alone c = λ policy words told other before after old new was now units others lines more one a asked made.
-    (
-      λ ending. made_unended words old new units lines made policy told was now (StoppedAt before after was now) one a asked ending,
-      λ named. made_unnamed words old new units lines made other was now others more named,
-    )
+returns-clause-alone c = λ policy words told other before after old new was now units others lines more one a asked made. (
+  λ ending. made_unended words old new units lines made policy told was now (StoppedAt before after was now) one a asked ending,
+  λ named. made_unnamed words old new units lines made other was now others more named,
+)
