@@ -8,7 +8,7 @@ use Rattle.orca_answers.specs.Choosing.{chooser_of}
 use Rattle.orca_answers.specs.Programs.{units_of}
 use Rattle.orca_cli.specs.declared.printing.Printing.TheVariants.{Summary}
 use Rattle.orca_cli.proofs.HeadlineLemmas.{none_as, run_of_words, untouched_run}
-use Rattle.orca_cli.proofs.Making.{made_asked, made_named}
+use Rattle.orca_cli.proofs.MadeRuns.{made_asked, made_named}
 use Rattle.orca_cli.proofs.making.run_made.Goals as goal
 
 pub made_program-requires : goal.made_program-requires
