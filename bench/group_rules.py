@@ -1,5 +1,5 @@
-"""The rules of a group in plain Python, as far as a bench without faults needs them (docs/RUNTIME.md): submissions, Request,
-Entry, Body, Order, Status and Accept, windows of 256 entries and purges at 192, and resets of a group at rest. Resilience 0. It is the peer of
+"""The rules of a group in plain Python, as far as a bench without faults needs them (docs/RUNTIME.md): submissions, Request, Entry, Body,
+Order, Status and Accept, windows of 256 entries and purges at 192, and resets of a group at rest. Resilience 0. It is the peer of
 `bench/group` and no part of the product."""
 from collections import deque
 

@@ -22,8 +22,8 @@ STATUSES = [
     "The script is none. The line that is printed says which of its lines is wrong.",
 ]
 NOTES = [
-    "A process whose member crashes, or is left out, isn't waited for, and what it would still have written is never printed; that holds of "
-    "`OrcaMain`, too, which runs on member 0. So where a script crashes member 0, a run may print nothing and end with 0.",
+    "A process whose member crashes, or is left out, isn't waited for, and what it would still have written is never printed; that holds "
+    "of `OrcaMain`, too, which runs on member 0. So where a script crashes member 0, a run may print nothing and end with 0.",
 ]
 EXAMPLES = [
     ("run examples/one.orca", "Runs a program on three members."),
