@@ -21,7 +21,7 @@ _orca() {
     local word=${COMP_WORDS[COMP_CWORD]} before=${COMP_WORDS[COMP_CWORD - 1]} options= before_files=0 only_files= arguments=0 i
     COMPREPLY=()
     if ((COMP_CWORD == 1)); then
-        _orca_words 'check run code choice replay -h --help -V --version'
+        _orca_words 'check run code choice replay make -h --help -V --version'
         return
     fi
     case ${COMP_WORDS[1]} in
@@ -30,6 +30,7 @@ _orca() {
         code) options=' --source -h --help ' before_files=0 ;;
         choice) options=' --nodes -h --help ' before_files=0 ;;
         replay) options=' -h --help ' before_files=1 ;;
+        make) options=' --nodes --resilience --lose --source -h --help ' before_files=0 ;;
         *) return ;;
     esac
     # `--nodes=3` comes in three words.
@@ -42,7 +43,7 @@ _orca() {
         [[ $only_files ]] || options=${options/ "${COMP_WORDS[i]}" / }
         case ${COMP_WORDS[i]} in
             --) only_files=yes ;;
-            --nodes | --resilience | --turns | --events | --script)
+            --nodes | --resilience | --turns | --events | --script | --lose)
                 [[ ${COMP_WORDS[i + 1]} == '=' ]] && ((i++))
                 ((i++))
                 ;;
@@ -56,6 +57,7 @@ _orca() {
         --turns) _orca_words ''; return ;;
         --events) _orca_words ''; return ;;
         --script) _orca_files ''; return ;;
+        --lose) _orca_words ''; return ;;
     esac
     if [[ $word == -* && ! $only_files ]]; then
         _orca_words "$options"

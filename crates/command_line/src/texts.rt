@@ -24,7 +24,7 @@ usage: orca COMMAND
   -h, --help                  prints this; behind a command's name, more about it
   -V, --version               prints the version
 
-So far `check`, `run`, `code`, `choice` and `replay` are built.
+So far `check`, `run`, `code`, `choice`, `replay` and `make` are built.
 ";
 
 /// The command `check`.
@@ -88,7 +88,7 @@ usage: orca make [OPTIONS] NUMBER
   --lose L        packets that are lost, 0 to 100 (0)
   --source        prints the program in place of running it
 
-Not built yet.
+So far `--workers` isn't built.
 ";
 
 /// The command `join`.
