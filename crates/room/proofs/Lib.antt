@@ -1,0 +1,2 @@
+pub mod RoomsCross
+pub mod Serving
