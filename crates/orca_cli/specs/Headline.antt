@@ -109,10 +109,11 @@ AreUntouched policy words files earlier later status old new asked =
 -- ---- the run
 
 -- What is kept is the end of the run to which its events lead, and a history with its processes and copies. How that run stands is read off
--- what is kept (`row`, `only`), in both directions off its world (`reads`), and gives the status. What is said of how it stands, of how many
--- entries the longest log has and of what is kept, with the line of the standing, was printed; where a write failed or memory lacked, a front
--- of it was. And the wires, which told `before` and tell `after`, were used in the run; one that was never in use was asked nothing; and each
--- question about an act was put to the wire in use, in the world before the event of its number, or before the one that would come next
+-- what is kept (`row`, `only`), in both directions off its world (`reads`), and gives the status. What is said of how it stands, of how
+-- many entries the longest log has and of what is kept, with the line of the standing, was printed; where a write failed or memory lacked,
+-- a front of it was. And the wires, which told `before` and tell `after`, were used in the run; one that was never in use was asked
+-- nothing; and each question about an act was put to the wire in use, in the world before the event of its number, or before the one that
+-- would come next
 pub record IsRun (f : Frame) (name : Action → List ℕ) (says : Standing → ℕ → Kept → List ℕ → List ℕ) (k : Kept) (status : ℕ)
     (old new : Option (List ℕ)) (before after : List (List Asked)) : Type 0 where
   pub world : World
@@ -144,9 +145,9 @@ pub record IsRun (f : Frame) (name : Action → List ℕ) (says : Standing → �
   pub unused : NoneAskedBehind world.swaps (asked_since before after)
   pub in_time : AreInTime f k.events.items (asked_since before after)
 
--- It is a run of the program with these units, in the source's meaning, by these settings. By the program's names its line of a process that
--- is blocked names the operation, and what is said of it was printed: each call that a process comes to next behind a history has its names
--- there. And the text of its history, printed or not, is read back as the history, and is legal
+-- It is a run of the program with these units, in the source's meaning, by these settings. By the program's names its line of a process
+-- that is blocked names the operation, and what is said of it was printed: each call that a process comes to next behind a history has its
+-- names there. And the text of its history, printed or not, is read back as the history, and is legal
 pub record IsProgramRun (units : List Source) (says : Names → Standing → ℕ → Kept → List ℕ → List ℕ) (settings : Settings) (k : Kept)
     (status : ℕ) (old new : Option (List ℕ)) (before after : List (List Asked)) : Type 0 where
   pub names : Names
@@ -155,9 +156,9 @@ pub record IsProgramRun (units : List Source) (says : Names → Standing → ℕ
   pub run : IsRun (run_of (performs_of units) (computes_of units) settings) (awaited_name names) (says names) k status old new before after
   pub back : ReadsBack (performs_of units) (computes_of units) names k.book.items
 
--- It is the run that the words ask for, of the accepted program whose texts were read, or by `make` of the one that is made of a number, and
--- what such a run prints was printed; with each object where the policy keeps it, which tells `asked` now: where no member may be lost it was
--- asked about each site of the program, in order, and else about none
+-- It is the run that the words ask for, of the accepted program whose texts were read, or by `make` of the one that is made of a number,
+-- and what such a run prints was printed; with each object where the policy keeps it, which tells `asked` now: where no member may be lost
+-- it was asked about each site of the program, in order, and else about none
 pub record IsRunOf (policy : Chooser) (words : List Word) (files : Option (List File)) (earlier later : List FileRead) (k : Kept)
     (status : ℕ) (old new : Option (List ℕ)) (before after : Wires) (asked : List replica.Asked) : Type 0 where
   pub units : List Source

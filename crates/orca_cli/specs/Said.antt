@@ -1,5 +1,5 @@
--- What the functions of report.rt say to each other: the line of a standing, as processes are gone through, and what is kept. That it is the
--- line of the lowest process is said without them (`IsEndingLine` of Standings.antt).
+-- What the functions of report.rt say to each other: the line of a standing, as processes are gone through, and what is kept. That it is
+-- the line of the lowest process is said without them (`IsEndingLine` of Standings.antt).
 use Rattle.std.specs.Prelude.{ℕ, suc, List, [], ◌∷◌, Option, None, Some}
 use Rattle.orca_base.specs.declared.fault.FaultKind.{FaultKind}
 use Rattle.orca_front.specs.Lines.{limit_line}

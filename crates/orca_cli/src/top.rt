@@ -54,8 +54,8 @@ use world_enough::{events_are_enough, events_are_enough_with_singles};
 use world_facts::{book_by_places, ends_stand, processes_stand, standings_mean, worlds_count};
 use world_idle::{idle_ticks_are_counted, stretches_are_short};
 
-/// The settings of a run with these options over these wires, with each object where the policy keeps it, which is asked where no member may
-/// be lost.
+/// The settings of a run with these options over these wires, with each object where the policy keeps it, which is asked where no member
+/// may be lost.
 pub(crate) fn settings_of<W: Wire, P: Policy>(
     alloc: Global,
     machine: &CodeMachine<'_>,
@@ -382,10 +382,10 @@ pub fn orca_main_over<F: Shelf, K: Sink, W: Wire, P: Policy>(
 /// `--version` say what they name. A run in which no member may be lost keeps each object where the policy chooses.
 ///
 /// `words` leaves out the program's name; of the wires, from 1 to 1,000, the first is in use at the beginning, and is loaded with the
-/// script of the words, with that of the losses of `make`, or with the empty one. The status is that of docs/FORMATS.md. Nothing is kept where the words ask for no run, a
-/// file wasn't read, the script is none, or the texts are no accepted program; nor, maybe, where memory lacked. Each refusal prints its
-/// line; a run prints what its history writes, behind that the history and the places of its lines, where the words ask for these, and the
-/// line of how it ended; `make` prints the summary of its run, or that line.
+/// script of the words, with that of the losses of `make`, or with the empty one. The status is that of docs/FORMATS.md. Nothing is kept
+/// where the words ask for no run, a file wasn't read, the script is none, or the texts are no accepted program; nor, maybe, where memory
+/// lacked. Each refusal prints its line; a run prints what its history writes, behind that the history and the places of its lines, where
+/// the words ask for these, and the line of how it ended; `make` prints the summary of its run, or that line.
 pub fn orca_main<F: Shelf, K: Sink>(
     alloc: Global,
     words: &[String],
@@ -398,8 +398,9 @@ pub fn orca_main<F: Shelf, K: Sink>(
 
     // Nothing is kept: an ending by its cause, with its line, or want of memory. Where that tells choices, the policy was asked about each
     // site of that program, in order, or about so many from the front where memory lacked before; it may have been asked so for a run, too,
-    // for which memory lacked; and else about nothing. What the wires tell, their scripts, and when these were loaded, are as before, unless
-    // memory lacked for the run that the words name: then that may have been begun, once the policy had been asked all that it is asked.
+    // for which memory lacked; and else about nothing. What the wires tell, their scripts, and when these were loaded, are as before,
+    // unless memory lacked for the run that the words name: then that may have been begun, once the policy had been asked all that it is
+    // asked.
     ensures refused { IfNone result.kept (IsAnswer
         (chooser_of (λ b. (Policy-box b).rule b.value) (λ b. (Policy-box b).told b.value) policy.old)
         (map string_bytes words.now) (F.told shelf.old) (F.reads shelf.old) (F.reads shelf.new)
@@ -417,10 +418,10 @@ pub fn orca_main<F: Shelf, K: Sink>(
 
     // A kept run is one of the program that the words name, whose texts were read, or that `make` makes of their number: a history of it in
     // the source's meaning, whose replies and copies its members have, and each line of which was performed at its kept place; what it
-    // writes was printed, and its own text and its places, where these are asked for, or of `make` the summary; its text is read back and is
-    // legal. Its network was really used, by the script that the words name, or by that of the losses. `bounded`, `idle` and `counted` of `IsRun` say how many events and how many idle ticks it may have. Where no member may be
-    // lost, each object is where the policy's rule keeps it, which was asked about each site of the program, in order; else it was asked
-    // nothing.
+    // writes was printed, and its own text and its places, where these are asked for, or of `make` the summary; its text is read back and
+    // is legal. Its network was really used, by the script that the words name, or by that of the losses. `bounded`, `idle` and `counted`
+    // of `IsRun` say how many events and how many idle ticks it may have. Where no member may be lost, each object is where the policy's
+    // rule keeps it, which was asked about each site of the program, in order; else it was asked nothing.
     ensures headline { IfSome result.kept (λ k. IsRunOf
         (chooser_of (λ b. (Policy-box b).rule b.value) (λ b. (Policy-box b).told b.value) policy.old)
         (map string_bytes words.now) (F.told shelf.old)

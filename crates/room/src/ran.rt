@@ -28,8 +28,8 @@ use world_core::World;
 /// It promises what `run` of run_loop promises: what is kept is the end of the run to which its steps lead, and the wires were used in it
 /// (`HasRun`). Where nothing is kept, the wires were asked what some steps of the run ask.
 ///
-/// By one worker no lock is taken and no thread made, and events come as in `run` of run_loop. By several their order may differ from run to
-/// run, and so what depends on it: their number, places of reads, histories, and the lines of programs that race.
+/// By one worker no lock is taken and no thread made, and events come as in `run` of run_loop. By several their order may differ from run
+/// to run, and so what depends on it: their number, places of reads, histories, and the lines of programs that race.
 pub fn run<M: Processor + Sync, W: Wire + Send, R: Threads + Wait + Sync, G: Gate + Sync>(
     rt: &R,
     alloc: Global,
