@@ -22,7 +22,7 @@ use world_law::replay_law;
 /// What a run with a follower leaves.
 #[derive(Drop)]
 pub struct JoinRun {
-    /// How the run stands. It is going where memory lacked.
+    /// How the run stands where it stopped: it is going where memory lacked before its end.
     pub standing: Standing,
     /// All that is kept of the run.
     pub end: RunEnd,
@@ -37,9 +37,9 @@ pub struct JoinRun {
 /// Runs a program by these options over the group's wire, with the empty script, and beside it a follower over a wire of its own, with this
 /// script (docs/RUNTIME.md, A member that joins late). Each object is replicated, whatever a policy would choose.
 ///
-/// What is kept of the run is what `run` of `run_loop` would keep. The follower's wire was asked just the questions of `Rounds` along its
-/// events, the n-th answered by the n-th fate, and the follower is where they end. Where memory lacked it stands at some moment of them
-/// (`whole`). Where memory lacks for what is kept, the run was begun, or both wires are as they were (`begun`).
+/// What is kept of the run is the end of one, as of `run` of `run_loop` (`HasRun`). The follower's wire was asked just the questions of
+/// `Rounds` along its events, the n-th answered by the n-th fate, and the follower is where they end. Where memory lacked it stands at some
+/// moment of them (`whole`). Where memory lacks for what is kept, the run was begun, or both wires are as they were (`begun`).
 pub fn join_run<M: Processor, W: Wire>(
     alloc: Global,
     machine: &M,

@@ -26,7 +26,8 @@ use world_core::World;
 /// the same script. Before each burst is computed the gate is called.
 ///
 /// It promises what `run` of run_loop promises: what is kept is the end of the run to which its steps lead, and the wires were used in it
-/// (`HasRun`). Where nothing is kept, the wires were asked what some steps of the run ask.
+/// (`HasRun`). Where nothing is kept, the wires were asked what some steps of the run ask. No clause speaks of the workers, of the gate, or of
+/// how far the run went.
 ///
 /// By one worker no lock is taken and no thread made, and events come as in `run` of run_loop. By several their order may differ from run
 /// to run, and so what depends on it: their number, places of reads, histories, and the lines of programs that race.
